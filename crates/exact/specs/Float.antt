@@ -1,0 +1,30 @@
+-- The vocabulary of binary64 arithmetic that every definition here uses. Definitions only.
+-- Each operation is IEEE 754-2019's, 5.4.1: the exact result, rounded once to the nearest binary64, a tie to the even one (4.3.1).
+use Prim.Native.Nat.{ℕ}
+use lib.Ieee.{Float, binary64, add, sub, mul, div, ofBits}
+
+infixl 60 _⊕_ _⊖_
+infixl 70 _⊗_ _⊘_
+
+abbrev pub _⊕_ : Float → Float → Float
+a ⊕ b = add binary64 a b
+
+abbrev pub _⊖_ : Float → Float → Float
+a ⊖ b = sub binary64 a b
+
+abbrev pub _⊗_ : Float → Float → Float
+a ⊗ b = mul binary64 a b
+
+abbrev pub _⊘_ : Float → Float → Float
+a ⊘ b = div binary64 a b
+
+-- the binary64 whose 64 bits are b: how a constant is written
+abbrev pub bits : ℕ → Float
+bits b = ofBits binary64 b
+
+abbrev pub +0 : Float
++0 = bits 0
+
+-- 1
+abbrev pub 1·0 : Float
+1·0 = bits 0x3FF0_0000_0000_0000

@@ -1,0 +1,4 @@
+pub mod Float
+pub mod Value
+pub mod Steps
+pub mod Solve

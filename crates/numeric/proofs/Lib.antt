@@ -1,0 +1,10 @@
+pub mod Squares
+pub mod Reading
+pub mod RootLaws
+pub mod Parts
+pub mod Special
+pub mod Theorems
+pub mod Facts
+pub mod Elements
+pub mod Rooted
+pub mod System

@@ -1,0 +1,131 @@
+-- THE THEOREM on one system: where the matrix is not refused and the first element of the solution is finite, all is finite, and the solution is accurate. Assumes nothing.
+use mathlib.Core.Path.{_≡_, refl, sym, ap, _∙_, subst}
+use mathlib.Core.Logic.{_⊎_, inl, inr}
+use Prim.Native.Nat.{ℕ, zero, suc, _+_, _-_, _*_, _^_, _≤_, _<_}
+use native.Mathlib.Nat.{le-refl, le-trans, le-of-lt, eq-or-lt-of-le, mul-le-mul-left, mul-le-mul-right, mul-le-mul}
+use native.Mathlib.Omega.{arith}
+use mathlib.Core.Bool.{Bool, true, false, not, cond}
+use mathlib.Core.List.{List}
+use lib.ListN.{length}
+use lib.Dec.{T, leb, leb→le, nleb→lt}
+use lib.IntN.{pos, _-ℤ_, _*ℤ_, natAbs}
+use lib.Ieee.{Float, binary64, div, fits}
+use lib.Ieee.Fits.{div-fits}
+use lib.Ieee.Scale.{finite}
+use Rattle.exact.specs.Value.{scale, magnitude, value}
+use Rattle.numeric.specs.Root.{rootOf}
+use Rattle.exact.specs.Solve.{sumℤ, sum, entry, lower, sizeL, sizeX, Accurate}
+use Rattle.exact.specs.Steps.{run, IsRoot, Factored, Forward, Backward}
+use Rattle.numeric.specs.Factor.{at, row, cells, forwardTo, backTo, Lower, factorOf, solutionOf}
+use Rattle.numeric.specs.Factor.Finite.{Finite, factor-finite}
+use Rattle.numeric.specs.System.{Within, Solves, Held}
+use Rattle.exact.proofs.Ops.{div-finite}
+use Rattle.exact.proofs.Run.{run-fits, run-start, run-finite}
+use Rattle.exact.proofs.Solve.{accurate}
+use Rattle.numeric.proofs.Elements.{Elements, elements, forward-is, forward-length, backward-is}
+use Rattle.numeric.proofs.Rooted.{pivot-root}
+
+-- ---- the bound as the mission has it, from the sharper one
+loosen : (M N K c S R P F X : ℕ) → K ≡ M * c → c * N ≡ S → M * R ≤ P + N * ((S + F) * (S + F + X)) → K * R ≤ c * P + (S + F) * (S + F) * (S + X)
+loosen M N K c S R P F X k n h =
+    le-trans (first (mul-le-mul-left c h))
+    (second (mul-le-mul-left (S + F) (third S F X)))
+  where
+    first : c * (M * R) ≤ c * (P + N * ((S + F) * (S + F + X))) → K * R ≤ c * P + S * ((S + F) * (S + F + X))
+    first h = omega (arith, ap (λ (z : ℕ). z * R) k, ap (λ (z : ℕ). z * ((S + F) * (S + F + X))) n)
+
+    third : (S F X : ℕ) → S * (S + F + X) ≤ (S + F) * (S + X)
+    third S F X = omega arith
+
+    second : (S + F) * (S * (S + F + X)) ≤ (S + F) * ((S + F) * (S + X)) → c * P + S * ((S + F) * (S + F + X)) ≤ c * P + (S + F) * (S + F) * (S + X)
+    second h = omega arith
+
+thousand : 2 ^ 1070 ≡ 2 ^ 48 * 2 ^ 1022
+thousand = refl
+
+whole : 2 ^ 1022 * 2 ^ 52 ≡ scale
+unfolding scale
+whole = refl
+
+pub within-of : (n : ℕ) (a l : ℕ → ℕ → Float) (b x : ℕ → Float) → Accurate n a l b x → Within n a l b x
+within-of n a l b x h i g =
+    loosen (2 ^ 48) (2 ^ 52) (2 ^ 1070) (2 ^ 1022) scale (natAbs (sumℤ (λ j. value (entry a i j) *ℤ value (x j)) n -ℤ pos scale *ℤ value (b i)) * scale)
+    (sum (λ j. sum (λ k. lower l i k * lower l j k) n * magnitude (x j)) n) (sizeL l n) (sizeX x n) thousand whole (front (2 ^ 48) (natAbs (sumℤ (λ j. value (entry a i j) *ℤ value (x j)) n -ℤ pos scale *ℤ value (b i)) * scale) (h i g))
+  where
+    front : {p : ℕ} (m r : ℕ) → r * m ≤ p → m * r ≤ p
+    front m r h = omega arith
+
+module _ (a l : List (List Float)) (b : List Float) (nine : length b ≡ 9) (e : factorOf a ≡ Lower l) (held : Held a b) where
+  E : Elements a l
+  E = elements a l e
+
+  y : List Float
+  y = forwardTo 9 l b
+
+  factored : Factored 9 (cells a) (cells l)
+  factored =
+      record {
+        below = λ i j ib jb. E .below-is i j ib jb;
+        diagonal = λ i ib. subst (IsRoot (run (cells a i i) (cells l i) (cells l i) i)) (sym (E .diagonal-is i ib)) (pivot-root (run (cells a i i) (cells l i) (cells l i) i) (run-fits (cells a i i) (cells l i) (cells l i) i (held .matrix-fits i i ib (le-refl i))) (E .pivot-is i ib));
+      }
+
+  forth : Forward 9 (cells l) (at b) (at y)
+  unfolding y
+  forth = forward-is l b nine
+
+  back : Backward 9 (cells l) (at y) (at (solutionOf l b))
+  unfolding y solutionOf
+  back = backward-is l (forwardTo 9 l b) (forward-length l b nine)
+
+  -- the factor
+  entries-finite : (i j : ℕ) → i < 9 → j < 9 → T (finite (cells l i j))
+  unfolding Finite
+  entries-finite i j ib jb = subst T (sym (factor-finite a l e .finite-rows i ib j jb)) tt
+
+  -- the matrix's lower triangle: each element under a quotient or a root that is finite
+  lower-finite : (i j : ℕ) → i < 9 → j ≤ i → T (finite (cells a i j))
+  lower-finite i j ib jb = go (eq-or-lt-of-le jb)
+    where
+      go : (j ≡ i) ⊎ (j < i) → T (finite (cells a i j))
+      go (inl q) = subst (λ (z : ℕ). T (finite (cells a i z))) (sym q) (run-start (cells a i i) (cells l i) (cells l i) i (factored .diagonal i ib .s-finite))
+      go (inr q) = run-start (cells a i j) (cells l i) (cells l j) j (div-finite (run (cells a i j) (cells l i) (cells l j) j) (cells l j j) (subst (λ (z : Float). T (finite z)) (E .below-is i j ib q) (entries-finite i j ib (omega arith))))
+
+  entry-finite : (i j : ℕ) → i < 9 → j < 9 → T (finite (entry (cells a) i j))
+  entry-finite i j ib jb = go (leb j i) (leb→le j i) (nleb→lt j i)
+    where
+      go : (t : Bool) → (T t → j ≤ i) → (T (not t) → i < j) → T (finite (cond t (cells a i j) (cells a j i)))
+      go true m k = lower-finite i j ib (m tt)
+      go false m k = lower-finite j i jb (le-of-lt (k tt))
+
+  module _ (f : T (finite (at (solutionOf l b) 0))) where
+    x : ℕ → Float
+    x k = at (solutionOf l b) k
+
+    -- under x 0 stand all the others, and y's first
+    top : T (finite (run (at y 0) (λ k. cells l (suc 0 + k) 0) (λ k. at (solutionOf l b) (suc 0 + k)) 8))
+    top = div-finite (run (at y 0) (λ k. cells l (suc 0 + k) 0) (λ k. at (solutionOf l b) (suc 0 + k)) 8) (cells l 0 0) (subst (λ (z : Float). T (finite z)) (back .at 0 (omega arith)) f)
+
+    x-finite : (k : ℕ) → k < 9 → T (finite (at (solutionOf l b) k))
+    x-finite zero kb = f
+    x-finite (suc k) kb =
+        let q : suc 0 + k ≡ suc k = omega arith in
+        subst (λ (z : ℕ). T (finite (at (solutionOf l b) z))) q (run-finite (at y 0) (λ k. cells l (suc 0 + k) 0) (λ k. at (solutionOf l b) (suc 0 + k)) 8 top k (omega arith) .1)
+
+    y-finite : (i : ℕ) → i < 9 → T (finite (at y i))
+    y-finite i ib =
+        let p : ℕ → Float = λ k. cells l (suc i + k) i in
+        let q : ℕ → Float = λ k. at (solutionOf l b) (suc i + k) in
+        run-start (at y i) p q (9 - suc i) (div-finite (run (at y i) p q (9 - suc i)) (cells l i i) (subst (λ (z : Float). T (finite z)) (back .at i ib) (x-finite i ib)))
+
+    b-finite : (i : ℕ) → i < 9 → T (finite (at b i))
+    b-finite i ib = run-start (at b i) (cells l i) (at y) i (div-finite (run (at b i) (cells l i) (at y) i) (cells l i i) (subst (λ (z : Float). T (finite z)) (forth .at i ib) (y-finite i ib)))
+
+    pub solves : Solves a b l (solutionOf l b)
+    solves =
+        record {
+          matrix-finite = entry-finite;
+          right-finite = b-finite;
+          factor-finite = entries-finite;
+          step-finite = x-finite;
+          within = within-of 9 (cells a) (cells l) (at b) (at (solutionOf l b)) (accurate 9 (le-refl 9) (cells a) (cells l) (at b) (at y) (at (solutionOf l b)) factored forth back (held .matrix-fits) (held .right-fits) x-finite);
+        }
