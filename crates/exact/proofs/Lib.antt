@@ -2,7 +2,8 @@
 pub mod Num
 pub mod Rounding
 pub mod Ops
-pub mod Run
+pub mod Steps
+pub mod Products
 pub mod Rows
 pub mod Bridge
 pub mod Whole

@@ -5,7 +5,6 @@ use lib.Ieee.{Float, binary64, add, sub, mul, div, ofBits}
 
 infixl 60 _⊕_ _⊖_
 infixl 70 _⊗_ _⊘_
-
 abbrev pub _⊕_ : Float → Float → Float
 a ⊕ b = add binary64 a b
 

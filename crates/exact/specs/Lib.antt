@@ -1,4 +1,4 @@
 pub mod Float
 pub mod Value
-pub mod Steps
+pub mod Products
 pub mod Solve

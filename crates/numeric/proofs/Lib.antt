@@ -1,3 +1,4 @@
+-- What the proofs of more than one function use, and the theorems.
 pub mod Squares
 pub mod Reading
 pub mod RootLaws
@@ -5,6 +6,11 @@ pub mod Parts
 pub mod Special
 pub mod Theorems
 pub mod Facts
-pub mod Elements
+pub mod Pivot
 pub mod Rooted
+pub mod FactorLaws
+pub mod FactorPlace
+pub mod FactorElements
+pub mod FactorFinite
+pub mod Answers
 pub mod System

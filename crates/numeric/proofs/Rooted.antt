@@ -13,8 +13,9 @@ use lib.Ieee.Exact.{HasValue}
 use lib.Ieee.Scale.{finite}
 use Rattle.exact.specs.Value.{scale, magnitude, value}
 use Rattle.numeric.specs.Root.{IsPositiveRoot, rootOf}
-use Rattle.numeric.specs.Factor.{nil, isPivot}
-use Rattle.exact.specs.Steps.{IsRoot}
+use Rattle.exact.specs.Float.{+0}
+use Rattle.numeric.specs.Factor.{isPivot}
+use Rattle.exact.proofs.Steps.{RootInUnits}
 use Rattle.exact.proofs.Ops.{exact}
 use Rattle.numeric.proofs.RootLaws.{r-scaled, four-pow}
 use Rattle.numeric.proofs.Theorems.{rootOf-root}
@@ -61,7 +62,7 @@ doubled k = sym (pow-add 2 (k + 485) (k + 485)) ∙ ap (λ (z : ℕ). 2 ^ z) (re
 four-pos : 0 < 4 ^ 589
 four-pos = pow-pos 1178
 
-pub positive-root : (s r : Float) → T (fits binary64 s) → IsPositiveRoot s r → IsRoot s r
+pub positive-root : (s r : Float) → T (fits binary64 s) → IsPositiveRoot s r → RootInUnits s r
 positive-root s r f h =
     let k = h .k in
     let S = stated s (h .n * 4 ^ k) (4 ^ 589) f (h .x-is) in
@@ -84,7 +85,7 @@ positive-root s r f h =
     }
 
 -- a pivot has a root
-pub pivot-root : (s : Float) → T (fits binary64 s) → isPivot s ≡ true → IsRoot s (rootOf s)
+pub pivot-root : (s : Float) → T (fits binary64 s) → isPivot s ≡ true → RootInUnits s (rootOf s)
 unfolding isPivot lt ofBits
 pivot-root nan f h = absurd (let z : _≡_ {A = ℕ} 0 1 = cc in omega arith)
 pivot-root (inf s) f h = absurd (let z : _≡_ {A = ℕ} 0 1 = cc in omega arith)

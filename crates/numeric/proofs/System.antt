@@ -15,14 +15,15 @@ use lib.Ieee.Scale.{finite}
 use Rattle.exact.specs.Value.{scale, magnitude, value}
 use Rattle.numeric.specs.Root.{rootOf}
 use Rattle.exact.specs.Solve.{sumℤ, sum, entry, lower, sizeL, sizeX, Accurate}
-use Rattle.exact.specs.Steps.{run, IsRoot, Factored, Forward, Backward}
-use Rattle.numeric.specs.Factor.{at, row, cells, forwardTo, backTo, Lower, factorOf, solutionOf}
-use Rattle.numeric.specs.Factor.Finite.{Finite, factor-finite}
+use Rattle.exact.specs.Products.{lessProducts}
+use Rattle.exact.proofs.Steps.{RootInUnits, FactorSteps, ForwardSteps, BackwardSteps}
+use Rattle.numeric.specs.Factor.{at, row, cell, forwardTo, backTo, Lower, factorOf, solutionOf}
+use Rattle.numeric.proofs.FactorFinite.{factor-finite}
 use Rattle.numeric.specs.System.{Within, Solves, Held}
 use Rattle.exact.proofs.Ops.{div-finite}
-use Rattle.exact.proofs.Run.{run-fits, run-start, run-finite}
+use Rattle.exact.proofs.Products.{less-fits, less-start, less-finite}
 use Rattle.exact.proofs.Solve.{accurate}
-use Rattle.numeric.proofs.Elements.{Elements, elements, forward-is, forward-length, backward-is}
+use Rattle.numeric.proofs.FactorElements.{Elements, elements, forward-is, forward-length, backward-is}
 use Rattle.numeric.proofs.Rooted.{pivot-root}
 
 -- ---- the bound as the mission has it, from the sharper one
@@ -62,38 +63,37 @@ module _ (a l : List (List Float)) (b : List Float) (nine : length b ≡ 9) (e :
   y : List Float
   y = forwardTo 9 l b
 
-  factored : Factored 9 (cells a) (cells l)
+  factored : FactorSteps 9 (cell a) (cell l)
   factored =
       record {
         below = λ i j ib jb. E .below-is i j ib jb;
-        diagonal = λ i ib. subst (IsRoot (run (cells a i i) (cells l i) (cells l i) i)) (sym (E .diagonal-is i ib)) (pivot-root (run (cells a i i) (cells l i) (cells l i) i) (run-fits (cells a i i) (cells l i) (cells l i) i (held .matrix-fits i i ib (le-refl i))) (E .pivot-is i ib));
+        diagonal = λ i ib. subst (RootInUnits (lessProducts (cell a i i) (cell l i) (cell l i) i)) (sym (E .diagonal-is i ib)) (pivot-root (lessProducts (cell a i i) (cell l i) (cell l i) i) (less-fits (cell a i i) (cell l i) (cell l i) i (held .matrix-fits i i ib (le-refl i))) (E .pivot-is i ib));
       }
 
-  forth : Forward 9 (cells l) (at b) (at y)
+  forth : ForwardSteps 9 (cell l) (at b) (at y)
   unfolding y
   forth = forward-is l b nine
 
-  back : Backward 9 (cells l) (at y) (at (solutionOf l b))
+  back : BackwardSteps 9 (cell l) (at y) (at (solutionOf l b))
   unfolding y solutionOf
   back = backward-is l (forwardTo 9 l b) (forward-length l b nine)
 
   -- the factor
-  entries-finite : (i j : ℕ) → i < 9 → j < 9 → T (finite (cells l i j))
-  unfolding Finite
-  entries-finite i j ib jb = subst T (sym (factor-finite a l e .finite-rows i ib j jb)) tt
+  entries-finite : (i j : ℕ) → i < 9 → j < 9 → T (finite (cell l i j))
+  entries-finite i j ib jb = factor-finite a l e i j ib jb
 
   -- the matrix's lower triangle: each element under a quotient or a root that is finite
-  lower-finite : (i j : ℕ) → i < 9 → j ≤ i → T (finite (cells a i j))
+  lower-finite : (i j : ℕ) → i < 9 → j ≤ i → T (finite (cell a i j))
   lower-finite i j ib jb = go (eq-or-lt-of-le jb)
     where
-      go : (j ≡ i) ⊎ (j < i) → T (finite (cells a i j))
-      go (inl q) = subst (λ (z : ℕ). T (finite (cells a i z))) (sym q) (run-start (cells a i i) (cells l i) (cells l i) i (factored .diagonal i ib .s-finite))
-      go (inr q) = run-start (cells a i j) (cells l i) (cells l j) j (div-finite (run (cells a i j) (cells l i) (cells l j) j) (cells l j j) (subst (λ (z : Float). T (finite z)) (E .below-is i j ib q) (entries-finite i j ib (omega arith))))
+      go : (j ≡ i) ⊎ (j < i) → T (finite (cell a i j))
+      go (inl q) = subst (λ (z : ℕ). T (finite (cell a i z))) (sym q) (less-start (cell a i i) (cell l i) (cell l i) i (factored .diagonal i ib .s-finite))
+      go (inr q) = less-start (cell a i j) (cell l i) (cell l j) j (div-finite (lessProducts (cell a i j) (cell l i) (cell l j) j) (cell l j j) (subst (λ (z : Float). T (finite z)) (E .below-is i j ib q) (entries-finite i j ib (omega arith))))
 
-  entry-finite : (i j : ℕ) → i < 9 → j < 9 → T (finite (entry (cells a) i j))
+  entry-finite : (i j : ℕ) → i < 9 → j < 9 → T (finite (entry (cell a) i j))
   entry-finite i j ib jb = go (leb j i) (leb→le j i) (nleb→lt j i)
     where
-      go : (t : Bool) → (T t → j ≤ i) → (T (not t) → i < j) → T (finite (cond t (cells a i j) (cells a j i)))
+      go : (t : Bool) → (T t → j ≤ i) → (T (not t) → i < j) → T (finite (cond t (cell a i j) (cell a j i)))
       go true m k = lower-finite i j ib (m tt)
       go false m k = lower-finite j i jb (le-of-lt (k tt))
 
@@ -102,23 +102,23 @@ module _ (a l : List (List Float)) (b : List Float) (nine : length b ≡ 9) (e :
     x k = at (solutionOf l b) k
 
     -- under x 0 stand all the others, and y's first
-    top : T (finite (run (at y 0) (λ k. cells l (suc 0 + k) 0) (λ k. at (solutionOf l b) (suc 0 + k)) 8))
-    top = div-finite (run (at y 0) (λ k. cells l (suc 0 + k) 0) (λ k. at (solutionOf l b) (suc 0 + k)) 8) (cells l 0 0) (subst (λ (z : Float). T (finite z)) (back .at 0 (omega arith)) f)
+    top : T (finite (lessProducts (at y 0) (λ k. cell l (suc 0 + k) 0) (λ k. at (solutionOf l b) (suc 0 + k)) 8))
+    top = div-finite (lessProducts (at y 0) (λ k. cell l (suc 0 + k) 0) (λ k. at (solutionOf l b) (suc 0 + k)) 8) (cell l 0 0) (subst (λ (z : Float). T (finite z)) (back .at 0 (omega arith)) f)
 
     x-finite : (k : ℕ) → k < 9 → T (finite (at (solutionOf l b) k))
     x-finite zero kb = f
     x-finite (suc k) kb =
         let q : suc 0 + k ≡ suc k = omega arith in
-        subst (λ (z : ℕ). T (finite (at (solutionOf l b) z))) q (run-finite (at y 0) (λ k. cells l (suc 0 + k) 0) (λ k. at (solutionOf l b) (suc 0 + k)) 8 top k (omega arith) .1)
+        subst (λ (z : ℕ). T (finite (at (solutionOf l b) z))) q (less-finite (at y 0) (λ k. cell l (suc 0 + k) 0) (λ k. at (solutionOf l b) (suc 0 + k)) 8 top k (omega arith) .1)
 
     y-finite : (i : ℕ) → i < 9 → T (finite (at y i))
     y-finite i ib =
-        let p : ℕ → Float = λ k. cells l (suc i + k) i in
+        let p : ℕ → Float = λ k. cell l (suc i + k) i in
         let q : ℕ → Float = λ k. at (solutionOf l b) (suc i + k) in
-        run-start (at y i) p q (9 - suc i) (div-finite (run (at y i) p q (9 - suc i)) (cells l i i) (subst (λ (z : Float). T (finite z)) (back .at i ib) (x-finite i ib)))
+        less-start (at y i) p q (9 - suc i) (div-finite (lessProducts (at y i) p q (9 - suc i)) (cell l i i) (subst (λ (z : Float). T (finite z)) (back .at i ib) (x-finite i ib)))
 
     b-finite : (i : ℕ) → i < 9 → T (finite (at b i))
-    b-finite i ib = run-start (at b i) (cells l i) (at y) i (div-finite (run (at b i) (cells l i) (at y) i) (cells l i i) (subst (λ (z : Float). T (finite z)) (forth .at i ib) (y-finite i ib)))
+    b-finite i ib = less-start (at b i) (cell l i) (at y) i (div-finite (lessProducts (at b i) (cell l i) (at y) i) (cell l i i) (subst (λ (z : Float). T (finite z)) (forth .at i ib) (y-finite i ib)))
 
     pub solves : Solves a b l (solutionOf l b)
     solves =
@@ -127,5 +127,5 @@ module _ (a l : List (List Float)) (b : List Float) (nine : length b ≡ 9) (e :
           right-finite = b-finite;
           factor-finite = entries-finite;
           step-finite = x-finite;
-          within = within-of 9 (cells a) (cells l) (at b) (at (solutionOf l b)) (accurate 9 (le-refl 9) (cells a) (cells l) (at b) (at y) (at (solutionOf l b)) factored forth back (held .matrix-fits) (held .right-fits) x-finite);
+          within = within-of 9 (cell a) (cell l) (at b) (at (solutionOf l b)) (accurate 9 (le-refl 9) (cell a) (cell l) (at b) (at y) (at (solutionOf l b)) factored forth back (held .matrix-fits) (held .right-fits) x-finite);
         }

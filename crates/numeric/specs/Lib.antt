@@ -1,3 +1,5 @@
+pub mod Refusal
 pub mod Root
 pub mod Factor
+pub mod Answer
 pub mod System

@@ -8,7 +8,7 @@ use lib.Ieee.{Float, binary64, fits}
 use lib.Ieee.Scale.{finite}
 use Rattle.exact.specs.Value.{scale, magnitude, value}
 use Rattle.exact.specs.Solve.{sumℤ, sum, entry, lower, sizeL, sizeX}
-use Rattle.numeric.specs.Factor.{at, cells}
+use Rattle.numeric.specs.Factor.{at, cell}
 
 -- In each row i: |A x - b| <= 2 ^ -48 * (|L| |L^T| |x|) + 2 ^ -1070 * (1 + F) * (1 + F) * (1 + X), where F and X are the sums of the sizes of L's entries and of x's.
 -- Both sides are multiplied by 2 ^ 1070, and are in units of products of three numbers: there scale * scale * scale is the number 1.
@@ -19,13 +19,13 @@ Within n a l b x =
     ≤ 2 ^ 1022 * sum (λ j. sum (λ k. lower l i k * lower l j k) n * magnitude (x j)) n + (scale + sizeL l n) * (scale + sizeL l n) * (scale + sizeX x n)
 
 pub record Solves (a : List (List Float)) (b : List Float) (l : List (List Float)) (x : List Float) : Type 0 where
-  pub matrix-finite : (i j : ℕ) → i < 9 → j < 9 → T (finite (entry (cells a) i j))
+  pub matrix-finite : (i j : ℕ) → i < 9 → j < 9 → T (finite (entry (cell a) i j))
   pub right-finite : (i : ℕ) → i < 9 → T (finite (at b i))
-  pub factor-finite : (i j : ℕ) → i < 9 → j < 9 → T (finite (cells l i j))
+  pub factor-finite : (i j : ℕ) → i < 9 → j < 9 → T (finite (cell l i j))
   pub step-finite : (i : ℕ) → i < 9 → T (finite (at x i))
-  pub within : Within 9 (cells a) (cells l) (at b) (at x)
+  pub within : Within 9 (cell a) (cell l) (at b) (at x)
 
 -- each number that counts is a binary64, as every result of an operation is
 pub record Held (a : List (List Float)) (b : List Float) : Type 0 where
-  pub matrix-fits : (i j : ℕ) → i < 9 → j ≤ i → T (fits binary64 (cells a i j))
+  pub matrix-fits : (i j : ℕ) → i < 9 → j ≤ i → T (fits binary64 (cell a i j))
   pub right-fits : (i : ℕ) → i < 9 → T (fits binary64 (at b i))

@@ -1,0 +1,40 @@
+// Why a call turns back: document 01's numbers, each under its one name.
+ghost use mathlib.Core.Path.{_≡_};
+ghost use Rattle.numeric.specs.Refusal.{numberOf};
+
+pub enum Refusal {
+    BrokenForm,
+    TooMany,
+    SettingOutOfRange,
+    RecordOutOfRange,
+    BadInterval,
+    BadTrack,
+    TooFewPairs,
+    TooFewRows,
+    TooManySlots,
+    FitFailed,
+    TableFull,
+    NoCorrection,
+}
+
+impl Refusal {
+    // The number that a caller outside is given.
+    pub fn number(self) -> u8
+        ensures { λ r. ⌜ r ≡ numberOf self ⌝ }
+    {
+        match self {
+            Refusal::BrokenForm => 1,
+            Refusal::TooMany => 2,
+            Refusal::SettingOutOfRange => 3,
+            Refusal::RecordOutOfRange => 4,
+            Refusal::BadInterval => 5,
+            Refusal::BadTrack => 6,
+            Refusal::TooFewPairs => 7,
+            Refusal::TooFewRows => 8,
+            Refusal::TooManySlots => 9,
+            Refusal::FitFailed => 10,
+            Refusal::TableFull => 11,
+            Refusal::NoCorrection => 12,
+        }
+    }
+}
