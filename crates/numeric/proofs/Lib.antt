@@ -6,6 +6,9 @@ pub mod Parts
 pub mod Special
 pub mod Theorems
 pub mod Facts
+pub mod OrderMagnitude
+pub mod OrderLaws
+pub mod OrderValues
 pub mod Pivot
 pub mod Rooted
 pub mod FactorLaws

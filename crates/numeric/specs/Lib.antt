@@ -1,5 +1,6 @@
 pub mod Refusal
 pub mod Root
+pub mod Order
 pub mod Factor
 pub mod Answer
 pub mod System

@@ -1,0 +1,269 @@
+-- The laws of the total order, and of a float's pattern. Assumes nothing.
+use Prim.Native.Nat.{ℕ, _+_, _-_, _%_, _^_, _≤_, _<_}
+use native.Mathlib.Omega.{arith}
+use mathlib.Core.Path.{_≡_, refl, sym, ap, _∙_}
+use mathlib.Core.Logic.{_⊎_, inl, inr}
+use mathlib.Core.Bool.{Bool, true, false, not, _&&_, Bool·beq, cond}
+use lib.Dec.{T, leb, ltb, eqb}
+use borrow.Author.Tests.{lt-ltb, le-ltb, le-leb, lt-leb, eq-eqb, ltb-true, ltb-false, leb-true, leb-false}
+use lib.Ieee.{Float, nan, inf, fin, binary64, below, level, lt, eq, ne, toBits, isNan, fits}
+use lib.Ieee.Compare.{differs-from-itself, nan-differs}
+use lib.Ieee.Bits.{ofBits-toBits, toBits-ofBits, toBits-lt}
+use Rattle.exact.specs.Float.{bits}
+use Rattle.numeric.specs.Order.{sign, digits, isNaN, isQuiet, payload, equalOrder, payloadOrder, nanOrder, unordered, totalOrder, keyOf, patternAt, patternOf}
+use Rattle.numeric.proofs.OrderMagnitude.{unsigned, infinity, trichotomy, lt-bits, eq-bits, isNaN-above, isNan-bits, bits-nan}
+
+-- ---- numbers
+
+-- Like signs go by the pattern without the sign, negative ones in the reverse order, and negative patterns come before the others.
+abbrev ordered : Bool → ℕ → Bool → ℕ → Bool
+ordered false a false b = leb a b
+ordered false a true b = false
+ordered true a false b = true
+ordered true a true b = leb b a
+
+-- like signs: what is neither less nor greater is equal
+like : (a b : ℕ) (e d : Bool) → (a ≡ b → e ≡ true) → cond (ltb a b) true (cond (ltb b a) false (cond e true d)) ≡ leb a b
+like a b e d h = go (trichotomy a b)
+  where
+    go : (a < b) ⊎ ((a ≡ b) ⊎ (b < a)) → cond (ltb a b) true (cond (ltb b a) false (cond e true d)) ≡ leb a b
+    go (inl l) = rw (lt-ltb a b l, le-leb a b (omega arith))
+    go (inr (inl q)) = rw (le-ltb a b (omega arith), le-ltb b a (omega arith), h q, le-leb a b (omega arith))
+    go (inr (inr g)) = rw (le-ltb a b (omega arith), lt-ltb b a g, lt-leb a b g)
+
+-- unlike signs: the magnitudes are not both 0, or both are
+unlike : (a b n : ℕ) (v d : Bool) → n ≡ a + b → cond (ltb 0 n) v (cond (eqb a b && eqb a 0) v d) ≡ v
+unlike a b n v d e = go (ltb 0 n) refl
+  where
+    go : (t : Bool) → ltb 0 n ≡ t → cond t v (cond (eqb a b && eqb a 0) v d) ≡ v
+    go true h = refl
+    go false h = let z : n ≤ 0 = ltb-false 0 n h in rw (eq-eqb a b (omega arith), eq-eqb a 0 (omega arith))
+
+-- (a), (b) and (c) at numbers, whatever (d) has there
+numbers : (s t : Bool) (a b : ℕ) (d : Bool) → cond (below s a t b) true (cond (below t b s a) false (cond (level s a t b) (equalOrder s t) d)) ≡ ordered s a t b
+numbers false false a b d = like a b (level false a false b) d (λ e. rw (eq-eqb a b e))
+numbers false true a b d = unlike a b (b + a) false d (omega arith)
+numbers true false a b d = unlike a b (a + b) true d refl
+numbers true true a b d = like b a (level true a true b) d (λ e. rw (eq-eqb a b (sym e)))
+
+-- ---- NaNs
+
+-- a test that follows another
+leb-same : (p q a b : ℕ) → (p ≤ q → a ≤ b) → (q < p → b < a) → leb p q ≡ leb a b
+leb-same p q a b f g = go (leb p q) refl
+  where
+    go : (t : Bool) → leb p q ≡ t → t ≡ leb a b
+    go true e = sym (le-leb a b (f (leb-true p q e)))
+    go false e = sym (lt-leb a b (g (leb-false p q e)))
+
+-- two NaNs of one sign go by their patterns: bit 51 is the highest in which they can differ
+payload-unsigned : (x y : ℕ) → infinity < unsigned x → infinity < unsigned y → payloadOrder x y ≡ leb (unsigned x) (unsigned y)
+unfolding payloadOrder isQuiet payload digits
+payload-unsigned x y h k = go (leb (2 ^ 51) (x % 2 ^ 52)) (leb (2 ^ 51) (y % 2 ^ 52)) refl refl
+  where
+    go : (p q : Bool) → leb (2 ^ 51) (x % 2 ^ 52) ≡ p → leb (2 ^ 51) (y % 2 ^ 52) ≡ q → cond (Bool·beq p q) (leb (x % 2 ^ 51) (y % 2 ^ 51)) q ≡ leb (unsigned x) (unsigned y)
+    go true true e f =
+        let a : 2 ^ 51 ≤ x % 2 ^ 52 = leb-true _ _ e in
+        let b : 2 ^ 51 ≤ y % 2 ^ 52 = leb-true _ _ f in
+        leb-same (x % 2 ^ 51) (y % 2 ^ 51) (unsigned x) (unsigned y) (omega arith) (omega arith)
+    go false false e f =
+        let a : x % 2 ^ 52 < 2 ^ 51 = leb-false _ _ e in
+        let b : y % 2 ^ 52 < 2 ^ 51 = leb-false _ _ f in
+        leb-same (x % 2 ^ 51) (y % 2 ^ 51) (unsigned x) (unsigned y) (omega arith) (omega arith)
+    go true false e f =
+        let a : 2 ^ 51 ≤ x % 2 ^ 52 = leb-true _ _ e in
+        let b : y % 2 ^ 52 < 2 ^ 51 = leb-false _ _ f in
+        sym (lt-leb (unsigned x) (unsigned y) (omega arith))
+    go false true e f =
+        let a : x % 2 ^ 52 < 2 ^ 51 = leb-false _ _ e in
+        let b : 2 ^ 51 ≤ y % 2 ^ 52 = leb-true _ _ f in
+        sym (le-leb (unsigned x) (unsigned y) (omega arith))
+
+-- (d 3) two NaNs
+both-nan : (s t : Bool) (x y : ℕ) → infinity < unsigned x → infinity < unsigned y → nanOrder s t x y ≡ ordered s (unsigned x) t (unsigned y)
+both-nan false false x y h k = payload-unsigned x y h k
+both-nan false true x y h k = refl
+both-nan true false x y h k = refl
+both-nan true true x y h k = payload-unsigned y x k h
+
+-- (d 1) a NaN and a number
+left-nan : (s t : Bool) (a b : ℕ) → b < a → s ≡ ordered s a t b
+left-nan false false a b h = sym (lt-leb a b h)
+left-nan false true a b h = refl
+left-nan true false a b h = refl
+left-nan true true a b h = sym (le-leb b a (omega arith))
+
+-- (d 2) a number and a NaN
+right-nan : (s t : Bool) (a b : ℕ) → a < b → not t ≡ ordered s a t b
+right-nan false false a b h = sym (le-leb a b (omega arith))
+right-nan false true a b h = refl
+right-nan true false a b h = refl
+right-nan true true a b h = sym (lt-leb b a h)
+
+-- ---- the order, by sign and what is left of the pattern
+
+-- (d) where a NaN stands no comparison holds
+at-nan : (x y : ℕ) → (bits x ≡ nan) ⊎ (bits y ≡ nan) → totalOrder x y ≡ unordered x y
+unfolding totalOrder lt eq
+at-nan x y (inl h) = rw h (go (bits y))
+  where
+    go : (v : Float) → cond (lt nan v) true (cond (lt v nan) false (cond (eq nan v) (equalOrder (sign x) (sign y)) (unordered x y))) ≡ unordered x y
+    go nan = refl
+    go (inf s) = refl
+    go (fin s m e) = refl
+at-nan x y (inr h) = rw h (go (bits x))
+  where
+    go : (v : Float) → cond (lt v nan) true (cond (lt nan v) false (cond (eq v nan) (equalOrder (sign x) (sign y)) (unordered x y))) ≡ unordered x y
+    go nan = refl
+    go (inf s) = refl
+    go (fin s m e) = refl
+
+-- (a), (b), (c) at two patterns that are no NaN's
+at-numbers : (x y : ℕ) → unsigned x ≤ infinity → unsigned y ≤ infinity → totalOrder x y ≡ ordered (sign x) (unsigned x) (sign y) (unsigned y)
+unfolding totalOrder
+at-numbers x y h k = rw (lt-bits x y h k, lt-bits y x k h, eq-bits x y h k) (numbers (sign x) (sign y) (unsigned x) (unsigned y) (unordered x y))
+
+-- all four cases
+totalOrder-ordered : (x y : ℕ) → totalOrder x y ≡ ordered (sign x) (unsigned x) (sign y) (unsigned y)
+unfolding unordered
+totalOrder-ordered x y = go (ltb infinity (unsigned x)) (ltb infinity (unsigned y)) refl refl
+  where
+    go : (p q : Bool) → ltb infinity (unsigned x) ≡ p → ltb infinity (unsigned y) ≡ q → totalOrder x y ≡ ordered (sign x) (unsigned x) (sign y) (unsigned y)
+    go false false e f = at-numbers x y (ltb-false _ _ e) (ltb-false _ _ f)
+    go true true e f =
+        let h : infinity < unsigned x = ltb-true _ _ e in
+        let k : infinity < unsigned y = ltb-true _ _ f in
+        at-nan x y (inl (bits-nan x h)) ∙ rw (isNaN-above x ∙ e, isNaN-above y ∙ f) (both-nan (sign x) (sign y) x y h k)
+    go true false e f =
+        let h : infinity < unsigned x = ltb-true _ _ e in
+        let k : unsigned y ≤ infinity = ltb-false _ _ f in
+        at-nan x y (inl (bits-nan x h)) ∙ rw (isNaN-above x ∙ e, isNaN-above y ∙ f) (left-nan (sign x) (sign y) (unsigned x) (unsigned y) (omega arith))
+    go false true e f =
+        let h : unsigned x ≤ infinity = ltb-false _ _ e in
+        let k : infinity < unsigned y = ltb-true _ _ f in
+        at-nan x y (inr (bits-nan y k)) ∙ rw (isNaN-above x ∙ e) (right-nan (sign x) (sign y) (unsigned x) (unsigned y) (omega arith))
+
+-- ---- the order of the keys
+
+-- the two cases of a key
+key-positive : (b : ℕ) → sign b ≡ false → (b < 2 ^ 63) × (keyOf b ≡ b + 2 ^ 63)
+unfolding sign keyOf
+key-positive b e = let h : b < 2 ^ 63 = leb-false _ _ e in (h, rw (lt-ltb b (2 ^ 63) h))
+
+key-negative : (b : ℕ) → sign b ≡ true → (2 ^ 63 ≤ b) × (keyOf b ≡ 2 ^ 64 - 1 - b)
+unfolding sign keyOf
+key-negative b e = let h : 2 ^ 63 ≤ b = leb-true _ _ e in (h, rw (le-ltb b (2 ^ 63) h))
+
+ordered-keys : (a b : ℕ) → a < 2 ^ 64 → b < 2 ^ 64 → ordered (sign a) (unsigned a) (sign b) (unsigned b) ≡ leb (keyOf a) (keyOf b)
+ordered-keys a b ha hb = go (sign a) (sign b) refl refl
+  where
+    go : (s t : Bool) → sign a ≡ s → sign b ≡ t → ordered s (unsigned a) t (unsigned b) ≡ leb (keyOf a) (keyOf b)
+    go false false e f = let k = key-positive a e in let l = key-positive b f in leb-same (unsigned a) (unsigned b) (keyOf a) (keyOf b) (omega arith) (omega arith)
+    go false true e f = let k = key-positive a e in let l = key-negative b f in sym (lt-leb (keyOf a) (keyOf b) (omega arith))
+    go true false e f = let k = key-negative a e in let l = key-positive b f in sym (le-leb (keyOf a) (keyOf b) (omega arith))
+    go true true e f = let k = key-negative a e in let l = key-negative b f in leb-same (unsigned b) (unsigned a) (keyOf a) (keyOf b) (omega arith) (omega arith)
+
+-- the order is that of the keys
+pub totalOrder-key : (a b : ℕ) → a < 2 ^ 64 → b < 2 ^ 64 → totalOrder a b ≡ leb (keyOf a) (keyOf b)
+totalOrder-key a b ha hb = totalOrder-ordered a b ∙ ordered-keys a b ha hb
+
+-- ---- the order is a total one: reflexive, antisymmetric, transitive, total
+
+module _ (a : ℕ) (ha : a < 2 ^ 64) where
+  pub reflexive : totalOrder a a ≡ true
+  reflexive = totalOrder-key a a ha ha ∙ le-leb (keyOf a) (keyOf a) (omega arith)
+
+  -- the pattern at a pattern's place is that pattern
+  pub patternAt-key : patternAt (keyOf a) ≡ a
+  unfolding patternAt
+  patternAt-key = go (sign a) refl
+    where
+      go : (s : Bool) → sign a ≡ s → cond (ltb (keyOf a) (2 ^ 63)) (2 ^ 64 - 1 - keyOf a) (keyOf a - 2 ^ 63) ≡ a
+      go false e = let k = key-positive a e in rw (le-ltb (keyOf a) (2 ^ 63) (omega arith)) (omega arith)
+      go true e = let k = key-negative a e in rw (lt-ltb (keyOf a) (2 ^ 63) (omega arith)) (omega arith)
+
+  -- a key has 64 bits
+  pub keyOf-lt : keyOf a < 2 ^ 64
+  keyOf-lt = go (sign a) refl
+    where
+      go : (s : Bool) → sign a ≡ s → keyOf a < 2 ^ 64
+      go false e = let k = key-positive a e in omega arith
+      go true e = let k = key-negative a e in omega arith
+
+module _ (a b : ℕ) (ha : a < 2 ^ 64) (hb : b < 2 ^ 64) where
+  -- two patterns have two keys
+  pub keyOf-injective : keyOf a ≡ keyOf b → a ≡ b
+  keyOf-injective e = sym (patternAt-key a ha) ∙ ap patternAt e ∙ patternAt-key b hb
+
+  -- `totalOrder-key` as a fact, both ways
+  pub totalOrder-le : totalOrder a b ≡ true → keyOf a ≤ keyOf b
+  totalOrder-le h = leb-true (keyOf a) (keyOf b) (sym (totalOrder-key a b ha hb) ∙ h)
+
+  pub le-totalOrder : keyOf a ≤ keyOf b → totalOrder a b ≡ true
+  le-totalOrder h = totalOrder-key a b ha hb ∙ le-leb (keyOf a) (keyOf b) h
+
+  pub antisymmetric : totalOrder a b ≡ true → totalOrder b a ≡ true → a ≡ b
+  antisymmetric h k =
+      let l : keyOf a ≤ keyOf b = totalOrder-le h in
+      let g : keyOf b ≤ keyOf a = leb-true (keyOf b) (keyOf a) (sym (totalOrder-key b a hb ha) ∙ k) in
+      keyOf-injective (omega arith)
+
+  pub total : (totalOrder a b ≡ true) ⊎ (totalOrder b a ≡ true)
+  total = go (leb (keyOf a) (keyOf b)) refl
+    where
+      go : (t : Bool) → leb (keyOf a) (keyOf b) ≡ t → (totalOrder a b ≡ true) ⊎ (totalOrder b a ≡ true)
+      go true e = inl (totalOrder-key a b ha hb ∙ e)
+      go false e = let h : keyOf b < keyOf a = leb-false _ _ e in inr (totalOrder-key b a hb ha ∙ le-leb (keyOf b) (keyOf a) (omega arith))
+
+pub transitive : (a b c : ℕ) → a < 2 ^ 64 → b < 2 ^ 64 → c < 2 ^ 64 → totalOrder a b ≡ true → totalOrder b c ≡ true → totalOrder a c ≡ true
+transitive a b c ha hb hc h k =
+    let p : keyOf a ≤ keyOf b = totalOrder-le a b ha hb h in
+    let q : keyOf b ≤ keyOf c = totalOrder-le b c hb hc k in
+    le-totalOrder a c ha hc (omega arith)
+
+-- ---- patterns and floats
+
+no-nan : (x : Float) → ne x x ≡ false → isNan x ≡ false
+unfolding isNan
+no-nan nan h = sym nan-differs ∙ h
+no-nan (inf s) h = refl
+no-nan (fin s m e) h = refl
+
+-- a NaN is what differs from itself
+pub isNan-differs : (x : Float) → isNan x ≡ ne x x
+unfolding isNan
+isNan-differs x = go (ne x x) refl
+  where
+    go : (t : Bool) → ne x x ≡ t → isNan x ≡ t
+    go true h = ap isNan (differs-from-itself x (rw h tt))
+    go false h = no-nan x h
+
+-- the choice at a NaN
+pub pattern-of-nan : (x : Float) → isNan x ≡ true → patternOf x ≡ 0x7FF8_0000_0000_0000
+unfolding patternOf
+pattern-of-nan x h = rw h
+
+pattern-nan : patternOf nan ≡ toBits binary64 nan
+unfolding patternOf isNan toBits
+pattern-nan = refl
+
+-- the pattern written is that of `toBits`, whose NaN is the one that `patternOf` names
+pub pattern-bits : (x : Float) → patternOf x ≡ toBits binary64 x
+unfolding patternOf isNan
+pattern-bits nan = pattern-nan
+pattern-bits (inf s) = refl
+pattern-bits (fin s m e) = refl
+
+-- reading a float's pattern gives the float
+pub pattern-back : (x : Float) → T (fits binary64 x) → bits (patternOf x) ≡ x
+pattern-back x h = ap bits (pattern-bits x) ∙ ofBits-toBits binary64 x h
+
+-- a float's pattern has 64 bits
+pub pattern-lt : (x : Float) → T (fits binary64 x) → patternOf x < 2 ^ 64
+pattern-lt x h = rw (pattern-bits x) (toBits-lt binary64 x h)
+
+-- writing what was read from a pattern gives the pattern, if it is no NaN's
+pub pattern-same : (b : ℕ) → b < 2 ^ 64 → isNaN b ≡ false → patternOf (bits b) ≡ b
+pattern-same b h n =
+    let m : isNan (bits b) ≡ false = isNan-bits b ∙ sym (isNaN-above b) ∙ n in
+    pattern-bits (bits b) ∙ toBits-ofBits binary64 b h (rw m tt)

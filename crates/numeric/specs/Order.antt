@@ -1,0 +1,81 @@
+-- The total order of IEEE 754-2019, 5.10, at binary64, on patterns: a pattern is 64 bits, as a natural number below 2 ^ 64. Definitions only.
+-- The order speaks of patterns, since it tells NaNs apart by sign and payload, and the one NaN of a float here has neither.
+use Prim.Native.Nat.{ℕ, _+_, _-_, _/_, _%_, _^_}
+use mathlib.Core.Bool.{Bool, true, false, not, _&&_, Bool·beq, cond}
+use lib.Dec.{leb, ltb, eqb}
+use lib.Ieee.{Float, binary64, toBits, isNan, lt, eq}
+use Rattle.exact.specs.Float.{bits}
+
+-- ---- the fields of a pattern (3.4)
+
+-- the sign, bit 63: true for negative
+unfoldable pub sign : ℕ → Bool
+sign b = leb (2 ^ 63) b
+
+-- the exponent field, bits 62 to 52
+unfoldable pub exponent : ℕ → ℕ
+exponent b = b / 2 ^ 52 % 2 ^ 11
+
+-- the digits below the leading one, bits 51 to 0
+unfoldable pub digits : ℕ → ℕ
+digits b = b % 2 ^ 52
+
+-- a NaN: the exponent field is all ones, and the digits are not 0 (3.4 a)
+unfoldable pub isNaN : ℕ → Bool
+isNaN b = eqb (exponent b) 0x7FF && not (eqb (digits b) 0)
+
+-- a quiet NaN: the first of its digits, bit 51, is 1; of a signaling NaN it is 0 (6.2.1)
+unfoldable pub isQuiet : ℕ → Bool
+isQuiet b = leb (2 ^ 51) (digits b)
+
+-- the payload of a NaN: its other digits, bits 50 to 0 (6.2.1)
+unfoldable pub payload : ℕ → ℕ
+payload b = b % 2 ^ 51
+
+-- ---- the order
+
+-- (c) equal numbers, by the signs of x and y. Those of unlike sign are the two zeros: -0 comes before +0 (c 1, c 2).
+-- Those of like sign are one datum, and in a binary format a datum has one exponent: they are in order (c 3).
+abbrev pub equalOrder : Bool → Bool → Bool
+equalOrder true false = true
+equalOrder false true = false
+equalOrder true true = true
+equalOrder false false = true
+
+-- Positive NaNs: signaling before quiet (d 3 ii), and then the lesser payload first (d 3 iii, which leaves this to the implementation:
+-- Rust's `total_cmp` takes the same order).
+unfoldable pub payloadOrder : ℕ → ℕ → Bool
+payloadOrder x y = cond (Bool·beq (isQuiet x) (isQuiet y)) (leb (payload x) (payload y)) (isQuiet y)
+
+-- (d 3) two NaNs, by the signs of x and y: negative before positive (d 3 i), and negative NaNs in the reverse of the order of positive ones
+abbrev pub nanOrder : Bool → Bool → ℕ → ℕ → Bool
+nanOrder true false x y = true
+nanOrder false true x y = false
+nanOrder false false x y = payloadOrder x y
+nanOrder true true x y = payloadOrder y x
+
+-- (d) x or y is a NaN: a negative NaN comes before every number (d 1), and every number before a positive NaN (d 2), and neither the other way round
+unfoldable pub unordered : ℕ → ℕ → Bool
+unordered x y = cond (isNaN x && isNaN y) (nanOrder (sign x) (sign y) x y) (cond (isNaN x) (sign x) (not (sign y)))
+
+-- whether x comes before y or is y: (a) the numbers have x < y, (b) they have x > y, (c) they are equal, (d) they are unordered
+unfoldable pub totalOrder : ℕ → ℕ → Bool
+totalOrder x y =
+    cond (lt (bits x) (bits y)) true
+    (cond (lt (bits y) (bits x)) false
+    (cond (eq (bits x) (bits y)) (equalOrder (sign x) (sign y))
+    (unordered x y)))
+
+-- The place of a pattern in the order, from 0: the negative ones, from the greatest magnitude down, and then the others.
+unfoldable pub keyOf : ℕ → ℕ
+keyOf b = cond (ltb b (2 ^ 63)) (b + 2 ^ 63) (2 ^ 64 - 1 - b)
+
+-- the pattern at a place: what undoes `keyOf`
+unfoldable pub patternAt : ℕ → ℕ
+patternAt k = cond (ltb k (2 ^ 63)) (2 ^ 64 - 1 - k) (k - 2 ^ 63)
+
+-- ---- patterns and floats
+
+-- The pattern of a float. IEEE 754 leaves the sign and the payload of a computed NaN open (6.2.3, 6.3): here it is the positive quiet NaN of payload 0.
+unfoldable pub patternOf : Float → ℕ
+patternOf x = cond (isNan x) 0x7FF8_0000_0000_0000 (toBits binary64 x)
