@@ -6,5 +6,10 @@ pub mod Steps
 pub mod Products
 pub mod Rows
 pub mod Bridge
+pub mod Number
+pub mod Closest
+pub mod Grid
 pub mod Whole
 pub mod Solve
+pub mod Accuracy
+pub mod Examples

@@ -1,4 +1,7 @@
 pub mod Float
 pub mod Value
+pub mod Number
+pub mod Rounded
 pub mod Products
 pub mod Solve
+pub mod Accuracy

@@ -16,4 +16,4 @@ pub mod FactorPlace
 pub mod FactorElements
 pub mod FactorFinite
 pub mod Answers
-pub mod System
+pub mod SoundSystem

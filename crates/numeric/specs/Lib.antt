@@ -3,4 +3,4 @@ pub mod Root
 pub mod Order
 pub mod Factor
 pub mod Answer
-pub mod System
+pub mod Sound

@@ -1,4 +1,5 @@
--- THE THEOREM on one system: where the matrix is not refused and the first element of the solution is finite, all is finite, and the solution is accurate. Assumes nothing.
+-- THE LAW of accuracy, for every matrix and right side: where the matrix is not refused and the first element of the solution is finite, all is finite, and the solution is accurate.
+-- Beneath the first element stand all the others, the forward solution and the right side: a finite quotient has a finite dividend, and a finite difference finite terms. Assumes nothing.
 use mathlib.Core.Path.{_≡_, refl, sym, ap, _∙_, subst}
 use mathlib.Core.Logic.{_⊎_, inl, inr}
 use Prim.Native.Nat.{ℕ, zero, suc, _+_, _-_, _*_, _^_, _≤_, _<_}
@@ -14,47 +15,18 @@ use lib.Ieee.Fits.{div-fits}
 use lib.Ieee.Scale.{finite}
 use Rattle.exact.specs.Value.{scale, magnitude, value}
 use Rattle.numeric.specs.Root.{rootOf}
-use Rattle.exact.specs.Solve.{sumℤ, sum, entry, lower, sizeL, sizeX, Accurate}
+use Rattle.exact.specs.Solve.{entry}
 use Rattle.exact.specs.Products.{lessProducts}
 use Rattle.exact.proofs.Steps.{RootInUnits, FactorSteps, ForwardSteps, BackwardSteps}
 use Rattle.numeric.specs.Factor.{at, row, cell, forwardTo, backTo, Lower, factorOf, solutionOf}
 use Rattle.numeric.proofs.FactorFinite.{factor-finite}
-use Rattle.numeric.specs.System.{Within, Solves, Held}
+use Rattle.numeric.specs.Sound.{Sound, Held}
 use Rattle.exact.proofs.Ops.{div-finite}
 use Rattle.exact.proofs.Products.{less-fits, less-start, less-finite}
-use Rattle.exact.proofs.Solve.{accurate}
+use Rattle.exact.proofs.Solve.{sharper}
+use Rattle.exact.proofs.Accuracy.{accurate-of}
 use Rattle.numeric.proofs.FactorElements.{Elements, elements, forward-is, forward-length, backward-is}
 use Rattle.numeric.proofs.Rooted.{pivot-root}
-
--- ---- the bound as the mission has it, from the sharper one
-loosen : (M N K c S R P F X : ℕ) → K ≡ M * c → c * N ≡ S → M * R ≤ P + N * ((S + F) * (S + F + X)) → K * R ≤ c * P + (S + F) * (S + F) * (S + X)
-loosen M N K c S R P F X k n h =
-    le-trans (first (mul-le-mul-left c h))
-    (second (mul-le-mul-left (S + F) (third S F X)))
-  where
-    first : c * (M * R) ≤ c * (P + N * ((S + F) * (S + F + X))) → K * R ≤ c * P + S * ((S + F) * (S + F + X))
-    first h = omega (arith, ap (λ (z : ℕ). z * R) k, ap (λ (z : ℕ). z * ((S + F) * (S + F + X))) n)
-
-    third : (S F X : ℕ) → S * (S + F + X) ≤ (S + F) * (S + X)
-    third S F X = omega arith
-
-    second : (S + F) * (S * (S + F + X)) ≤ (S + F) * ((S + F) * (S + X)) → c * P + S * ((S + F) * (S + F + X)) ≤ c * P + (S + F) * (S + F) * (S + X)
-    second h = omega arith
-
-thousand : 2 ^ 1070 ≡ 2 ^ 48 * 2 ^ 1022
-thousand = refl
-
-whole : 2 ^ 1022 * 2 ^ 52 ≡ scale
-unfolding scale
-whole = refl
-
-pub within-of : (n : ℕ) (a l : ℕ → ℕ → Float) (b x : ℕ → Float) → Accurate n a l b x → Within n a l b x
-within-of n a l b x h i g =
-    loosen (2 ^ 48) (2 ^ 52) (2 ^ 1070) (2 ^ 1022) scale (natAbs (sumℤ (λ j. value (entry a i j) *ℤ value (x j)) n -ℤ pos scale *ℤ value (b i)) * scale)
-    (sum (λ j. sum (λ k. lower l i k * lower l j k) n * magnitude (x j)) n) (sizeL l n) (sizeX x n) thousand whole (front (2 ^ 48) (natAbs (sumℤ (λ j. value (entry a i j) *ℤ value (x j)) n -ℤ pos scale *ℤ value (b i)) * scale) (h i g))
-  where
-    front : {p : ℕ} (m r : ℕ) → r * m ≤ p → m * r ≤ p
-    front m r h = omega arith
 
 module _ (a l : List (List Float)) (b : List Float) (nine : length b ≡ 9) (e : factorOf a ≡ Lower l) (held : Held a b) where
   E : Elements a l
@@ -90,8 +62,8 @@ module _ (a l : List (List Float)) (b : List Float) (nine : length b ≡ 9) (e :
       go (inl q) = subst (λ (z : ℕ). T (finite (cell a i z))) (sym q) (less-start (cell a i i) (cell l i) (cell l i) i (factored .diagonal i ib .s-finite))
       go (inr q) = less-start (cell a i j) (cell l i) (cell l j) j (div-finite (lessProducts (cell a i j) (cell l i) (cell l j) j) (cell l j j) (subst (λ (z : Float). T (finite z)) (E .below-is i j ib q) (entries-finite i j ib (omega arith))))
 
-  entry-finite : (i j : ℕ) → i < 9 → j < 9 → T (finite (entry (cell a) i j))
-  entry-finite i j ib jb = go (leb j i) (leb→le j i) (nleb→lt j i)
+  entrforward-finite : (i j : ℕ) → i < 9 → j < 9 → T (finite (entry (cell a) i j))
+  entrforward-finite i j ib jb = go (leb j i) (leb→le j i) (nleb→lt j i)
     where
       go : (t : Bool) → (T t → j ≤ i) → (T (not t) → i < j) → T (finite (cond t (cell a i j) (cell a j i)))
       go true m k = lower-finite i j ib (m tt)
@@ -111,21 +83,24 @@ module _ (a l : List (List Float)) (b : List Float) (nine : length b ≡ 9) (e :
         let q : suc 0 + k ≡ suc k = omega arith in
         subst (λ (z : ℕ). T (finite (at (solutionOf l b) z))) q (less-finite (at y 0) (λ k. cell l (suc 0 + k) 0) (λ k. at (solutionOf l b) (suc 0 + k)) 8 top k (omega arith) .1)
 
-    y-finite : (i : ℕ) → i < 9 → T (finite (at y i))
-    y-finite i ib =
+    pub forward-finite : (i : ℕ) → i < 9 → T (finite (at (forwardTo 9 l b) i))
+    unfolding y
+    forward-finite i ib =
         let p : ℕ → Float = λ k. cell l (suc i + k) i in
         let q : ℕ → Float = λ k. at (solutionOf l b) (suc i + k) in
         less-start (at y i) p q (9 - suc i) (div-finite (lessProducts (at y i) p q (9 - suc i)) (cell l i i) (subst (λ (z : Float). T (finite z)) (back .at i ib) (x-finite i ib)))
 
     b-finite : (i : ℕ) → i < 9 → T (finite (at b i))
-    b-finite i ib = less-start (at b i) (cell l i) (at y) i (div-finite (lessProducts (at b i) (cell l i) (at y) i) (cell l i i) (subst (λ (z : Float). T (finite z)) (forth .at i ib) (y-finite i ib)))
+    unfolding y
+    b-finite i ib = less-start (at b i) (cell l i) (at y) i (div-finite (lessProducts (at b i) (cell l i) (at y) i) (cell l i i) (subst (λ (z : Float). T (finite z)) (forth .at i ib) (forward-finite i ib)))
 
-    pub solves : Solves a b l (solutionOf l b)
-    solves =
+    pub sound : Sound a b l (solutionOf l b)
+    unfolding y
+    sound =
         record {
-          matrix-finite = entry-finite;
+          matrix-finite = entrforward-finite;
           right-finite = b-finite;
           factor-finite = entries-finite;
           step-finite = x-finite;
-          within = within-of 9 (cell a) (cell l) (at b) (at (solutionOf l b)) (accurate 9 (le-refl 9) (cell a) (cell l) (at b) (at y) (at (solutionOf l b)) factored forth back (held .matrix-fits) (held .right-fits) x-finite);
+          accurate = accurate-of 9 (cell a) (cell l) (at b) (at (solutionOf l b)) (sharper 9 (le-refl 9) (cell a) (cell l) (at b) (at y) (at (solutionOf l b)) factored forth back (held .matrix-fits) (held .right-fits) x-finite);
         }
