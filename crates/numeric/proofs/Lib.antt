@@ -6,6 +6,9 @@ pub mod Parts
 pub mod Special
 pub mod Theorems
 pub mod Facts
+pub mod RoundExact
+pub mod RealLaws
+pub mod RealValues
 pub mod OrderMagnitude
 pub mod OrderLaws
 pub mod OrderValues

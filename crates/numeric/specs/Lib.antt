@@ -1,5 +1,8 @@
 pub mod Refusal
 pub mod Root
+pub mod Real
+pub mod Vec3
+pub mod Sight
 pub mod Order
 pub mod Factor
 pub mod Answer

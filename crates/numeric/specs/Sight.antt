@@ -1,0 +1,36 @@
+-- The line of sight from a satellite to a receiver, `geometry` of wls.rs and tdcp.rs. Definitions only.
+use lib.Ieee.{Float, neg}
+use Rattle.exact.specs.Float.{_⊕_, _⊗_, _⊘_, whole, decimal}
+use Rattle.numeric.specs.Real.{travelSine, travelCosine}
+use Rattle.numeric.specs.Vec3.{sub, norm}
+use Rattle.numeric.specs.declared.vec3.Vec3.{Vec3}
+use Rattle.numeric.specs.declared.sight.Sight.{Sight}
+
+-- IS-GPS-200: the speed of light, 299,792,458 m/s, and the earth's rotation rate, 7.2921151467e-5 rad/s
+abbrev pub lightSpeed : Float
+lightSpeed = whole 299792458
+
+abbrev pub earthRate : Float
+earthRate = decimal 72921151467 15
+
+-- the angle by which the earth turns while a signal travels the distance d
+unfoldable pub travelAngle : Float → Float
+travelAngle d = earthRate ⊗ d ⊘ lightSpeed
+
+-- the place s, turned about the earth's axis by the travel angle t
+unfoldable pub turned : Vec3 → Float → Vec3
+turned s t =
+    let sin = travelSine t in
+    let cos = travelCosine t in
+    record { x = s .x ⊗ cos ⊕ s .y ⊗ sin; y = neg (s .x) ⊗ sin ⊕ s .y ⊗ cos; z = s .z }
+
+-- from the satellite, turned with the earth while its signal travels, to the receiver
+unfoldable pub gap : Vec3 → Vec3 → Vec3
+gap satellite receiver = sub receiver (turned satellite (travelAngle (norm (sub satellite receiver))))
+
+-- the unit vector along that way, and its length, the range
+unfoldable pub geometry : Vec3 → Vec3 → Sight
+geometry satellite receiver =
+    let d = gap satellite receiver in
+    let range = norm d in
+    record { x = d .x ⊘ range; y = d .y ⊘ range; z = d .z ⊘ range; range = range }

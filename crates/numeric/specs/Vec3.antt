@@ -1,0 +1,17 @@
+-- Vectors of three floats, as vec3.rs has them. Definitions only.
+use lib.Ieee.{Float}
+use Rattle.exact.specs.Float.{_⊕_, _⊖_, _⊗_}
+use Rattle.numeric.specs.Root.{rootOf}
+use Rattle.numeric.specs.declared.vec3.Vec3.{Vec3}
+
+-- a + b, component by component
+unfoldable pub add : Vec3 → Vec3 → Vec3
+add a b = record { x = a .x ⊕ b .x; y = a .y ⊕ b .y; z = a .z ⊕ b .z }
+
+-- a − b, component by component
+unfoldable pub sub : Vec3 → Vec3 → Vec3
+sub a b = record { x = a .x ⊖ b .x; y = a .y ⊖ b .y; z = a .z ⊖ b .z }
+
+-- the length: the root of the sum of the squares, in the order x, y, z
+unfoldable pub norm : Vec3 → Float
+norm v = rootOf (v .x ⊗ v .x ⊕ v .y ⊗ v .y ⊕ v .z ⊗ v .z)

@@ -1,0 +1,41 @@
+// Vectors of three floats.
+ghost use mathlib.Core.Path.{_≡_};
+ghost use Rattle.numeric.specs.Vec3 as spec;
+use crate::root::sqrt;
+
+pub struct Vec3 {
+    pub x: f64,
+    pub y: f64,
+    pub z: f64,
+}
+
+impl Vec3 {
+    // Each component plus the other's.
+    pub fn add(self, other: Vec3) -> Vec3
+        ensures { λ r. ⌜ r ≡ spec.add self other ⌝ }
+    {
+        Vec3 {
+            x: self.x + other.x,
+            y: self.y + other.y,
+            z: self.z + other.z,
+        }
+    }
+
+    // Each component less the other's.
+    pub fn sub(self, other: Vec3) -> Vec3
+        ensures { λ r. ⌜ r ≡ spec.sub self other ⌝ }
+    {
+        Vec3 {
+            x: self.x - other.x,
+            y: self.y - other.y,
+            z: self.z - other.z,
+        }
+    }
+
+    // The length.
+    pub fn norm(self) -> f64
+        ensures { λ r. ⌜ r ≡ spec.norm self ⌝ }
+    {
+        sqrt(self.x * self.x + self.y * self.y + self.z * self.z)
+    }
+}
