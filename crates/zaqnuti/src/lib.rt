@@ -1,0 +1,3 @@
+// The static library for C and Rust: an entry point for each service and each call of its own. None of them keeps any state.
+pub mod matrix;
+pub mod numbers;

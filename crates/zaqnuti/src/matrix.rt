@@ -1,0 +1,29 @@
+// Entry points of the Cholesky factor and its solve.
+ghost use mathlib.Core.Path.{_≡_};
+ghost use Rattle.numeric.specs.Factor.{factorOf, solutionOf};
+ghost use Rattle.numeric.specs.Answer.{rowsAfter};
+ghost use Rattle.zaqnuti.specs.Numbers.{factorNumber};
+use numeric::factor::factor_into;
+use numeric::factor::solve_lent;
+use numeric::refusal::Refusal;
+
+// The factor of a in l and 0, or 10, which leaves l as it was.
+#[no_mangle]
+pub extern "C" fn zaqnuti_factor(a: &[[f64; 9]; 9], l: &mut [[f64; 9]; 9]) -> u8
+    ensures { λ r. ⌜ (r ≡ factorNumber (factorOf (now (a .entry)))) × (now (l .exit) ≡ rowsAfter (factorOf (now (a .entry))) (now (l .entry))) ⌝ }
+{
+    if factor_into(a, l) {
+        0
+    } else {
+        Refusal::FitFailed.number()
+    }
+}
+
+// The solution of l lᵀ x = b in x.
+#[no_mangle]
+pub extern "C" fn zaqnuti_solve(l: &[[f64; 9]; 9], b: &[f64; 9], x: &mut [f64; 9])
+    ensures { λ _. ⌜ now (x .exit) ≡ solutionOf (now (l .entry)) (now (b .entry)) ⌝ }
+{
+    let y = solve_lent(l, *b);
+    *x = y;
+}

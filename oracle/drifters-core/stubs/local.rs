@@ -1,0 +1,1 @@
+//! Not published; nothing compared uses it.

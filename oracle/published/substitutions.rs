@@ -1,0 +1,121 @@
+//! Every change that is made to the published text, in order. Nothing else is changed.
+
+use super::Substitution;
+
+const CORE_LIB: &str = "crates/drifters-core/src/lib.rs";
+const MATRIX: &str = "crates/drifters-core/src/math/matrix.rs";
+const ROBUST: &str = "crates/drifters-gnss/src/robust.rs";
+const WLS: &str = "crates/drifters-gnss/src/wls.rs";
+const TDCP: &str = "crates/drifters-gnss/src/tdcp.rs";
+const SMOOTH: &str = "crates/drifters-gnss/src/smooth.rs";
+const DIFFERENTIAL: &str = "crates/drifters-gnss/src/differential.rs";
+
+const fn sub(
+    file: &'static str,
+    old: &'static str,
+    new: &'static str,
+    count: usize,
+) -> Substitution {
+    Substitution {
+        file,
+        old,
+        new,
+        count,
+    }
+}
+
+/// What no file of drifters-gnss may hold once it is substituted: each has a stand-in, or none at all.
+pub const ABSENT: &[&str] = &[
+    ".powi(",
+    ".powf(",
+    ".hypot(",
+    ".sin(",
+    ".cos(",
+    ".tan(",
+    ".sin_cos(",
+    ".atan2(",
+    ".exp(",
+    ".ln(",
+    ".mul_add(",
+    ".to_radians(",
+    ".max(0.",
+    ".max(1e",
+    ".max(3.",
+    ".min(0.",
+];
+
+pub const SUBSTITUTIONS: &[Substitution] = &[
+    // An included file may carry no inner comment and no inner attribute.
+    sub(CORE_LIB, "//!", "//", 25),
+    sub(CORE_LIB, "\n#![", "\n// #![", 3),
+    // The stand-ins of document 01, "The reference"; `sqrt` and `abs` are std's.
+    sub(
+        ROBUST,
+        "use drifters_core::math::{Cholesky, Matrix};\n",
+        "use drifters_core::math::{Cholesky, Matrix};\nuse standins::StandIn;\n",
+        1,
+    ),
+    sub(ROBUST, "z.max(1e-9)", "z.greater(1e-9)", 1),
+    sub(
+        ROBUST,
+        "elevation.max(3.0).to_radians().sin().max(0.05)",
+        "elevation.greater(3.0).radians().elevation_sine().greater(0.05)",
+        1,
+    ),
+    sub(
+        WLS,
+        "use drifters_core::math::{Cholesky, Matrix};\n",
+        "use drifters_core::math::{Cholesky, Matrix};\nuse standins::StandIn;\n",
+        1,
+    ),
+    sub(WLS, ".powi(2)", ".square()", 4),
+    sub(WLS, ".hypot(", ".hypotenuse(", 2),
+    sub(WLS, ".sin_cos()", ".travel_sine_cosine()", 1),
+    sub(
+        TDCP,
+        "use drifters_core::math::Vec3;\n",
+        "use drifters_core::math::Vec3;\nuse standins::StandIn;\n",
+        1,
+    ),
+    sub(TDCP, ".powi(2)", ".square()", 3),
+    sub(TDCP, ".hypot(", ".hypotenuse(", 2),
+    sub(TDCP, ".sin_cos()", ".travel_sine_cosine()", 1),
+    sub(
+        SMOOTH,
+        "use drifters_core::math::Vec3;\n",
+        "use drifters_core::math::Vec3;\nuse standins::StandIn;\n",
+        1,
+    ),
+    sub(SMOOTH, ".powi(2)", ".square()", 3),
+    sub(SMOOTH, "z.max(1e-12)", "z.greater(1e-12)", 1),
+    sub(
+        DIFFERENTIAL,
+        "use crate::rinex::Base;\n",
+        "use crate::rinex::Base;\nuse standins::StandIn;\n",
+        1,
+    ),
+    sub(DIFFERENTIAL, ".powi(2)", ".square()", 3),
+    sub(DIFFERENTIAL, ".sin_cos()", ".travel_sine_cosine()", 1),
+    // What the comparison reads or makes, and the published text keeps to itself.
+    sub(
+        MATRIX,
+        "    lower: Matrix<N, N>,\n",
+        "    /// The lower-triangular factor.\n    pub lower: Matrix<N, N>,\n",
+        1,
+    ),
+    sub(
+        ROBUST,
+        "    slot: [usize; 8],\n    count: usize,\n",
+        "    pub slot: [usize; 8],\n    pub count: usize,\n",
+        1,
+    ),
+    sub(WLS, "\nfn geometry(", "\npub fn geometry(", 1),
+    sub(TDCP, "\nfn geometry(", "\npub fn geometry(", 1),
+    sub(TDCP, "    fn usable(&self)", "    pub fn usable(&self)", 1),
+    sub(
+        DIFFERENTIAL,
+        "    series: BTreeMap<(u8, u16, u8), Vec<(f64, f64)>>,\n    max_gap: f64,\n",
+        "    pub series: BTreeMap<(u8, u16, u8), Vec<(f64, f64)>>,\n    pub max_gap: f64,\n",
+        1,
+    ),
+];
