@@ -14,11 +14,12 @@ use services::{Service, SERVICES};
 use std::path::Path;
 use std::process::ExitCode;
 use tally::Tally;
+use vectors::Stream;
 
 const USAGE: &str = "oracle compare [--seed S] [--count N] [SERVICE..]
 oracle bench [SERVICE..]
 oracle accuracy [--seed S] [--count N]
-oracle vectors [--seed S] DIR";
+oracle vectors [--seed S] FILE";
 
 /// What the command line says.
 struct Arguments {
@@ -87,19 +88,22 @@ fn bench(given: &Arguments) -> Result<bool, String> {
     Ok(true)
 }
 
-/// Writes the stored answers of every service that has some.
+/// Writes the stored answers of every service that has some; a service's kind is its place in the table.
 fn vectors(given: &Arguments) -> Result<bool, String> {
-    let [folder] = given.words.as_slice() else {
-        return Err("vectors takes one folder".to_string());
+    let [file] = given.words.as_slice() else {
+        return Err("vectors takes one file".to_string());
     };
-    for service in SERVICES {
+    let mut stream = Stream::default();
+    for (place, service) in SERVICES.iter().enumerate() {
         if let Some(make) = service.vectors {
             let made = make(&mut Random::new(given.seed, service.name));
-            vectors::write(Path::new(folder), service.name, given.seed, &made)
-                .map_err(|e| format!("{folder}: {e}"))?;
-            println!("{}: {} numbers", service.name, made.numbers.len());
+            stream.add(place as u64 + 1, &made);
+            println!("{}: {} cases", service.name, made.numbers.len() / made.case);
         }
     }
+    stream
+        .write(Path::new(file))
+        .map_err(|e| format!("{file}: {e}"))?;
     Ok(true)
 }
 

@@ -1,29 +1,32 @@
-//! Stored answers as Rattle source: a constant array of numbers, one to a line as `rt fmt` lays it.
+//! Stored answers as one stream of 64-bit numbers, least byte first, which the program `vectors` replays.
 
-use std::fmt::Write as _;
 use std::path::Path;
 use std::{fs, io};
 
 /// The answers of one service.
 pub struct Vectors {
-    /// What one case is made of, in words.
-    pub layout: &'static str,
-    /// The cases, one after the other, each of equal length.
+    /// How many numbers one case has.
+    pub case: usize,
+    /// The cases, one after the other.
     pub numbers: Vec<u64>,
 }
 
-/// Writes folder/NAME.rt.
-pub fn write(folder: &Path, name: &str, seed: u64, vectors: &Vectors) -> io::Result<()> {
-    let mut text = String::new();
-    let length = vectors.numbers.len();
-    let constant = name.to_uppercase();
-    writeln!(text, "// made by oracle vectors --seed {seed}").expect("a string grows");
-    writeln!(text, "// {}", vectors.layout).expect("a string grows");
-    writeln!(text, "pub const {constant}: [u64; {length}] = [").expect("a string grows");
-    for n in &vectors.numbers {
-        writeln!(text, "    0x{n:016X},").expect("a string grows");
+/// The stream so far.
+#[derive(Default)]
+pub struct Stream(Vec<u8>);
+
+impl Stream {
+    /// Adds the cases of a service, each behind the number of its kind.
+    pub fn add(&mut self, kind: u64, vectors: &Vectors) {
+        for case in vectors.numbers.chunks_exact(vectors.case) {
+            for n in std::iter::once(&kind).chain(case) {
+                self.0.extend_from_slice(&n.to_le_bytes());
+            }
+        }
     }
-    text.push_str("];\n");
-    fs::create_dir_all(folder)?;
-    fs::write(folder.join(format!("{name}.rt")), text)
+
+    /// Writes the file.
+    pub fn write(&self, file: &Path) -> io::Result<()> {
+        fs::write(file, &self.0)
+    }
 }

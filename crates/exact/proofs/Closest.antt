@@ -1,19 +1,15 @@
 -- A fraction rounded to a grid of floats is the nearest of them, and of two that are equally near the even one. Numbers only, no floats. Assumes nothing.
-use mathlib.Core.Path.{_≡_, refl, sym, ap, _∙_, subst}
-use mathlib.Core.Logic.{_⊎_, inl, inr, _≢_}
-use Prim.Native.Nat.{ℕ, zero, suc, _+_, _-_, _*_, _/_, _%_, _^_, _≤_, _<_, compare, Ordering, Ordering·lt, Ordering·eq, Ordering·gt}
-use native.Mathlib.Nat.{le-trans, le-of-lt, mul-le-mul-right, mul-assoc, mul-comm, mul-pos, div-add-mod', mod-lt, eq-or-lt-of-le}
+use mathlib.Core.Path.{_≡_, refl, sym, ap, subst}
+use mathlib.Core.Logic.{_⊎_, inl, inr}
+use Prim.Native.Nat.{ℕ, zero, suc, _+_, _-_, _*_, _/_, _%_, _≤_, _<_, compare, Ordering, Ordering·lt, Ordering·eq, Ordering·gt}
+use native.Mathlib.Nat.{mul-le-mul-right, div-add-mod', mod-lt, eq-or-lt-of-le}
 use native.Mathlib.Omega.{arith}
 use mathlib.Core.Bool.{Bool, true, false, not}
-use lib.Dec.{T, isLe, isEq, ltb, leb, leb→le, nleb→lt, eqb, eqb→eq, eqb-refl}
+use lib.Dec.{T, isLe, isEq, leb, leb→le, nleb→lt, eqb, eqb→eq, eqb-refl}
 use lib.Arith.{lt-of-le-ne}
-use lib.Pow.{pow-add, pow-pos, pow-mono}
 use lib.Ieee.{nearest}
 use lib.Ieee.Nearest.{closest}
-
--- how far a and b are apart
-abbrev pub apart : ℕ → ℕ → ℕ
-apart a b = a - b + (b - a)
+use Rattle.exact.proofs.Num.{apart}
 
 -- ---- the nearest whole number
 abbrev Cmp : Ordering → ℕ → ℕ → Type 0

@@ -1,10 +1,11 @@
--- Worked values of the definitions of specs/Number.antt. Assumes nothing.
+-- Worked values of exact numbers and of the rounded operations. Assumes nothing.
 use mathlib.Core.Path.{_≡_, refl}
 use Prim.Native.Nat.{_*_, _^_}
 use lib.IntN.{pos}
 use lib.Signed.{leZ-yes, ltZ-yes}
-use lib.Ieee.{ofBits}
-use Rattle.exact.specs.Float.{bits}
+use lib.Ieee.{nan, inf, add, sub, mul, div, ofBits}
+use mathlib.Core.Bool.{true, false}
+use Rattle.exact.specs.Float.{_⊕_, _⊖_, _⊗_, _⊘_, +0, 1·0, bits}
 use Rattle.exact.specs.Value.{scale, magnitude, value}
 use Rattle.exact.specs.Number.{Number, _+ₑ_, _-ₑ_, _*ₑ_, ∣_∣, _≤ₑ_, _<ₑ_, 0ₑ, 1ₑ, 2^-_, Σ, exactly}
 
@@ -44,3 +45,54 @@ ten = record { whole = pos 10; places = 0 }
 tenth-over : 1ₑ <ₑ ten *ₑ exactly (bits 0x3FB9_9999_9999_999A)
 unfolding ten _<ₑ_ _*ₑ_ 1ₑ exactly value magnitude scale ofBits
 tenth-over = ltZ-yes tt
+
+-- ---- the operations
+-- 0.1 + 0.2 is the double above 0.3
+tenths : bits 0x3FB9_9999_9999_999A ⊕ bits 0x3FC9_9999_9999_999A ≡ bits 0x3FD3_3333_3333_3334
+unfolding add ofBits
+tenths = refl
+
+-- 2^53 + 1 lies half way from 2^53 to 2^53 + 2, and 2^53 + 3 half way from there to 2^53 + 4: to the even one
+tie-down : bits 0x4340_0000_0000_0000 ⊕ 1·0 ≡ bits 0x4340_0000_0000_0000
+unfolding add ofBits
+tie-down = refl
+
+tie-up : bits 0x4340_0000_0000_0001 ⊕ 1·0 ≡ bits 0x4340_0000_0000_0002
+unfolding add ofBits
+tie-up = refl
+
+-- the largest double, 2^1024 - 2^971, and 2^970, or the double below that
+at-limit : bits 0x7FEF_FFFF_FFFF_FFFF ⊕ bits 0x7C90_0000_0000_0000 ≡ inf false
+unfolding add ofBits
+at-limit = refl
+
+below-limit : bits 0x7FEF_FFFF_FFFF_FFFF ⊕ bits 0x7C8F_FFFF_FFFF_FFFF ≡ bits 0x7FEF_FFFF_FFFF_FFFF
+unfolding add ofBits
+below-limit = refl
+
+-- half of the smallest double is rounded to 0, with the product's sign
+underflow : bits 0x8000_0000_0000_0001 ⊗ bits 0x3FE0_0000_0000_0000 ≡ bits 0x8000_0000_0000_0000
+unfolding mul ofBits
+underflow = refl
+
+-- signs of 0
+opposite : 1·0 ⊖ 1·0 ≡ +0
+unfolding sub ofBits
+opposite = refl
+
+both-minus : bits 0x8000_0000_0000_0000 ⊕ bits 0x8000_0000_0000_0000 ≡ bits 0x8000_0000_0000_0000
+unfolding add ofBits
+both-minus = refl
+
+one-minus : +0 ⊕ bits 0x8000_0000_0000_0000 ≡ +0
+unfolding add ofBits
+one-minus = refl
+
+-- by 0
+by-zero : 1·0 ⊘ bits 0x8000_0000_0000_0000 ≡ inf true
+unfolding div ofBits
+by-zero = refl
+
+zero-by-zero : +0 ⊘ +0 ≡ nan
+unfolding div ofBits
+zero-by-zero = refl

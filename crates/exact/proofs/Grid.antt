@@ -1,18 +1,19 @@
 -- The fraction n / den in units of binary64's smallest value, rounded by `round`, against every other number of at most 53 digits times a power of two. Assumes nothing.
 use mathlib.Core.Path.{_≡_, refl, sym, ap, _∙_, subst}
 use mathlib.Core.Logic.{_⊎_, inl, inr}
-use Prim.Native.Nat.{ℕ, zero, suc, _+_, _-_, _*_, _/_, _%_, _^_, _≤_, _<_, zero-le, compare}
-use native.Mathlib.Nat.{le-trans, le-of-lt, le-of-eq, lt-of-lt-of-le, lt-of-le-of-lt, lt-of-not-le, not-le-of-lt, eq-zero-or-pos, eq-or-lt-of-le, mul-le-mul-right, mul-lt-mul-of-pos-right, mul-assoc, mul-comm, mul-pos, mul-one, mul-div-cancel, div-div-eq-div-mul, le-div-iff-mul-le}
+use Prim.Native.Nat.{ℕ, suc, _+_, _-_, _*_, _/_, _%_, _^_, _≤_, _<_, zero-le, compare}
+use native.Mathlib.Nat.{le-trans, le-of-lt, le-of-eq, lt-of-lt-of-le, lt-of-le-of-lt, lt-of-not-le, not-le-of-lt, eq-zero-or-pos, eq-or-lt-of-le, mul-le-mul-right, mul-lt-mul-of-pos-right, mul-assoc, mul-comm, mul-pos, mul-div-cancel, div-div-eq-div-mul, le-div-iff-mul-le}
 use native.Mathlib.Omega.{arith}
 use mathlib.Core.Bool.{Bool, true, false, not}
 use lib.Dec.{T, leb, leb→le, nleb→lt}
 use lib.Pow.{pow-add, pow-pos, pow-mono, shl-lt}
-use lib.Ieee.{size, nearest}
+use lib.Ieee.{size}
 use lib.Ieee.Digits.{size-lt, size-le, size-reaches, back}
 use lib.Ieee.Fits.{kept-lt, nearest-le}
 use lib.Ieee.Nearest.{closest, nearest-ge}
 use lib.Ieee.Order.{drop, kept}
-use Rattle.exact.proofs.Closest.{apart, Tie, Rival, same, farther, tie, closest-rival}
+use Rattle.exact.proofs.Num.{apart}
+use Rattle.exact.proofs.Closest.{Rival, same, farther, tie, closest-rival}
 
 -- ---- the last of the digits that a format of 53 keeps
 size-gt : (n j : ℕ) → 2 ^ j ≤ n → j < size n

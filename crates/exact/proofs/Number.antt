@@ -2,18 +2,19 @@
 use mathlib.Core.Path.{_≡_, refl, sym, ap, ap₂, _∙_, subst}
 use mathlib.Core.Logic.{inl, inr}
 use Prim.Native.Nat.{ℕ, zero, suc, _+_, _-_, _*_, _^_, _≤_, _<_}
-use native.Mathlib.Nat.{add-zero, mul-le-mul-right, le-of-mul-le-mul-right, mul-pos, mul-sub}
+use native.Mathlib.Nat.{add-zero, mul-le-mul-right, le-of-mul-le-mul-right, mul-lt-mul-of-pos-right, lt-of-mul-lt-mul-right, mul-pos, mul-sub}
 use native.Mathlib.Omega.{arith}
-use lib.Dec.{leb→le, le→leb}
+use lib.Dec.{leb→le, le→leb, ltb→lt, lt→ltb}
 use lib.Pow.{pow-add, pow-pos}
 use lib.IntN.{ℤ, pos, negsuc, _*ℤ_, natAbs}
-use lib.Signed.{_≤ℤ_}
-use lib.Ieee.{Float}
+use lib.Signed.{_≤ℤ_, _<ℤ_, nonNeg}
+use mathlib.Core.Bool.{Bool, true, false, not}
+use lib.Ieee.{Float, unlike}
 use Rattle.exact.specs.Value.{scale, magnitude}
-use Rattle.exact.specs.Number.{Number, _+ₑ_, _-ₑ_, _*ₑ_, ∣_∣, _≤ₑ_, 0ₑ, 1ₑ, 2^-_, Σ, exactly}
+use Rattle.exact.specs.Number.{Number, _+ₑ_, _-ₑ_, _*ₑ_, ∣_∣, _≤ₑ_, _<ₑ_, negative, 0ₑ, 1ₑ, 2^-_, Σ, exactly}
 use Rattle.exact.specs.Solve.{sum}
-use Rattle.exact.proofs.Num.{Num, num, none, _∔_, _∸_, _⊙_, _·_, abs, Plain}
-use Rattle.exact.proofs.Ops.{val, val-plain}
+use Rattle.exact.proofs.Num.{Num, num, none, _∔_, _∸_, _⊙_, _·_, abs, apart, Plain}
+use Rattle.exact.proofs.Ops.{val, sgn, val-plain}
 use Rattle.exact.proofs.Products.{dot}
 use Rattle.exact.proofs.Bridge.{Stands, stands-+, stands--, stands-*, stands-val, abs-val}
 
@@ -25,7 +26,7 @@ pub record Is (x : Number) (u : Num) (d : ℕ) : Type 0 where
 
 -- a pair's difference, whichever part is the larger
 abbrev pub gap : Num → ℕ
-gap u = u .p - u .n + (u .n - u .p)
+gap u = apart (u .p) (u .n)
 
 -- a whole number of 2 ^ -places
 times : (z : ℤ) (v : Num) (k : ℕ) → Stands z v → Stands (z *ℤ pos k) (v ⊙ num k 0)
@@ -152,6 +153,28 @@ uncross : (v w u t : Num) (P Q d : ℕ) → 0 < P * Q → v .p * d + u .n * P �
 uncross v w u t P Q d D h k l =
     le-of-mul-le-mul-right {k = P * Q} (omega (arith, mul-le-mul-right d l, ap (λ (z : ℕ). z * Q) h, ap (λ (z : ℕ). z * P) k)) D
 
+ordered-lt : (z w : ℤ) (v t : Num) → Stands z v → Stands w t → v .p + t .n < t .p + v .n → z <ℤ w
+ordered-lt (pos a) (pos b) v t h k l = record { lt = lt→ltb a b (omega arith) }
+ordered-lt (pos a) (negsuc b) v t h k l = absurd (omega arith)
+ordered-lt (negsuc a) (pos b) v t h k l = record { lt = tt }
+ordered-lt (negsuc a) (negsuc b) v t h k l = record { lt = lt→ltb b a (omega arith) }
+
+order-lt : (z w : ℤ) (v t : Num) → Stands z v → Stands w t → z <ℤ w → v .p + t .n < t .p + v .n
+order-lt (pos a) (pos b) v t h k l = omega (arith, ltb→lt a b (l .lt))
+order-lt (pos a) (negsuc b) v t h k l = absurd (l .lt)
+order-lt (negsuc a) (pos b) v t h k l = omega arith
+order-lt (negsuc a) (negsuc b) v t h k l = omega (arith, ltb→lt b a (l .lt))
+
+cross-lt : (v w u t : Num) (P Q d : ℕ) → 0 < P * Q → v .p * d + u .n * P ≡ u .p * P + v .n * d → w .p * d + t .n * Q ≡ t .p * Q + w .n * d
+    → u .p + t .n < t .p + u .n → (v ⊙ num Q 0) .p + (w ⊙ num P 0) .n < (w ⊙ num P 0) .p + (v ⊙ num Q 0) .n
+cross-lt v w u t P Q d D h k l =
+    lt-of-mul-lt-mul-right d (omega (arith, mul-lt-mul-of-pos-right l D, ap (λ (z : ℕ). z * Q) h, ap (λ (z : ℕ). z * P) k))
+
+uncross-lt : (v w u t : Num) (P Q d : ℕ) → 0 < d → v .p * d + u .n * P ≡ u .p * P + v .n * d → w .p * d + t .n * Q ≡ t .p * Q + w .n * d
+    → (v ⊙ num Q 0) .p + (w ⊙ num P 0) .n < (w ⊙ num P 0) .p + (v ⊙ num Q 0) .n → u .p + t .n < t .p + u .n
+uncross-lt v w u t P Q d D h k l =
+    lt-of-mul-lt-mul-right (P * Q) (omega (arith, mul-lt-mul-of-pos-right l D, ap (λ (z : ℕ). z * Q) h, ap (λ (z : ℕ). z * P) k))
+
 module _ {x y : Number} {u t : Num} {d : ℕ} (D : 0 < d) (h : Is x u d) (k : Is y t d) where
   P : ℕ
   P = 2 ^ x .places
@@ -170,6 +193,36 @@ module _ {x y : Number} {u t : Num} {d : ℕ} (D : 0 < d) (h : Is x u d) (k : Is
   is-of-le l =
       uncross (h .v) (k .v) u t P Q d (mul-pos (pow-pos (x .places)) (pow-pos (y .places))) (h .is) (k .is)
       (order (x .whole *ℤ pos Q) (y .whole *ℤ pos P) (h .v ⊙ num Q 0) (k .v ⊙ num P 0) (times (x .whole) (h .v) Q (h .stands)) (times (y .whole) (k .v) P (k .stands)) l)
+
+  pub lt-of-is : u .p + t .n < t .p + u .n → x <ₑ y
+  unfolding _<ₑ_ P Q
+  lt-of-is l =
+      ordered-lt (x .whole *ℤ pos Q) (y .whole *ℤ pos P) (h .v ⊙ num Q 0) (k .v ⊙ num P 0) (times (x .whole) (h .v) Q (h .stands)) (times (y .whole) (k .v) P (k .stands))
+      (cross-lt (h .v) (k .v) u t P Q d (mul-pos (pow-pos (x .places)) (pow-pos (y .places))) (h .is) (k .is) l)
+
+  pub is-of-lt : x <ₑ y → u .p + t .n < t .p + u .n
+  unfolding _<ₑ_ P Q
+  is-of-lt l =
+      uncross-lt (h .v) (k .v) u t P Q d D (h .is) (k .is)
+      (order-lt (x .whole *ℤ pos Q) (y .whole *ℤ pos P) (h .v ⊙ num Q 0) (k .v ⊙ num P 0) (times (x .whole) (h .v) Q (h .stands)) (times (y .whole) (k .v) P (k .stands)) l)
+
+-- ---- the sign
+negative-no′ : (z : ℤ) (v u : Num) (P d : ℕ) → 0 < d → Stands z v → v .p * d + u .n * P ≡ u .p * P + v .n * d → u .n ≤ u .p → not (nonNeg z) ≡ false
+negative-no′ (pos a) v u P d D h e l = refl
+negative-no′ (negsuc a) v u P d D h e l = absurd (omega (arith, ap (λ (z : ℕ). z * d) h, mul-le-mul-right P l))
+
+negative-yes′ : (z : ℤ) (v u : Num) (P d : ℕ) → 0 < P → Stands z v → v .p * d + u .n * P ≡ u .p * P + v .n * d → u .p < u .n → not (nonNeg z) ≡ true
+negative-yes′ (negsuc a) v u P d D h e l = refl
+negative-yes′ (pos a) v u P d D h e l = absurd (omega (arith, ap (λ (z : ℕ). z * d) h, mul-lt-mul-of-pos-right l D))
+
+module _ {x : Number} {u : Num} {d : ℕ} (D : 0 < d) (h : Is x u d) where
+  pub negative-no : u .n ≤ u .p → negative x ≡ false
+  unfolding negative
+  negative-no l = negative-no′ (x .whole) (h .v) u (2 ^ x .places) d D (h .stands) (h .is) l
+
+  pub negative-yes : u .p < u .n → negative x ≡ true
+  unfolding negative
+  negative-yes l = negative-yes′ (x .whole) (h .v) u (2 ^ x .places) d (pow-pos (x .places)) (h .stands) (h .is) l
 
 -- ---- numbers that are not negative, and sums of many
 pub is-*ℕ : {x y : Number} {a b d e : ℕ} → Is x (num a 0) d → Is y (num b 0) e → Is (x *ₑ y) (num (a * b) 0) (d * e)
@@ -194,3 +247,23 @@ is-∣exactly∣ x = is-same (num (magnitude x) 0) (is-∣∣ (is-exactly x)) (p
     plain : (u : Num) (m : ℕ) → Plain u → abs u ≡ m → gap u + 0 ≡ m + 0
     plain u m (inl z) e = omega arith
     plain u m (inr z) e = omega arith
+
+-- ---- numbers by their sign and their magnitude
+pub is-sgn-* : {x y : Number} {d e : ℕ} (s t : Bool) (a b : ℕ) → Is x (sgn s a) d → Is y (sgn t b) e → Is (x *ₑ y) (sgn (unlike s t) (a * b)) (d * e)
+is-sgn-* true true a b h k = is-same (num (a * b) 0) (is-* h k) (omega arith)
+is-sgn-* true false a b h k = is-same (num 0 (a * b)) (is-* h k) (omega arith)
+is-sgn-* false true a b h k = is-same (num 0 (a * b)) (is-* h k) (omega arith)
+is-sgn-* false false a b h k = is-same (num (a * b) 0) (is-* h k) (omega arith)
+
+pub is-sgn-+ : {x y : Number} {d : ℕ} (s : Bool) (a b : ℕ) → Is x (sgn s a) d → Is y (sgn s b) d → Is (x +ₑ y) (sgn s (a + b)) d
+is-sgn-+ true a b h k = is-+ h k
+is-sgn-+ false a b h k = is-+ h k
+
+-- of unlike signs: the larger one's sign counts
+pub is-first : {x y : Number} {d : ℕ} (s : Bool) (a b : ℕ) → b ≤ a → Is x (sgn s a) d → Is y (sgn (not s) b) d → Is (x +ₑ y) (sgn s (a - b)) d
+is-first true a b l h k = is-same (num 0 (a - b)) (is-+ h k) (omega arith)
+is-first false a b l h k = is-same (num (a - b) 0) (is-+ h k) (omega arith)
+
+pub is-second : {x y : Number} {d : ℕ} (s : Bool) (a b : ℕ) → a ≤ b → Is x (sgn s a) d → Is y (sgn (not s) b) d → Is (x +ₑ y) (sgn (not s) (b - a)) d
+is-second true a b l h k = is-same (num (b - a) 0) (is-+ h k) (omega arith)
+is-second false a b l h k = is-same (num 0 (b - a)) (is-+ h k) (omega arith)

@@ -29,7 +29,7 @@ x *ₑ y = record { whole = x .whole *ℤ y .whole; places = x .places + y .plac
 unfoldable pub ∣_∣ : Number → Number
 ∣ x ∣ = record { whole = pos (natAbs (x .whole)); places = x .places }
 
--- the order of two fractions
+-- the order of two fractions, by their wholes over one denominator
 unfoldable pub _≤ₑ_ : Number → Number → Type 0
 x ≤ₑ y = (x .whole *ℤ pos (2 ^ y .places)) ≤ℤ (y .whole *ℤ pos (2 ^ x .places))
 
@@ -40,6 +40,7 @@ x <ₑ y = (x .whole *ℤ pos (2 ^ y .places)) <ℤ (y .whole *ℤ pos (2 ^ x .p
 unfoldable pub negative : Number → Bool
 negative x = not (nonNeg (x .whole))
 
+-- 0 and 1
 unfoldable pub 0ₑ : Number
 0ₑ = record { whole = pos 0; places = 0 }
 

@@ -2,8 +2,8 @@
 -- A float is a binary64 where it fits the format: `fits binary64`. There is one NaN.
 use mathlib.Core.Path.{_≡_}
 use mathlib.Core.Logic.{_⊎_}
-use Prim.Native.Nat.{ℕ, zero, suc, _-_, _%_, _^_}
-use mathlib.Core.Bool.{Bool, true, false, Bool·beq, _&&_, _||_, cond}
+use Prim.Native.Nat.{zero, suc, _-_, _%_, _^_}
+use mathlib.Core.Bool.{Bool, false, Bool·beq, _&&_, _||_, cond}
 use lib.Dec.{T}
 use lib.IntN.{pos}
 use lib.Ieee.{Float, nan, inf, fin, binary64, unlike, neg, toBits, fits}

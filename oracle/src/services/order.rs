@@ -85,13 +85,14 @@ fn time(random: &mut Random) {
     bench::row("order", 1, ab.len(), || all(ffi::before), || all(call));
 }
 
+/// Two patterns, and 1 where the first comes before the second or is equal, else 0.
 fn vectors(random: &mut Random) -> Vectors {
-    let pairs = (0..300).map(|_| match random.below(2) {
+    let pairs = (0..2000).map(|_| match random.below(2) {
         0 => (random.pick(&SPECIAL), random.pick(&SPECIAL)),
         _ => pair(random),
     });
     Vectors {
-        layout: "Two patterns, and 1 where the first comes before the second or is equal, else 0.",
+        case: 3,
         numbers: pairs
             .flat_map(|(a, b)| [a, b, u64::from(reference(a, b))])
             .collect(),

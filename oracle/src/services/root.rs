@@ -111,16 +111,17 @@ fn time(random: &mut Random) {
     row("root of 1..4", near_one);
 }
 
+/// A pattern and the pattern of its root, 7FF8000000000000 for every NaN.
 fn vectors(random: &mut Random) -> Vectors {
     let specials = SPECIAL.into_iter().map(f64::from_bits);
-    let others: Vec<f64> = (0..260)
+    let others: Vec<f64> = (0..2000)
         .map(|k| {
             let place = (random.bits() & !3) | (k % 4);
             input(random, place)
         })
         .collect();
     Vectors {
-        layout: "A pattern and the pattern of its root, 7FF8000000000000 for every NaN.",
+        case: 2,
         numbers: specials
             .chain(others)
             .flat_map(|x| [x.to_bits(), pattern(x.sqrt())])

@@ -101,17 +101,14 @@ fn time(random: &mut Random) {
     );
 }
 
+/// A factor of 81 (its lower triangle is read), a right side of 9, the solution of 9.
 fn vectors(random: &mut Random) -> Vectors {
     let mut numbers = Vec::new();
-    for _ in 0..12 {
+    for _ in 0..30 {
         let (l, b) = input(random);
         numbers.extend(factor::raw(&l));
         numbers.extend(b.map(f64::to_bits));
         numbers.extend(patterns(&reference(&l, &b)));
     }
-    Vectors {
-        layout:
-            "A factor of 81 (its lower triangle is read), a right side of 9, the solution of 9.",
-        numbers,
-    }
+    Vectors { case: 99, numbers }
 }

@@ -133,10 +133,11 @@ fn time(random: &mut Random) {
     }
 }
 
+/// Number of the stand-in (its place in `CASES`), two operands, answer.
 fn vectors(random: &mut Random) -> Vectors {
     let mut numbers = Vec::new();
     for (number, case) in CASES.iter().enumerate() {
-        for k in 0..40 {
+        for k in 0..100 {
             let (a, b) = if k < 12 {
                 let special = |random: &mut Random| f64::from_bits(random.pick(&SPECIAL));
                 (special(random), special(random))
@@ -147,9 +148,5 @@ fn vectors(random: &mut Random) -> Vectors {
             numbers.extend([number as u64, a.to_bits(), b.to_bits(), answer]);
         }
     }
-    Vectors {
-        layout: "Number of the stand-in (square, hypot, travel sine, travel cosine, radians, \
-                 elevation sine, abs, max), two operands, answer.",
-        numbers,
-    }
+    Vectors { case: 4, numbers }
 }
