@@ -1,0 +1,48 @@
+-- Document 01, "Trials at the edges", those marked for proof: one list, in its order. Definitions only.
+use Prim.Native.Nat.{ℕ}
+use mathlib.Core.Path.{_≡_}
+use mathlib.Core.List.{List, [], _∷_}
+use mathlib.Core.Bool.{cond}
+use lib.Dec.{eqb}
+use lib.Ieee.{Float}
+use Rattle.exact.specs.Float.{+0, 1·0, bits, whole}
+use Rattle.numeric.specs.Root.{rootOf}
+use Rattle.numeric.specs.Factor.{cell, Refused, Lower, factorOf}
+
+-- all of a list's statements
+abbrev pub All : List (Type 0) → Type 0
+All [] = Unit
+All (P ∷ Ps) = P × All Ps
+
+-- row i of the identity, and the identity
+abbrev pub unitRow : ℕ → List Float
+unitRow i = one 0 ∷ one 1 ∷ one 2 ∷ one 3 ∷ one 4 ∷ one 5 ∷ one 6 ∷ one 7 ∷ one 8 ∷ []
+  where
+    one : ℕ → Float
+    one j = cond (eqb i j) 1·0 +0
+
+abbrev pub identity : List (List Float)
+identity = unitRow 0 ∷ unitRow 1 ∷ unitRow 2 ∷ unitRow 3 ∷ unitRow 4 ∷ unitRow 5 ∷ unitRow 6 ∷ unitRow 7 ∷ unitRow 8 ∷ []
+
+-- m1: root of 4 is 2
+abbrev pub m1 : Type 0
+m1 = rootOf (whole 4) ≡ whole 2
+
+-- m2: root of 2 has bits 3FF6A09E667F3BCD
+abbrev pub m2 : Type 0
+m2 = rootOf (whole 2) ≡ bits 0x3FF6_A09E_667F_3BCD
+
+-- m3: root of 2^-1074, whose pattern is 1, is 2^-537, whose exponent field is 1023 - 537
+abbrev pub m3 : Type 0
+m3 = rootOf (bits 1) ≡ bits 0x1E60_0000_0000_0000
+
+-- m7: the identity factors to itself
+abbrev pub m7 : Type 0
+m7 = factorOf identity ≡ Lower identity
+
+-- m8: a zero first pivot is refused, whatever the rest of the matrix
+abbrev pub m8 : Type 0
+m8 = (a : List (List Float)) → cell a 0 0 ≡ +0 → factorOf a ≡ Refused
+
+abbrev pub marked : List (Type 0)
+marked = m1 ∷ m2 ∷ m3 ∷ m7 ∷ m8 ∷ []

@@ -1,0 +1,20 @@
+// The marked trials through the code, a line for each.
+mod numbers;
+use libc::STDOUT_FILENO;
+
+fn report(name: &[u8], holds: bool) {
+    io::write_all(STDOUT_FILENO, name);
+    if holds {
+        io::write_all(STDOUT_FILENO, b" holds\n");
+    } else {
+        io::write_all(STDOUT_FILENO, b" FAILS\n");
+    }
+}
+
+fn main() {
+    report(b"m1", numbers::root_of_four());
+    report(b"m2", numbers::root_of_two());
+    report(b"m3", numbers::root_of_least());
+    report(b"m7", numbers::identity_factors());
+    report(b"m8", numbers::zero_pivot_refused());
+}
