@@ -10,8 +10,8 @@ use lib.IntN.{pos, _-ℤ_, _*ℤ_, natAbs}
 use lib.Ieee.{Float}
 use Rattle.exact.specs.Value.{scale, magnitude, value}
 use Rattle.exact.specs.Number.{Number, _+ₑ_, _-ₑ_, _*ₑ_, ∣_∣, 0ₑ, Σ, exactly}
-use Rattle.exact.specs.Solve.{sumℤ, sum, entry, lower, sizeL, sizeX, Sharper}
-use Rattle.exact.specs.Accuracy.{column, symmetric, triangle, Accurate}
+use Rattle.exact.specs.Accuracy.{entry, column, symmetric, triangle, Accurate}
+use Rattle.exact.proofs.Sharper.{sumℤ, sum, lower, sizeL, sizeX, Sharper}
 use Rattle.exact.proofs.Num.{Num, num, _∸_, _·_}
 use Rattle.exact.proofs.Ops.{val, scale-pos}
 use Rattle.exact.proofs.Products.{dot}

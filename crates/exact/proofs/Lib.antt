@@ -1,4 +1,5 @@
 -- The theory of rounding errors and what IEEE 754 says of the operations, lowest first.
+pub mod Sharper
 pub mod Num
 pub mod Rounding
 pub mod Ops

@@ -12,7 +12,7 @@ use mathlib.Core.Bool.{Bool, true, false, not}
 use lib.Ieee.{Float, unlike}
 use Rattle.exact.specs.Value.{scale, magnitude}
 use Rattle.exact.specs.Number.{Number, _+ₑ_, _-ₑ_, _*ₑ_, ∣_∣, _≤ₑ_, _<ₑ_, negative, 0ₑ, 1ₑ, 2^-_, Σ, exactly}
-use Rattle.exact.specs.Solve.{sum}
+use Rattle.exact.proofs.Sharper.{sum}
 use Rattle.exact.proofs.Num.{Num, num, none, _∔_, _∸_, _⊙_, _·_, abs, apart, Plain}
 use Rattle.exact.proofs.Ops.{val, sgn, val-plain}
 use Rattle.exact.proofs.Products.{dot}

@@ -4,7 +4,6 @@ use mathlib.Core.Bool.{cond}
 use lib.Dec.{leb}
 use lib.Ieee.{Float}
 use Rattle.exact.specs.Number.{Number, _+ₑ_, _-ₑ_, _*ₑ_, ∣_∣, _≤ₑ_, 0ₑ, 1ₑ, 2^-_, Σ, exactly}
-use Rattle.exact.specs.Solve.{entry}
 
 infix 90 _ᵀ
 -- a column is a function of the row, a matrix one of the row and the column
@@ -45,6 +44,10 @@ module _ (n : ℕ) where
 -- the column of the floats x
 abbrev pub column : (ℕ → Float) → Column
 column x i = exactly (x i)
+
+-- the entry in row i and column j of the symmetric matrix whose lower triangle is a
+abbrev pub entry : (ℕ → ℕ → Float) → ℕ → ℕ → Float
+entry a i j = cond (leb j i) (a i j) (a j i)
 
 -- the symmetric matrix whose lower triangle is a
 abbrev pub symmetric : (ℕ → ℕ → Float) → Matrix

@@ -3,5 +3,4 @@ pub mod Value
 pub mod Number
 pub mod Rounded
 pub mod Products
-pub mod Solve
 pub mod Accuracy

@@ -15,7 +15,7 @@ use lib.Ieee.Fits.{div-fits}
 use lib.Ieee.Scale.{finite}
 use Rattle.exact.specs.Value.{scale, magnitude, value}
 use Rattle.numeric.specs.Root.{rootOf}
-use Rattle.exact.specs.Solve.{entry}
+use Rattle.exact.specs.Accuracy.{entry}
 use Rattle.exact.specs.Products.{lessProducts}
 use Rattle.exact.proofs.Steps.{RootInUnits, FactorSteps, ForwardSteps, BackwardSteps}
 use Rattle.numeric.specs.Factor.{at, row, cell, forwardTo, backTo, Lower, factorOf, solutionOf}

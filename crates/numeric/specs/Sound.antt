@@ -4,8 +4,7 @@ use mathlib.Core.List.{List}
 use lib.Dec.{T}
 use lib.Ieee.{Float, binary64, fits}
 use lib.Ieee.Scale.{finite}
-use Rattle.exact.specs.Solve.{entry}
-use Rattle.exact.specs.Accuracy.{Accurate}
+use Rattle.exact.specs.Accuracy.{entry, Accurate}
 use Rattle.numeric.specs.Factor.{at, cell}
 
 -- matrix, right side, factor and solution are finite, and taken as exact numbers a x differs from b in each of the nine rows by no more than `Accurate` allows
