@@ -5,13 +5,17 @@ use native.Mathlib.Omega.{arith}
 use mathlib.Core.Bool.{true, false}
 use mathlib.Core.List.{List}
 use lib.ListN.{set, replicate}
-use lib.Ieee.{Float, sub, mul, div, lt, ofInt, ofBits}
+use lib.Ieee.{Float, sub, mul, div, lt, eq, isNan, ofInt, ofBits, toBits}
 use Rattle.exact.specs.Float.{+0}
 use Rattle.exact.specs.Products.{lessProducts}
 use Rattle.numeric.specs.Root.{rootOf}
 use Rattle.numeric.specs.Factor.{cell, row, isPivot, withElement, below, pivotOf, rowOf, Factored, Refused, Lower, next, factorTo, factorOf}
+use Rattle.numeric.specs.Order.{sign, totalOrder, patternOf}
+use Rattle.numeric.specs.Real.{abs}
+use Rattle.median.specs.Sorted.{insertBy, sortedBy, medianOf}
+use Rattle.median.specs.Centre.{centreOf, deviationOf, centreAndScaleOf, centreScaleOf}
 use Rattle.numeric.proofs.FactorLaws.{factorTo-zero, factorTo-next, refused-more}
-use Rattle.trials.specs.Marked.{All, marked, m1, m2, m3, m7, m8}
+use Rattle.trials.specs.Marked.{All, marked, m1, m2, m3, m4, m5, m7, m8}
 
 root-four : m1
 unfolding rootOf ofInt
@@ -24,6 +28,14 @@ root-two = refl
 root-least : m3
 unfolding rootOf ofBits
 root-least = refl
+
+centre-empty : m4
+unfolding centreScaleOf centreAndScaleOf
+centre-empty = refl
+
+centre-four : m5
+unfolding centreOf medianOf sortedBy insertBy totalOrder sign lt eq ofBits ofInt deviationOf patternOf abs isNan toBits sub
+centre-four = (refl, refl)
 
 identity-factors : m7
 unfolding factorOf factorTo next isPivot pivotOf rowOf below withElement lessProducts rootOf sub mul div lt ofBits
@@ -42,4 +54,4 @@ zero-pivot a e =
 
 -- THE FACT over the list
 pub marked-hold : All marked
-marked-hold = (root-four, (root-two, (root-least, (identity-factors, (zero-pivot, tt)))))
+marked-hold = (root-four, (root-two, (root-least, (centre-empty, (centre-four, (identity-factors, (zero-pivot, tt)))))))

@@ -8,6 +8,10 @@ use lib.Ieee.{Float}
 use Rattle.exact.specs.Float.{+0, 1·0, bits, whole}
 use Rattle.numeric.specs.Root.{rootOf}
 use Rattle.numeric.specs.Factor.{cell, Refused, Lower, factorOf}
+use Rattle.numeric.specs.Order.{patternOf}
+use Rattle.median.specs.Sorted.{medianOf}
+use Rattle.median.specs.Centre.{centreOf, deviationsOf, centreScaleOf}
+use Rattle.median.specs.declared.centre.Centre.the-variants.{Of}
 
 -- all of a list's statements
 abbrev pub All : List (Type 0) → Type 0
@@ -36,6 +40,18 @@ m2 = rootOf (whole 2) ≡ bits 0x3FF6_A09E_667F_3BCD
 abbrev pub m3 : Type 0
 m3 = rootOf (bits 1) ≡ bits 0x1E60_0000_0000_0000
 
+-- m4: empty centre
+abbrev pub m4 : Type 0
+m4 = centreScaleOf [] ≡ Of (record { centre = +0; scale = 1·0 })
+
+-- 3, 1, 2, 4, as patterns
+abbrev pub four : List ℕ
+four = patternOf (whole 3) ∷ patternOf (whole 1) ∷ patternOf (whole 2) ∷ patternOf (whole 4) ∷ []
+
+-- m5: 3, 1, 2, 4 has centre 3 and median deviation 1
+abbrev pub m5 : Type 0
+m5 = (centreOf four ≡ whole 3) × (medianOf (deviationsOf (centreOf four) four) ≡ patternOf (whole 1))
+
 -- m7: the identity factors to itself
 abbrev pub m7 : Type 0
 m7 = factorOf identity ≡ Lower identity
@@ -45,4 +61,4 @@ abbrev pub m8 : Type 0
 m8 = (a : List (List Float)) → cell a 0 0 ≡ +0 → factorOf a ≡ Refused
 
 abbrev pub marked : List (Type 0)
-marked = m1 ∷ m2 ∷ m3 ∷ m7 ∷ m8 ∷ []
+marked = m1 ∷ m2 ∷ m3 ∷ m4 ∷ m5 ∷ m7 ∷ m8 ∷ []

@@ -1,4 +1,5 @@
 // The marked trials through the code, a line for each.
+mod centre;
 mod numbers;
 
 use libc::STDOUT_FILENO;
@@ -16,6 +17,8 @@ fn main() {
     report(b"m1", numbers::root_of_four());
     report(b"m2", numbers::root_of_two());
     report(b"m3", numbers::root_of_least());
+    report(b"m4", centre::empty());
+    report(b"m5", centre::four());
     report(b"m7", numbers::identity_factors());
     report(b"m8", numbers::zero_pivot_refused());
 }
