@@ -1,0 +1,87 @@
+-- The sums that the code of a round has after k rows, and the round that they make. Assumes nothing.
+use mathlib.Core.Path.{_≡_, refl, sym, ap, ap₂, _∙_, fun-ext, subst}
+use Prim.Native.Nat.{ℕ, _+_, _≤_}
+use native.Mathlib.Omega.{arith}
+use mathlib.Core.Bool.{Bool, true, false, cond}
+use mathlib.Core.List.{List}
+use lib.Dec.{ltb}
+use lib.ListN.{length, getD}
+use lib.Ieee.{Float}
+use Rattle.exact.specs.Float.{_⊕_, _⊗_, +0, bits}
+use Rattle.numeric.specs.Factor.{at, Factored, Refused, Lower, factorOf, solutionOf}
+use Rattle.numeric.specs.Answer.{rowsAfter}
+use Rattle.numeric.specs.Answer as factor
+use Rattle.median.specs.declared.centre.CentreScale.{CentreScale}
+use Rattle.robust.specs.Nine.{nine}
+use Rattle.robust.specs.Round.{weight, wide, cellOf, sideOf, triangleOf, matrixOf, rightOf, solved, roundBy}
+use Rattle.robust.specs.Step.{counted}
+use Rattle.robust.specs.Normal.{Solving}
+use Rattle.robust.specs.declared.row.Row.{Row}
+use Rattle.robust.specs.declared.row.Rows.{Rows}
+use Rattle.robust.proofs.Sums.{blank, sumTo, sumTo-zero, sumTo-next, sum-total}
+
+abbrev pub rowAt : Rows → ℕ → Row
+rowAt rows k = getD (rows .row) k blank
+
+module _ (c : CentreScale) (huber : Float) (rows : Rows) where
+  pub cells : ℕ → ℕ → ℕ → Float
+  cells k p q = sumTo (λ k. weight c huber (rowAt rows k) ⊗ at (wide (rowAt rows k)) p ⊗ at (wide (rowAt rows k)) q) k
+
+  pub sides : ℕ → ℕ → Float
+  sides k p = sumTo (λ k. weight c huber (rowAt rows k) ⊗ at (wide (rowAt rows k)) p ⊗ bits (rowAt rows k .residual)) k
+
+  pub cells-zero : (p q : ℕ) → cells 0 p q ≡ +0
+  unfolding cells
+  cells-zero p q = sumTo-zero _
+
+  pub sides-zero : (p : ℕ) → sides 0 p ≡ +0
+  unfolding sides
+  sides-zero p = sumTo-zero _
+
+  -- what one row more adds, by the weight w and the wide row e that the code has of it
+  module _ (k : ℕ) (w : Float) (e : List Float) (w-is : w ≡ weight c huber (rowAt rows k)) (e-is : e ≡ wide (rowAt rows k)) where
+    pub cells-next : (p q : ℕ) (s : Float) → s ≡ cells k p q → s ⊕ w ⊗ at e p ⊗ at e q ≡ cells (k + 1) p q
+    unfolding cells
+    cells-next p q s h = rw (sumTo-next, h, w-is, e-is)
+
+    pub sides-next : (p : ℕ) (s y : Float) → s ≡ sides k p → y ≡ bits (rowAt rows k .residual) → s ⊕ w ⊗ at e p ⊗ y ≡ sides (k + 1) p
+    unfolding sides
+    sides-next p s y h y-is = rw (sumTo-next, h, w-is, e-is, y-is)
+
+  module _ (long : length (rows .row) ≡ 64) (few : rows .count ≤ 64) where
+    cells-all : (p q : ℕ) → cells (rows .count) p q ≡ cellOf (weight c huber) (counted rows) p q
+    unfolding cells cellOf
+    cells-all p q = sum-total (λ r. weight c huber r ⊗ at (wide r) p ⊗ at (wide r) q) (rows .row) (rows .count) (omega arith)
+
+    sides-all : (p : ℕ) → sides (rows .count) p ≡ sideOf (weight c huber) (counted rows) p
+    unfolding sides sideOf
+    sides-all p = sum-total (λ r. weight c huber r ⊗ at (wide r) p ⊗ bits (r .residual)) (rows .row) (rows .count) (omega arith)
+
+    matrix-is : (n : ℕ) → triangleOf n (cells (rows .count)) ≡ matrixOf (weight c huber) (counted rows) n
+    unfolding matrixOf
+    matrix-is n = ap (triangleOf n) (fun-ext (λ p. fun-ext (λ q. cells-all p q)))
+
+    right-is : (n : ℕ) → nine (λ i. cond (ltb i n) (sides (rows .count) i) +0) ≡ rightOf (weight c huber) (counted rows) n
+    unfolding rightOf
+    right-is n = ap nine (fun-ext (λ i. ap (λ (z : Float). cond (ltb i n) z +0) (sides-all i)))
+
+    -- the round, by what factoring the matrix that was formed gives
+    module _ (n : ℕ) (a : List (List Float)) (b x : List Float) (ok : Bool) (a-is : a ≡ triangleOf n (cells (rows .count))) (b-is : b ≡ nine (λ i. cond (ltb i n) (sides (rows .count) i) +0))
+        (ok-is : ok ≡ factor.accepted (factorOf a)) where
+      round-is : roundBy (weight c huber) (counted rows) n ≡ solved (counted rows) a b (factorOf a)
+      unfolding roundBy
+      round-is = rw (a-is, b-is, matrix-is n, right-is n)
+
+      pub solving-yes : (l z : List (List Float)) (s : List Float) → l ≡ rowsAfter (factorOf a) z → ok ≡ true → s ≡ solutionOf l b → Solving (roundBy (weight c huber) (counted rows) n) true x s
+      solving-yes l z s l-is t e = subst (λ o. Solving o true x s) (sym round-is) (go (factorOf a) ok-is l-is)
+        where
+          go : (v : Factored) → ok ≡ factor.accepted v → l ≡ rowsAfter v z → Solving (solved (counted rows) a b v) true x s
+          go Refused p q = absurd (let z : _≡_ {A = ℕ} 0 1 = cc in omega arith)
+          go (Lower k) p q = record { ok-is = refl; step-is = e ∙ ap (λ (z : List (List Float)). solutionOf z b) q }
+
+      pub solving-no : ok ≡ false → Solving (roundBy (weight c huber) (counted rows) n) false x x
+      solving-no t = subst (λ o. Solving o false x x) (sym round-is) (go (factorOf a) ok-is)
+        where
+          go : (v : Factored) → ok ≡ factor.accepted v → Solving (solved (counted rows) a b v) false x x
+          go Refused p = record { ok-is = refl; step-is = refl }
+          go (Lower k) p = absurd (let z : _≡_ {A = ℕ} 0 1 = cc in omega arith)

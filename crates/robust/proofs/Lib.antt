@@ -1,0 +1,8 @@
+-- What the proofs of more than one function use, and the laws.
+pub mod NineLaws
+pub mod RoundSound
+pub mod RowLaws
+pub mod Sums
+pub mod NormalLaws
+pub mod FormedLaws
+pub mod StepLaws

@@ -1,0 +1,21 @@
+-- `robust::weight::damping` meets its contract. Assumes nothing.
+use mathlib.Core.Path.{sym}
+use Rattle.robust.specs.Round.{damping}
+use Rattle.robust.proofs.RowLaws.{least}
+use borrow.Author.Needs.{needs}
+use Rattle.robust.proofs.weight.damping.Statement.{statement}
+use Rattle.robust.proofs.weight.damping.Tie as tie
+
+max-requires : tie.Need-max-requires
+max-requires c κs = search needs
+
+returns : tie.Need-returns
+unfolding damping
+returns c = rw (c .if1 .taken)
+
+returns-2 : tie.Need-returns-2
+unfolding damping
+returns-2 c = rw (c .before .if1 .left, c .max .ensures, least)
+
+pub damping-spec : {M : Type 1} → statement M
+damping-spec = tie.close (tie.spec max-requires returns returns-2)

@@ -1,0 +1,5 @@
+pub mod Nine
+pub mod Round
+pub mod Step
+pub mod Normal
+pub mod Sigma

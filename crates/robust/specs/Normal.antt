@@ -1,0 +1,34 @@
+-- What the code of a round has on the way: the contracts of its parts. Definitions only.
+use mathlib.Core.Path.{_≡_}
+use Prim.Native.Nat.{ℕ}
+use mathlib.Core.Bool.{Bool, true, false, cond, _&&_}
+use mathlib.Core.List.{List, map}
+use lib.Dec.{leb, eqb}
+use lib.Ieee.{Float}
+use Rattle.exact.specs.Float.{+0, 1·0}
+use Rattle.robust.specs.Nine.{nine}
+use Rattle.robust.specs.Round.{Outcome, Refused, Solved}
+use Rattle.robust.specs.Step.{counted}
+use Rattle.robust.specs.declared.row.Row.{Row}
+use Rattle.robust.specs.declared.row.Rows.{Rows}
+
+-- the matrix of n unknowns before any row is added: 1 on the diagonal of the unused ones
+unfoldable pub unused : ℕ → List (List Float)
+unused n = nine (λ i. nine (λ j. cond (leb n i && eqb i j) 1·0 +0))
+
+abbrev pub residualsOf : Rows → List ℕ
+residualsOf rows = map (λ (r : Row). r .residual) (counted rows)
+
+-- whether a round has a factor, and the step, or what stood in its place before
+abbrev pub accepted : Outcome → Bool
+accepted Refused = false
+accepted (Solved r) = true
+
+abbrev pub stepAfter : Outcome → List Float → List Float
+stepAfter Refused x = x
+stepAfter (Solved r) x = r .step
+
+-- ok and the lent x, which is y afterwards, are the outcome's
+pub record Solving (o : Outcome) (ok : Bool) (x y : List Float) : Type 0 where
+  pub ok-is : ok ≡ accepted o
+  pub step-is : y ≡ stepAfter o x
