@@ -109,6 +109,20 @@ pub const SUBSTITUTIONS: &[Substitution] = &[
         "    pub slot: [usize; 8],\n    pub count: usize,\n",
         1,
     ),
+    // The loop of `assign` from a state handed in.
+    sub(
+        ROBUST,
+        "        let mut c = Self {\n            slot: [usize::MAX; 8],\n            count: 0,\n        };\n",
+        "        let c = Self {\n            slot: [usize::MAX; 8],\n            count: 0,\n        };\n        c.assign_more(constellations)\n    }\n\n    /// Assign columns to the constellations not seen before.\n    pub fn assign_more(self, constellations: impl Iterator<Item = u8>) -> Self {\n        let mut c = self;\n",
+        1,
+    ),
+    // The rounds of a call, kept where the bound is checked over them.
+    sub(
+        ROBUST,
+        "    let dx = Cholesky::new(&ata)?.solve(&atb);\n",
+        "    let factor = Cholesky::new(&ata)?;\n    let dx = factor.solve(&atb);\n    crate::record::note(&ata, &atb, &factor, &dx);\n",
+        1,
+    ),
     sub(WLS, "\nfn geometry(", "\npub fn geometry(", 1),
     sub(TDCP, "\nfn geometry(", "\npub fn geometry(", 1),
     sub(TDCP, "    fn usable(&self)", "    pub fn usable(&self)", 1),

@@ -114,12 +114,16 @@ impl Big {
 
     /// Which of two numbers is larger.
     pub fn compare(&self, other: &Big) -> Ordering {
-        self.words.iter().rev().cmp(other.words.iter().rev())
+        let n = self.length.max(other.length);
+        self.words[..n]
+            .iter()
+            .rev()
+            .cmp(other.words[..n].iter().rev())
     }
 
     /// The leading digits and the power of two that they are multiplied by, for printing alone.
     fn leading(&self) -> (f64, i32) {
-        match (0..WORDS).rev().find(|&k| self.words[k] != 0) {
+        match (0..self.length).rev().find(|&k| self.words[k] != 0) {
             None => (0.0, 0),
             Some(0) => (self.words[0] as f64, 0),
             Some(k) => {

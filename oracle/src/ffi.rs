@@ -1,5 +1,19 @@
 //! The C entry points of the Rattle library, and a safe function over each.
 
+#[cfg(feature = "displacement")]
+mod displacement;
+#[cfg(feature = "fix")]
+mod fix;
+#[cfg(feature = "robust")]
+mod robust;
+
+#[cfg(feature = "displacement")]
+pub use displacement::*;
+#[cfg(feature = "fix")]
+pub use fix::*;
+#[cfg(feature = "robust")]
+pub use robust::*;
+
 /// Nine rows of nine floats.
 pub type Square = [[f64; 9]; 9];
 /// Nine floats.

@@ -2,9 +2,14 @@
 
 mod bench;
 mod big;
+mod estimate;
 mod ffi;
+#[cfg(any(feature = "robust", feature = "displacement", feature = "fix"))]
+mod numbers;
 mod random;
+mod rules;
 mod services;
+mod sky;
 mod system;
 mod tally;
 mod vectors;

@@ -1,9 +1,9 @@
 -- What the error theory goes on: each element of the factor and of the two solutions, from those before it, by binary64's operations. Assumes nothing.
 use mathlib.Core.Path.{_≡_}
-use Prim.Native.Nat.{ℕ, zero, suc, _+_, _-_, _*_, _^_, _≤_, _<_}
+use Prim.Native.Nat.{ℕ, suc, _+_, _-_, _*_, _^_, _≤_, _<_}
 use lib.Dec.{T}
 use lib.IntN.{pos}
-use lib.Ieee.{Float, binary64, sub, mul, div, fits}
+use lib.Ieee.{Float, binary64, div, fits}
 use lib.Ieee.Scale.{finite}
 use Rattle.exact.specs.Products.{lessProducts}
 use Rattle.exact.specs.Value.{scale, magnitude, value}

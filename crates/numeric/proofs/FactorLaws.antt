@@ -1,16 +1,15 @@
 -- Each count's first and next step, at the code's `k + 1`. Assumes nothing.
 use mathlib.Core.Path.{_≡_, refl}
-use Prim.Native.Nat.{ℕ, zero, suc, _+_, _-_, _<_}
+use Prim.Native.Nat.{ℕ, zero, suc, _+_, _-_}
 use native.Mathlib.Nat.{zero-add, suc-add}
 use native.Mathlib.Numerals.{add-one}
-use native.Mathlib.Omega.{arith}
 use mathlib.Core.List.{List}
 use lib.ListN.{set, replicate}
 use lib.Ieee.{Float}
 use Rattle.exact.specs.Float.{_⊘_, +0}
 use Rattle.exact.specs.Products.{lessProducts}
 use Rattle.numeric.specs.Root.{rootOf}
-use Rattle.numeric.specs.Factor.{at, row, cell, isPivot, withElement, below, pivotOf, rowOf, Factored, Refused, Lower, when, next, factorTo, factorOf, forwardTo, withForward, backTo, withBack}
+use Rattle.numeric.specs.Factor.{at, row, cell, isPivot, withElement, below, pivotOf, rowOf, Refused, Lower, when, next, factorTo, factorOf, forwardTo, withForward, backTo, withBack}
 
 pub below-zero : (l : List (List Float)) (a : List Float) → below 0 l a ≡ replicate 9 +0
 unfolding below

@@ -1,9 +1,9 @@
 -- The root of a pivot, in units of 2 ^ -1074: from `rootOf`'s theorem to the form that the error bound reads. Assumes nothing.
 use mathlib.Core.Path.{_≡_, refl, sym, ap, _∙_, subst}
-use Prim.Native.Nat.{ℕ, zero, suc, _+_, _-_, _*_, _^_, _≤_, _<_}
-use native.Mathlib.Nat.{le-of-lt, eq-of-mul-eq-mul-right, zero-mul, mul-zero}
+use Prim.Native.Nat.{ℕ, zero, suc, _+_, _*_, _^_, _<_}
+use native.Mathlib.Nat.{le-of-lt, eq-of-mul-eq-mul-right, zero-mul}
 use native.Mathlib.Omega.{arith}
-use mathlib.Core.Bool.{Bool, true, false, _&&_}
+use mathlib.Core.Bool.{true, false}
 use lib.Dec.{T, ltb→lt}
 use lib.Pow.{pow-add, pow-pos}
 use lib.IntN.{pos}
@@ -13,7 +13,6 @@ use lib.Ieee.Exact.{HasValue}
 use lib.Ieee.Scale.{finite}
 use Rattle.exact.specs.Value.{scale, magnitude, value}
 use Rattle.numeric.specs.Root.{IsPositiveRoot, rootOf}
-use Rattle.exact.specs.Float.{+0}
 use Rattle.numeric.specs.Factor.{isPivot}
 use Rattle.exact.proofs.Steps.{RootInUnits}
 use Rattle.exact.proofs.Ops.{exact}

@@ -1,24 +1,20 @@
 -- THE LAW of accuracy, for every matrix and right side: where the matrix is not refused and the first element of the solution is finite, all is finite, and the solution is accurate.
 -- Beneath the first element stand all the others, the forward solution and the right side: a finite quotient has a finite dividend, and a finite difference finite terms. Assumes nothing.
-use mathlib.Core.Path.{_≡_, refl, sym, ap, _∙_, subst}
+use mathlib.Core.Path.{_≡_, sym, subst}
 use mathlib.Core.Logic.{_⊎_, inl, inr}
-use Prim.Native.Nat.{ℕ, zero, suc, _+_, _-_, _*_, _^_, _≤_, _<_}
-use native.Mathlib.Nat.{le-refl, le-trans, le-of-lt, eq-or-lt-of-le, mul-le-mul-left, mul-le-mul-right, mul-le-mul}
+use Prim.Native.Nat.{ℕ, zero, suc, _+_, _-_, _≤_, _<_}
+use native.Mathlib.Nat.{le-refl, le-of-lt, eq-or-lt-of-le}
 use native.Mathlib.Omega.{arith}
 use mathlib.Core.Bool.{Bool, true, false, not, cond}
 use mathlib.Core.List.{List}
 use lib.ListN.{length}
 use lib.Dec.{T, leb, leb→le, nleb→lt}
-use lib.IntN.{pos, _-ℤ_, _*ℤ_, natAbs}
-use lib.Ieee.{Float, binary64, div, fits}
-use lib.Ieee.Fits.{div-fits}
+use lib.Ieee.{Float}
 use lib.Ieee.Scale.{finite}
-use Rattle.exact.specs.Value.{scale, magnitude, value}
-use Rattle.numeric.specs.Root.{rootOf}
 use Rattle.exact.specs.Accuracy.{entry}
 use Rattle.exact.specs.Products.{lessProducts}
 use Rattle.exact.proofs.Steps.{RootInUnits, FactorSteps, ForwardSteps, BackwardSteps}
-use Rattle.numeric.specs.Factor.{at, row, cell, forwardTo, backTo, Lower, factorOf, solutionOf}
+use Rattle.numeric.specs.Factor.{at, cell, forwardTo, Lower, factorOf, solutionOf}
 use Rattle.numeric.proofs.FactorFinite.{factor-finite}
 use Rattle.numeric.specs.Sound.{Sound, Held}
 use Rattle.exact.proofs.Ops.{div-finite}

@@ -1,6 +1,6 @@
 -- THE LAW of a round for demand 3: a round whose matrix has a factor and whose step's entry 0 is finite is sound. Assumes nothing.
 use mathlib.Core.Path.{_≡_, refl, sym, subst}
-use Prim.Native.Nat.{ℕ, _≤_, _<_}
+use Prim.Native.Nat.{ℕ}
 use native.Mathlib.Omega.{arith}
 use mathlib.Core.Bool.{cond, _&&_}
 use mathlib.Core.List.{List, [], _∷_, map, foldl}
@@ -15,7 +15,6 @@ use Rattle.numeric.specs.Factor.{at, Factored, Refused, Lower, factorOf}
 use Rattle.numeric.specs.Sound.{Held}
 use Rattle.numeric.proofs.SoundSystem.{sound}
 use Rattle.median.specs.Centre.{centreAndScaleOf}
-use Rattle.robust.specs.Nine.{nine}
 use Rattle.robust.specs.Round.{weight, total, cellOf, sideOf, triangleOf, matrixOf, rightOf, Round, Solved, made, solved, roundBy, roundOf, Sound}
 use Rattle.robust.specs.declared.row.Row.{Row}
 use Rattle.robust.proofs.NineLaws.{nine-at, nine-length, cell-at}

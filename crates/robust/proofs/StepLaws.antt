@@ -1,23 +1,22 @@
 -- The round called by itself, by what its parts answer. Assumes nothing.
-use mathlib.Core.Path.{_≡_, refl, sym, ap, _∙_, subst}
+use mathlib.Core.Path.{_≡_, refl, ap, _∙_, subst}
 use Prim.Native.Nat.{ℕ, _≤_, _<_}
 use native.Mathlib.Omega.{arith}
-use mathlib.Core.Bool.{Bool, true, false, not, cond, _||_}
-use mathlib.Core.List.{List, map}
+use mathlib.Core.Bool.{Bool, true, false}
+use mathlib.Core.List.{List}
 use borrow.Author.Tests.{lt-ltb, le-ltb}
-use lib.ListN.{length, take, length-map}
+use lib.ListN.{length, length-map}
 use lib.Seq.{length-take-le}
 use lib.Ieee.{Float}
 use Rattle.walk.specs.Walk.{every}
 use Rattle.numeric.specs.declared.refusal.Refusal.{Refusal}
 use Rattle.numeric.specs.declared.refusal.Refusal.the-variants.{TooMany, RecordOutOfRange, FitFailed}
 use Rattle.median.specs.Centre.{centreAndScaleOf, centreScaleOf}
-use Rattle.median.specs.declared.centre.Centre.{Centre}
 use Rattle.median.specs.declared.centre.Centre.the-variants.{Refused as NoCentre, Of}
 use Rattle.median.specs.declared.centre.CentreScale.{CentreScale}
 use Rattle.robust.specs.Round.{weight, Outcome, Refused, Solved, roundBy, roundOf}
 use Rattle.robust.specs.Normal.{Solving, residualsOf}
-use Rattle.robust.specs.Step.{counted, indexed, firstOf, Stepped, refused, outcome, stepOf}
+use Rattle.robust.specs.Step.{counted, indexed, firstOf, refused, outcome, stepOf}
 use Rattle.robust.specs.declared.row.Row.{Row}
 use Rattle.robust.specs.declared.row.Rows.{Rows}
 use Rattle.robust.specs.declared.round.Stepping.the-variants as Stepping

@@ -1,8 +1,8 @@
 -- One round of the robust least squares (document 01, "Round" and "Their rounds"; `step` of robust.rs). Definitions only.
 -- A row's residual is a pattern, since the centre is taken in totalOrder.
 use Prim.Native.Nat.{ℕ}
-use mathlib.Core.Bool.{Bool, cond, _&&_}
-use mathlib.Core.List.{List, [], _∷_, map, foldl}
+use mathlib.Core.Bool.{cond, _&&_}
+use mathlib.Core.List.{List, _∷_, map, foldl}
 use lib.Dec.{ltb, leb, eqb}
 use lib.ListN.{set, replicate}
 use lib.Ieee.{Float, le}

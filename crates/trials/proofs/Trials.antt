@@ -1,15 +1,12 @@
 -- Every marked trial holds. Assumes nothing.
-use mathlib.Core.Path.{_≡_, refl, sym, _∙_}
-use Prim.Native.Nat.{ℕ, _+_}
-use native.Mathlib.Omega.{arith}
-use mathlib.Core.Bool.{true, false}
-use mathlib.Core.List.{List}
-use lib.ListN.{set, replicate}
-use lib.Ieee.{Float, sub, mul, div, lt, eq, isNan, ofInt, ofBits, toBits}
+use mathlib.Core.Path.{_≡_, refl, _∙_}
+use Prim.Native.Nat.{_+_}
+use mathlib.Core.Bool.{false}
+use lib.Ieee.{sub, mul, div, lt, eq, isNan, ofInt, ofBits, toBits}
 use Rattle.exact.specs.Float.{+0}
 use Rattle.exact.specs.Products.{lessProducts}
 use Rattle.numeric.specs.Root.{rootOf}
-use Rattle.numeric.specs.Factor.{cell, row, isPivot, withElement, below, pivotOf, rowOf, Factored, Refused, Lower, next, factorTo, factorOf}
+use Rattle.numeric.specs.Factor.{isPivot, withElement, below, pivotOf, rowOf, Refused, next, factorTo, factorOf}
 use Rattle.numeric.specs.Order.{sign, totalOrder, patternOf}
 use Rattle.numeric.specs.Real.{abs}
 use Rattle.median.specs.Sorted.{insertBy, sortedBy, medianOf}

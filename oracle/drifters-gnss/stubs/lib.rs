@@ -1,6 +1,7 @@
-// Not published; the modules that are.
+// Not published; the modules that are, and what keeps a call's rounds.
 
 pub mod differential;
+pub mod record;
 pub mod rinex;
 pub mod robust;
 pub mod smooth;

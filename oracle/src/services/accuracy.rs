@@ -55,7 +55,7 @@ fn one_and_sum(xs: impl Iterator<Item = f64>) -> Big {
 /// The largest of nine ratios of left side to bound, and whether the bound holds in each row.
 ///
 /// Both sides are whole numbers in units of 2^-4292, which is 2^-1070 times three units of 2^-1074.
-fn check(a: &Square, b: &Column, l: &Square, x: &Column) -> (f64, bool) {
+pub fn check(a: &Square, b: &Column, l: &Square, x: &Column) -> (f64, bool) {
     let x_units = x.map(units);
     // |Lᵀ||x|, in units of 2^-2148.
     let inner: [Big; 9] = std::array::from_fn(|k| {
@@ -86,6 +86,9 @@ fn check(a: &Square, b: &Column, l: &Square, x: &Column) -> (f64, bool) {
         let mut bound = underflow.clone();
         for (k, sum) in inner.iter().enumerate().take(i + 1) {
             let p = units(l[i][k]);
+            if p.m == 0 {
+                continue;
+            }
             bound.add_shifted(&sum.times_small(p.m), p.shift + 1070 - 48);
         }
         holds &= left.compare(&bound).is_le();
@@ -95,7 +98,7 @@ fn check(a: &Square, b: &Column, l: &Square, x: &Column) -> (f64, bool) {
 }
 
 /// Whether all are finite.
-fn all_finite(xs: &[f64]) -> bool {
+pub fn all_finite(xs: &[f64]) -> bool {
     xs.iter().all(|x| x.is_finite())
 }
 

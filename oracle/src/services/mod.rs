@@ -1,10 +1,25 @@
 //! The services, one file and one line of the table each.
 
 mod accuracy;
+#[cfg(feature = "robust")]
+mod centre;
+#[cfg(feature = "robust")]
+mod clocks;
+#[cfg(feature = "displacement")]
+mod displacement;
 mod factor;
+#[cfg(feature = "fix")]
+mod fix;
 mod order;
 mod root;
+#[cfg(feature = "robust")]
+mod round;
+#[cfg(feature = "robust")]
+mod sight;
+#[cfg(feature = "robust")]
+mod sigma;
 mod solve;
+mod soundness;
 mod standins;
 
 use crate::random::Random;
@@ -33,4 +48,19 @@ pub const SERVICES: &[Service] = &[
     factor::SERVICE,
     solve::SERVICE,
     accuracy::SERVICE,
+    #[cfg(feature = "robust")]
+    clocks::SERVICE,
+    #[cfg(feature = "robust")]
+    centre::SERVICE,
+    #[cfg(feature = "robust")]
+    sigma::SERVICE,
+    #[cfg(feature = "robust")]
+    sight::SERVICE,
+    #[cfg(feature = "robust")]
+    round::SERVICE,
+    #[cfg(feature = "displacement")]
+    displacement::SERVICE,
+    #[cfg(feature = "fix")]
+    fix::SERVICE,
+    soundness::SERVICE,
 ];

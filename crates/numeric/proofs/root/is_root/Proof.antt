@@ -9,7 +9,7 @@ use Rattle.numeric.specs.Root.{rootOf}
 use Rattle.numeric.proofs.Reading.{by-bits}
 use Rattle.numeric.proofs.Special.{is-number}
 use Rattle.numeric.proofs.Parts.{normal-parts}
-use Rattle.numeric.proofs.RootLaws.{Wide, wide, Result, result}
+use Rattle.numeric.proofs.RootLaws.{Wide, wide, result}
 use borrow.Author.Needs.{needs}
 use Rattle.numeric.proofs.root.is_root.Statement.{statement}
 use Rattle.numeric.proofs.root.is_root.Tie as tie

@@ -1,5 +1,4 @@
 -- `numeric::sight::travel_angle` meets its contract. Assumes nothing.
-use mathlib.Core.Path.{refl}
 use lib.Ieee.{ofInt, ofBits}
 use Rattle.numeric.specs.Sight.{travelAngle}
 use Rattle.numeric.proofs.RealValues.{earth-rate}

@@ -1,5 +1,4 @@
 -- `robust::weight::damping` meets its contract. Assumes nothing.
-use mathlib.Core.Path.{sym}
 use Rattle.robust.specs.Round.{damping}
 use Rattle.robust.proofs.RowLaws.{least}
 use borrow.Author.Needs.{needs}

@@ -1,6 +1,5 @@
-use Prim.Native.Nat.{_-_, _≤_, _<_}
+use Prim.Native.Nat.{_-_, _≤_}
 use native.Mathlib.Omega.{arith}
-use borrow.Author.Needs.{needs}
 use Rattle.trials.proofs.numbers.identity.Statement.{statement}
 use Rattle.trials.proofs.numbers.identity.Tie as tie
 

@@ -3,9 +3,6 @@ use borrow.Author.Needs.{needs}
 use Rattle.zaqnuti.specs.Numbers.{sightAfter}
 use Rattle.zaqnuti.proofs.robust.zaqnuti_geometry.Statement.{statement}
 use Rattle.zaqnuti.proofs.robust.zaqnuti_geometry.Tie as tie
-use Rattle.zaqnuti.proofs.robust.zaqnuti_geometry.Reads as reads
-use Rattle.zaqnuti.proofs.robust.zaqnuti_geometry.Lts as lts
-use Rattle.numeric.proofs.sight.geometry.Reads as geometry-reads
 
 -- src/robust.rt:32:12
 element-copy-out-t9 : tie.Need-element-copy-out-t9

@@ -1,0 +1,151 @@
+//! Inputs of the displacement and the fix, and what the published Rust answers within document 01's rules.
+
+use crate::rules;
+use drifters_core::frames::Ecef;
+use drifters_gnss::tdcp::{self, Carrier, Delta};
+use drifters_gnss::wls::{self, Observation, Solution};
+
+/// The number of no refusal: the rules refuse what the Rust does not.
+const AT_ODDS: u8 = 255;
+/// The fit fails.
+const FIT_FAILED: u8 = 10;
+
+/// Input of a displacement.
+pub struct Displacement {
+    pub previous: Vec<Carrier>,
+    pub current: Vec<Carrier>,
+    pub dt: f64,
+    pub receiver: [f64; 3],
+    pub settings: tdcp::Settings,
+}
+
+/// Input of a fix.
+pub struct Fix {
+    pub observations: Vec<Observation>,
+    pub guess: [f64; 3],
+    pub settings: wls::Settings,
+}
+
+/// Three coordinates as the Rust has them.
+fn ecef([x, y, z]: [f64; 3]) -> Ecef {
+    Ecef::new(x, y, z)
+}
+
+impl Displacement {
+    /// What the Rust gives.
+    pub fn rust(&self) -> Option<Delta> {
+        let at = ecef(self.receiver);
+        tdcp::delta_position(&self.previous, &self.current, self.dt, at, &self.settings)
+    }
+
+    /// The Rust's answer, or the number of the refusal.
+    pub fn answer(&self) -> Result<Delta, u8> {
+        match rules::displacement(self) {
+            None => self.rust().ok_or(FIT_FAILED),
+            // Added, or a panic of the Rust's.
+            Some(n @ (2..=4 | 9)) => Err(n),
+            Some(5) if self.dt > rules::INTERVAL && self.dt.is_finite() => Err(5),
+            Some(n) => Err(if self.rust().is_none() { n } else { AT_ODDS }),
+        }
+    }
+}
+
+impl Fix {
+    /// What the Rust gives.
+    pub fn rust(&self) -> Option<Solution> {
+        wls::solve_full(&self.observations, ecef(self.guess), &self.settings)
+    }
+
+    /// The Rust's answer, or the number of the refusal.
+    pub fn answer(&self) -> Result<Solution, u8> {
+        match rules::fix(self) {
+            None => self.rust().ok_or(FIT_FAILED),
+            // Added, or a panic of the Rust's.
+            Some(n @ (2..=4 | 9)) => Err(n),
+            Some(n) => Err(if self.rust().is_none() { n } else { AT_ODDS }),
+        }
+    }
+}
+
+#[cfg(test)]
+mod tests {
+    use super::*;
+    use crate::random::Random;
+    use drifters_gnss::record::rounds_of;
+
+    /// Carriers all over a sky that nothing moved under, one constellation for each of the first.
+    fn standstill(count: usize, slots: usize) -> Displacement {
+        let mut random = Random::new(1, "standstill");
+        let epoch: Vec<Carrier> = (0..count)
+            .map(|k| Carrier {
+                constellation: (k % slots) as u8,
+                svid: k as u16,
+                band: 1575,
+                adr: 1e6 * random.unit(),
+                state: 1,
+                satellite: crate::sky::direction(&mut random).map(|d| d * 2.6e7),
+                elevation: 45.0,
+                rate: 0.0,
+            })
+            .collect();
+        Displacement {
+            previous: epoch.clone(),
+            current: epoch,
+            dt: 1.0,
+            receiver: [0.0, 0.0, 6.37e6],
+            settings: tdcp::Settings::default(),
+        }
+    }
+
+    /// Used and screened, or the number.
+    fn counts(input: &Displacement) -> Result<(usize, usize), u8> {
+        input.answer().map(|d| (d.used, d.screened))
+    }
+
+    #[test]
+    fn trials_at_the_edges_of_a_displacement() {
+        assert_eq!(counts(&standstill(0, 1)), Err(7));
+        assert_eq!(counts(&standstill(5, 1)), Err(7));
+        assert_eq!(counts(&standstill(6, 1)), Ok((6, 0)));
+        assert_eq!(counts(&standstill(6, 3)), Err(8));
+        assert_eq!(counts(&standstill(64, 6)), Ok((64, 0)));
+        assert_eq!(counts(&standstill(65, 6)), Err(2));
+        assert_eq!(counts(&standstill(11, 7)), Err(9));
+        assert_eq!(counts(&standstill(10, 7)), Err(8));
+        let mut input = standstill(7, 1);
+        input.settings.mask = 45.0;
+        assert_eq!(counts(&input), Ok((7, 0)));
+        input.current[0].elevation = 45f64.next_down();
+        assert_eq!(counts(&input), Ok((6, 0)));
+        input.settings.screen = 0.5;
+        input.current[1].rate = 1.0;
+        assert_eq!(counts(&input), Ok((5, 1)));
+        input.settings.screen = 0.5f64.next_up();
+        assert_eq!(counts(&input), Ok((6, 0)));
+        input.settings.screen = 1e9f64.next_up();
+        assert_eq!(counts(&input), Err(3));
+        input.settings.screen = 1e9;
+        input.previous[6].rate = 1e9f64.next_up();
+        assert_eq!(counts(&input), Err(4));
+        input.previous[6].rate = 0.0;
+        input.dt = 604_800.0;
+        assert_eq!(counts(&input), Ok((6, 0)));
+        input.dt = input.dt.next_up();
+        assert_eq!(counts(&input), Err(5));
+    }
+
+    #[test]
+    fn six_equal_pairs_and_their_rounds() {
+        let mut input = standstill(6, 1);
+        input.previous = vec![input.previous[0]; 6];
+        input.current = input.previous.clone();
+        assert_eq!(counts(&input), Err(10));
+        input.settings.iterations = 0;
+        let (answer, rounds) = rounds_of(|| input.answer());
+        let delta = answer.expect("zero rounds fit").delta;
+        assert_eq!([delta.x, delta.y, delta.z].map(f64::to_bits), [0; 3]);
+        assert!(rounds.is_empty());
+        let (_, rounds) = rounds_of(|| standstill(6, 1).answer());
+        assert_eq!(rounds.len(), 1);
+    }
+}

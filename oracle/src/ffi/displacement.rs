@@ -1,0 +1,126 @@
+//! The entry point of the displacement.
+
+use drifters_gnss::tdcp::Carrier;
+
+/// An epoch of carriers as the library takes it: its columns, of which each may be longer or shorter
+/// than the count needs; six floats for each record.
+pub struct Carriers {
+    pub constellation: Vec<u8>,
+    pub svid: Vec<u16>,
+    pub band: Vec<u32>,
+    pub state: Vec<i32>,
+    pub floats: Vec<f64>,
+    pub count: usize,
+}
+
+impl Carriers {
+    /// The columns of some records.
+    pub fn of(records: &[Carrier]) -> Self {
+        let floats = |c: &Carrier| {
+            let [x, y, z] = c.satellite;
+            [c.adr, x, y, z, c.elevation, c.rate]
+        };
+        Self {
+            constellation: records.iter().map(|c| c.constellation).collect(),
+            svid: records.iter().map(|c| c.svid).collect(),
+            band: records.iter().map(|c| c.band).collect(),
+            state: records.iter().map(|c| c.state).collect(),
+            floats: records.iter().flat_map(floats).collect(),
+            count: records.len(),
+        }
+    }
+
+    /// Whether each column has what the count needs.
+    pub fn whole(&self) -> bool {
+        let shortest = [
+            self.constellation.len(),
+            self.svid.len(),
+            self.band.len(),
+            self.state.len(),
+            self.floats.len() / 6,
+        ];
+        shortest.iter().all(|&n| n >= self.count)
+    }
+}
+
+extern "C" {
+    fn zaqnuti_displacement(
+        previous_constellation: *const u8,
+        previous_constellation_len: usize,
+        previous_svid: *const u16,
+        previous_svid_len: usize,
+        previous_band: *const u32,
+        previous_band_len: usize,
+        previous_state: *const i32,
+        previous_state_len: usize,
+        previous_floats: *const f64,
+        previous_floats_len: usize,
+        previous_count: usize,
+        current_constellation: *const u8,
+        current_constellation_len: usize,
+        current_svid: *const u16,
+        current_svid_len: usize,
+        current_band: *const u32,
+        current_band_len: usize,
+        current_state: *const i32,
+        current_state_len: usize,
+        current_floats: *const f64,
+        current_floats_len: usize,
+        current_count: usize,
+        dt: f64,
+        receiver: *const [f64; 3],
+        settings: *const [f64; 5],
+        rounds: usize,
+        delta: *mut [f64; 3],
+        counts: *mut [u64; 2],
+    ) -> u8;
+}
+
+/// Displacement and counts in the last two and 0, or the number and both untouched.
+#[inline]
+#[allow(clippy::too_many_arguments)]
+pub fn displacement(
+    previous: &Carriers,
+    current: &Carriers,
+    dt: f64,
+    receiver: &[f64; 3],
+    settings: &[f64; 5],
+    rounds: usize,
+    delta: &mut [f64; 3],
+    counts: &mut [u64; 2],
+) -> u8 {
+    // SAFETY: each column has its length beside it, the arrays are as long as their types say, and
+    // the last two are ours alone.
+    unsafe {
+        zaqnuti_displacement(
+            previous.constellation.as_ptr(),
+            previous.constellation.len(),
+            previous.svid.as_ptr(),
+            previous.svid.len(),
+            previous.band.as_ptr(),
+            previous.band.len(),
+            previous.state.as_ptr(),
+            previous.state.len(),
+            previous.floats.as_ptr(),
+            previous.floats.len(),
+            previous.count,
+            current.constellation.as_ptr(),
+            current.constellation.len(),
+            current.svid.as_ptr(),
+            current.svid.len(),
+            current.band.as_ptr(),
+            current.band.len(),
+            current.state.as_ptr(),
+            current.state.len(),
+            current.floats.as_ptr(),
+            current.floats.len(),
+            current.count,
+            dt,
+            receiver,
+            settings,
+            rounds,
+            delta,
+            counts,
+        )
+    }
+}

@@ -1,0 +1,122 @@
+//! Document 01, "Why a call turns back": numbers 2 to 9 of a displacement and a fix, in checking
+//! order. Used only to say which number a refusal is, and where the Rust is not asked.
+
+use crate::estimate::{Displacement, Fix};
+use drifters_gnss::tdcp::Carrier;
+
+/// The most records of an epoch.
+pub const RECORDS: usize = 64;
+/// The most rounds.
+pub const ROUNDS: usize = 50;
+/// The longest interval, in seconds.
+pub const INTERVAL: f64 = 604_800.0;
+/// The largest magnitude of a setting, a coordinate or a float of a record.
+pub const LIMIT: f64 = 1e9;
+
+/// Finite, and at most 1e9 in magnitude.
+fn within(x: f64) -> bool {
+    x.is_finite() && x.abs() <= LIMIT
+}
+
+/// From -90 to 90 degrees.
+fn is_elevation(x: f64) -> bool {
+    (-90.0..=90.0).contains(&x)
+}
+
+/// A carrier whose floats 4 lets pass: an `adr` that is not finite makes it unusable and nothing more.
+fn carrier_within(c: &Carrier) -> bool {
+    let adr = !c.adr.is_finite() || within(c.adr);
+    adr && c.satellite.iter().all(|&x| within(x)) && is_elevation(c.elevation) && within(c.rate)
+}
+
+/// State bit 1 set, bits 2 and 4 clear, `adr` finite.
+fn usable(c: &Carrier) -> bool {
+    let bit = |value: i32| c.state & value != 0;
+    bit(1) && !bit(2) && !bit(4) && c.adr.is_finite()
+}
+
+/// Equal constellation, svid and band.
+fn same(p: &Carrier, c: &Carrier) -> bool {
+    (p.constellation, p.svid, p.band) == (c.constellation, c.svid, c.band)
+}
+
+/// The constellation and the detector of each pair.
+pub fn pairs(input: &Displacement) -> Vec<(u8, f64)> {
+    let rows = input.current.iter();
+    rows.filter(|c| usable(c) && c.elevation >= input.settings.mask)
+        .filter_map(|c| {
+            let mut previous = input.previous.iter();
+            let p = previous.find(|p| usable(p) && same(p, c))?;
+            let detector = (c.adr - p.adr) - 0.5 * (c.rate + p.rate) * input.dt;
+            Some((c.constellation, detector))
+        })
+        .collect()
+}
+
+/// The element at place len/2 of the detectors in totalOrder.
+pub fn centre(pairs: &[(u8, f64)]) -> f64 {
+    let mut sorted: Vec<f64> = pairs.iter().map(|p| p.1).collect();
+    sorted.sort_by(f64::total_cmp);
+    sorted[sorted.len() / 2]
+}
+
+/// 8 and 9: too few rows for their clock slots, or too many slots; constellations from 7 on share one.
+fn slots(kept: impl Iterator<Item = u8>) -> Option<u8> {
+    let mut seen = [false; 8];
+    let rows = kept.map(|c| seen[usize::from(c.min(7))] = true).count();
+    let slots = seen.iter().filter(|&&s| s).count();
+    if rows < 4 + slots {
+        Some(8)
+    } else if slots > 6 {
+        Some(9)
+    } else {
+        None
+    }
+}
+
+/// The number of a displacement, but for 10.
+pub fn displacement(input: &Displacement) -> Option<u8> {
+    let set = &input.settings;
+    if input.previous.len() > RECORDS || input.current.len() > RECORDS {
+        return Some(2);
+    }
+    let settings = [set.screen, set.sigma_a, set.sigma_b, set.huber, set.mask];
+    if !settings.iter().all(|&x| within(x)) || set.iterations > ROUNDS {
+        return Some(3);
+    }
+    let mut records = input.previous.iter().chain(&input.current);
+    if !records.all(carrier_within) || !input.receiver.iter().all(|&x| within(x)) {
+        return Some(4);
+    }
+    if !(input.dt > 0.0 && input.dt <= INTERVAL) {
+        return Some(5);
+    }
+    let pairs = pairs(input);
+    if pairs.len() < 6 {
+        return Some(7);
+    }
+    let centre = centre(&pairs);
+    let kept = pairs.iter().filter(|p| (p.1 - centre).abs() < set.screen);
+    slots(kept.map(|p| p.0))
+}
+
+/// The number of a fix, but for 10.
+pub fn fix(input: &Fix) -> Option<u8> {
+    let set = &input.settings;
+    if input.observations.len() > RECORDS {
+        return Some(2);
+    }
+    let settings = [set.sigma_a, set.sigma_b, set.huber, set.mask];
+    if !settings.iter().all(|&x| within(x)) || !(1..=ROUNDS).contains(&set.iterations) {
+        return Some(3);
+    }
+    let passes = input.observations.iter().all(|o| {
+        within(o.pseudorange) && o.satellite.iter().all(|&x| within(x)) && is_elevation(o.elevation)
+    });
+    if !passes || !input.guess.iter().all(|&x| within(x)) {
+        return Some(4);
+    }
+    let rows = input.observations.iter();
+    let kept = rows.filter(|o| o.elevation >= set.mask);
+    slots(kept.map(|o| o.constellation))
+}

@@ -1,0 +1,110 @@
+//! Clock slots, against `Clocks`: lists of constellations, and one more given to any state.
+
+use super::Service;
+use crate::ffi;
+use crate::random::Random;
+use crate::tally::Tally;
+use drifters_gnss::robust::Clocks;
+
+pub const SERVICE: Service = Service {
+    name: "clocks",
+    count: 4_000_000,
+    compare,
+    bench: None,
+    vectors: None,
+};
+
+/// A state: the slots of eight constellations, and how many are given.
+type State = ([u64; 8], u64);
+
+/// The state before any constellation.
+const NONE: State = ([u64::MAX; 8], 0);
+
+/// A constellation: mostly one of the first eight, else any.
+fn constellation(random: &mut Random) -> u8 {
+    match random.below(4) {
+        0 => random.bits() as u8,
+        1 => random.pick(&[6, 7, 8, 9, 255]),
+        _ => random.below(9) as u8,
+    }
+}
+
+/// Constellations with many repeats, of a few or of every slot.
+fn list(random: &mut Random) -> Vec<u8> {
+    let mut few: Vec<u8> = (0..1 + random.place(10))
+        .map(|_| constellation(random))
+        .collect();
+    if random.below(2) == 0 {
+        few.extend(0..8);
+    }
+    (0..random.place(60)).map(|_| random.pick(&few)).collect()
+}
+
+/// Any state: a count up to 7, above it, or as large as can be, and slots free, usual or arbitrary.
+fn state(random: &mut Random) -> State {
+    let slot = std::array::from_fn(|_| match random.below(4) {
+        0 | 1 => u64::MAX,
+        2 => 3 + random.below(9),
+        _ => random.bits() >> random.below(64),
+    });
+    let count = match random.below(8) {
+        0 => random.pick(&[8, 9, u64::MAX - 3, u64::MAX - 2, u64::MAX]),
+        1 => random.bits() >> random.below(64),
+        _ => random.below(9),
+    };
+    (slot, count)
+}
+
+/// Our state after some constellations.
+fn ours((mut slot, mut count): State, list: &[u8]) -> State {
+    for &c in list {
+        ffi::clocks_given(&mut slot, &mut count, c);
+    }
+    (slot, count)
+}
+
+/// The Rust's state after some constellations.
+fn theirs((slot, count): State, list: &[u8]) -> State {
+    let clocks = Clocks {
+        slot: slot.map(|s| s as usize),
+        count: count as usize,
+    };
+    let after = clocks.assign_more(list.iter().copied());
+    (after.slot.map(|s| s as u64), after.count as u64)
+}
+
+fn compare(tally: &mut Tally, random: &mut Random, count: u64) {
+    let (mut full, mut unchanged) = (0u64, 0u64);
+    for place in 0..count {
+        let (before, given) = if place % 2 == 0 {
+            (NONE, list(random))
+        } else {
+            (state(random), vec![constellation(random)])
+        };
+        // A count above 7 hands the state back, where the Rust goes on.
+        let expected = if before.1 > 7 {
+            unchanged += 1;
+            before
+        } else if before == NONE {
+            let all = Clocks::assign(given.iter().copied());
+            (all.slot.map(|s| s as u64), all.count as u64)
+        } else {
+            theirs(before, &given)
+        };
+        full += u64::from(before == NONE && expected.1 > 6);
+        let after = ours(before, &given);
+        let asked = constellation(random);
+        let slot = ffi::clocks_slot(&after.0, asked);
+        let clocks = Clocks {
+            slot: expected.0.map(|s| s as usize),
+            count: expected.1 as usize,
+        };
+        let same = after == expected && slot == clocks.slot(asked) as u64;
+        tally.judge(same, || {
+            format!("{given:?} to {before:?}: ours {after:?}, Rust's {expected:?}; slot of {asked} ours {slot}")
+        });
+    }
+    tally.note(format!(
+        "{full} lists of seven slots or more, {unchanged} states with a count above 7"
+    ));
+}
