@@ -11,8 +11,10 @@ use Rattle.numeric.specs.Order.{sign, totalOrder, patternOf}
 use Rattle.numeric.specs.Real.{abs}
 use Rattle.median.specs.Sorted.{insertBy, sortedBy, medianOf}
 use Rattle.median.specs.Centre.{centreOf, deviationOf, centreAndScaleOf, centreScaleOf}
+use Rattle.front.specs.Clocks.{has, appearing, slotFrom, clocksIn, clocksOf}
+use Rattle.front.specs.Record.{unsigned, bitSet, usable}
 use Rattle.numeric.proofs.FactorLaws.{factorTo-zero, factorTo-next, refused-more}
-use Rattle.trials.specs.Marked.{All, marked, m1, m2, m3, m4, m5, m7, m8}
+use Rattle.trials.specs.Marked.{All, marked, m1, m2, m3, m4, m5, m6, m7, m8, m9}
 
 root-four : m1
 unfolding rootOf ofInt
@@ -34,6 +36,10 @@ centre-four : m5
 unfolding centreOf medianOf sortedBy insertBy totalOrder sign lt eq ofBits ofInt deviationOf patternOf abs isNan toBits sub
 centre-four = (refl, refl)
 
+slots-five : m6
+unfolding clocksOf clocksIn appearing has slotFrom
+slots-five = refl
+
 identity-factors : m7
 unfolding factorOf factorTo next isPivot pivotOf rowOf below withElement lessProducts rootOf sub mul div lt ofBits
 identity-factors = refl
@@ -49,6 +55,10 @@ zero-pivot a e =
     let first : factorTo (0 + 1) a ≡ Refused = factorTo-next 0 a _ (factorTo-zero a) ∙ rw (e, zero-no-pivot) in
     refused-more 8 1 a first
 
+states : m9
+unfolding usable bitSet unsigned
+states c h = rw h
+
 -- THE FACT over the list
 pub marked-hold : All marked
-marked-hold = (root-four, (root-two, (root-least, (centre-empty, (centre-four, (identity-factors, (zero-pivot, tt)))))))
+marked-hold = (root-four, (root-two, (root-least, (centre-empty, (centre-four, (slots-five, (identity-factors, (zero-pivot, (states, tt)))))))))

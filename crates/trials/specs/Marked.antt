@@ -1,10 +1,12 @@
 -- Document 01, "Trials at the edges", those marked for proof: one list, in its order. Definitions only.
 use Prim.Native.Nat.{ℕ}
 use mathlib.Core.Path.{_≡_}
-use mathlib.Core.List.{List, [], _∷_}
-use mathlib.Core.Bool.{cond}
+use mathlib.Core.List.{List, [], _∷_, map}
+use mathlib.Core.Bool.{Bool, true, false, cond}
 use lib.Dec.{eqb}
+use lib.IntN.{ℤ, pos, negsuc}
 use lib.Ieee.{Float}
+use lib.Ieee.Scale.{finite}
 use Rattle.exact.specs.Float.{+0, 1·0, bits, whole}
 use Rattle.numeric.specs.Root.{rootOf}
 use Rattle.numeric.specs.Factor.{cell, Refused, Lower, factorOf}
@@ -12,6 +14,9 @@ use Rattle.numeric.specs.Order.{patternOf}
 use Rattle.median.specs.Sorted.{medianOf}
 use Rattle.median.specs.Centre.{centreOf, deviationsOf, centreScaleOf}
 use Rattle.median.specs.declared.centre.Centre.the-variants.{Of}
+use Rattle.front.specs.Clocks.{slot, clocksOf}
+use Rattle.front.specs.Record.{usable}
+use Rattle.front.specs.declared.record.Carrier.{Carrier}
 
 -- all of a list's statements
 abbrev pub All : List (Type 0) → Type 0
@@ -52,6 +57,13 @@ four = patternOf (whole 3) ∷ patternOf (whole 1) ∷ patternOf (whole 2) ∷ p
 abbrev pub m5 : Type 0
 m5 = (centreOf four ≡ whole 3) × (medianOf (deviationsOf (centreOf four) four) ≡ patternOf (whole 1))
 
+-- m6: constellations 6, 1, 6, 9, 7 give slots 3, 4, 3, 5, 5
+abbrev pub five : List ℕ
+five = 6 ∷ 1 ∷ 6 ∷ 9 ∷ 7 ∷ []
+
+abbrev pub m6 : Type 0
+m6 = map (slot (clocksOf five)) five ≡ 3 ∷ 4 ∷ 3 ∷ 5 ∷ 5 ∷ []
+
 -- m7: the identity factors to itself
 abbrev pub m7 : Type 0
 m7 = factorOf identity ≡ Lower identity
@@ -60,5 +72,13 @@ m7 = factorOf identity ≡ Lower identity
 abbrev pub m8 : Type 0
 m8 = (a : List (List Float)) → cell a 0 0 ≡ +0 → factorOf a ≡ Refused
 
+-- the carrier c in the state z
+abbrev pub inState : Carrier → ℤ → Carrier
+inState c z = record { constellation = c .constellation; svid = c .svid; band = c .band; adr = c .adr; state = z; satellite = c .satellite; elevation = c .elevation; rate = c .rate }
+
+-- m9: states 1 usable, 0, 3, 5 and -1 not, whatever else the carrier has, if its adr is finite
+abbrev pub m9 : Type 0
+m9 = (c : Carrier) → finite (c .adr) ≡ true → map (λ (z : ℤ). usable (inState c z)) (pos 1 ∷ pos 0 ∷ pos 3 ∷ pos 5 ∷ negsuc 0 ∷ []) ≡ true ∷ false ∷ false ∷ false ∷ false ∷ []
+
 abbrev pub marked : List (Type 0)
-marked = m1 ∷ m2 ∷ m3 ∷ m4 ∷ m5 ∷ m7 ∷ m8 ∷ []
+marked = m1 ∷ m2 ∷ m3 ∷ m4 ∷ m5 ∷ m6 ∷ m7 ∷ m8 ∷ m9 ∷ []

@@ -1,5 +1,6 @@
 // The marked trials through the code, a line for each.
 mod centre;
+mod clocks;
 mod numbers;
 
 use libc::STDOUT_FILENO;
@@ -19,6 +20,7 @@ fn main() {
     report(b"m3", numbers::root_of_least());
     report(b"m4", centre::empty());
     report(b"m5", centre::four());
+    report(b"m6", clocks::five());
     report(b"m7", numbers::identity_factors());
     report(b"m8", numbers::zero_pivot_refused());
 }
