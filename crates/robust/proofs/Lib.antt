@@ -6,3 +6,4 @@ pub mod Sums
 pub mod NormalLaws
 pub mod FormedLaws
 pub mod StepLaws
+pub mod RoundValues

@@ -1,5 +1,5 @@
 -- THE LAW of a round for demand 3: a round whose matrix has a factor and whose step's entry 0 is finite is sound. Assumes nothing.
-use mathlib.Core.Path.{_≡_, refl, sym, subst}
+use mathlib.Core.Path.{_≡_, refl, sym, ap, subst}
 use Prim.Native.Nat.{ℕ}
 use native.Mathlib.Omega.{arith}
 use mathlib.Core.Bool.{cond, _&&_}
@@ -69,3 +69,15 @@ module _ (w : Row → Float) (rows : List Row) (n : ℕ) where
 pub round-sound : (rows : List Row) (n : ℕ) (huber : Float) (r : Round) → roundOf rows n huber ≡ Solved r → T (finite (at (r .step) 0)) → Sound r
 unfolding roundOf
 round-sound rows n huber r e f = roundBy-sound (weight (centreAndScaleOf (map (λ (r : Row). r .residual) rows)) huber) rows n r e f
+
+-- a round has the rows that it was made of
+pub round-rows : (rows : List Row) (n : ℕ) (huber : Float) (r : Round) → roundOf rows n huber ≡ Solved r → r .rows ≡ rows
+unfolding roundOf roundBy
+round-rows rows n huber r e = go (factorOf (matrixOf w rows n)) e
+  where
+    w : Row → Float
+    w = weight (centreAndScaleOf (map (λ (r : Row). r .residual) rows)) huber
+
+    go : (v : Factored) → solved rows (matrixOf w rows n) (rightOf w rows n) v ≡ Solved r → r .rows ≡ rows
+    go Refused d = absurd (let z : _≡_ {A = ℕ} 0 1 = cc in omega arith)
+    go (Lower l) d = let p : made rows (matrixOf w rows n) (rightOf w rows n) l ≡ r = cc in sym (ap (λ (z : Round). z .rows) p)

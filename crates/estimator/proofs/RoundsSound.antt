@@ -1,0 +1,83 @@
+-- Where the rounds of a fit reach a state whose entry 0 is finite, every one of them is sound: a step whose entry 0 is not finite would leave it so to the end. Assumes nothing.
+use mathlib.Core.Path.{_≡_, refl, sym, ap, _∙_, subst}
+use Prim.Native.Nat.{ℕ, zero, suc, _<_}
+use native.Mathlib.Omega.{arith}
+use mathlib.Core.Bool.{Bool, true, false, cond, _&&_}
+use mathlib.Core.List.{List, [], _∷_}
+use lib.Dec.{T, ltb, lt→ltb}
+use lib.Ieee.{Float, nan}
+use lib.Ieee.Bits.{is-true}
+use lib.Ieee.Fits.{and-l}
+use lib.Ieee.Scale.{finite}
+use Rattle.exact.specs.Float.{_⊕_}
+use Rattle.exact.proofs.Ops.{add-finite}
+use Rattle.numeric.specs.Factor.{at}
+use Rattle.numeric.specs.declared.refusal.Refusal.{Refusal}
+use Rattle.robust.specs.Nine.{nine}
+use Rattle.robust.specs.Round.{Round, Outcome, Refused, Solved, Sound}
+use Rattle.robust.proofs.NineLaws.{nine-at}
+use Rattle.front.specs.Rules.{Rule, ruled}
+use Rattle.estimator.specs.Rounds.{End, Failed, Reached, Fit, moved, short, ended, begun, after, fitFrom, concluded, Each}
+
+-- entry 0 of a state that moved is a sum
+moved-first : (n : ℕ) (x dx : List Float) → 0 < n → T (finite (at (moved n x dx) 0)) → T (finite (at x 0)) × T (finite (at dx 0))
+unfolding moved
+moved-first n x dx h f =
+    let e : at (nine (λ i. cond (ltb i n) (at x i ⊕ at dx i) (at x i))) 0 ≡ at x 0 ⊕ at dx 0 =
+    nine-at (λ i. cond (ltb i n) (at x i ⊕ at dx i) (at x i)) nan 0 (omega arith) ∙ ap (λ (b : Bool). cond b (at x 0 ⊕ at dx 0) (at x 0)) (is-true (ltb 0 n) (lt→ltb 0 n h)) in
+    add-finite (at x 0) (at dx 0) (subst (λ (z : Float). T (finite z)) e f)
+
+module _ (roundAt : List Float → Outcome) (n : ℕ) (limit : Float) (used : 0 < n)
+    (one-sound : (x : List Float) (r : Round) → roundAt x ≡ Solved r → T (finite (at (r .step) 0)) → Sound r) where
+  -- what the end of a fit from x says of x and of the rounds
+  abbrev Kept : List Float → Fit → Type 0
+  Kept x f = (y : List Float) → f .end ≡ Reached y → T (finite (at y 0)) → T (finite (at x 0)) × Each Sound (f .rounds)
+
+  ended-kept : (x : List Float) → Kept x (ended x)
+  unfolding Each
+  ended-kept x y e f = let q : x ≡ y = cc in (subst (λ (z : List Float). T (finite (at z 0))) (sym q) f, tt)
+
+  begun-kept : (x : List Float) (r : Round) (f : Fit) → roundAt x ≡ Solved r → Kept (moved n x (r .step)) f → Kept x (begun r f)
+  unfolding Each
+  begun-kept x r f d k y e g =
+      let h = k y e g in
+      let m = moved-first n x (r .step) used (h .0) in
+      (m .0, (one-sound x r d (m .1), h .1))
+
+  after-kept : (x : List Float) (next : List Float → Fit) → ((z : List Float) → Kept z (next z)) → (o : Outcome) → roundAt x ≡ o → Kept x (after n limit x next o)
+  after-kept x next h Refused d = λ y e f. absurd (let z : _≡_ {A = ℕ} 0 1 = cc in omega arith)
+  after-kept x next h (Solved r) d = begun-kept x r (cond (short limit (r .step)) (ended (moved n x (r .step))) (next (moved n x (r .step)))) d (pick (short limit (r .step)))
+    where
+      pick : (b : Bool) → Kept (moved n x (r .step)) (cond b (ended (moved n x (r .step))) (next (moved n x (r .step))))
+      pick true = ended-kept (moved n x (r .step))
+      pick false = h (moved n x (r .step))
+
+  fit-kept : (count : ℕ) (x : List Float) → Kept x (fitFrom roundAt n limit count x)
+  unfolding fitFrom
+  fit-kept zero x = ended-kept x
+  fit-kept (suc count) x = after-kept x (fitFrom roundAt n limit count) (fit-kept count) (roundAt x) refl
+
+  pub rounds-sound : (count : ℕ) (x y : List Float) → fitFrom roundAt n limit count x .end ≡ Reached y → T (finite (at y 0)) → Each Sound (fitFrom roundAt n limit count x .rounds)
+  rounds-sound count x y e f = fit-kept count x y e f .1
+
+-- a fit that comes to an answer other than the refusal reached a state with a finite entry 0
+pub reached : {A : Type 0} (refused : A) (answer : List Float → A) (ok : A) → (refused ≡ ok → ⊥) → (e : End) → concluded refused answer e ≡ ok → (x : List Float) × (e ≡ Reached x) × T (finite (at x 0))
+reached refused answer ok never Failed h = absurd (never h)
+reached {A} refused answer ok never (Reached x) h = (x, refl, go (finite (at x 0) && finite (at x 1) && finite (at x 2)) first h)
+  where
+    first : T (finite (at x 0) && finite (at x 1) && finite (at x 2)) → T (finite (at x 0))
+    first f = and-l (finite (at x 0)) (finite (at x 1)) (and-l (finite (at x 0) && finite (at x 1)) (finite (at x 2)) f)
+
+    go : (b : Bool) → (T b → T (finite (at x 0))) → cond b (answer x) refused ≡ ok → T (finite (at x 0))
+    go true f e = f tt
+    go false f e = absurd (never e)
+
+-- what is no refusal passed each rule
+pub passed : {A : Type 0} (refused : Refusal → A) (ok : A) → ((r : Refusal) → refused r ≡ ok → ⊥) → (rules : List Rule) (a : A) → ruled refused rules a ≡ ok → a ≡ ok
+unfolding ruled
+passed refused ok never [] a e = e
+passed {A} refused ok never (r ∷ rs) a e = go (r .applies) e (passed refused ok never rs a)
+  where
+    go : (b : Bool) → cond b (refused (r .refusal)) (ruled refused rs a) ≡ ok → (ruled refused rs a ≡ ok → a ≡ ok) → a ≡ ok
+    go true e k = absurd (never (r .refusal) e)
+    go false e k = k e

@@ -1,0 +1,181 @@
+-- `estimator::fix::fit_sky` meets its contract. Assumes nothing.
+use Prim.Native.Nat.{_+_, _-_, _≤_}
+use mathlib.Core.Path.{_≡_, refl, ap, _∙_}
+use mathlib.Core.List.{map}
+use lib.ListN.{length, take}
+use borrow.Author.Tests.{not-true, not-false}
+use Rattle.walk.proofs.Walk.{length-mapped}
+use Rattle.robust.specs.Step.{counted}
+use Rattle.estimator.specs.Rounds.{short}
+use Rattle.estimator.specs.Fix.{rowAt, roundAt, limit, start, fitOver}
+use Rattle.estimator.proofs.RoundsLaws.{three-places, left-end, rows-end, left-failed, left-stops, left-goes, rows-stop, rows-go, Rowing, rowing-next, rowing-end}
+use Rattle.estimator.proofs.FixLaws.{blank, fit, Going, GoingRows, going, going-rows, solving, made-rows, reaches-no, reaches-yes}
+use borrow.Author.Needs.{needs}
+use native.Mathlib.Omega.{arith}
+use Rattle.estimator.proofs.fix.fit_sky.Statement.{statement}
+use Rattle.estimator.proofs.fix.fit_sky.Tie as tie
+
+abbrev Inv-loop2 : tie.InvT-loop2
+Inv-loop2 settings k sky n count rows₀ state i j₀ rows j = (j ≤ count) × Rowing (rowAt settings k state) (sky .observation) count j rows
+
+abbrev μ-loop2 : tie.MeasureT-loop2
+μ-loop2 settings k sky n count rows₀ state i j₀ rows j = count - j
+
+abbrev Inv-loop : tie.InvT-loop
+Inv-loop settings k sky n count rows₀ state₀ i₀ rows state i = (i ≤ settings .rounds) × (n ≡ 3 + k .count) × (length (rows .row) ≡ 64) × Going settings k (take (sky .count) (sky .observation)) state₀ i state × GoingRows settings k (take (sky .count) (sky .observation)) state₀ i state (counted rows)
+
+abbrev μ-loop : tie.MeasureT-loop
+μ-loop settings k sky n count rows₀ state₀ i₀ rows state i = settings .rounds - i
+
+long : (c : tie.Start Inv-loop2 μ-loop2 Inv-loop μ-loop) → length (c .args .t3 .observation) ≡ 64
+long c = search length-mapped
+
+-- the rows of a round, all made
+all : (c : tie.After-loop2 Inv-loop2 μ-loop2 Inv-loop μ-loop) → let s = c .before .before .before .before .before .before .args in counted (c .before .loop2 .rows) ≡ map (rowAt (s .settings) (s .k) (c .before .before .before .before .loop .state)) (take (s .t3 .count) (s .t3 .observation))
+all c = let h = c .before .loop2 in rowing-end _ _ _ (h .j) (h .rows) (omega arith) (h .inv .1)
+
+add-n : tie.Need-add-n Inv-loop2 μ-loop2 Inv-loop μ-loop
+add-n c = omega arith
+
+array-write-state : tie.Need-array-write-state Inv-loop2 μ-loop2 Inv-loop μ-loop
+array-write-state c = omega arith
+
+array-write-state-2 : tie.Need-array-write-state-2 Inv-loop2 μ-loop2 Inv-loop μ-loop
+array-write-state-2 c = omega arith
+
+array-write-state-3 : tie.Need-array-write-state-3 Inv-loop2 μ-loop2 Inv-loop μ-loop
+array-write-state-3 c = omega arith
+
+loop-holds : tie.Need-loop-holds Inv-loop2 μ-loop2 Inv-loop μ-loop
+loop-holds c =
+    let s = c .before .args in
+    let os = take (s .t3 .count) (s .t3 .observation) in
+    (omega arith, refl, refl, going (s .settings) (s .k) os (start (s .guess)), going-rows (s .settings) (s .k) os (start (s .guess)))
+
+loop2-holds : tie.Need-loop2-holds Inv-loop2 μ-loop2 Inv-loop μ-loop
+loop2-holds c = let l = c .before .before .loop in (omega arith, record { count-is = refl; long = l .inv .2; so-far = refl })
+
+mul-o : tie.Need-mul-o Inv-loop2 μ-loop2 Inv-loop μ-loop
+mul-o c = omega arith
+
+element-copy-out-o : tie.Need-element-copy-out-o Inv-loop2 μ-loop2 Inv-loop μ-loop
+element-copy-out-o c = omega arith
+
+row-at-requires : tie.Need-row-at-requires Inv-loop2 μ-loop2 Inv-loop μ-loop
+row-at-requires c κs = search needs
+
+mul-r : tie.Need-mul-r Inv-loop2 μ-loop2 Inv-loop μ-loop
+mul-r c = omega arith
+
+element-set-from-r : tie.Need-element-set-from-r Inv-loop2 μ-loop2 Inv-loop μ-loop
+element-set-from-r c = omega arith
+
+add-j : tie.Need-add-j Inv-loop2 μ-loop2 Inv-loop μ-loop
+add-j c = omega arith
+
+loop2-less : tie.Need-loop2-less Inv-loop2 μ-loop2 Inv-loop μ-loop
+loop2-less c = omega arith
+
+loop2-again : tie.Need-loop2-again Inv-loop2 μ-loop2 Inv-loop μ-loop
+loop2-again c =
+    let s = c .before .before .before .before .before .before .before .before in
+    let l = c .before .before .before .before .before .before .loop in
+    let h = c .before .before .before .loop2 in
+    (omega arith, rowing-next (rowAt (s .args .settings) (s .args .k) (l .state)) (s .args .t3 .observation) _ (h .j) (h .rows) blank (c .row-at .result) (omega arith) (omega (arith, long s)) (c .row-at .ensures) (h .inv .1))
+
+round-step-requires : tie.Need-round-step-requires Inv-loop2 μ-loop2 Inv-loop μ-loop
+round-step-requires c κs = search needs
+
+returns : tie.Need-returns Inv-loop2 μ-loop2 Inv-loop μ-loop
+unfolding fitOver
+returns c =
+    let s = c .before .before .before .before .before .before .before .before .before .args in
+    let os = take (s .t3 .count) (s .t3 .observation) in
+    let l = c .before .before .before .before .before .before .before .loop in
+    let t = c .before .before .before in
+    let g = c .before .round-step in
+    let q = solving (s .settings) (s .k) os (l .state) (counted (t .before .loop2 .rows)) (all t) _ (g .result) _ _ (l .inv .1) (g .ensures) in
+    reaches-no _ _ refl (left-failed (roundAt (s .settings) (s .k) os) (3 + s .k .count) limit (s .settings .rounds) (fit (s .settings) (s .k) os (start (s .guess))) (l .i) (l .state) (omega arith) (g .result) _ _ q (not-true _ (c .if2 .taken)) (l .inv .3))
+
+move-by-requires : tie.Need-move-by-requires Inv-loop2 μ-loop2 Inv-loop μ-loop
+move-by-requires c κs = search needs
+
+is-short-requires : tie.Need-is-short-requires Inv-loop2 μ-loop2 Inv-loop μ-loop
+is-short-requires c κs = search needs
+
+returns-2 : tie.Need-returns-2 Inv-loop2 μ-loop2 Inv-loop μ-loop
+unfolding fitOver
+returns-2 c =
+    let s = c .before .before .before .before .before .before .before .before .before .before .before .before .args in
+    let os = take (s .t3 .count) (s .t3 .observation) in
+    let l = c .before .before .before .before .before .before .before .before .before .before .loop in
+    let t = c .before .before .before .before .before .before in
+    let g = c .before .before .before .before .round-step in
+    let q = solving (s .settings) (s .k) os (l .state) (counted (t .before .loop2 .rows)) (all t) _ (g .result) _ _ (l .inv .1) (g .ensures) in
+    let m = c .before .before .move-by in
+    let h = c .before .is-short in
+    let b = t .before .loop2 .inv .1 in
+    let u = h .ensures ∙ ap (λ z. short z (g .last .1 .1 .1 .0)) three-places in
+    let v = not-false _ (c .before .before .before .if2 .left) in
+    reaches-yes _ _ refl (left-stops (roundAt (s .settings) (s .k) os) (3 + s .k .count) limit (s .settings .rounds) (fit (s .settings) (s .k) os (start (s .guess))) (l .i) (l .state) (omega arith) (g .result) _ _ q v (m .result) (h .result) (m .ensures) u (c .if3 .taken) (l .inv .3)) (rows-stop (roundAt (s .settings) (s .k) os) (3 + s .k .count) limit (s .settings .rounds) (fit (s .settings) (s .k) os (start (s .guess))) (l .i) (l .state) (omega arith) (g .result) _ _ q v (m .result) (h .result) (m .ensures) u (counted (l .rows)) (counted (t .before .loop2 .rows)) (made-rows (s .settings) (s .k) os (l .state) (counted (t .before .loop2 .rows)) (all t)) (c .if3 .taken) (l .inv .4))
+
+add-i : tie.Need-add-i Inv-loop2 μ-loop2 Inv-loop μ-loop
+add-i c = omega arith
+
+loop-less : tie.Need-loop-less Inv-loop2 μ-loop2 Inv-loop μ-loop
+loop-less c = omega arith
+
+loop-again : tie.Need-loop-again Inv-loop2 μ-loop2 Inv-loop μ-loop
+loop-again c =
+    let s = c .before .before .before .before .before .before .before .before .before .before .before .before .args in
+    let os = take (s .t3 .count) (s .t3 .observation) in
+    let l = c .before .before .before .before .before .before .before .before .before .before .loop in
+    let t = c .before .before .before .before .before .before in
+    let g = c .before .before .before .before .round-step in
+    let q = solving (s .settings) (s .k) os (l .state) (counted (t .before .loop2 .rows)) (all t) _ (g .result) _ _ (l .inv .1) (g .ensures) in
+    let m = c .before .before .move-by in
+    let h = c .before .is-short in
+    let b = t .before .loop2 .inv .1 in
+    let u = h .ensures ∙ ap (λ z. short z (g .last .1 .1 .1 .0)) three-places in
+    let v = not-false _ (c .before .before .before .if2 .left) in
+    (omega arith, refl, b .long, left-goes (roundAt (s .settings) (s .k) os) (3 + s .k .count) limit (s .settings .rounds) (fit (s .settings) (s .k) os (start (s .guess))) (l .i) (l .state) (omega arith) (g .result) _ _ q v (m .result) (h .result) (m .ensures) u (c .if3 .left) (l .inv .3), rows-go (roundAt (s .settings) (s .k) os) (3 + s .k .count) limit (s .settings .rounds) (fit (s .settings) (s .k) os (start (s .guess))) (l .i) (l .state) (omega arith) (g .result) _ _ q v (m .result) (h .result) (m .ensures) u (counted (l .rows)) (counted (t .before .loop2 .rows)) (made-rows (s .settings) (s .k) os (l .state) (counted (t .before .loop2 .rows)) (all t)) (c .if3 .left) (l .inv .4))
+
+returns-3 : tie.Need-returns-3 Inv-loop2 μ-loop2 Inv-loop μ-loop
+unfolding fitOver
+returns-3 c =
+    let s = c .before .before .before .before .args in
+    let os = take (s .t3 .count) (s .t3 .observation) in
+    let l = c .before .before .loop in
+    reaches-yes _ _ refl (left-end (roundAt (s .settings) (s .k) os) (3 + s .k .count) limit (s .settings .rounds) (fit (s .settings) (s .k) os (start (s .guess))) (l .i) (l .state) (omega arith) (l .inv .3)) (rows-end (roundAt (s .settings) (s .k) os) (3 + s .k .count) limit (s .settings .rounds) (fit (s .settings) (s .k) os (start (s .guess))) (l .i) (l .state) (omega arith) (counted (l .rows)) (l .inv .4))
+
+pub fit-sky-spec : {M : Type 1} → statement M
+fit-sky-spec =
+    tie.close
+    (tie.spec
+    Inv-loop2
+    μ-loop2
+    Inv-loop
+    μ-loop
+    add-n
+    array-write-state
+    array-write-state-2
+    array-write-state-3
+    loop-holds
+    loop2-holds
+    mul-o
+    element-copy-out-o
+    row-at-requires
+    mul-r
+    element-set-from-r
+    add-j
+    loop2-less
+    loop2-again
+    round-step-requires
+    returns
+    move-by-requires
+    is-short-requires
+    returns-2
+    add-i
+    loop-less
+    loop-again
+    returns-3)

@@ -1,0 +1,91 @@
+-- The displacement of a receiver between two epochs (document 01, "Displacement"; tdcp.rs): its rounds, and the answer. Definitions only.
+use mathlib.Core.Path.{_≡_}
+use Prim.Native.Nat.{_+_, _-_}
+use mathlib.Core.List.{List, map}
+use lib.ListN.{length}
+use lib.Ieee.{Float}
+use Rattle.exact.specs.Float.{_⊕_, _⊖_, _⊗_, decimal}
+use Rattle.numeric.specs.Factor.{at, zeros}
+use Rattle.numeric.specs.Order.{patternOf}
+use Rattle.numeric.specs.declared.vec3.Vec3.{Vec3}
+use Rattle.numeric.specs.declared.refusal.Refusal.the-variants.{FitFailed}
+use Rattle.robust.specs.Round.{Round, Outcome, roundOf, Sound}
+use Rattle.robust.specs.Sigma.{elevationSigma}
+use Rattle.robust.specs.declared.row.Row.{Row}
+use Rattle.front.specs.Clocks.{slot, clocksOf}
+use Rattle.front.specs.Rules.{ruled}
+use Rattle.front.specs.Screen.{constellations}
+use Rattle.front.specs.Front.{allPairs, keptPairs, displacementRules}
+use Rattle.front.specs.declared.clocks.Clocks.{Clocks}
+use Rattle.front.specs.declared.record.Epoch.{Epoch}
+use Rattle.front.specs.declared.pair.Pair.{Pair}
+use Rattle.front.specs.declared.displacement.Settings.{Settings}
+use Rattle.estimator.specs.Rounds.{Fit, fitFrom, concluded, Each}
+use Rattle.estimator.specs.declared.displacement.Delta.{Delta}
+use Rattle.estimator.specs.declared.displacement.Displacement.{Displacement}
+use Rattle.estimator.specs.declared.displacement.Displacement.the-variants.{Refused, Moved}
+
+-- what is handed over
+pub record Input : Type 0 where
+  pub previous : Epoch
+  pub current : Epoch
+  pub dt : Float
+  pub receiver : Vec3
+  pub settings : Settings
+
+-- ---- the rounds
+
+-- the row of a pair at the state x: what was observed, less what x says
+unfoldable pub rowAt : Settings → Clocks → List Float → Pair → Row
+rowAt settings k x p =
+    let u = p .unit in
+    let s = slot k (p .constellation) in
+    record {
+      unit = u;
+      clock = s;
+      residual = patternOf (p .observed ⊖ (u .x ⊗ at x 0 ⊕ u .y ⊗ at x 1 ⊕ u .z ⊗ at x 2) ⊖ at x s);
+      sigma = elevationSigma (p .elevation) (settings .«sigma_a») (settings .«sigma_b»);
+    }
+
+-- the round at the state x over the pairs ps, with the clocks k
+unfoldable pub roundAt : Settings → Clocks → List Pair → List Float → Outcome
+roundAt settings k ps x = roundOf (map (rowAt settings k x) ps) (3 + k .count) (settings .huber)
+
+-- stop below 1e-5 m
+abbrev pub limit : Float
+limit = decimal 1 5
+
+-- the fit over the pairs ps, with the clocks k: the first round begins at zero
+unfoldable pub fitOver : Settings → Clocks → List Pair → Fit
+fitOver settings k ps = fitFrom (roundAt settings k ps) (3 + k .count) limit (settings .rounds) zeros
+
+-- the pairs before screening and after it
+abbrev pub pairs : Input → List Pair
+pairs i = allPairs (i .previous) (i .current) (i .dt) (i .receiver) (i .settings)
+
+abbrev pub kept : Input → List Pair
+kept i = keptPairs (i .previous) (i .current) (i .dt) (i .receiver) (i .settings)
+
+unfoldable pub fitOf : Input → Fit
+fitOf i = fitOver (i .settings) (clocksOf (constellations (kept i))) (kept i)
+
+-- the rounds of a call
+unfoldable pub roundsOf : Input → List Round
+roundsOf i = fitOf i .rounds
+
+-- ---- the answer
+
+abbrev pub vector : List Float → Vec3
+vector x = record { x = at x 0; y = at x 1; z = at x 2 }
+
+-- the displacement at the state x: the screened are the pairs less those kept
+abbrev pub movedTo : Input → List Float → Displacement
+movedTo i x = Moved (record { delta = vector x; used = length (kept i); screened = length (pairs i) - length (kept i) })
+
+unfoldable pub displacementOf : Input → Displacement
+displacementOf i = ruled Refused (displacementRules (i .previous) (i .current) (i .dt) (i .receiver) (i .settings)) (concluded (Refused FitFailed) (movedTo i) (fitOf i .end))
+
+-- ---- the promise of the public call: the answer is the definition's, and demand 3 holds of every round of an accepted one
+pub record Promised (i : Input) (r : Displacement) : Type 0 where
+  pub answer : r ≡ displacementOf i
+  pub sound-rounds : (d : Delta) → r ≡ Moved d → Each Sound (roundsOf i)

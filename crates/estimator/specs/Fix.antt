@@ -1,0 +1,132 @@
+-- The position of a receiver from one epoch (document 01, "Fix"; wls.rs): its rounds, what the fit says of itself, and the answer. Definitions only.
+use mathlib.Core.Path.{_≡_}
+use Prim.Native.Nat.{ℕ, _+_, _-_, max}
+use mathlib.Core.Bool.{true, cond}
+use mathlib.Core.List.{List, [], _∷_, map}
+use lib.Dec.{eqb}
+use lib.ListN.{length, replicate}
+use lib.Ieee.{Float}
+use Rattle.exact.specs.Float.{_⊕_, _⊖_, _⊗_, _⊘_, +0, 1·0, bits, whole, decimal}
+use Rattle.numeric.specs.Root.{rootOf}
+use Rattle.numeric.specs.Factor.{at, Factored, Refused as NoFactor, Lower, factorOf, solutionOf}
+use Rattle.numeric.specs.Order.{patternOf}
+use Rattle.numeric.specs.Real.{square}
+use Rattle.numeric.specs.Sight.{geometry}
+use Rattle.numeric.specs.declared.vec3.Vec3.{Vec3}
+use Rattle.numeric.specs.declared.refusal.Refusal.the-variants.{FitFailed}
+use Rattle.robust.specs.Nine.{nine}
+use Rattle.robust.specs.Round.{wide, total, triangleOf, Round, Outcome, roundOf, Sound}
+use Rattle.robust.specs.Sigma.{elevationSigma}
+use Rattle.robust.specs.Step.{counted}
+use Rattle.robust.specs.declared.row.Row.{Row}
+use Rattle.front.specs.Clocks.{slot, clocksOf}
+use Rattle.front.specs.Rules.{ruled}
+use Rattle.front.specs.Mask.{constellations}
+use Rattle.front.specs.Front.{fixRows, fixRules}
+use Rattle.front.specs.declared.clocks.Clocks.{Clocks}
+use Rattle.front.specs.declared.record.Observation.{Observation}
+use Rattle.front.specs.declared.record.Observations.{Observations}
+use Rattle.front.specs.declared.fix.Settings.{Settings}
+use Rattle.estimator.specs.Rounds.{Reached, Fit, fitFrom, lastRows, concluded, accepted, Each}
+use Rattle.estimator.specs.declared.fix.Solution.{Solution}
+use Rattle.estimator.specs.declared.fix.Fix.{Fix}
+use Rattle.estimator.specs.declared.fix.Fix.the-variants.{Refused, At}
+use Rattle.estimator.specs.declared.fix.Fitted.{Fitted}
+
+-- what is handed over
+pub record Input : Type 0 where
+  pub observations : Observations
+  pub guess : Vec3
+  pub settings : Settings
+
+-- ---- the rounds
+
+-- a state's position
+abbrev pub position : List Float → Vec3
+position x = record { x = at x 0; y = at x 1; z = at x 2 }
+
+-- the row of an observation at the state x: what was measured, less what x predicts
+unfoldable pub rowAt : Settings → Clocks → List Float → Observation → Row
+rowAt settings k x o =
+    let g = geometry (o .satellite) (position x) in
+    let s = slot k (o .constellation) in
+    record {
+      unit = record { x = g .x; y = g .y; z = g .z };
+      clock = s;
+      residual = patternOf (o .pseudorange ⊖ (g .range ⊕ at x s));
+      sigma = elevationSigma (o .elevation) (settings .«sigma_a») (settings .«sigma_b»);
+    }
+
+-- the round at the state x over the observations os, with the clocks k
+unfoldable pub roundAt : Settings → Clocks → List Observation → List Float → Outcome
+roundAt settings k os x = roundOf (map (rowAt settings k x) os) (3 + k .count) (settings .huber)
+
+-- stop after a step shorter than 1e-3 m
+abbrev pub limit : Float
+limit = decimal 1 3
+
+-- the first round begins at the guess, with zero clocks
+abbrev pub start : Vec3 → List Float
+start v = v .x ∷ v .y ∷ v .z ∷ replicate 6 +0
+
+unfoldable pub fitOver : Settings → Clocks → List Observation → Vec3 → Fit
+fitOver settings k os guess = fitFrom (roundAt settings k os) (3 + k .count) limit (settings .rounds) (start guess)
+
+-- the observations at or above the mask
+abbrev pub kept : Input → List Observation
+kept i = fixRows (i .observations) (i .settings)
+
+abbrev pub clocks : Input → Clocks
+clocks i = clocksOf (constellations (kept i))
+
+unfoldable pub fitOf : Input → Fit
+fitOf i = fitOver (i .settings) (clocks i) (kept i) (i .guess)
+
+-- the rounds of a call
+unfoldable pub roundsOf : Input → List Round
+roundsOf i = fitOf i .rounds
+
+-- ---- what the fit says of itself, from the last round's rows, with n unknowns
+
+-- the root of the reduced chi-squared: the sum of (residual / sigma) squared by the degrees of freedom, at least 1
+unfoldable pub chiOf : ℕ → List Row → Float
+chiOf n rows = rootOf (total (λ r. square (bits (r .residual) ⊘ r .sigma)) rows ⊘ whole (max 1 (length rows - n)))
+
+-- the normal equations without weights, by their lower triangle
+unfoldable pub plainMatrix : ℕ → List Row → List (List Float)
+plainMatrix n rows = triangleOf n (λ i j. total (λ r. at (wide r) i ⊗ at (wide r) j) rows)
+
+-- place i of the inverse's diagonal, by the factor l
+abbrev pub variance : List (List Float) → ℕ → Float
+variance l i = at (solutionOf l (nine (λ j. cond (eqb i j) 1·0 +0))) i
+
+unfoldable pub pdopOf : List (List Float) → Float
+pdopOf l = rootOf (+0 ⊕ variance l 0 ⊕ variance l 1 ⊕ variance l 2)
+
+-- ---- the answer
+
+-- 10: a pivot of the unweighted matrix is refused
+abbrev pub judged : ℕ → List Row → List Float → Factored → Fix
+judged n rows x NoFactor = Refused FitFailed
+judged n rows x (Lower l) = At (record { position = position x; used = length rows; chi = chiOf n rows; pdop = pdopOf l })
+
+-- the position at the state x, with what the last round's rows say of it
+abbrev pub positionAt : Input → List Float → Fix
+positionAt i x =
+    let n = 3 + clocks i .count in
+    let rows = lastRows [] (roundsOf i) in
+    judged n rows x (factorOf (plainMatrix n rows))
+
+unfoldable pub fixOf : Input → Fix
+fixOf i = ruled Refused (fixRules (i .observations) (i .guess) (i .settings)) (concluded (Refused FitFailed) (positionAt i) (fitOf i .end))
+
+-- ---- the promise of the public call: the answer is the definition's, and demand 3 holds of every round of an accepted one
+pub record Promised (i : Input) (r : Fix) : Type 0 where
+  pub answer : r ≡ fixOf i
+  pub sound-rounds : (s : Solution) → r ≡ At s → Each Sound (roundsOf i)
+
+-- ---- the code's end: where the rounds of the fit f are not refused, the state that they reach and the last round's rows
+pub record Reaches (f : Fit) (r : Fitted) : Type 0 where
+  pub ok-is : r .ok ≡ accepted (f .end)
+  pub state-is : r .ok ≡ true → Reached (r .x) ≡ f .end
+  pub rows-are : r .ok ≡ true → counted (r .rows) ≡ lastRows [] (f .rounds)

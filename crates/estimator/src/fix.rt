@@ -1,0 +1,124 @@
+// The position from one epoch.
+ghost use mathlib.Core.Path.{_≡_};
+ghost use lib.ListN.{take};
+ghost use Prim.Native.Nat.{ℕ, _≤_};
+ghost use Rattle.estimator.specs.Fix as spec;
+use crate::rounds::is_short;
+use crate::rounds::move_by;
+use crate::rounds::state_at;
+use front::clocks::Clocks;
+use front::fix::Settings;
+use front::record::Observation;
+use front::record::Observations;
+use numeric::order::pattern;
+use numeric::refusal::Refusal;
+use numeric::sight::geometry;
+use numeric::vec3::Vec3;
+use robust::round::round_step;
+use robust::row::Row;
+use robust::row::Rows;
+use robust::sigma::elevation_sigma;
+
+// The position, how many observations were used, and what the fit says of itself.
+pub struct Solution {
+    pub position: Vec3,
+    pub used: usize,
+    pub chi: f64,
+    pub pdop: f64,
+}
+
+pub enum Fix {
+    Refused(Refusal),
+    At(Solution),
+}
+
+// Where the rounds ended, and the rows of the last one.
+pub struct Fitted {
+    pub ok: bool,
+    pub x: [f64; 9],
+    pub rows: Rows,
+}
+
+// The row of an observation at the state x.
+pub fn row_at(settings: Settings, k: Clocks, x: [f64; 9], o: Observation) -> Row
+    ensures { λ r. ⌜ r ≡ spec.rowAt settings k x o ⌝ }
+{
+    let at = Vec3 {
+        x: x[0],
+        y: x[1],
+        z: x[2],
+    };
+    let g = geometry(o.satellite, at);
+    let u = Vec3 {
+        x: g.x,
+        y: g.y,
+        z: g.z,
+    };
+    let s = k.slot(o.constellation);
+    let residual = o.pseudorange - (g.range + state_at(x, s));
+    let sigma = elevation_sigma(o.elevation, settings.sigma_a, settings.sigma_b);
+    Row {
+        unit: u,
+        clock: s,
+        residual: pattern(residual),
+        sigma: sigma,
+    }
+}
+
+// The rounds over the observations from the guess on.
+pub fn fit_sky(settings: Settings, k: Clocks, sky: Observations, guess: Vec3) -> Fitted
+    requires { ⌜ (sky .count ≤ 64) × (k .count ≤ 6) ⌝ }
+    ensures { λ r. ⌜ spec.Reaches (spec.fitOver settings k (take (sky .count) (sky .observation)) guess) r ⌝ }
+{
+    let n = 3 + k.count;
+    let count = sky.count;
+    let zero = Vec3 {
+        x: 0.0,
+        y: 0.0,
+        z: 0.0,
+    };
+    let none = Row {
+        unit: zero,
+        clock: 0,
+        residual: 0,
+        sigma: 0.0,
+    };
+    let row = [none; 64];
+    let mut rows = Rows { count: 0, row: row };
+    let mut state = [0.0; 9];
+    state[0] = guess.x;
+    state[1] = guess.y;
+    state[2] = guess.z;
+    let mut i: u32 = 0;
+    while i < settings.rounds {
+        rows.count = count;
+        for j in 0..count {
+            let o = sky.observation[j];
+            let r = row_at(settings, k, state, o);
+            rows.row[j] = r;
+        }
+        let mut dx = [0.0; 9];
+        if !round_step(rows, n, settings.huber, &mut dx) {
+            return Fitted {
+                ok: false,
+                x: state,
+                rows: rows,
+            };
+        }
+        let next = move_by(n, dx, state);
+        state = next;
+        if is_short(1e-3, dx) {
+            return Fitted {
+                ok: true,
+                x: state,
+                rows: rows,
+            };
+        }
+        i += 1;
+    }
+    Fitted {
+        ok: true,
+        x: state,
+        rows: rows,
+    }
+}

@@ -1,0 +1,32 @@
+// What the rounds of a fix and of a displacement share.
+ghost use mathlib.Core.Path.{_≡_};
+ghost use Prim.Native.Nat.{ℕ, _≤_};
+ghost use Rattle.numeric.specs.Factor.{at};
+ghost use Rattle.estimator.specs.Rounds as spec;
+use numeric::real::hypot;
+
+// Adds the step to the first n elements of the state.
+pub fn move_by(n: usize, dx: [f64; 9], x: [f64; 9]) -> [f64; 9]
+    requires { ⌜ n ≤ 9 ⌝ }
+    ensures { λ r. ⌜ r ≡ spec.moved n x dx ⌝ }
+{
+    let mut y = x;
+    for i in 0..n {
+        y[i] = x[i] + dx[i];
+    }
+    y
+}
+
+// Whether the first three elements of a step are together shorter than the limit.
+pub fn is_short(limit: f64, dx: [f64; 9]) -> bool
+    ensures { λ r. ⌜ r ≡ spec.short limit dx ⌝ }
+{
+    hypot(hypot(dx[0], dx[1]), dx[2]) < limit
+}
+
+// Place s of the state, a NaN where there is none.
+pub fn state_at(x: [f64; 9], s: usize) -> f64
+    ensures { λ r. ⌜ r ≡ at x s ⌝ }
+{
+    if s < 9 { x[s] } else { 0.0 / 0.0 }
+}
