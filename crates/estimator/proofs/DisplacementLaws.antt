@@ -7,9 +7,9 @@ use lib.Ieee.{Float, nan}
 use Rattle.robust.specs.Round.{roundOf}
 use Rattle.robust.specs.Normal.{Solving}
 use Rattle.robust.specs.declared.row.Row.{Row}
-use Rattle.front.specs.declared.clocks.Clocks.{Clocks}
-use Rattle.front.specs.declared.pair.Pair.{Pair}
-use Rattle.front.specs.declared.displacement.Settings.{Settings}
+use Rattle.estimator.specs.declared.clocks.Clocks.{Clocks}
+use Rattle.estimator.specs.declared.pair.Pair.{Pair}
+use Rattle.estimator.specs.declared.displacement.Settings.{Settings}
 use Rattle.numeric.specs.Factor.{zeros}
 use Rattle.estimator.specs.Displacement.{rowAt, roundAt, limit, fitOver}
 use Rattle.estimator.proofs.RoundsLaws.{Left, left-start}

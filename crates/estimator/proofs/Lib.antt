@@ -5,3 +5,12 @@ pub mod DisplacementLaws
 pub mod FixLaws
 pub mod DisplacementSound
 pub mod FixSound
+pub mod DisplacementCall
+pub mod ClocksLaws
+pub mod RecordLaws
+pub mod PairLaws
+pub mod KeepLaws
+pub mod ScreenLaws
+pub mod RulesLaws
+pub mod FrontLaws
+pub mod FrontValues

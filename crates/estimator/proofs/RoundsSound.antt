@@ -5,9 +5,10 @@ use native.Mathlib.Omega.{arith}
 use mathlib.Core.Bool.{Bool, true, false, cond, _&&_}
 use mathlib.Core.List.{List, [], _∷_}
 use lib.Dec.{T, ltb, lt→ltb}
+use lib.ListN.{length}
 use lib.Ieee.{Float, nan}
 use lib.Ieee.Bits.{is-true}
-use lib.Ieee.Fits.{and-l}
+use lib.Ieee.Fits.{and-l, and-r}
 use lib.Ieee.Scale.{finite}
 use Rattle.exact.specs.Float.{_⊕_}
 use Rattle.exact.proofs.Ops.{add-finite}
@@ -15,9 +16,10 @@ use Rattle.numeric.specs.Factor.{at}
 use Rattle.numeric.specs.declared.refusal.Refusal.{Refusal}
 use Rattle.robust.specs.Nine.{nine}
 use Rattle.robust.specs.Round.{Round, Outcome, Refused, Solved, Sound}
+use Rattle.robust.specs.declared.row.Row.{Row}
 use Rattle.robust.proofs.NineLaws.{nine-at}
-use Rattle.front.specs.Rules.{Rule, ruled}
-use Rattle.estimator.specs.Rounds.{End, Failed, Reached, Fit, moved, short, ended, begun, after, fitFrom, concluded, Each}
+use Rattle.estimator.specs.Rules.{Rule, ruled}
+use Rattle.estimator.specs.Rounds.{End, Failed, Reached, Fit, moved, short, ended, begun, after, fitFrom, lastRows, concluded, Each}
 
 -- entry 0 of a state that moved is a sum
 moved-first : (n : ℕ) (x dx : List Float) → 0 < n → T (finite (at (moved n x dx) 0)) → T (finite (at x 0)) × T (finite (at dx 0))
@@ -60,16 +62,56 @@ module _ (roundAt : List Float → Outcome) (n : ℕ) (limit : Float) (used : 0 
   pub rounds-sound : (count : ℕ) (x y : List Float) → fitFrom roundAt n limit count x .end ≡ Reached y → T (finite (at y 0)) → Each Sound (fitFrom roundAt n limit count x .rounds)
   rounds-sound count x y e f = fit-kept count x y e f .1
 
--- a fit that comes to an answer other than the refusal reached a state with a finite entry 0
-pub reached : {A : Type 0} (refused : A) (answer : List Float → A) (ok : A) → (refused ≡ ok → ⊥) → (e : End) → concluded refused answer e ≡ ok → (x : List Float) × (e ≡ Reached x) × T (finite (at x 0))
-reached refused answer ok never Failed h = absurd (never h)
-reached {A} refused answer ok never (Reached x) h = (x, refl, go (finite (at x 0) && finite (at x 1) && finite (at x 2)) first h)
-  where
-    first : T (finite (at x 0) && finite (at x 1) && finite (at x 2)) → T (finite (at x 0))
-    first f = and-l (finite (at x 0)) (finite (at x 1)) (and-l (finite (at x 0) && finite (at x 1)) (finite (at x 2)) f)
+-- ---- the last round's rows, where every round has as many
 
-    go : (b : Bool) → (T b → T (finite (at x 0))) → cond b (answer x) refused ≡ ok → T (finite (at x 0))
-    go true f e = f tt
+module _ (roundAt : List Float → Outcome) (n : ℕ) (limit : Float) (L : ℕ) (one-long : (x : List Float) (r : Round) → roundAt x ≡ Solved r → length (r .rows) ≡ L) where
+  abbrev Long : (List Float → Fit) → Type 0
+  Long next = (z : List Float) (rows : List Row) → length rows ≡ L → (y : List Float) → next z .end ≡ Reached y → length (lastRows rows (next z .rounds)) ≡ L
+
+  step-long : (x : List Float) (next : List Float → Fit) → Long next → (rows : List Row) (o : Outcome) → roundAt x ≡ o → (y : List Float) → after n limit x next o .end ≡ Reached y → length (lastRows rows (after n limit x next o .rounds)) ≡ L
+  unfolding lastRows
+  step-long x next ih rows Refused d y h = absurd (let z : _≡_ {A = ℕ} 0 1 = cc in omega arith)
+  step-long x next ih rows (Solved r) d y h = pick (short limit (r .step)) h
+    where
+      pick : (b : Bool) → cond b (ended (moved n x (r .step))) (next (moved n x (r .step))) .end ≡ Reached y
+          → length (lastRows (r .rows) (cond b (ended (moved n x (r .step))) (next (moved n x (r .step))) .rounds)) ≡ L
+      pick true h = one-long x r d
+      pick false h = ih (moved n x (r .step)) (r .rows) (one-long x r d) y h
+
+  last-long : (count : ℕ) → Long (fitFrom roundAt n limit count)
+  unfolding fitFrom lastRows
+  last-long zero x rows e y h = e
+  last-long (suc count) x rows e y h = step-long x (fitFrom roundAt n limit count) (last-long count) rows (roundAt x) refl y h
+
+  pub rows-long : (count : ℕ) → 0 < count → (x y : List Float) → fitFrom roundAt n limit count x .end ≡ Reached y → length (lastRows [] (fitFrom roundAt n limit count x .rounds)) ≡ L
+  unfolding fitFrom
+  rows-long zero b x y h = absurd (omega arith)
+  rows-long (suc count) b x y h = step-long x (fitFrom roundAt n limit count) (last-long count) [] (roundAt x) refl y h
+
+-- a fit that comes to an answer other than the refusal: the state that it reached, whose first three entries are finite
+pub record Finished {A : Type 0} (answer : List Float → A) (ok : A) (e : End) : Type 0 where
+  pub x : List Float
+  pub end-is : e ≡ Reached x
+  pub answer-is : answer x ≡ ok
+  pub first : T (finite (at x 0))
+  pub second : T (finite (at x 1))
+  pub third : T (finite (at x 2))
+
+pub finished : {A : Type 0} (refused : A) (answer : List Float → A) (ok : A) → (refused ≡ ok → ⊥) → (e : End) → concluded refused answer e ≡ ok → Finished answer ok e
+finished refused answer ok never Failed h = absurd (never h)
+finished {A} refused answer ok never (Reached x) h = go (finite (at x 0) && finite (at x 1) && finite (at x 2)) (λ f. f) h
+  where
+    go : (b : Bool) → (T b → T (finite (at x 0) && finite (at x 1) && finite (at x 2))) → cond b (answer x) refused ≡ ok → Finished answer ok (Reached x)
+    go true f e =
+        let both = and-l (finite (at x 0) && finite (at x 1)) (finite (at x 2)) (f tt) in
+        record {
+          x = x;
+          end-is = refl;
+          answer-is = e;
+          first = and-l (finite (at x 0)) (finite (at x 1)) both;
+          second = and-r (finite (at x 0)) (finite (at x 1)) both;
+          third = and-r (finite (at x 0) && finite (at x 1)) (finite (at x 2)) (f tt);
+        }
     go false f e = absurd (never e)
 
 -- what is no refusal passed each rule

@@ -1,9 +1,11 @@
 -- The displacement of a receiver between two epochs (document 01, "Displacement"; tdcp.rs): its rounds, and the answer. Definitions only.
 use mathlib.Core.Path.{_≡_}
-use Prim.Native.Nat.{_+_, _-_}
+use Prim.Native.Nat.{ℕ, _+_, _-_, _<_}
 use mathlib.Core.List.{List, map}
 use lib.ListN.{length}
+use lib.Dec.{T}
 use lib.Ieee.{Float}
+use lib.Ieee.Scale.{finite}
 use Rattle.exact.specs.Float.{_⊕_, _⊖_, _⊗_, decimal}
 use Rattle.numeric.specs.Factor.{at, zeros}
 use Rattle.numeric.specs.Order.{patternOf}
@@ -12,15 +14,15 @@ use Rattle.numeric.specs.declared.refusal.Refusal.the-variants.{FitFailed}
 use Rattle.robust.specs.Round.{Round, Outcome, roundOf, Sound}
 use Rattle.robust.specs.Sigma.{elevationSigma}
 use Rattle.robust.specs.declared.row.Row.{Row}
-use Rattle.front.specs.Clocks.{slot, clocksOf}
-use Rattle.front.specs.Rules.{ruled}
-use Rattle.front.specs.Screen.{constellations}
-use Rattle.front.specs.Front.{allPairs, keptPairs, displacementRules}
-use Rattle.front.specs.declared.clocks.Clocks.{Clocks}
-use Rattle.front.specs.declared.record.Epoch.{Epoch}
-use Rattle.front.specs.declared.pair.Pair.{Pair}
-use Rattle.front.specs.declared.displacement.Settings.{Settings}
-use Rattle.estimator.specs.Rounds.{Fit, fitFrom, concluded, Each}
+use Rattle.estimator.specs.Clocks.{slot, clocksOf}
+use Rattle.estimator.specs.Rules.{ruled}
+use Rattle.estimator.specs.Screen.{constellations}
+use Rattle.estimator.specs.Front.{allPairs, keptPairs, displacementRules}
+use Rattle.estimator.specs.declared.clocks.Clocks.{Clocks}
+use Rattle.estimator.specs.declared.record.Epoch.{Epoch}
+use Rattle.estimator.specs.declared.pair.Pair.{Pair}
+use Rattle.estimator.specs.declared.displacement.Settings.{Settings}
+use Rattle.estimator.specs.Rounds.{Reached, Fit, fitFrom, concluded, Each}
 use Rattle.estimator.specs.declared.displacement.Delta.{Delta}
 use Rattle.estimator.specs.declared.displacement.Displacement.{Displacement}
 use Rattle.estimator.specs.declared.displacement.Displacement.the-variants.{Refused, Moved}
@@ -79,13 +81,34 @@ abbrev pub vector : List Float → Vec3
 vector x = record { x = at x 0; y = at x 1; z = at x 2 }
 
 -- the displacement at the state x: the screened are the pairs less those kept
+abbrev pub deltaAt : Input → List Float → Delta
+deltaAt i x = record { delta = vector x; used = length (kept i); screened = length (pairs i) - length (kept i) }
+
 abbrev pub movedTo : Input → List Float → Displacement
-movedTo i x = Moved (record { delta = vector x; used = length (kept i); screened = length (pairs i) - length (kept i) })
+movedTo i x = Moved (deltaAt i x)
+
+-- the same by the counts, as the code has it
+abbrev pub concludedAt : ℕ → ℕ → List Float → Displacement
+concludedAt used screened x = concluded (Refused FitFailed) (λ x. Moved (record { delta = vector x; used = used; screened = screened })) (Reached x)
 
 unfoldable pub displacementOf : Input → Displacement
 displacementOf i = ruled Refused (displacementRules (i .previous) (i .current) (i .dt) (i .receiver) (i .settings)) (concluded (Refused FitFailed) (movedTo i) (fitOf i .end))
 
--- ---- the promise of the public call: the answer is the definition's, and demand 3 holds of every round of an accepted one
+-- ---- the promise of the public call
+
+abbrev pub input : Epoch → Epoch → Float → Vec3 → Settings → Input
+input previous current dt receiver settings = record { previous = previous; current = current; dt = dt; receiver = receiver; settings = settings }
+
+-- What an accepted displacement has: it is finite, used plus screened are the pairs counted, used exceeds three plus the slots, and demand 3 holds of every round.
+pub record Accepted (i : Input) (d : Delta) : Type 0 where
+  pub x-finite : T (finite (d .delta .x))
+  pub y-finite : T (finite (d .delta .y))
+  pub z-finite : T (finite (d .delta .z))
+  pub pairs-counted : d .used + d .screened ≡ length (pairs i)
+  pub redundant : 3 + clocksOf (constellations (kept i)) .count < d .used
+  pub sound-rounds : Each Sound (roundsOf i)
+
+-- the answer is the definition's, for every input whatever
 pub record Promised (i : Input) (r : Displacement) : Type 0 where
   pub answer : r ≡ displacementOf i
-  pub sound-rounds : (d : Delta) → r ≡ Moved d → Each Sound (roundsOf i)
+  pub accepted : (d : Delta) → r ≡ Moved d → Accepted i d

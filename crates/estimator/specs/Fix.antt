@@ -1,11 +1,13 @@
 -- The position of a receiver from one epoch (document 01, "Fix"; wls.rs): its rounds, what the fit says of itself, and the answer. Definitions only.
 use mathlib.Core.Path.{_≡_}
-use Prim.Native.Nat.{ℕ, _+_, _-_, max}
+use Prim.Native.Nat.{ℕ, _+_, _-_, _<_, max}
 use mathlib.Core.Bool.{true, cond}
 use mathlib.Core.List.{List, [], _∷_, map}
 use lib.Dec.{eqb}
 use lib.ListN.{length, replicate}
+use lib.Dec.{T}
 use lib.Ieee.{Float}
+use lib.Ieee.Scale.{finite}
 use Rattle.exact.specs.Float.{_⊕_, _⊖_, _⊗_, _⊘_, +0, 1·0, bits, whole, decimal}
 use Rattle.numeric.specs.Root.{rootOf}
 use Rattle.numeric.specs.Factor.{at, Factored, Refused as NoFactor, Lower, factorOf, solutionOf}
@@ -19,14 +21,14 @@ use Rattle.robust.specs.Round.{wide, total, triangleOf, Round, Outcome, roundOf
 use Rattle.robust.specs.Sigma.{elevationSigma}
 use Rattle.robust.specs.Step.{counted}
 use Rattle.robust.specs.declared.row.Row.{Row}
-use Rattle.front.specs.Clocks.{slot, clocksOf}
-use Rattle.front.specs.Rules.{ruled}
-use Rattle.front.specs.Mask.{constellations}
-use Rattle.front.specs.Front.{fixRows, fixRules}
-use Rattle.front.specs.declared.clocks.Clocks.{Clocks}
-use Rattle.front.specs.declared.record.Observation.{Observation}
-use Rattle.front.specs.declared.record.Observations.{Observations}
-use Rattle.front.specs.declared.fix.Settings.{Settings}
+use Rattle.estimator.specs.Clocks.{slot, clocksOf}
+use Rattle.estimator.specs.Rules.{ruled}
+use Rattle.estimator.specs.Mask.{constellations}
+use Rattle.estimator.specs.Front.{fixRows, fixRules}
+use Rattle.estimator.specs.declared.clocks.Clocks.{Clocks}
+use Rattle.estimator.specs.declared.record.Observation.{Observation}
+use Rattle.estimator.specs.declared.record.Observations.{Observations}
+use Rattle.estimator.specs.declared.fix.Settings.{Settings}
 use Rattle.estimator.specs.Rounds.{Reached, Fit, fitFrom, lastRows, concluded, accepted, Each}
 use Rattle.estimator.specs.declared.fix.Solution.{Solution}
 use Rattle.estimator.specs.declared.fix.Fix.{Fix}
@@ -120,10 +122,24 @@ positionAt i x =
 unfoldable pub fixOf : Input → Fix
 fixOf i = ruled Refused (fixRules (i .observations) (i .guess) (i .settings)) (concluded (Refused FitFailed) (positionAt i) (fitOf i .end))
 
--- ---- the promise of the public call: the answer is the definition's, and demand 3 holds of every round of an accepted one
+-- ---- the promise of the public call
+
+abbrev pub input : Observations → Vec3 → Settings → Input
+input observations guess settings = record { observations = observations; guess = guess; settings = settings }
+
+-- What an accepted fix has: the position is finite, used are the observations at or above the mask and exceed three plus the slots, and demand 3 holds of every round.
+pub record Accepted (i : Input) (s : Solution) : Type 0 where
+  pub x-finite : T (finite (s .position .x))
+  pub y-finite : T (finite (s .position .y))
+  pub z-finite : T (finite (s .position .z))
+  pub used-counted : s .used ≡ length (kept i)
+  pub redundant : 3 + clocks i .count < s .used
+  pub sound-rounds : Each Sound (roundsOf i)
+
+-- the answer is the definition's, for every input whatever
 pub record Promised (i : Input) (r : Fix) : Type 0 where
   pub answer : r ≡ fixOf i
-  pub sound-rounds : (s : Solution) → r ≡ At s → Each Sound (roundsOf i)
+  pub accepted : (s : Solution) → r ≡ At s → Accepted i s
 
 -- ---- the code's end: where the rounds of the fit f are not refused, the state that they reach and the last round's rows
 pub record Reaches (f : Fit) (r : Fitted) : Type 0 where

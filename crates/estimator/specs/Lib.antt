@@ -1,3 +1,11 @@
+pub mod Clocks
+pub mod Record
+pub mod Rules
+pub mod Valid
+pub mod Pair
+pub mod Screen
+pub mod Mask
+pub mod Front
 pub mod Rounds
 pub mod Displacement
 pub mod Fix

@@ -3,13 +3,12 @@ ghost use mathlib.Core.Path.{_≡_};
 ghost use lib.ListN.{take};
 ghost use Prim.Native.Nat.{ℕ, _≤_};
 ghost use Rattle.estimator.specs.Fix as spec;
+use crate::clocks::Clocks;
+use crate::record::Observation;
+use crate::record::Observations;
 use crate::rounds::is_short;
 use crate::rounds::move_by;
 use crate::rounds::state_at;
-use front::clocks::Clocks;
-use front::fix::Settings;
-use front::record::Observation;
-use front::record::Observations;
 use numeric::order::pattern;
 use numeric::refusal::Refusal;
 use numeric::sight::geometry;
@@ -18,6 +17,15 @@ use robust::round::round_step;
 use robust::row::Row;
 use robust::row::Rows;
 use robust::sigma::elevation_sigma;
+
+// Weighting and robustness.
+pub struct Settings {
+    pub sigma_a: f64,
+    pub sigma_b: f64,
+    pub huber: f64,
+    pub mask: f64,
+    pub rounds: u32,
+}
 
 // The position, how many observations were used, and what the fit says of itself.
 pub struct Solution {
@@ -40,7 +48,7 @@ pub struct Fitted {
 }
 
 // The row of an observation at the state x.
-pub fn row_at(settings: Settings, k: Clocks, x: [f64; 9], o: Observation) -> Row
+pub(crate) fn row_at(settings: Settings, k: Clocks, x: [f64; 9], o: Observation) -> Row
     ensures { λ r. ⌜ r ≡ spec.rowAt settings k x o ⌝ }
 {
     let at = Vec3 {
@@ -66,7 +74,7 @@ pub fn row_at(settings: Settings, k: Clocks, x: [f64; 9], o: Observation) -> Row
 }
 
 // The rounds over the observations from the guess on.
-pub fn fit_sky(settings: Settings, k: Clocks, sky: Observations, guess: Vec3) -> Fitted
+pub(crate) fn fit_sky(settings: Settings, k: Clocks, sky: Observations, guess: Vec3) -> Fitted
     requires { ⌜ (sky .count ≤ 64) × (k .count ≤ 6) ⌝ }
     ensures { λ r. ⌜ spec.Reaches (spec.fitOver settings k (take (sky .count) (sky .observation)) guess) r ⌝ }
 {

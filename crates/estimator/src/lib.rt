@@ -1,4 +1,10 @@
-// The fix and the displacement, by rounds of the robust least squares.
+// The fix and the displacement: records and their tests, clocks, pairs and their screen, and the rounds of the robust least squares.
+pub mod clocks;
 pub mod displacement;
 pub mod fix;
-pub mod rounds;
+mod mask;
+pub mod pair;
+pub mod record;
+mod rounds;
+mod screen;
+mod valid;

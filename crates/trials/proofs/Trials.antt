@@ -11,8 +11,8 @@ use Rattle.numeric.specs.Order.{sign, totalOrder, patternOf}
 use Rattle.numeric.specs.Real.{abs}
 use Rattle.median.specs.Sorted.{insertBy, sortedBy, medianOf}
 use Rattle.median.specs.Centre.{centreOf, deviationOf, centreAndScaleOf, centreScaleOf}
-use Rattle.front.specs.Clocks.{has, appearing, slotFrom, clocksIn, clocksOf}
-use Rattle.front.specs.Record.{unsigned, bitSet, usable}
+use Rattle.estimator.specs.Clocks.{has, appearing, slotFrom, clocksIn, clocksOf}
+use Rattle.estimator.specs.Record.{unsigned, bitSet, usable}
 use Rattle.numeric.proofs.FactorLaws.{factorTo-zero, factorTo-next, refused-more}
 use Rattle.trials.specs.Marked.{All, marked, m1, m2, m3, m4, m5, m6, m7, m8, m9}
 

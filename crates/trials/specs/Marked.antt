@@ -14,9 +14,9 @@ use Rattle.numeric.specs.Order.{patternOf}
 use Rattle.median.specs.Sorted.{medianOf}
 use Rattle.median.specs.Centre.{centreOf, deviationsOf, centreScaleOf}
 use Rattle.median.specs.declared.centre.Centre.the-variants.{Of}
-use Rattle.front.specs.Clocks.{slot, clocksOf}
-use Rattle.front.specs.Record.{usable}
-use Rattle.front.specs.declared.record.Carrier.{Carrier}
+use Rattle.estimator.specs.Clocks.{slot, clocksOf}
+use Rattle.estimator.specs.Record.{usable}
+use Rattle.estimator.specs.declared.record.Carrier.{Carrier}
 
 -- all of a list's statements
 abbrev pub All : List (Type 0) → Type 0

@@ -1,5 +1,5 @@
 // The marked trial of the clocks.
-use front::clocks::Clocks;
+use estimator::clocks::Clocks;
 
 // Constellations 6, 1, 6, 9, 7 give slots 3, 4, 3, 5, 5.
 pub fn five() -> bool {

@@ -1,0 +1,84 @@
+-- The displacement as the public call works it out: the rules in two parts, the fit, and what it comes to. Assumes nothing.
+use mathlib.Core.Path.{_≡_, refl, sym, ap, ap₂, _∙_, subst}
+use Prim.Native.Nat.{ℕ, _+_, _-_, _≤_}
+use native.Mathlib.Omega.{arith}
+use mathlib.Core.Bool.{Bool, true, false, cond, _&&_}
+use mathlib.Core.List.{List}
+use lib.ListN.{length, take}
+use lib.Ieee.{Float}
+use lib.Ieee.Scale.{finite}
+use Rattle.numeric.specs.Factor.{at}
+use Rattle.numeric.specs.declared.refusal.Refusal.{Refusal}
+use Rattle.numeric.specs.declared.refusal.Refusal.the-variants.{FitFailed}
+use Rattle.estimator.specs.Record.{Holds}
+use Rattle.estimator.specs.Clocks.{clocksOf}
+use Rattle.estimator.specs.Screen.{keptOf, constellations}
+use Rattle.estimator.specs.Valid.{displacementInput, displacementCounts}
+use Rattle.estimator.specs.Rounds.{End, Failed, Reached, Fit, concluded, Ended}
+use Rattle.estimator.specs.Displacement.{Input, fitOver, pairs, kept, fitOf, vector, movedTo, concludedAt, displacementOf}
+use Rattle.estimator.specs.declared.clocks.Clocks.{Clocks}
+use Rattle.estimator.specs.declared.pair.Pair.{Pair}
+use Rattle.estimator.specs.declared.pair.Pairs.{Pairs}
+use Rattle.estimator.specs.declared.displacement.Displacement.{Displacement}
+use Rattle.estimator.specs.declared.displacement.Displacement.the-variants.{Refused, Moved}
+use Rattle.estimator.specs.declared.valid.Check.the-variants.{Refused as Stops, Passed}
+use Rattle.estimator.proofs.RulesLaws.{checked, Enough, counts-passed}
+use Rattle.estimator.proofs.FrontLaws.{input-refused, kept-is, kept-count, pair-count, clocks-are, fewer, counts-refused, counts-kept}
+
+-- what a fit comes to, by its end and what the code has of it
+ended-no : {A : Type 0} (r : A) (answer : List Float → A) (e : End) (x y : List Float) → Ended e false x y → r ≡ concluded r answer e
+ended-no r answer Failed x y h = refl
+ended-no r answer (Reached z) x y h = absurd (let q = h .ok-is in let z : _≡_ {A = ℕ} 0 1 = cc in omega arith)
+
+ended-yes : {A : Type 0} (r : A) (answer : List Float → A) (e : End) (x y : List Float) → Ended e true x y → concluded r answer (Reached y) ≡ concluded r answer e
+ended-yes r answer Failed x y h = absurd (let q = h .ok-is in let z : _≡_ {A = ℕ} 0 1 = cc in omega arith)
+ended-yes r answer (Reached z) x y h = ap (λ (w : List Float). concluded r answer (Reached w)) (h .state-is)
+
+module _ (i : Input) where
+  abbrev a : Displacement
+  a = concluded (Refused FitFailed) (movedTo i) (fitOf i .end)
+
+  pub refused-input : {r : Refusal} → Stops r ≡ checked (displacementInput (i .previous) (i .current) (i .dt) (i .receiver) (i .settings)) → Refused r ≡ displacementOf i
+  unfolding displacementOf
+  refused-input e = input-refused Refused a (i .previous) (i .current) (i .dt) (i .receiver) (i .settings) e
+
+  -- what the code has once it has screened
+  module _ (passed : Passed ≡ checked (displacementInput (i .previous) (i .current) (i .dt) (i .receiver) (i .settings))) (p q : Pairs) (k : Clocks) (has : Holds (p .count) (p .pair) (pairs i))
+      (left : Holds (q .count) (q .pair) (keptOf (i .settings .screen) (take (p .count) (p .pair)))) (clocks : k ≡ clocksOf (constellations (take (q .count) (q .pair)))) where
+    pub no-more : q .count ≤ p .count
+    no-more = fewer Refused a (i .previous) (i .current) (i .dt) (i .receiver) (i .settings) passed p q k has left clocks
+
+    pub refused-counts : {r : Refusal} → Stops r ≡ checked (displacementCounts (p .count) (q .count) (k .count)) → Refused r ≡ displacementOf i
+    unfolding displacementOf
+    refused-counts e = counts-refused Refused a (i .previous) (i .current) (i .dt) (i .receiver) (i .settings) passed p q k has left clocks e
+
+    fit-is : fitOver (i .settings) k (take (q .count) (q .pair)) ≡ fitOf i
+    unfolding fitOf
+    fit-is =
+        ap₂ (fitOver (i .settings)) (clocks-are Refused a (i .previous) (i .current) (i .dt) (i .receiver) (i .settings) passed p q k has left clocks)
+        (kept-is Refused a (i .previous) (i .current) (i .dt) (i .receiver) (i .settings) passed p q k has left clocks)
+
+    -- rules 7 to 9 leave a fit of at most nine unknowns
+    module _ (counted : Passed ≡ checked (displacementCounts (p .count) (q .count) (k .count))) where
+      pub few-clocks : k .count ≤ 6
+      few-clocks = counts-passed _ _ _ counted .1 .few-slots
+
+      answered : concluded (Refused FitFailed) (movedTo i) (fitOver (i .settings) k (take (q .count) (q .pair)) .end) ≡ displacementOf i
+      unfolding displacementOf
+      answered =
+          ap (λ (f : Fit). concluded (Refused FitFailed) (movedTo i) (f .end)) fit-is
+          ∙ counts-kept Refused a (i .previous) (i .current) (i .dt) (i .receiver) (i .settings) passed p q k has left clocks counted
+
+      pub failed : (x y : List Float) → Ended (fitOver (i .settings) k (take (q .count) (q .pair)) .end) false x y → Refused FitFailed ≡ displacementOf i
+      failed x y h = ended-no (Refused FitFailed) (movedTo i) (fitOver (i .settings) k (take (q .count) (q .pair)) .end) x y h ∙ answered
+
+      pub reached : (x y : List Float) → Ended (fitOver (i .settings) k (take (q .count) (q .pair)) .end) true x y → concludedAt (q .count) (p .count - q .count) y ≡ displacementOf i
+      reached x y h =
+          ap₂ (λ (u s : ℕ). concludedAt u s y) used (ap₂ _-_ all used)
+          ∙ ended-yes (Refused FitFailed) (movedTo i) (fitOver (i .settings) k (take (q .count) (q .pair)) .end) x y h ∙ answered
+        where
+          used : q .count ≡ length (kept i)
+          used = kept-count Refused a (i .previous) (i .current) (i .dt) (i .receiver) (i .settings) passed p q k has left clocks
+
+          all : p .count ≡ length (pairs i)
+          all = pair-count Refused a (i .previous) (i .current) (i .dt) (i .receiver) (i .settings) passed p q k has left clocks

@@ -1,0 +1,128 @@
+-- Rules in checking order: what a call that tests them in parts knows. Assumes nothing.
+use mathlib.Core.Path.{_≡_, refl, sym, ap, _∙_, subst}
+use mathlib.Core.List.{List, [], _∷_, _++_}
+use mathlib.Core.Bool.{Bool, true, false, not, cond, _&&_, _||_}
+use Prim.Native.Nat.{ℕ, zero, suc, _+_, _≤_, _<_}
+use native.Mathlib.Omega.{arith}
+use lib.Dec.{T, ltb, eqb}
+use borrow.Author.Tests.{ltb-false, not-false}
+use lib.Ieee.{Float}
+use lib.Ieee.Fits.{and-r}
+use Rattle.numeric.specs.Real.{inRange}
+use Rattle.numeric.specs.declared.vec3.Vec3.{Vec3}
+use Rattle.numeric.specs.declared.refusal.Refusal.{Refusal}
+use Rattle.estimator.specs.Rules.{Rule, ruled}
+use Rattle.estimator.specs.Valid.{displacementInput, displacementCounts, fixSettingsPass, fixInput, fixCounts}
+use Rattle.estimator.specs.declared.record.Epoch.{Epoch}
+use Rattle.estimator.specs.declared.record.Observations.{Observations}
+use Rattle.estimator.specs.declared.displacement.Settings.{Settings}
+use Rattle.estimator.specs.declared.fix.Settings.{Settings as FixSettings}
+use Rattle.estimator.specs.declared.valid.Check.{Check}
+use Rattle.estimator.specs.declared.valid.Check.the-variants.{Refused, Passed}
+
+-- what a check says
+abbrev pub checked : List Rule → Check
+checked rs = ruled Refused rs Passed
+
+module _ {A : Type 0} (f : Refusal → A) (a : A) where
+  -- rules are tested in parts
+  pub ruled-append : (rs ss : List Rule) → ruled f (rs ++ ss) a ≡ ruled f rs (ruled f ss a)
+  unfolding ruled
+  ruled-append [] ss = refl
+  ruled-append (r ∷ rs) ss = ap (λ x. cond (r .applies) (f (r .refusal)) x) (ruled-append rs ss)
+
+  -- what a call answers after a check
+  answer : Check → A
+  answer (Refused r) = f r
+  answer Passed = a
+
+  answer-is : (rs : List Rule) → ruled f rs a ≡ answer (checked rs)
+  unfolding ruled answer
+  answer-is [] = refl
+  answer-is (r ∷ rs) = go (r .applies) (answer-is rs)
+    where
+      go : (b : Bool) → ruled f rs a ≡ answer (checked rs) → cond b (f (r .refusal)) (ruled f rs a) ≡ answer (cond b (Refused (r .refusal)) (checked rs))
+      go true ih = refl
+      go false ih = ih
+
+  pub refused-by : (rs : List Rule) {r : Refusal} → Refused r ≡ checked rs → f r ≡ ruled f rs a
+  unfolding answer
+  refused-by rs e = sym (answer-is rs ∙ ap answer (sym e))
+
+  pub passed-by : (rs : List Rule) → Passed ≡ checked rs → ruled f rs a ≡ a
+  unfolding answer
+  passed-by rs e = answer-is rs ∙ ap answer (sym e)
+
+  -- an answer that is no refusal has passed
+  pub passed-of : (rs : List Rule) {b : A} → ruled f rs a ≡ b → ((r : Refusal) → f r ≡ b → ⊥) → Passed ≡ checked rs
+  passed-of rs {b} h ne = go (checked rs) refl
+    where
+      go : (v : Check) → checked rs ≡ v → Passed ≡ v
+      go (Refused r) e = absurd (ne r (refused-by rs (sym e) ∙ h))
+      go Passed e = refl
+
+-- ---- what has been passed
+
+-- the rule at the head does not apply, and the others have been passed
+head-passed : (r : Rule) (rs : List Rule) → Passed ≡ checked (r ∷ rs) → (r .applies ≡ false) × (Passed ≡ checked rs)
+unfolding ruled
+head-passed r rs e = go (r .applies) refl e
+  where
+    go : (b : Bool) → r .applies ≡ b → Passed ≡ cond b (Refused (r .refusal)) (checked rs) → (r .applies ≡ false) × (Passed ≡ checked rs)
+    go true h e = let z : _≡_ {A = ℕ} 0 1 = cc in absurd (omega arith)
+    go false h e = (h, e)
+
+pub append-passed : (rs ss : List Rule) → Passed ≡ checked (rs ++ ss) → Passed ≡ checked ss
+append-passed [] ss e = e
+append-passed (r ∷ rs) ss e = append-passed rs ss (head-passed r (rs ++ ss) e .1)
+
+pub append-first : (rs ss : List Rule) → Passed ≡ checked (rs ++ ss) → Passed ≡ checked rs
+unfolding ruled
+append-first [] ss e = refl
+append-first (r ∷ rs) ss e = let h = head-passed r (rs ++ ss) e in rw (h .0) (append-first rs ss (h .1))
+
+or-no : (a b : Bool) → (a || b) ≡ false → (a ≡ false) × (b ≡ false)
+or-no true b e = (e, cc)
+or-no false b e = (refl, e)
+
+pub epochs-fit : (previous current : Epoch) (dt : Float) (receiver : Vec3) (settings : Settings) → Passed ≡ checked (displacementInput previous current dt receiver settings)
+    → (previous .count ≤ 64) × (current .count ≤ 64)
+unfolding displacementInput
+epochs-fit previous current dt receiver settings e =
+    let n = or-no (ltb 64 (previous .count)) (ltb 64 (current .count)) (head-passed _ _ e .0) in
+    (ltb-false 64 (previous .count) (n .0), ltb-false 64 (current .count) (n .1))
+
+pub observations-fit : (observations : Observations) (guess : Vec3) (settings : FixSettings) → Passed ≡ checked (fixInput observations guess settings)
+    → observations .count ≤ 64
+unfolding fixInput
+observations-fit observations guess settings e = ltb-false 64 (observations .count) (head-passed _ _ e .0)
+
+-- rule 3 refuses a fix of 0 rounds
+above-zero : (n : ℕ) → T (not (eqb n 0)) → 0 < n
+above-zero zero h = absurd h
+above-zero (suc n) h = omega arith
+
+pub some-rounds : (observations : Observations) (guess : Vec3) (settings : FixSettings) → Passed ≡ checked (fixInput observations guess settings) → 0 < settings .rounds
+unfolding fixInput fixSettingsPass
+some-rounds observations guess settings e =
+    let pass : fixSettingsPass settings ≡ true = not-false (fixSettingsPass settings) (head-passed _ _ (head-passed _ _ e .1) .0) in
+    let others = inRange (settings .«sigma_a») && inRange (settings .«sigma_b») && inRange (settings .huber) && inRange (settings .mask) && not (ltb 50 (settings .rounds)) in
+    above-zero (settings .rounds) (and-r others (not (eqb (settings .rounds) 0)) (subst T (sym pass) tt))
+
+-- what rules 8 and 9 leave
+pub record Enough (rows slots : ℕ) : Type 0 where
+  pub redundant : 4 + slots ≤ rows
+  pub few-slots : slots ≤ 6
+
+pub rows-passed : (rows slots : ℕ) → Passed ≡ checked (fixCounts rows slots) → Enough rows slots
+unfolding fixCounts
+rows-passed rows slots e =
+    let a = head-passed _ _ e in
+    let b = head-passed _ _ (a .1) in
+    record { redundant = ltb-false rows (4 + slots) (a .0); few-slots = ltb-false 6 slots (b .0) }
+
+pub counts-passed : (pairs kept slots : ℕ) → Passed ≡ checked (displacementCounts pairs kept slots) → (6 ≤ pairs) × Enough kept slots
+unfolding displacementCounts fixCounts
+counts-passed pairs kept slots e =
+    let a = head-passed _ _ e in
+    (ltb-false pairs 6 (a .0), rows-passed kept slots (a .1))

@@ -1,0 +1,21 @@
+-- `estimator::valid::check_pairs` meets its contract. Assumes nothing.
+use borrow.Author.Tests.{lt-ltb, le-ltb}
+use Rattle.estimator.specs.Rules.{ruled}
+use Rattle.estimator.specs.Valid.{displacementCounts, fixCounts}
+use borrow.Author.Needs.{needs}
+use Rattle.estimator.proofs.valid.check_pairs.Statement.{statement}
+use Rattle.estimator.proofs.valid.check_pairs.Tie as tie
+
+returns : tie.Need-returns
+unfolding displacementCounts ruled
+returns c = rw (lt-ltb _ _ (c .if1 .taken))
+
+check-rows-requires : tie.Need-check-rows-requires
+check-rows-requires c κs = search needs
+
+returns-2 : tie.Need-returns-2
+unfolding displacementCounts fixCounts ruled
+returns-2 c = rw (le-ltb _ _ (c .before .if1 .left)) (c .check-rows .ensures)
+
+pub check-pairs-spec : {M : Type 1} → statement M
+check-pairs-spec = tie.close (tie.spec returns check-rows-requires returns-2)

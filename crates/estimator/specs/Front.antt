@@ -1,0 +1,49 @@
+-- What comes before the rounds: the rows, their clocks, and the rules in document 01's order. Definitions only.
+use Prim.Native.Nat.{_-_}
+use mathlib.Core.List.{List, _++_}
+use lib.ListN.{length}
+use lib.Ieee.{Float}
+use Rattle.numeric.specs.declared.vec3.Vec3.{Vec3}
+use Rattle.estimator.specs.Rules.{Rule}
+use Rattle.estimator.specs.Record.{counted, countedObservations}
+use Rattle.estimator.specs.Clocks.{clocksOf}
+use Rattle.estimator.specs.Pair.{pairsOf}
+use Rattle.estimator.specs.Screen.{keptOf, constellations}
+use Rattle.estimator.specs.Mask.{aboveMask}
+use Rattle.estimator.specs.Mask.{constellations as observedConstellations}
+use Rattle.estimator.specs.Valid.{displacementInput, displacementCounts, fixInput, fixCounts}
+use Rattle.estimator.specs.declared.record.Epoch.{Epoch}
+use Rattle.estimator.specs.declared.record.Observation.{Observation}
+use Rattle.estimator.specs.declared.record.Observations.{Observations}
+use Rattle.estimator.specs.declared.pair.Pair.{Pair}
+use Rattle.estimator.specs.declared.displacement.Settings.{Settings}
+use Rattle.estimator.specs.declared.fix.Settings.{Settings as FixSettings}
+
+-- ---- a displacement
+
+-- the pairs before screening
+abbrev pub allPairs : Epoch → Epoch → Float → Vec3 → Settings → List Pair
+allPairs previous current dt receiver settings = pairsOf receiver (settings .mask) dt (counted previous) (counted current)
+
+-- the pairs after it
+abbrev pub keptPairs : Epoch → Epoch → Float → Vec3 → Settings → List Pair
+keptPairs previous current dt receiver settings = keptOf (settings .screen) (allPairs previous current dt receiver settings)
+
+-- 2 to 9
+unfoldable pub displacementRules : Epoch → Epoch → Float → Vec3 → Settings → List Rule
+displacementRules previous current dt receiver settings =
+    let all = allPairs previous current dt receiver settings in
+    let kept = keptPairs previous current dt receiver settings in
+    displacementInput previous current dt receiver settings ++ displacementCounts (length all) (length kept) (clocksOf (constellations kept) .count)
+
+-- ---- a fix
+
+-- the observations at or above the mask
+abbrev pub fixRows : Observations → FixSettings → List Observation
+fixRows observations settings = aboveMask (settings .mask) (countedObservations observations)
+
+-- 2 to 9
+unfoldable pub fixRules : Observations → Vec3 → FixSettings → List Rule
+fixRules observations guess settings =
+    let kept = fixRows observations settings in
+    fixInput observations guess settings ++ fixCounts (length kept) (clocksOf (observedConstellations kept) .count)

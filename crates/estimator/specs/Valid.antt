@@ -1,0 +1,70 @@
+-- The rules of a displacement and of a fix, in document 01's numbers and order ("Why a call turns back"). Definitions only.
+use Prim.Native.Nat.{ℕ, _+_}
+use mathlib.Core.Bool.{Bool, not, _&&_, _||_}
+use mathlib.Core.List.{List, [], _∷_}
+use lib.Dec.{eqb, ltb}
+use lib.Ieee.{Float, lt}
+use lib.Ieee.Scale.{finite}
+use Rattle.exact.specs.Float.{+0, whole}
+use Rattle.walk.specs.Walk.{every}
+use Rattle.numeric.specs.Real.{inRange}
+use Rattle.numeric.specs.declared.vec3.Vec3.{Vec3}
+use Rattle.numeric.specs.declared.refusal.Refusal.the-variants.{TooMany, SettingOutOfRange, RecordOutOfRange, BadInterval, TooFewPairs, TooFewRows, TooManySlots}
+use Rattle.estimator.specs.Rules.{Rule, rule}
+use Rattle.estimator.specs.Record.{counted, countedObservations, placeable, sound, soundObservation}
+use Rattle.estimator.specs.declared.record.Epoch.{Epoch}
+use Rattle.estimator.specs.declared.record.Observations.{Observations}
+use Rattle.estimator.specs.declared.displacement.Settings.{Settings}
+use Rattle.estimator.specs.declared.fix.Settings.{Settings as FixSettings}
+
+-- ---- a displacement
+
+-- 3: every setting but `agreement`, which is neither read nor checked, is in range, and the rounds are at most 50
+unfoldable pub settingsPass : Settings → Bool
+settingsPass s =
+    inRange (s .screen) && inRange (s .«sigma_a») && inRange (s .«sigma_b») && inRange (s .huber) && inRange (s .mask)
+    && not (ltb 50 (s .rounds))
+
+-- 5: not finite, not above 0, or above 604,800 seconds
+unfoldable pub badInterval : Float → Bool
+badInterval dt = not (finite dt) || not (lt +0 dt) || lt (whole 604800) dt
+
+-- 2 to 5, of what is handed over
+unfoldable pub displacementInput : Epoch → Epoch → Float → Vec3 → Settings → List Rule
+displacementInput previous current dt receiver settings =
+    rule TooMany (ltb 64 (previous .count) || ltb 64 (current .count))
+    ∷ rule SettingOutOfRange (not (settingsPass settings))
+    ∷ rule RecordOutOfRange (not (every sound (counted previous) && every sound (counted current) && placeable receiver))
+    ∷ rule BadInterval (badInterval dt)
+    ∷ []
+
+-- 7 to 9, of how many pairs there are before screening, how many are kept, and how many clock slots those have
+unfoldable pub displacementCounts : ℕ → ℕ → ℕ → List Rule
+displacementCounts pairs kept slots =
+    rule TooFewPairs (ltb pairs 6)
+    ∷ rule TooFewRows (ltb kept (4 + slots))
+    ∷ rule TooManySlots (ltb 6 slots)
+    ∷ []
+
+-- ---- a fix
+
+-- 3: every setting is in range, and the rounds are at most 50 and not 0
+unfoldable pub fixSettingsPass : FixSettings → Bool
+fixSettingsPass s =
+    inRange (s .«sigma_a») && inRange (s .«sigma_b») && inRange (s .huber) && inRange (s .mask)
+    && not (ltb 50 (s .rounds)) && not (eqb (s .rounds) 0)
+
+-- 2 to 4, of what is handed over
+unfoldable pub fixInput : Observations → Vec3 → FixSettings → List Rule
+fixInput observations guess settings =
+    rule TooMany (ltb 64 (observations .count))
+    ∷ rule SettingOutOfRange (not (fixSettingsPass settings))
+    ∷ rule RecordOutOfRange (not (every soundObservation (countedObservations observations) && placeable guess))
+    ∷ []
+
+-- 8 and 9, of how many observations are at or above the mask, and how many clock slots those have
+unfoldable pub fixCounts : ℕ → ℕ → List Rule
+fixCounts rows slots =
+    rule TooFewRows (ltb rows (4 + slots))
+    ∷ rule TooManySlots (ltb 6 slots)
+    ∷ []

@@ -1,0 +1,162 @@
+// The rules on what is handed over, and on how many pairs, rows and slots it gives.
+ghost use mathlib.Core.Path.{_≡_};
+ghost use Prim.Native.Nat.{_≤_};
+ghost use Rattle.walk.specs.Walk.{every};
+ghost use Rattle.estimator.specs.Record.{sound, soundObservation, counted, countedObservations};
+ghost use Rattle.estimator.specs.Rules.{ruled};
+ghost use Rattle.estimator.specs.Valid as spec;
+use crate::displacement::Settings;
+use crate::record::Epoch;
+use crate::record::Observations;
+use crate::record::is_placeable;
+use crate::record::is_sound;
+use crate::record::is_sound_observation;
+use numeric::real::in_range;
+use numeric::real::is_finite;
+use numeric::refusal::Refusal;
+use numeric::vec3::Vec3;
+
+// What rules find: the first that applies, or none.
+pub enum Check {
+    Refused(Refusal),
+    Passed,
+}
+
+// Whether rule 4 lets each counted carrier pass.
+pub(crate) fn all_sound(e: Epoch) -> bool
+    requires { ⌜ e .count ≤ 64 ⌝ }
+    ensures { λ r. ⌜ r ≡ every sound (counted e) ⌝ }
+{
+    let n = e.count;
+    let mut i: usize = 0;
+    while i < n {
+        let c = e.carriers[i];
+        if !is_sound(c) {
+            return false;
+        }
+        i += 1;
+    }
+    true
+}
+
+// Whether rule 4 lets each counted observation pass.
+pub(crate) fn all_sound_observations(o: Observations) -> bool
+    requires { ⌜ o .count ≤ 64 ⌝ }
+    ensures { λ r. ⌜ r ≡ every soundObservation (countedObservations o) ⌝ }
+{
+    let n = o.count;
+    let mut i: usize = 0;
+    while i < n {
+        let x = o.observation[i];
+        if !is_sound_observation(x) {
+            return false;
+        }
+        i += 1;
+    }
+    true
+}
+
+// Rule 3 of a displacement.
+pub(crate) fn settings_pass(s: Settings) -> bool
+    ensures { λ r. ⌜ r ≡ spec.settingsPass s ⌝ }
+{
+    in_range(s.screen)
+        & in_range(s.sigma_a)
+        & in_range(s.sigma_b)
+        & in_range(s.huber)
+        & in_range(s.mask)
+        & !(50 < s.rounds)
+}
+
+// Rule 3 of a fix.
+pub(crate) fn fix_settings_pass(s: crate::fix::Settings) -> bool
+    ensures { λ r. ⌜ r ≡ spec.fixSettingsPass s ⌝ }
+{
+    in_range(s.sigma_a)
+        & in_range(s.sigma_b)
+        & in_range(s.huber)
+        & in_range(s.mask)
+        & !(50 < s.rounds)
+        & !(s.rounds == 0)
+}
+
+// Rule 5.
+pub(crate) fn is_bad_interval(dt: f64) -> bool
+    ensures { λ r. ⌜ r ≡ spec.badInterval dt ⌝ }
+{
+    !is_finite(dt) | !(0.0 < dt) | (604800.0 < dt)
+}
+
+// Rules 2 to 5 of a displacement.
+pub(crate) fn check_displacement(
+    previous: Epoch,
+    current: Epoch,
+    dt: f64,
+    receiver: Vec3,
+    settings: Settings,
+) -> Check
+    ensures { λ r. ⌜ r ≡ ruled Check.Refused (spec.displacementInput previous current dt receiver settings) Check.Passed ⌝ }
+{
+    if 64 < previous.count {
+        return Check::Refused(Refusal::TooMany);
+    }
+    if 64 < current.count {
+        return Check::Refused(Refusal::TooMany);
+    }
+    if !settings_pass(settings) {
+        return Check::Refused(Refusal::SettingOutOfRange);
+    }
+    if !(all_sound(previous) & all_sound(current) & is_placeable(receiver)) {
+        return Check::Refused(Refusal::RecordOutOfRange);
+    }
+    if is_bad_interval(dt) {
+        return Check::Refused(Refusal::BadInterval);
+    }
+    Check::Passed
+}
+
+// Rules 2 to 4 of a fix.
+pub(crate) fn check_fix(
+    observations: Observations,
+    guess: Vec3,
+    settings: crate::fix::Settings,
+) -> Check
+    ensures { λ r. ⌜ r ≡ ruled Check.Refused (spec.fixInput observations guess settings) Check.Passed ⌝ }
+{
+    if 64 < observations.count {
+        return Check::Refused(Refusal::TooMany);
+    }
+    if !fix_settings_pass(settings) {
+        return Check::Refused(Refusal::SettingOutOfRange);
+    }
+    if !(all_sound_observations(observations) & is_placeable(guess)) {
+        return Check::Refused(Refusal::RecordOutOfRange);
+    }
+    Check::Passed
+}
+
+// Rules 8 and 9 of a fix.
+pub(crate) fn check_rows(rows: usize, slots: usize) -> Check
+    ensures { λ r. ⌜ r ≡ ruled Check.Refused (spec.fixCounts rows slots) Check.Passed ⌝ }
+{
+    if rows < 4 {
+        return Check::Refused(Refusal::TooFewRows);
+    }
+    if rows - 4 < slots {
+        return Check::Refused(Refusal::TooFewRows);
+    }
+    if 6 < slots {
+        return Check::Refused(Refusal::TooManySlots);
+    }
+    Check::Passed
+}
+
+// Rules 7 to 9 of a displacement.
+pub(crate) fn check_pairs(pairs: usize, kept: usize, slots: usize) -> Check
+    ensures { λ r. ⌜ r ≡ ruled Check.Refused (spec.displacementCounts pairs kept slots) Check.Passed ⌝ }
+{
+    if pairs < 6 {
+        return Check::Refused(Refusal::TooFewPairs);
+    }
+    check_rows(kept, slots)
+}
