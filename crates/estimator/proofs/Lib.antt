@@ -14,3 +14,4 @@ pub mod ScreenLaws
 pub mod RulesLaws
 pub mod FrontLaws
 pub mod FrontValues
+pub mod CountedLaws

@@ -1,1 +1,6 @@
+pub mod ColumnLaws
+pub mod ColumnValues
 pub mod FactorNumber
+pub mod StepNumber
+pub mod EstimateLaws
+pub mod EstimateValues

@@ -1,15 +1,20 @@
 -- What an entry point answers: 0, or document 01's number of the refusal. Definitions only.
 use Prim.Native.Nat.{ℕ}
+use mathlib.Core.Path.{_≡_}
+use mathlib.Core.Bool.{cond}
 use mathlib.Core.List.{List, [], _∷_}
-use lib.ListN.{getD}
-use lib.Ieee.{Float, nan}
+use lib.Ieee.{Float}
 use Rattle.numeric.specs.Refusal.{numberOf}
-use Rattle.numeric.specs.declared.refusal.Refusal.the-variants.{FitFailed}
+use Rattle.numeric.specs.declared.refusal.Refusal.the-variants.{TooMany, FitFailed}
 use Rattle.numeric.specs.Factor.{Factored, Refused, Lower}
-use Rattle.numeric.specs.declared.vec3.Vec3.{Vec3}
 use Rattle.numeric.specs.declared.sight.Sight.{Sight}
 use Rattle.median.specs.declared.centre.Centre.{Centre}
 use Rattle.median.specs.declared.centre.Centre.the-variants as Centre
+use Rattle.robust.specs.Step.{Stepped, refused, stepOf}
+use Rattle.robust.specs.declared.round.Stepping.{Stepping}
+use Rattle.robust.specs.declared.round.Stepping.the-variants as Stepping
+use Rattle.estimator.specs.declared.clocks.Clocks.{Clocks}
+use Rattle.zaqnuti.specs.Columns.{RowColumns, rowsOf, rowsFit}
 
 abbrev pub factorNumber : Factored → ℕ
 factorNumber Refused = numberOf FitFailed
@@ -24,9 +29,23 @@ abbrev pub centreAfter : Centre → List Float → List Float
 centreAfter (Centre.Refused r) before = before
 centreAfter (Centre.Of c) before = c .centre ∷ c .scale ∷ []
 
--- three floats as a vector
-abbrev pub vector : List Float → Vec3
-vector v = record { x = getD v 0 nan; y = getD v 1 nan; z = getD v 2 nan }
+-- what a round called by itself answers
+abbrev pub stepNumber : Stepping → ℕ
+stepNumber (Stepping.Refused r) = numberOf r
+stepNumber Stepping.Done = 0
+
+-- the number and the lent dx afterwards are those of the step s
+pub record StepAnswers (s : Stepped) (number : ℕ) (dx : List Float) : Type 0 where
+  pub number-is : number ≡ stepNumber (s .answer)
+  pub dx-is : dx ≡ s .dx
+
+-- the round of the first n rows of the columns: refused by 2 where those are more than 64 or a column is too short
+unfoldable pub columnStepOf : RowColumns → ℕ → ℕ → Float → List Float → Stepped
+columnStepOf c n unknowns huber dx = cond (rowsFit c n) (stepOf (rowsOf c n) unknowns huber dx) (refused TooMany dx)
+
+-- clocks from the slots and the count that a caller holds
+abbrev pub clocksFrom : List ℕ → ℕ → Clocks
+clocksFrom slot count = record { slot = slot; count = count }
 
 abbrev pub sightAfter : Sight → List Float
 sightAfter s = s .x ∷ s .y ∷ s .z ∷ s .range ∷ []

@@ -2,8 +2,8 @@ use mathlib.Core.Path.{sym, ap, _∙_}
 use borrow.Author.Needs.{needs}
 use Rattle.median.specs.declared.centre.Centre.{Centre}
 use Rattle.zaqnuti.specs.Numbers.{centreNumber, centreAfter}
-use Rattle.zaqnuti.proofs.robust.zaqnuti_centre.Statement.{statement}
-use Rattle.zaqnuti.proofs.robust.zaqnuti_centre.Tie as tie
+use Rattle.zaqnuti.proofs.round.zaqnuti_centre.Statement.{statement}
+use Rattle.zaqnuti.proofs.round.zaqnuti_centre.Tie as tie
 
 centre-scale-requires : tie.Need-centre-scale-requires
 centre-scale-requires c κs = search needs

@@ -1,0 +1,119 @@
+-- Arrays that are filled place by place from columns, and columns that are long enough. Assumes nothing.
+use mathlib.Core.Path.{_≡_, refl, sym, _∙_}
+use mathlib.Core.Bool.{Bool, true, false, _&&_}
+use mathlib.Core.List.{List}
+use Prim.Native.Nat.{ℕ, zero, suc, _+_, _*_, _≤_, _<_}
+use native.Mathlib.Numerals.{add-one}
+use native.Mathlib.Omega.{arith}
+use lib.ListN.{length, take, set, length-append, length-set}
+use lib.Seq.{take-all, take-suc-set}
+use borrow.Author.Tests.{leb-true}
+use Rattle.estimator.specs.Record.{Holds}
+use Rattle.zaqnuti.specs.Columns.{places, RowColumns, rowsFit, CarrierColumns, epochFits, ObservationColumns, observationsFit}
+
+module _ {A : Type 0} (f : ℕ → A) where
+  pub places-length : (n : ℕ) → length (places f n) ≡ n
+  unfolding places
+  places-length zero = refl
+  places-length (suc n) = rw (length-append, places-length n) (omega arith)
+
+-- an array of 64 of which the first i of n places have been stored, and its count
+pub record Filling {A : Type 0} (f : ℕ → A) (n : ℕ) (array : List A) (count i : ℕ) : Type 0 where
+  pub within : i ≤ n
+  pub long : length array ≡ 64
+  pub count-is : count ≡ n
+  pub so-far : take i array ≡ places f i
+
+module _ {A : Type 0} (f : ℕ → A) (n : ℕ) (array : List A) where
+  pub filling-start : length array ≡ 64 → Filling f n array n 0
+  unfolding places
+  filling-start long = record { within = omega arith; long = long; count-is = refl; so-far = refl }
+
+  module _ (few : n ≤ 64) {count i : ℕ} (h : Filling f n array count i) where
+    pub filling-next : i < n → Filling f n (set array i (f i)) count (i + 1)
+    unfolding places
+    filling-next t =
+        record {
+          within = omega arith;
+          long = length-set array i (f i) ∙ h .long;
+          count-is = h .count-is;
+          so-far = rw (add-one, take-suc-set array i (f i) (omega (arith, h .long)), h .so-far);
+        }
+
+    pub filling-end : n ≤ i → Holds count array (places f n)
+    filling-end t =
+        let q : i ≡ n = omega (arith, h .within) in
+        rw (h .count-is) (record { room = few; count = sym (places-length f n); all = rw q at (h .so-far) })
+
+-- an array that holds the first n places counts what the list of them counts
+module _ {A : Type 0} (f : ℕ → A) (n : ℕ) {count : ℕ} {array : List A} (h : Holds count array (places f n)) where
+  pub held-count : count ≡ n
+  held-count = h .count ∙ places-length f n
+
+  pub held-all : take count array ≡ take n (places f n)
+  held-all = h .all ∙ sym (take-all n (places f n) (omega (arith, places-length f n)))
+
+-- ---- what the tests of lengths tell
+
+both : (a b : Bool) → (a && b) ≡ true → (a ≡ true) × (b ≡ true)
+both true b e = (refl, e)
+both false b e = (e, absurd (let z : _≡_ {A = ℕ} 0 1 = cc in omega arith))
+
+pub record RowRoom (c : RowColumns) (n : ℕ) : Type 0 where
+  pub few : n ≤ 64
+  pub units : 3 * n ≤ length (c .units)
+  pub clocks : n ≤ length (c .clocks)
+  pub residuals : n ≤ length (c .residuals)
+  pub sigmas : n ≤ length (c .sigmas)
+
+pub rows-room : (c : RowColumns) (n : ℕ) → rowsFit c n ≡ true → RowRoom c n
+unfolding rowsFit
+rows-room c n e =
+    let p = both _ _ e in
+    let q = both _ _ (p .0) in
+    let r = both _ _ (q .0) in
+    let s = both _ _ (r .0) in
+    record {
+      few = leb-true _ _ (s .0);
+      units = leb-true _ _ (s .1);
+      clocks = leb-true _ _ (r .1);
+      residuals = leb-true _ _ (q .1);
+      sigmas = leb-true _ _ (p .1);
+    }
+
+pub record CarrierRoom (c : CarrierColumns) (n : ℕ) : Type 0 where
+  pub few : n ≤ 64
+  pub constellation : n ≤ length (c .constellation)
+  pub svid : n ≤ length (c .svid)
+  pub band : n ≤ length (c .band)
+  pub state : n ≤ length (c .state)
+  pub floats : 6 * n ≤ length (c .floats)
+
+pub carriers-room : (c : CarrierColumns) (n : ℕ) → epochFits c n ≡ true → CarrierRoom c n
+unfolding epochFits
+carriers-room c n e =
+    let p = both _ _ e in
+    let q = both _ _ (p .0) in
+    let r = both _ _ (q .0) in
+    let s = both _ _ (r .0) in
+    let t = both _ _ (s .0) in
+    record {
+      few = leb-true _ _ (t .0);
+      constellation = leb-true _ _ (t .1);
+      svid = leb-true _ _ (s .1);
+      band = leb-true _ _ (r .1);
+      state = leb-true _ _ (q .1);
+      floats = leb-true _ _ (p .1);
+    }
+
+pub record ObservationRoom (c : ObservationColumns) (n : ℕ) : Type 0 where
+  pub few : n ≤ 64
+  pub constellation : n ≤ length (c .constellation)
+  pub floats : 5 * n ≤ length (c .floats)
+
+pub observations-room : (c : ObservationColumns) (n : ℕ) → observationsFit c n ≡ true → ObservationRoom c n
+unfolding observationsFit
+observations-room c n e =
+    let p = both _ _ e in
+    let q = both _ _ (p .0) in
+    record { few = leb-true _ _ (q .0); constellation = leb-true _ _ (q .1); floats = leb-true _ _ (p .1) }

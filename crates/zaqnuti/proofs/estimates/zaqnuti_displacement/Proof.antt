@@ -1,0 +1,110 @@
+-- `zaqnuti::estimates::zaqnuti_displacement` meets its contract. Assumes nothing.
+use mathlib.Core.Path.{_≡_, refl, sym, _∙_}
+use borrow.Author.Tests.{not-true, not-false}
+use Rattle.estimator.specs.declared.displacement.Displacement.{Displacement}
+use Rattle.zaqnuti.specs.Columns.{vectorAt, CarrierColumns, carrierColumns}
+use Rattle.zaqnuti.specs.Estimates.{displacementSettings, columnDisplacementOf}
+use Rattle.zaqnuti.proofs.EstimateLaws.{previous-short, current-short, displacement-fit, displacement-answers}
+use borrow.Author.Needs.{needs}
+use Rattle.zaqnuti.proofs.estimates.zaqnuti_displacement.Statement.{statement}
+use Rattle.zaqnuti.proofs.estimates.zaqnuti_displacement.Tie as tie
+
+abbrev previous : tie.Start → CarrierColumns
+previous s = carrierColumns (s .args .previous-constellation .now) (s .args .previous-svid .now) (s .args .previous-band .now) (s .args .previous-state .now) (s .args .previous-floats .now)
+
+abbrev current : tie.Start → CarrierColumns
+current s = carrierColumns (s .args .current-constellation .now) (s .args .current-svid .now) (s .args .current-band .now) (s .args .current-state .now) (s .args .current-floats .now)
+
+-- the displacement that the contract names
+abbrev wanted : tie.Start → Displacement
+wanted s = columnDisplacementOf (previous s) (s .args .previous-count) (current s) (s .args .current-count) (s .args .dt) (vectorAt (s .args .receiver .now) 0) (displacementSettings (s .args .settings .now) (s .args .rounds))
+
+made : (c : tie.After-delta-position) → c .delta-position .result ≡ wanted (c .before .before .before .before .before .before .before .before .before .before .before .before .before .before .before .before .before)
+made c =
+    let s = c .before .before .before .before .before .before .before .before .before .before .before .before .before .before .before .before .before in
+    let p = c .before .before .before .before .epoch-of in
+    let q = c .before .before .before .epoch-of2 in
+    c .delta-position .ensures .answer
+    ∙ rw (c .before .before .vector .ensures, c .before .displacement-settings .ensures)
+    (displacement-fit (previous s) (s .args .previous-count) (current s) (s .args .current-count) (s .args .dt) (vectorAt (s .args .receiver .now) 0) (s .args .settings .now) (s .args .rounds) (c .before .before .before .before .before .before .before .before .epoch-fits .ensures) (not-false _ (c .before .before .before .before .before .before .before .if1 .left)) (c .before .before .before .before .before .before .epoch-fits2 .ensures) (p .result) (q .result) (not-false _ (c .before .before .before .before .before .if2 .left)) (p .ensures) (q .ensures))
+
+epoch-fits-requires : tie.Need-epoch-fits-requires
+epoch-fits-requires c κs = search needs
+
+number-requires : tie.Need-number-requires
+number-requires c κs = search needs
+
+returns : tie.Need-returns
+returns c =
+    let s = c .before .before .before .before .before .before .before .before .before .before .before in
+    displacement-answers
+    (previous-short (previous s) (s .args .previous-count) (current s) (s .args .current-count) (s .args .dt) (vectorAt (s .args .receiver .now) 0) (s .args .settings .now) (s .args .rounds) (c .before .before .epoch-fits .ensures) (not-true _ (c .before .if1 .taken)))
+    (c .number .ensures)
+    refl
+    refl
+
+epoch-fits-requires-2 : tie.Need-epoch-fits-requires-2
+epoch-fits-requires-2 c κs = search needs
+
+number-requires-2 : tie.Need-number-requires-2
+number-requires-2 c κs = search needs
+
+returns-2 : tie.Need-returns-2
+returns-2 c =
+    let s = c .before .before .before .before .before .before .before .before .before .before .before .before .before in
+    displacement-answers
+    (current-short (previous s) (s .args .previous-count) (current s) (s .args .current-count) (s .args .dt) (vectorAt (s .args .receiver .now) 0) (s .args .settings .now) (s .args .rounds) (c .before .before .before .before .epoch-fits .ensures) (not-false _ (c .before .before .before .if1 .left)) (c .before .before .epoch-fits2 .ensures) (not-true _ (c .before .if2 .taken)))
+    (c .number2 .ensures)
+    refl
+    refl
+
+epoch-of-requires : tie.Need-epoch-of-requires
+epoch-of-requires c κs = sym (c .before .before .before .epoch-fits .ensures) ∙ not-false _ (c .before .before .if1 .left)
+
+epoch-of-requires-2 : tie.Need-epoch-of-requires-2
+epoch-of-requires-2 c κs = sym (c .before .before .epoch-fits2 .ensures) ∙ not-false _ (c .before .if2 .left)
+
+vector-requires : tie.Need-vector-requires
+vector-requires c κs = search needs
+
+displacement-settings-requires : tie.Need-displacement-settings-requires
+displacement-settings-requires c κs = search needs
+
+delta-position-requires : tie.Need-delta-position-requires
+delta-position-requires c κs = search needs
+
+enum-known-answer : tie.Need-enum-known-answer
+enum-known-answer c = search needs
+
+enum-known-answer-2 : tie.Need-enum-known-answer-2
+enum-known-answer-2 c = search needs
+
+number-requires-3 : tie.Need-number-requires-3
+number-requires-3 c κs = search needs
+
+returns-3 : tie.Need-returns-3
+returns-3 c = displacement-answers (sym (c .before .before .before .before .answer .given .1) ∙ made (c .before .before .before .before .before .before)) refl refl refl
+
+returns-4 : tie.Need-returns-4
+returns-4 c = displacement-answers (sym (c .before .before .answer2 .given .1) ∙ made (c .before .before .before .before)) (c .number3 .ensures) refl refl
+
+pub zaqnuti-displacement-spec : {M : Type 1} → statement M
+zaqnuti-displacement-spec =
+    tie.close
+    (tie.spec
+    epoch-fits-requires
+    number-requires
+    returns
+    epoch-fits-requires-2
+    number-requires-2
+    returns-2
+    epoch-of-requires
+    epoch-of-requires-2
+    vector-requires
+    displacement-settings-requires
+    delta-position-requires
+    enum-known-answer
+    enum-known-answer-2
+    number-requires-3
+    returns-3
+    returns-4)

@@ -1,0 +1,31 @@
+// Entry points of the receiver clocks, whose state the caller holds: the slot of each place, and how many constellations have been given.
+ghost use mathlib.Core.Path.{_≡_};
+ghost use Rattle.estimator.specs.Clocks as spec;
+ghost use Rattle.zaqnuti.specs.Numbers.{clocksFrom};
+use estimator::clocks::Clocks;
+
+// One constellation more, in the lent state.
+#[no_mangle]
+pub extern "C" fn zaqnuti_clocks_given(slot: &mut [usize; 8], count: &mut usize, constellation: u8)
+    ensures { λ _. ⌜ clocksFrom (now (slot .exit)) (now (count .exit)) ≡ spec.given (clocksFrom (now (slot .entry)) (now (count .entry))) constellation ⌝ }
+{
+    let s = *slot;
+    let k = Clocks {
+        slot: s,
+        count: *count,
+    };
+    let g = k.given(constellation);
+    let t = g.slot;
+    *slot = t;
+    *count = g.count;
+}
+
+// The slot of a constellation: the largest usize for one not yet given.
+#[no_mangle]
+pub extern "C" fn zaqnuti_clocks_slot(slot: &[usize; 8], constellation: u8) -> usize
+    ensures { λ r. ⌜ r ≡ spec.slot (clocksFrom (now (slot .entry)) 0) constellation ⌝ }
+{
+    let s = *slot;
+    let k = Clocks { slot: s, count: 0 };
+    k.slot(constellation)
+}

@@ -1,0 +1,246 @@
+// The records that a caller hands over as columns of numbers.
+ghost use mathlib.Core.Path.{_≡_};
+ghost use mathlib.Core.Bool.{true};
+ghost use Prim.Native.Nat.{_+_, _*_, _<_};
+ghost use lib.ListN.{length};
+ghost use Rattle.estimator.specs.Record.{Holds};
+ghost use Rattle.zaqnuti.specs.Columns as spec;
+use estimator::record::Carrier;
+use estimator::record::Epoch;
+use estimator::record::Observation;
+use estimator::record::Observations;
+use numeric::vec3::Vec3;
+use robust::row::Row;
+use robust::row::Rows;
+
+// The vector of the three floats from k on.
+pub(crate) fn vector_at(v: &[f64], k: usize) -> Vec3
+    requires { ⌜ k + 2 < length (now v) ⌝ }
+    ensures { λ r. ⌜ r ≡ spec.vectorAt (now (v .entry)) k ⌝ }
+{
+    Vec3 {
+        x: v[k],
+        y: v[k + 1],
+        z: v[k + 2],
+    }
+}
+
+// Three floats as a vector.
+pub(crate) fn vector(v: &[f64; 3]) -> Vec3
+    ensures { λ r. ⌜ r ≡ spec.vectorAt (now (v .entry)) 0 ⌝ }
+{
+    Vec3 {
+        x: v[0],
+        y: v[1],
+        z: v[2],
+    }
+}
+
+// Whether there are at most 64 rows and no column is shorter than they need.
+pub(crate) fn rows_fit(
+    units: &[f64],
+    clocks: &[usize],
+    residuals: &[u64],
+    sigmas: &[f64],
+    n: usize,
+) -> bool
+    ensures { λ r. ⌜ r ≡ spec.rowsFit (spec.rowColumns (now (units .entry)) (now (clocks .entry)) (now (residuals .entry)) (now (sigmas .entry))) n ⌝ }
+{
+    if n > 64 {
+        return false;
+    }
+    (3 * n <= units.len()) & (n <= clocks.len()) & (n <= residuals.len()) & (n <= sigmas.len())
+}
+
+// Row i of the columns.
+fn row_at(units: &[f64], clocks: &[usize], residuals: &[u64], sigmas: &[f64], i: usize) -> Row
+    requires { ⌜ 3 * i + 2 < length (now units) ⌝ }
+    requires { ⌜ (i < length (now clocks)) × (i < length (now residuals)) × (i < length (now sigmas)) ⌝ }
+    ensures { λ r. ⌜ r ≡ spec.rowAt (spec.rowColumns (now (units .entry)) (now (clocks .entry)) (now (residuals .entry)) (now (sigmas .entry))) i ⌝ }
+{
+    let unit = vector_at(units, 3 * i);
+    Row {
+        unit: unit,
+        clock: clocks[i],
+        residual: residuals[i],
+        sigma: sigmas[i],
+    }
+}
+
+// The first n rows of the columns.
+pub(crate) fn rows_of(
+    units: &[f64],
+    clocks: &[usize],
+    residuals: &[u64],
+    sigmas: &[f64],
+    n: usize,
+) -> Rows
+    requires { ⌜ spec.rowsFit (spec.rowColumns (now units) (now clocks) (now residuals) (now sigmas)) n ≡ true ⌝ }
+    ensures { λ r. ⌜ Holds (r .count) (r .row) (spec.rowsOf (spec.rowColumns (now (units .entry)) (now (clocks .entry)) (now (residuals .entry)) (now (sigmas .entry))) n .row) ⌝ }
+{
+    let zero = Vec3 {
+        x: 0.0,
+        y: 0.0,
+        z: 0.0,
+    };
+    let nothing = Row {
+        unit: zero,
+        clock: 0,
+        residual: 0,
+        sigma: 0.0,
+    };
+    let row = [nothing; 64];
+    let mut out = Rows { count: n, row: row };
+    for i in 0..n {
+        let r = row_at(units, clocks, residuals, sigmas, i);
+        out.row[i] = r;
+    }
+    out
+}
+
+// Whether there are at most 64 carriers and no column is shorter than they need.
+pub(crate) fn epoch_fits(
+    constellation: &[u8],
+    svid: &[u16],
+    band: &[u32],
+    state: &[i32],
+    floats: &[f64],
+    n: usize,
+) -> bool
+    ensures { λ r. ⌜ r ≡ spec.epochFits (spec.carrierColumns (now (constellation .entry)) (now (svid .entry)) (now (band .entry)) (now (state .entry)) (now (floats .entry))) n ⌝ }
+{
+    if n > 64 {
+        return false;
+    }
+    (n <= constellation.len())
+        & (n <= svid.len())
+        & (n <= band.len())
+        & (n <= state.len())
+        & (6 * n <= floats.len())
+}
+
+// Carrier i of the columns.
+fn carrier_at(
+    constellation: &[u8],
+    svid: &[u16],
+    band: &[u32],
+    state: &[i32],
+    floats: &[f64],
+    i: usize,
+) -> Carrier
+    requires { ⌜ (i < length (now constellation)) × (i < length (now svid)) × (i < length (now band)) × (i < length (now state)) ⌝ }
+    requires { ⌜ 6 * i + 5 < length (now floats) ⌝ }
+    ensures { λ r. ⌜ r ≡ spec.carrierAt (spec.carrierColumns (now (constellation .entry)) (now (svid .entry)) (now (band .entry)) (now (state .entry)) (now (floats .entry))) i ⌝ }
+{
+    let at = 6 * i;
+    let satellite = vector_at(floats, at + 1);
+    let bits = state[i];
+    Carrier {
+        constellation: constellation[i],
+        svid: svid[i],
+        band: band[i],
+        adr: floats[at],
+        state: bits,
+        satellite: satellite,
+        elevation: floats[at + 4],
+        rate: floats[at + 5],
+    }
+}
+
+// The first n carriers of the columns.
+pub(crate) fn epoch_of(
+    constellation: &[u8],
+    svid: &[u16],
+    band: &[u32],
+    state: &[i32],
+    floats: &[f64],
+    n: usize,
+) -> Epoch
+    requires { ⌜ spec.epochFits (spec.carrierColumns (now constellation) (now svid) (now band) (now state) (now floats)) n ≡ true ⌝ }
+    ensures { λ r. ⌜ Holds (r .count) (r .carriers) (spec.carriersOf (spec.carrierColumns (now (constellation .entry)) (now (svid .entry)) (now (band .entry)) (now (state .entry)) (now (floats .entry))) n) ⌝ }
+{
+    let zero = Vec3 {
+        x: 0.0,
+        y: 0.0,
+        z: 0.0,
+    };
+    let nothing = Carrier {
+        constellation: 0,
+        svid: 0,
+        band: 0,
+        adr: 0.0,
+        state: 0,
+        satellite: zero,
+        elevation: 0.0,
+        rate: 0.0,
+    };
+    let carriers = [nothing; 64];
+    let mut out = Epoch {
+        count: n,
+        carriers: carriers,
+    };
+    for i in 0..n {
+        let c = carrier_at(constellation, svid, band, state, floats, i);
+        out.carriers[i] = c;
+    }
+    out
+}
+
+// Whether there are at most 64 observations and no column is shorter than they need.
+pub(crate) fn observations_fit(constellation: &[u8], floats: &[f64], n: usize) -> bool
+    ensures { λ r. ⌜ r ≡ spec.observationsFit (spec.observationColumns (now (constellation .entry)) (now (floats .entry))) n ⌝ }
+{
+    if n > 64 {
+        return false;
+    }
+    (n <= constellation.len()) & (5 * n <= floats.len())
+}
+
+// Observation i of the columns.
+fn observation_at(constellation: &[u8], floats: &[f64], i: usize) -> Observation
+    requires { ⌜ (i < length (now constellation)) × (5 * i + 4 < length (now floats)) ⌝ }
+    ensures { λ r. ⌜ r ≡ spec.observationAt (spec.observationColumns (now (constellation .entry)) (now (floats .entry))) i ⌝ }
+{
+    let at = 5 * i;
+    let satellite = vector_at(floats, at + 1);
+    Observation {
+        constellation: constellation[i],
+        band: 0,
+        svid: 0,
+        modelled: 0.0,
+        pseudorange: floats[at],
+        satellite: satellite,
+        elevation: floats[at + 4],
+    }
+}
+
+// The first n observations of the columns.
+pub(crate) fn observations_of(constellation: &[u8], floats: &[f64], n: usize) -> Observations
+    requires { ⌜ spec.observationsFit (spec.observationColumns (now constellation) (now floats)) n ≡ true ⌝ }
+    ensures { λ r. ⌜ Holds (r .count) (r .observation) (spec.observationsOf (spec.observationColumns (now (constellation .entry)) (now (floats .entry))) n .observation) ⌝ }
+{
+    let zero = Vec3 {
+        x: 0.0,
+        y: 0.0,
+        z: 0.0,
+    };
+    let nothing = Observation {
+        constellation: 0,
+        band: 0,
+        svid: 0,
+        modelled: 0.0,
+        pseudorange: 0.0,
+        satellite: zero,
+        elevation: 0.0,
+    };
+    let observation = [nothing; 64];
+    let mut out = Observations {
+        count: n,
+        observation: observation,
+    };
+    for i in 0..n {
+        let o = observation_at(constellation, floats, i);
+        out.observation[i] = o;
+    }
+    out
+}

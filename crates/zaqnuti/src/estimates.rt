@@ -1,0 +1,126 @@
+// Entry points of the displacement and the fix.
+ghost use mathlib.Core.Path.{_≡_};
+ghost use Prim.Native.Nat.{min};
+ghost use Rattle.zaqnuti.specs.Columns.{vectorAt, carrierColumns, observationColumns};
+ghost use Rattle.zaqnuti.specs.Estimates as spec;
+use crate::columns::epoch_fits;
+use crate::columns::epoch_of;
+use crate::columns::observations_fit;
+use crate::columns::observations_of;
+use crate::columns::vector;
+use estimator::displacement::Displacement;
+use estimator::displacement::Settings as DisplacementSettings;
+use estimator::displacement::delta_position;
+use estimator::fix::Settings as FixSettings;
+use numeric::refusal::Refusal;
+
+// The rounds as an estimator takes them: from 51 on they are refused alike.
+pub(crate) fn rounds_of(rounds: usize) -> u32
+    ensures { λ r. ⌜ r ≡ min rounds 51 ⌝ }
+{
+    if rounds < 51 { rounds as u32 } else { 51 }
+}
+
+// The settings of a displacement.
+pub(crate) fn displacement_settings(s: &[f64; 5], rounds: usize) -> DisplacementSettings
+    ensures { λ r. ⌜ r ≡ spec.displacementSettings (now (s .entry)) (min rounds 51) ⌝ }
+{
+    let n = rounds_of(rounds);
+    DisplacementSettings {
+        screen: s[0],
+        sigma_a: s[1],
+        sigma_b: s[2],
+        huber: s[3],
+        mask: s[4],
+        rounds: n,
+        agreement: 0.0,
+    }
+}
+
+// The settings of a fix.
+pub(crate) fn fix_settings(s: &[f64; 4], rounds: usize) -> FixSettings
+    ensures { λ r. ⌜ r ≡ spec.fixSettings (now (s .entry)) (min rounds 51) ⌝ }
+{
+    let n = rounds_of(rounds);
+    FixSettings {
+        sigma_a: s[0],
+        sigma_b: s[1],
+        huber: s[2],
+        mask: s[3],
+        rounds: n,
+    }
+}
+
+// The displacement between two epochs: 0, the displacement in metres in delta and how many pairs were used and screened out in counts; or the refusal's number, which leaves both as they were.
+#[no_mangle]
+pub extern "C" fn zaqnuti_displacement(
+    previous_constellation: &[u8],
+    previous_svid: &[u16],
+    previous_band: &[u32],
+    previous_state: &[i32],
+    previous_floats: &[f64],
+    previous_count: usize,
+    current_constellation: &[u8],
+    current_svid: &[u16],
+    current_band: &[u32],
+    current_state: &[i32],
+    current_floats: &[f64],
+    current_count: usize,
+    dt: f64,
+    receiver: &[f64; 3],
+    settings: &[f64; 5],
+    rounds: usize,
+    delta: &mut [f64; 3],
+    counts: &mut [usize; 2],
+) -> u8
+    ensures { λ r. ⌜ spec.DisplacementAnswers (spec.columnDisplacementOf (carrierColumns (now («previous_constellation» .entry)) (now («previous_svid» .entry)) (now («previous_band» .entry)) (now («previous_state» .entry)) (now («previous_floats» .entry))) «previous_count» (carrierColumns (now («current_constellation» .entry)) (now («current_svid» .entry)) (now («current_band» .entry)) (now («current_state» .entry)) (now («current_floats» .entry))) «current_count» dt (vectorAt (now (receiver .entry)) 0) (spec.displacementSettings (now (settings .entry)) rounds)) r (now (delta .entry)) (now (delta .exit)) (now (counts .entry)) (now (counts .exit)) ⌝ }
+{
+    if !epoch_fits(
+        previous_constellation,
+        previous_svid,
+        previous_band,
+        previous_state,
+        previous_floats,
+        previous_count,
+    ) {
+        return Refusal::TooMany.number();
+    }
+    if !epoch_fits(
+        current_constellation,
+        current_svid,
+        current_band,
+        current_state,
+        current_floats,
+        current_count,
+    ) {
+        return Refusal::TooMany.number();
+    }
+    let previous = epoch_of(
+        previous_constellation,
+        previous_svid,
+        previous_band,
+        previous_state,
+        previous_floats,
+        previous_count,
+    );
+    let current = epoch_of(
+        current_constellation,
+        current_svid,
+        current_band,
+        current_state,
+        current_floats,
+        current_count,
+    );
+    let at = vector(receiver);
+    let s = displacement_settings(settings, rounds);
+    let answer = delta_position(previous, current, dt, at, s);
+    match answer {
+        Displacement::Moved(d) => {
+            let v = d.delta;
+            *delta = [v.x, v.y, v.z];
+            *counts = [d.used, d.screened];
+            0
+        }
+        Displacement::Refused(r) => r.number(),
+    }
+}

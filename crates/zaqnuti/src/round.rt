@@ -1,0 +1,76 @@
+// Entry points of the centre, the line of sight, the one-sigma and the round.
+ghost use mathlib.Core.Path.{_≡_};
+ghost use Rattle.median.specs.Centre.{centreScaleOf};
+ghost use Rattle.numeric.specs.Sight as sight;
+ghost use Rattle.robust.specs.Sigma.{elevationSigma};
+ghost use Rattle.zaqnuti.specs.Columns.{vectorAt, rowColumns};
+ghost use Rattle.zaqnuti.specs.Numbers.{centreNumber, centreAfter, sightAfter, columnStepOf, StepAnswers};
+use crate::columns::rows_fit;
+use crate::columns::rows_of;
+use crate::columns::vector;
+use median::centre::Centre;
+use median::centre::centre_scale;
+use numeric::refusal::Refusal;
+use numeric::sight::geometry;
+use robust::round::Stepping;
+use robust::round::step;
+use robust::sigma::elevation_sigma;
+
+// The centre and the scale of the residuals' patterns in out and 0, or 2 for more than 64, which leaves out as it was.
+#[no_mangle]
+pub extern "C" fn zaqnuti_centre(residuals: &[u64], out: &mut [f64; 2]) -> u8
+    ensures { λ r. ⌜ (r ≡ centreNumber (centreScaleOf (now (residuals .entry)))) × (now (out .exit) ≡ centreAfter (centreScaleOf (now (residuals .entry))) (now (out .entry))) ⌝ }
+{
+    let answer = centre_scale(residuals);
+    match answer {
+        Centre::Of(c) => {
+            *out = [c.centre, c.scale];
+            0
+        }
+        Centre::Refused(r) => r.number(),
+    }
+}
+
+// The unit vector from the satellite to the receiver and the range, in out.
+#[no_mangle]
+pub extern "C" fn zaqnuti_geometry(satellite: &[f64; 3], receiver: &[f64; 3], out: &mut [f64; 4])
+    ensures { λ _. ⌜ now (out .exit) ≡ sightAfter (sight.geometry (vectorAt (now (satellite .entry)) 0) (vectorAt (now (receiver .entry)) 0)) ⌝ }
+{
+    let s = vector(satellite);
+    let at = vector(receiver);
+    let g = geometry(s, at);
+    *out = [g.x, g.y, g.z, g.range];
+}
+
+// The one-sigma of an elevation in degrees.
+#[no_mangle]
+pub extern "C" fn zaqnuti_elevation_sigma(elevation: f64, a: f64, b: f64) -> f64
+    ensures { λ r. ⌜ r ≡ elevationSigma elevation a b ⌝ }
+{
+    elevation_sigma(elevation, a, b)
+}
+
+// One round of the first `rows` rows of the columns: 0 and the step in dx, zeros beyond the unknowns; or 2, 4 or 10, which leave dx as it was.
+#[no_mangle]
+pub extern "C" fn zaqnuti_round(
+    units: &[f64],
+    clocks: &[usize],
+    residuals: &[u64],
+    sigmas: &[f64],
+    rows: usize,
+    unknowns: usize,
+    huber: f64,
+    dx: &mut [f64; 9],
+) -> u8
+    ensures { λ r. ⌜ StepAnswers (columnStepOf (rowColumns (now (units .entry)) (now (clocks .entry)) (now (residuals .entry)) (now (sigmas .entry))) rows unknowns huber (now (dx .entry))) r (now (dx .exit)) ⌝ }
+{
+    if !rows_fit(units, clocks, residuals, sigmas, rows) {
+        return Refusal::TooMany.number();
+    }
+    let handed = rows_of(units, clocks, residuals, sigmas, rows);
+    let answer = step(handed, unknowns, huber, dx);
+    match answer {
+        Stepping::Refused(r) => r.number(),
+        Stepping::Done => 0,
+    }
+}
