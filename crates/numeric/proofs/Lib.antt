@@ -15,7 +15,7 @@ pub mod OrderValues
 pub mod Pivot
 pub mod Rooted
 pub mod FactorLaws
-pub mod FactorPlace
+pub mod FactorColumns
 pub mod FactorElements
 pub mod FactorFinite
 pub mod Answers
