@@ -6,6 +6,7 @@ pub mod FixLaws
 pub mod DisplacementSound
 pub mod FixSound
 pub mod DisplacementCall
+pub mod QualityLaws
 pub mod ClocksLaws
 pub mod RecordLaws
 pub mod PairLaws

@@ -191,7 +191,9 @@ pub fn solve_full(observations: Observations, guess: Vec3, settings: Settings) -
     let n = 3 + clocks.count;
     let fitted = fit_sky(settings, clocks, kept, guess);
     if fitted.ok {
-        return found_at(fitted.x, fitted.rows, n);
+        let x = fitted.x;
+        let rows = fitted.rows;
+        return found_at(x, rows, n);
     }
     Fix::Refused(Refusal::FitFailed)
 }
@@ -202,6 +204,9 @@ pub fn solve(observations: Observations, guess: Vec3, settings: Settings) -> Pos
 {
     match solve_full(observations, guess, settings) {
         Fix::Refused(r) => Position::Refused(r),
-        Fix::At(s) => Position::At(s.position),
+        Fix::At(s) => {
+            let position = s.position;
+            Position::At(position)
+        }
     }
 }

@@ -1,61 +1,60 @@
+-- `estimator::quality::chi_of` meets its contract. Assumes nothing.
+use mathlib.Core.Path.{_≡_}
+use Prim.Native.Nat.{_-_, _≤_}
+use native.Mathlib.Omega.{arith}
+use lib.ListN.{length}
+use borrow.Author.Needs.{needs}
+use Rattle.walk.proofs.Walk.{length-mapped}
+use Rattle.estimator.proofs.QualityLaws.{squares, squares-zero, squares-next, chi-is}
 use Rattle.estimator.proofs.quality.chi_of.Statement.{statement}
 use Rattle.estimator.proofs.quality.chi_of.Tie as tie
-use Rattle.estimator.proofs.quality.chi_of.Reads as reads
-use Rattle.estimator.proofs.quality.chi_of.Lts as lts
-use Rattle.estimator.proofs.quality.freedom_of.Reads as freedom-of-reads
-use Rattle.numeric.proofs.order.float.Reads as float-reads
-use Rattle.numeric.proofs.real.square.Reads as square-reads
-use Rattle.numeric.proofs.root.sqrt.Reads as sqrt-reads
 
 abbrev Inv-loop : tie.InvT-loop
-Inv-loop n rows count s₀ k₀ s k = ?
+Inv-loop n rows count s₀ k₀ s k = (k ≤ count) × (s ≡ squares rows k)
 
 abbrev μ-loop : tie.MeasureT-loop
-μ-loop n rows count s₀ k₀ s k = ?
+μ-loop n rows count s₀ k₀ s k = count - k
 
--- src/quality.rt:33:5
+long : (c : tie.Start Inv-loop μ-loop) → length (c .args .t1 .row) ≡ 64
+long c = search length-mapped
+
 loop-holds : tie.Need-loop-holds Inv-loop μ-loop
-loop-holds c = ?
+loop-holds c = (omega arith, squares-zero _)
 
--- src/quality.rt:34:17
 mul-r : tie.Need-mul-r Inv-loop μ-loop
-mul-r c = ?
+mul-r c = omega arith
 
--- src/quality.rt:34:17
 element-copy-out-r : tie.Need-element-copy-out-r Inv-loop μ-loop
-element-copy-out-r c = ?
+element-copy-out-r c = omega arith
 
--- src/quality.rt:35:24
 float-requires : tie.Need-float-requires Inv-loop μ-loop
-float-requires c κs = ?
+float-requires c κs = search needs
 
--- src/quality.rt:35:17
 square-requires : tie.Need-square-requires Inv-loop μ-loop
-square-requires c κs = ?
+square-requires c κs = search needs
 
--- src/quality.rt:33:9
 add-k : tie.Need-add-k Inv-loop μ-loop
-add-k c = ?
+add-k c = omega arith
 
--- src/quality.rt:33:5
 loop-less : tie.Need-loop-less Inv-loop μ-loop
-loop-less c = ?
+loop-less c = omega arith
 
--- src/quality.rt:33:5
 loop-again : tie.Need-loop-again Inv-loop μ-loop
-loop-again c = ?
+loop-again c =
+    let h = c .before .before .before .before .before .loop in
+    (omega arith, squares-next (c .before .before .before .before .before .before .args .t1) (h .k) (h .s) _ _ (h .inv .1) (c .before .before .float .ensures) (c .square .ensures))
 
--- src/quality.rt:37:14
 freedom-of-requires : tie.Need-freedom-of-requires Inv-loop μ-loop
-freedom-of-requires c κs = ?
+freedom-of-requires c κs = search needs
 
--- src/quality.rt:37:5
 sqrt-requires : tie.Need-sqrt-requires Inv-loop μ-loop
-sqrt-requires c κs = ?
+sqrt-requires c κs = search needs
 
--- src/quality.rt:27:1
 returns : tie.Need-returns Inv-loop μ-loop
-returns c = ?
+returns c =
+    let t = c .before .before .before .before in
+    let h = c .before .before .before .loop in
+    chi-is (t .args .t1) (long t) (omega arith) (t .args .n) (h .k) (h .s) _ _ (omega arith) (h .inv .1) (c .before .freedom-of .ensures) (c .sqrt .ensures)
 
 pub chi-of-spec : {M : Type 1} → statement M
 chi-of-spec =
