@@ -7,6 +7,7 @@ pub mod DisplacementSound
 pub mod FixSound
 pub mod DisplacementCall
 pub mod QualityLaws
+pub mod FixCall
 pub mod ClocksLaws
 pub mod RecordLaws
 pub mod PairLaws

@@ -58,7 +58,7 @@ module _ (rows : Rows) where
   squares-next k s y z h y-is z-is = rw (sumTo-next, h, z-is, y-is)
 
   module _ (long : length (rows .row) ≡ 64) (few : rows .count ≤ 64) where
-    counted-length : length (counted rows) ≡ rows .count
+    pub counted-length : length (counted rows) ≡ rows .count
     counted-length = length-take-le (rows .count) (rows .row) (omega arith)
 
     pub chi-is : (n k : ℕ) (s f r : Float) → k ≡ rows .count → s ≡ squares k → f ≡ freedomOf (rows .count) n → r ≡ rootOf (s ⊘ f) → r ≡ chiOf n (counted rows)
