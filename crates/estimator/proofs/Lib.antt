@@ -16,3 +16,4 @@ pub mod ScreenLaws
 pub mod RulesLaws
 pub mod FrontLaws
 pub mod FrontValues
+pub mod QualityValues

@@ -1,5 +1,5 @@
 -- What a fit says of itself, as the code works it out from the rows. Assumes nothing.
-use mathlib.Core.Path.{_≡_, refl, sym, ap, ap₂, _∙_}
+use mathlib.Core.Path.{_≡_, refl, sym, ap, _∙_}
 use Prim.Native.Nat.{ℕ, _+_, _-_, _≤_, _<_, max}
 use native.Mathlib.Decide.{ℕ-discrete}
 use native.Mathlib.Omega.{arith}
@@ -7,7 +7,7 @@ use mathlib.Core.Bool.{cond}
 use mathlib.Core.List.{List}
 use lib.Dec.{eqb}
 use borrow.Author.Tests.{eq-eqb, ne-eqb}
-use lib.ListN.{length, set, replicate, length-set, getD-replicate}
+use lib.ListN.{length, set, length-set, getD-replicate}
 use lib.Seq.{getD-set-same, getD-set-other, length-take-le}
 use lib.Ieee.{Float, nan, ofInt, ofBits}
 use Rattle.exact.specs.Float.{_⊕_, _⊗_, _⊘_, +0, 1·0, bits, whole}
@@ -15,7 +15,7 @@ use Rattle.numeric.specs.Factor.{at, zeros, solutionOf}
 use Rattle.numeric.specs.Real.{square}
 use Rattle.numeric.specs.Root.{rootOf}
 use Rattle.robust.specs.Nine.{nine}
-use Rattle.robust.specs.Round.{wide, total, triangleOf}
+use Rattle.robust.specs.Round.{wide, triangleOf}
 use Rattle.robust.specs.Step.{counted}
 use Rattle.robust.specs.declared.row.Row.{Row}
 use Rattle.robust.specs.declared.row.Rows.{Rows}
