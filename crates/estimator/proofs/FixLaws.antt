@@ -1,6 +1,6 @@
 -- The rounds of a fix, as the code has them. Assumes nothing.
 use mathlib.Core.Path.{_≡_, refl, sym, ap, _∙_, subst₂}
-use Prim.Native.Nat.{ℕ, _+_}
+use Prim.Native.Nat.{ℕ, _+_, _≤_}
 use native.Mathlib.Omega.{arith}
 use mathlib.Core.Bool.{Bool, true, false}
 use mathlib.Core.List.{List, [], map}
@@ -50,8 +50,8 @@ module _ (settings : Settings) (k : Clocks) (os : List Observation) (x : List Fl
   made-rows r e = round-rows (map (rowAt settings k x) os) (3 + k .count) (settings .huber) r e ∙ sym rows-are
 
 -- the contract
-pub reaches-no : (f : Fit) (r : Fitted) → r .ok ≡ false → Failed ≡ f .end → Reaches f r
-reaches-no f r e h = record { ok-is = e ∙ ap accepted h; state-is = λ t. absurd (let z : _≡_ {A = ℕ} 0 1 = cc in omega arith); rows-are = λ t. absurd (let z : _≡_ {A = ℕ} 0 1 = cc in omega arith) }
+pub reaches-no : (f : Fit) (r : Fitted) → r .rows .count ≤ 64 → r .ok ≡ false → Failed ≡ f .end → Reaches f r
+reaches-no f r few e h = record { few-rows = few; ok-is = e ∙ ap accepted h; state-is = λ t. absurd (let z : _≡_ {A = ℕ} 0 1 = cc in omega arith); rows-are = λ t. absurd (let z : _≡_ {A = ℕ} 0 1 = cc in omega arith) }
 
-pub reaches-yes : (f : Fit) (r : Fitted) → r .ok ≡ true → Reached (r .x) ≡ f .end → counted (r .rows) ≡ lastRows [] (f .rounds) → Reaches f r
-reaches-yes f r e h l = record { ok-is = e ∙ ap accepted h; state-is = λ t. h; rows-are = λ t. l }
+pub reaches-yes : (f : Fit) (r : Fitted) → r .rows .count ≤ 64 → r .ok ≡ true → Reached (r .x) ≡ f .end → counted (r .rows) ≡ lastRows [] (f .rounds) → Reaches f r
+reaches-yes f r few e h l = record { few-rows = few; ok-is = e ∙ ap accepted h; state-is = λ t. h; rows-are = λ t. l }

@@ -1,6 +1,6 @@
 -- What an accepted fix has, DEMAND 3 over all of its rounds among it. Assumes nothing.
 use mathlib.Core.Path.{_≡_, sym, ap, _∙_, subst}
-use Prim.Native.Nat.{ℕ, _+_, _<_}
+use Prim.Native.Nat.{ℕ, _+_}
 use native.Mathlib.Omega.{arith}
 use mathlib.Core.List.{List, [], map}
 use lib.Dec.{T}

@@ -6,6 +6,8 @@ pub mod FixLaws
 pub mod DisplacementSound
 pub mod FixSound
 pub mod DisplacementCall
+pub mod QualityLaws
+pub mod FixCall
 pub mod ClocksLaws
 pub mod RecordLaws
 pub mod PairLaws
@@ -15,3 +17,4 @@ pub mod RulesLaws
 pub mod FrontLaws
 pub mod FrontValues
 pub mod CountedLaws
+pub mod QualityValues

@@ -1,6 +1,6 @@
 -- The position of a receiver from one epoch (document 01, "Fix"; wls.rs): its rounds, what the fit says of itself, and the answer. Definitions only.
 use mathlib.Core.Path.{_≡_}
-use Prim.Native.Nat.{ℕ, _+_, _-_, _<_, max}
+use Prim.Native.Nat.{ℕ, _+_, _-_, _<_, _≤_, max}
 use mathlib.Core.Bool.{true, cond}
 use mathlib.Core.List.{List, [], _∷_, map}
 use lib.Dec.{eqb}
@@ -33,6 +33,8 @@ use Rattle.estimator.specs.Rounds.{Reached, Fit, fitFrom, lastRows, conc
 use Rattle.estimator.specs.declared.fix.Solution.{Solution}
 use Rattle.estimator.specs.declared.fix.Fix.{Fix}
 use Rattle.estimator.specs.declared.fix.Fix.the-variants.{Refused, At}
+use Rattle.estimator.specs.declared.fix.Position.{Position}
+use Rattle.estimator.specs.declared.fix.Position.the-variants.{Refused as NoPosition, At as PositionAt}
 use Rattle.estimator.specs.declared.fix.Fitted.{Fitted}
 
 -- what is handed over
@@ -90,9 +92,13 @@ roundsOf i = fitOf i .rounds
 
 -- ---- what the fit says of itself, from the last round's rows, with n unknowns
 
--- the root of the reduced chi-squared: the sum of (residual / sigma) squared by the degrees of freedom, at least 1
+-- the degrees of freedom of so many rows, at least 1
+unfoldable pub freedomOf : ℕ → ℕ → Float
+freedomOf count n = whole (max 1 (count - n))
+
+-- the root of the reduced chi-squared: the sum of (residual / sigma) squared by the degrees of freedom
 unfoldable pub chiOf : ℕ → List Row → Float
-chiOf n rows = rootOf (total (λ r. square (bits (r .residual) ⊘ r .sigma)) rows ⊘ whole (max 1 (length rows - n)))
+chiOf n rows = rootOf (total (λ r. square (bits (r .residual) ⊘ r .sigma)) rows ⊘ freedomOf (length rows) n)
 
 -- the normal equations without weights, by their lower triangle
 unfoldable pub plainMatrix : ℕ → List Row → List (List Float)
@@ -112,15 +118,25 @@ abbrev pub judged : ℕ → List Row → List Float → Factored → Fix
 judged n rows x NoFactor = Refused FitFailed
 judged n rows x (Lower l) = At (record { position = position x; used = length rows; chi = chiOf n rows; pdop = pdopOf l })
 
+-- the answer at the state x, with what these rows say of it
+abbrev pub judgedAt : ℕ → List Row → List Float → Fix
+judgedAt n rows x = judged n rows x (factorOf (plainMatrix n rows))
+
 -- the position at the state x, with what the last round's rows say of it
 abbrev pub positionAt : Input → List Float → Fix
-positionAt i x =
-    let n = 3 + clocks i .count in
-    let rows = lastRows [] (roundsOf i) in
-    judged n rows x (factorOf (plainMatrix n rows))
+positionAt i x = judgedAt (3 + clocks i .count) (lastRows [] (roundsOf i)) x
+
+-- the answer of rows of n unknowns whose rounds end at the state x: 10 where its position is not finite
+abbrev pub concludedAt : ℕ → List Row → List Float → Fix
+concludedAt n rows x = concluded (Refused FitFailed) (judgedAt n rows) (Reached x)
 
 unfoldable pub fixOf : Input → Fix
 fixOf i = ruled Refused (fixRules (i .observations) (i .guess) (i .settings)) (concluded (Refused FitFailed) (positionAt i) (fitOf i .end))
+
+-- the answer of the call that gives the position alone
+abbrev pub positionOf : Fix → Position
+positionOf (Refused r) = NoPosition r
+positionOf (At s) = PositionAt (s .position)
 
 -- ---- the promise of the public call
 
@@ -143,6 +159,7 @@ pub record Promised (i : Input) (r : Fix) : Type 0 where
 
 -- ---- the code's end: where the rounds of the fit f are not refused, the state that they reach and the last round's rows
 pub record Reaches (f : Fit) (r : Fitted) : Type 0 where
+  pub few-rows : r .rows .count ≤ 64
   pub ok-is : r .ok ≡ accepted (f .end)
   pub state-is : r .ok ≡ true → Reached (r .x) ≡ f .end
   pub rows-are : r .ok ≡ true → counted (r .rows) ≡ lastRows [] (f .rounds)

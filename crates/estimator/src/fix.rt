@@ -2,14 +2,25 @@
 ghost use mathlib.Core.Path.{_≡_};
 ghost use lib.ListN.{take};
 ghost use Prim.Native.Nat.{ℕ, _≤_};
+ghost use Rattle.robust.specs.Step.{counted};
 ghost use Rattle.estimator.specs.Fix as spec;
 use crate::clocks::Clocks;
+use crate::mask::above_mask;
+use crate::mask::clocks_of;
+use crate::quality::chi_of;
+use crate::quality::pdop_of;
+use crate::quality::plain_matrix;
 use crate::record::Observation;
 use crate::record::Observations;
 use crate::rounds::is_short;
 use crate::rounds::move_by;
 use crate::rounds::state_at;
+use crate::valid::Check;
+use crate::valid::check_fix;
+use crate::valid::check_rows;
+use numeric::factor::factor_into;
 use numeric::order::pattern;
+use numeric::real::is_finite;
 use numeric::refusal::Refusal;
 use numeric::sight::geometry;
 use numeric::vec3::Vec3;
@@ -38,6 +49,12 @@ pub struct Solution {
 pub enum Fix {
     Refused(Refusal),
     At(Solution),
+}
+
+// The position alone.
+pub enum Position {
+    Refused(Refusal),
+    At(Vec3),
 }
 
 // Where the rounds ended, and the rows of the last one.
@@ -128,5 +145,68 @@ pub(crate) fn fit_sky(settings: Settings, k: Clocks, sky: Observations, guess: V
         ok: true,
         x: state,
         rows: rows,
+    }
+}
+
+// The answer at the state x that the counted rows of n unknowns lead to, or 10 where it is not finite or the unweighted matrix is refused.
+fn found_at(x: [f64; 9], rows: Rows, n: usize) -> Fix
+    requires { ⌜ (rows .count ≤ 64) × (n ≤ 9) ⌝ }
+    ensures { λ r. ⌜ r ≡ spec.concludedAt n (counted rows) x ⌝ }
+{
+    let position = Vec3 {
+        x: x[0],
+        y: x[1],
+        z: x[2],
+    };
+    if is_finite(position.x) & is_finite(position.y) & is_finite(position.z) {
+        let mut a = [[0.0; 9]; 9];
+        plain_matrix(rows, n, &mut a);
+        let mut l = [[0.0; 9]; 9];
+        if factor_into(&a, &mut l) {
+            let chi = chi_of(rows, n);
+            let pdop = pdop_of(&l);
+            return Fix::At(Solution {
+                position: position,
+                used: rows.count,
+                chi: chi,
+                pdop: pdop,
+            });
+        }
+    }
+    Fix::Refused(Refusal::FitFailed)
+}
+
+// The receiver's position from one epoch, with what the fit says of itself. The first round begins at the guess.
+pub fn solve_full(observations: Observations, guess: Vec3, settings: Settings) -> Fix
+    ensures { λ r. ⌜ spec.Promised (spec.input observations guess settings) r ⌝ }
+{
+    if let Check::Refused(r) = check_fix(observations, guess, settings) {
+        return Fix::Refused(r);
+    }
+    let kept = above_mask(observations, settings.mask);
+    let clocks = clocks_of(kept);
+    if let Check::Refused(r) = check_rows(kept.count, clocks.count) {
+        return Fix::Refused(r);
+    }
+    let n = 3 + clocks.count;
+    let fitted = fit_sky(settings, clocks, kept, guess);
+    if fitted.ok {
+        let x = fitted.x;
+        let rows = fitted.rows;
+        return found_at(x, rows, n);
+    }
+    Fix::Refused(Refusal::FitFailed)
+}
+
+// The receiver's position from one epoch.
+pub fn solve(observations: Observations, guess: Vec3, settings: Settings) -> Position
+    ensures { λ r. ⌜ r ≡ spec.positionOf (spec.fixOf (spec.input observations guess settings)) ⌝ }
+{
+    match solve_full(observations, guess, settings) {
+        Fix::Refused(r) => Position::Refused(r),
+        Fix::At(s) => {
+            let position = s.position;
+            Position::At(position)
+        }
     }
 }

@@ -4,6 +4,7 @@ pub mod displacement;
 pub mod fix;
 mod mask;
 pub mod pair;
+mod quality;
 pub mod record;
 mod rounds;
 mod screen;

@@ -13,7 +13,7 @@ use Rattle.numeric.specs.Answer.{rowsAfter}
 use Rattle.numeric.specs.Answer as factor
 use Rattle.median.specs.declared.centre.CentreScale.{CentreScale}
 use Rattle.robust.specs.Nine.{nine}
-use Rattle.robust.specs.Round.{weight, wide, cellOf, sideOf, triangleOf, matrixOf, rightOf, solved, roundBy}
+use Rattle.robust.specs.Round.{weight, wide, total, cellOf, sideOf, triangleOf, matrixOf, rightOf, solved, roundBy}
 use Rattle.robust.specs.Step.{counted}
 use Rattle.robust.specs.Normal.{Solving}
 use Rattle.robust.specs.declared.row.Row.{Row}
@@ -23,16 +23,36 @@ use Rattle.robust.proofs.Sums.{blank, sumTo, sumTo-zero, sumTo-next, su
 abbrev pub rowAt : Rows → ℕ → Row
 rowAt rows k = getD (rows .row) k blank
 
+-- ---- a triangle whose cells sum what f gives of each row
+module _ (f : Row → ℕ → ℕ → Float) (rows : Rows) where
+  pub sums : ℕ → ℕ → ℕ → Float
+  sums k p q = sumTo (λ k. f (rowAt rows k) p q) k
+
+  pub sums-zero : (p q : ℕ) → sums 0 p q ≡ +0
+  unfolding sums
+  sums-zero p q = sumTo-zero _
+
+  pub sums-next : (k p q : ℕ) (s v : Float) → s ≡ sums k p q → v ≡ f (rowAt rows k) p q → s ⊕ v ≡ sums (k + 1) p q
+  unfolding sums
+  sums-next k p q s v h e = rw (sumTo-next, h, e)
+
+  pub sums-triangle : length (rows .row) ≡ 64 → rows .count ≤ 64 → (n : ℕ) → triangleOf n (sums (rows .count)) ≡ triangleOf n (λ p q. total (λ r. f r p q) (counted rows))
+  unfolding sums
+  sums-triangle long few n = ap (triangleOf n) (fun-ext (λ p. fun-ext (λ q. sum-total (λ r. f r p q) (rows .row) (rows .count) (omega arith))))
+
+-- ---- the round's own
 module _ (c : CentreScale) (huber : Float) (rows : Rows) where
-  pub cells : ℕ → ℕ → ℕ → Float
-  cells k p q = sumTo (λ k. weight c huber (rowAt rows k) ⊗ at (wide (rowAt rows k)) p ⊗ at (wide (rowAt rows k)) q) k
+  abbrev weighted : Row → ℕ → ℕ → Float
+  weighted r p q = weight c huber r ⊗ at (wide r) p ⊗ at (wide r) q
+
+  abbrev pub cells : ℕ → ℕ → ℕ → Float
+  cells = sums weighted rows
 
   pub sides : ℕ → ℕ → Float
   sides k p = sumTo (λ k. weight c huber (rowAt rows k) ⊗ at (wide (rowAt rows k)) p ⊗ bits (rowAt rows k .residual)) k
 
   pub cells-zero : (p q : ℕ) → cells 0 p q ≡ +0
-  unfolding cells
-  cells-zero p q = sumTo-zero _
+  cells-zero = sums-zero weighted rows
 
   pub sides-zero : (p : ℕ) → sides 0 p ≡ +0
   unfolding sides
@@ -41,25 +61,20 @@ module _ (c : CentreScale) (huber : Float) (rows : Rows) where
   -- what one row more adds, by the weight w and the wide row e that the code has of it
   module _ (k : ℕ) (w : Float) (e : List Float) (w-is : w ≡ weight c huber (rowAt rows k)) (e-is : e ≡ wide (rowAt rows k)) where
     pub cells-next : (p q : ℕ) (s : Float) → s ≡ cells k p q → s ⊕ w ⊗ at e p ⊗ at e q ≡ cells (k + 1) p q
-    unfolding cells
-    cells-next p q s h = rw (sumTo-next, h, w-is, e-is)
+    cells-next p q s h = sums-next weighted rows k p q s _ h (rw (w-is, e-is))
 
     pub sides-next : (p : ℕ) (s y : Float) → s ≡ sides k p → y ≡ bits (rowAt rows k .residual) → s ⊕ w ⊗ at e p ⊗ y ≡ sides (k + 1) p
     unfolding sides
     sides-next p s y h y-is = rw (sumTo-next, h, w-is, e-is, y-is)
 
   module _ (long : length (rows .row) ≡ 64) (few : rows .count ≤ 64) where
-    cells-all : (p q : ℕ) → cells (rows .count) p q ≡ cellOf (weight c huber) (counted rows) p q
-    unfolding cells cellOf
-    cells-all p q = sum-total (λ r. weight c huber r ⊗ at (wide r) p ⊗ at (wide r) q) (rows .row) (rows .count) (omega arith)
-
     sides-all : (p : ℕ) → sides (rows .count) p ≡ sideOf (weight c huber) (counted rows) p
     unfolding sides sideOf
     sides-all p = sum-total (λ r. weight c huber r ⊗ at (wide r) p ⊗ bits (r .residual)) (rows .row) (rows .count) (omega arith)
 
     matrix-is : (n : ℕ) → triangleOf n (cells (rows .count)) ≡ matrixOf (weight c huber) (counted rows) n
-    unfolding matrixOf
-    matrix-is n = ap (triangleOf n) (fun-ext (λ p. fun-ext (λ q. cells-all p q)))
+    unfolding matrixOf cellOf
+    matrix-is n = sums-triangle weighted rows long few n
 
     right-is : (n : ℕ) → nine (λ i. cond (ltb i n) (sides (rows .count) i) +0) ≡ rightOf (weight c huber) (counted rows) n
     unfolding rightOf

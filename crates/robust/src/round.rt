@@ -24,7 +24,7 @@ pub enum Stepping {
 }
 
 // Makes a the matrix of n unknowns before any row is added: 1 on the diagonal of the unused ones.
-fn unused(n: usize, a: &mut [[f64; 9]; 9])
+pub fn unused(n: usize, a: &mut [[f64; 9]; 9])
     ensures { λ _. ⌜ now (a .exit) ≡ code.unused n ⌝ }
 {
     *a = [[0.0; 9]; 9];

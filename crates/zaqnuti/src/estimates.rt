@@ -11,7 +11,9 @@ use crate::columns::vector;
 use estimator::displacement::Displacement;
 use estimator::displacement::Settings as DisplacementSettings;
 use estimator::displacement::delta_position;
+use estimator::fix::Fix;
 use estimator::fix::Settings as FixSettings;
+use estimator::fix::solve_full;
 use numeric::refusal::Refusal;
 
 // The rounds as an estimator takes them: from 51 on they are refused alike.
@@ -122,5 +124,37 @@ pub extern "C" fn zaqnuti_displacement(
             0
         }
         Displacement::Refused(r) => r.number(),
+    }
+}
+
+// The position from one epoch: 0, x, y, z, chi and pdop in solution and how many observations were used in used; or the refusal's number, which leaves both as they were.
+#[no_mangle]
+pub extern "C" fn zaqnuti_fix(
+    constellation: &[u8],
+    floats: &[f64],
+    count: usize,
+    guess: &[f64; 3],
+    settings: &[f64; 4],
+    rounds: usize,
+    solution: &mut [f64; 5],
+    used: &mut usize,
+) -> u8
+    ensures { λ r. ⌜ spec.FixAnswers (spec.columnFixOf (observationColumns (now (constellation .entry)) (now (floats .entry))) count (vectorAt (now (guess .entry)) 0) (spec.fixSettings (now (settings .entry)) rounds)) r (now (solution .entry)) (now (solution .exit)) (now (used .entry)) (now (used .exit)) ⌝ }
+{
+    if !observations_fit(constellation, floats, count) {
+        return Refusal::TooMany.number();
+    }
+    let observations = observations_of(constellation, floats, count);
+    let at = vector(guess);
+    let s = fix_settings(settings, rounds);
+    let answer = solve_full(observations, at, s);
+    match answer {
+        Fix::At(f) => {
+            let p = f.position;
+            *solution = [p.x, p.y, p.z, f.chi, f.pdop];
+            *used = f.used;
+            0
+        }
+        Fix::Refused(r) => r.number(),
     }
 }

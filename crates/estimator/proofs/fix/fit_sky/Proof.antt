@@ -22,7 +22,7 @@ abbrev μ-loop2 : tie.MeasureT-loop2
 μ-loop2 settings k sky n count rows₀ state i j₀ rows j = count - j
 
 abbrev Inv-loop : tie.InvT-loop
-Inv-loop settings k sky n count rows₀ state₀ i₀ rows state i = (i ≤ settings .rounds) × (n ≡ 3 + k .count) × (length (rows .row) ≡ 64) × Going settings k (take (sky .count) (sky .observation)) state₀ i state × GoingRows settings k (take (sky .count) (sky .observation)) state₀ i state (counted rows)
+Inv-loop settings k sky n count rows₀ state₀ i₀ rows state i = (i ≤ settings .rounds) × (n ≡ 3 + k .count) × (length (rows .row) ≡ 64) × Going settings k (take (sky .count) (sky .observation)) state₀ i state × GoingRows settings k (take (sky .count) (sky .observation)) state₀ i state (counted rows) × (rows .count ≤ 64)
 
 abbrev μ-loop : tie.MeasureT-loop
 μ-loop settings k sky n count rows₀ state₀ i₀ rows state i = settings .rounds - i
@@ -50,7 +50,7 @@ loop-holds : tie.Need-loop-holds Inv-loop2 μ-loop2 Inv-loop μ-loop
 loop-holds c =
     let s = c .before .args in
     let os = take (s .t3 .count) (s .t3 .observation) in
-    (omega arith, refl, refl, going (s .settings) (s .k) os (start (s .guess)), going-rows (s .settings) (s .k) os (start (s .guess)))
+    (omega arith, refl, refl, going (s .settings) (s .k) os (start (s .guess)), going-rows (s .settings) (s .k) os (start (s .guess)), omega arith)
 
 loop2-holds : tie.Need-loop2-holds Inv-loop2 μ-loop2 Inv-loop μ-loop
 loop2-holds c = let l = c .before .before .loop in (omega arith, record { count-is = refl; long = l .inv .2; so-far = refl })
@@ -95,7 +95,7 @@ returns c =
     let t = c .before .before .before in
     let g = c .before .round-step in
     let q = solving (s .settings) (s .k) os (l .state) (counted (t .before .loop2 .rows)) (all t) _ (g .result) _ _ (l .inv .1) (g .ensures) in
-    reaches-no _ _ refl (left-failed (roundAt (s .settings) (s .k) os) (3 + s .k .count) limit (s .settings .rounds) (fit (s .settings) (s .k) os (start (s .guess))) (l .i) (l .state) (omega arith) (g .result) _ _ q (not-true _ (c .if2 .taken)) (l .inv .3))
+    reaches-no _ _ (omega (arith, t .before .loop2 .inv .1 .count-is)) refl (left-failed (roundAt (s .settings) (s .k) os) (3 + s .k .count) limit (s .settings .rounds) (fit (s .settings) (s .k) os (start (s .guess))) (l .i) (l .state) (omega arith) (g .result) _ _ q (not-true _ (c .if2 .taken)) (l .inv .3))
 
 move-by-requires : tie.Need-move-by-requires Inv-loop2 μ-loop2 Inv-loop μ-loop
 move-by-requires c κs = search needs
@@ -117,7 +117,7 @@ returns-2 c =
     let b = t .before .loop2 .inv .1 in
     let u = h .ensures ∙ ap (λ z. short z (g .last .1 .1 .1 .0)) three-places in
     let v = not-false _ (c .before .before .before .if2 .left) in
-    reaches-yes _ _ refl (left-stops (roundAt (s .settings) (s .k) os) (3 + s .k .count) limit (s .settings .rounds) (fit (s .settings) (s .k) os (start (s .guess))) (l .i) (l .state) (omega arith) (g .result) _ _ q v (m .result) (h .result) (m .ensures) u (c .if3 .taken) (l .inv .3)) (rows-stop (roundAt (s .settings) (s .k) os) (3 + s .k .count) limit (s .settings .rounds) (fit (s .settings) (s .k) os (start (s .guess))) (l .i) (l .state) (omega arith) (g .result) _ _ q v (m .result) (h .result) (m .ensures) u (counted (l .rows)) (counted (t .before .loop2 .rows)) (made-rows (s .settings) (s .k) os (l .state) (counted (t .before .loop2 .rows)) (all t)) (c .if3 .taken) (l .inv .4))
+    reaches-yes _ _ (omega (arith, b .count-is)) refl (left-stops (roundAt (s .settings) (s .k) os) (3 + s .k .count) limit (s .settings .rounds) (fit (s .settings) (s .k) os (start (s .guess))) (l .i) (l .state) (omega arith) (g .result) _ _ q v (m .result) (h .result) (m .ensures) u (c .if3 .taken) (l .inv .3)) (rows-stop (roundAt (s .settings) (s .k) os) (3 + s .k .count) limit (s .settings .rounds) (fit (s .settings) (s .k) os (start (s .guess))) (l .i) (l .state) (omega arith) (g .result) _ _ q v (m .result) (h .result) (m .ensures) u (counted (l .rows)) (counted (t .before .loop2 .rows)) (made-rows (s .settings) (s .k) os (l .state) (counted (t .before .loop2 .rows)) (all t)) (c .if3 .taken) (l .inv .4))
 
 add-i : tie.Need-add-i Inv-loop2 μ-loop2 Inv-loop μ-loop
 add-i c = omega arith
@@ -138,7 +138,7 @@ loop-again c =
     let b = t .before .loop2 .inv .1 in
     let u = h .ensures ∙ ap (λ z. short z (g .last .1 .1 .1 .0)) three-places in
     let v = not-false _ (c .before .before .before .if2 .left) in
-    (omega arith, refl, b .long, left-goes (roundAt (s .settings) (s .k) os) (3 + s .k .count) limit (s .settings .rounds) (fit (s .settings) (s .k) os (start (s .guess))) (l .i) (l .state) (omega arith) (g .result) _ _ q v (m .result) (h .result) (m .ensures) u (c .if3 .left) (l .inv .3), rows-go (roundAt (s .settings) (s .k) os) (3 + s .k .count) limit (s .settings .rounds) (fit (s .settings) (s .k) os (start (s .guess))) (l .i) (l .state) (omega arith) (g .result) _ _ q v (m .result) (h .result) (m .ensures) u (counted (l .rows)) (counted (t .before .loop2 .rows)) (made-rows (s .settings) (s .k) os (l .state) (counted (t .before .loop2 .rows)) (all t)) (c .if3 .left) (l .inv .4))
+    (omega arith, refl, b .long, left-goes (roundAt (s .settings) (s .k) os) (3 + s .k .count) limit (s .settings .rounds) (fit (s .settings) (s .k) os (start (s .guess))) (l .i) (l .state) (omega arith) (g .result) _ _ q v (m .result) (h .result) (m .ensures) u (c .if3 .left) (l .inv .3), rows-go (roundAt (s .settings) (s .k) os) (3 + s .k .count) limit (s .settings .rounds) (fit (s .settings) (s .k) os (start (s .guess))) (l .i) (l .state) (omega arith) (g .result) _ _ q v (m .result) (h .result) (m .ensures) u (counted (l .rows)) (counted (t .before .loop2 .rows)) (made-rows (s .settings) (s .k) os (l .state) (counted (t .before .loop2 .rows)) (all t)) (c .if3 .left) (l .inv .4), omega (arith, b .count-is))
 
 returns-3 : tie.Need-returns-3 Inv-loop2 μ-loop2 Inv-loop μ-loop
 unfolding fitOver
@@ -146,7 +146,7 @@ returns-3 c =
     let s = c .before .before .before .before .args in
     let os = take (s .t3 .count) (s .t3 .observation) in
     let l = c .before .before .loop in
-    reaches-yes _ _ refl (left-end (roundAt (s .settings) (s .k) os) (3 + s .k .count) limit (s .settings .rounds) (fit (s .settings) (s .k) os (start (s .guess))) (l .i) (l .state) (omega arith) (l .inv .3)) (rows-end (roundAt (s .settings) (s .k) os) (3 + s .k .count) limit (s .settings .rounds) (fit (s .settings) (s .k) os (start (s .guess))) (l .i) (l .state) (omega arith) (counted (l .rows)) (l .inv .4))
+    reaches-yes _ _ (l .inv .5) refl (left-end (roundAt (s .settings) (s .k) os) (3 + s .k .count) limit (s .settings .rounds) (fit (s .settings) (s .k) os (start (s .guess))) (l .i) (l .state) (omega arith) (l .inv .3)) (rows-end (roundAt (s .settings) (s .k) os) (3 + s .k .count) limit (s .settings .rounds) (fit (s .settings) (s .k) os (start (s .guess))) (l .i) (l .state) (omega arith) (counted (l .rows)) (l .inv .4))
 
 pub fit-sky-spec : {M : Type 1} → statement M
 fit-sky-spec =
