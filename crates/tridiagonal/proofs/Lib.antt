@@ -1,3 +1,6 @@
 pub mod Cells
 pub mod Every
-pub mod Thomas
+pub mod Blocks
+pub mod Alike
+pub mod Elimination
+pub mod Substitution

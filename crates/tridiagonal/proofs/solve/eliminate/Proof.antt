@@ -1,108 +1,62 @@
+use mathlib.Core.Path.{refl, sym, _∙_, ap}
+use Prim.Native.Nat.{_-_}
+use borrow.Author.Tests.{not-true, not-false}
 use Rattle.tridiagonal.specs.Tridiagonal.{vanishing}
 use Rattle.tridiagonal.proofs.Cells.{place}
+use Rattle.tridiagonal.proofs.Elimination.{Eliminating, eliminating-none, eliminating-more, row-x-stops, row-y-stops, row-z-stops, last-x-stops, last-y-stops, last-z-stops, eliminated-all}
 use native.Mathlib.Omega.{arith}
 use borrow.Author.Needs.{needs}
-use mathlib.Core.Path.{_≡_, refl, sym, _∙_, ap}
-use Prim.Native.Nat.{ℕ, _+_, _-_, _*_, _≤_, _<_}
-use lib.ListN.{length, getD, set, length-set}
-use Rattle.tridiagonal.proofs.Thomas.{Rows, rows-none, rows-more, elimination-done, elimination-stops}
 use Rattle.tridiagonal.proofs.solve.eliminate.Statement.{statement}
 use Rattle.tridiagonal.proofs.solve.eliminate.Tie as tie
 use Rattle.tridiagonal.proofs.solve.eliminate.Reads as reads
 use Rattle.tridiagonal.proofs.solve.eliminate.Lts as lts
+use Rattle.tridiagonal.proofs.solve.eliminate_row.Reads as eliminate-row-reads
 use Rattle.tridiagonal.proofs.solve.vanishes.Reads as vanishes-reads
 
 abbrev Inv-loop : tie.InvT-loop
-Inv-loop b₀ n m i₀ b i = Rows b₀ n b i
+Inv-loop w₀ n y z i₀ w i = Eliminating w₀ n i w
 
 abbrev μ-loop : tie.MeasureT-loop
-μ-loop b₀ n m i₀ b i = n - i
+μ-loop w₀ n y z i₀ w i = n - i
 
-mul-m : tie.Need-mul-m Inv-loop μ-loop
-mul-m c = omega arith
+mul-y : tie.Need-mul-y Inv-loop μ-loop
+mul-y c = omega arith
+
+mul-z : tie.Need-mul-z Inv-loop μ-loop
+mul-z c = omega arith
 
 loop-holds : tie.Need-loop-holds Inv-loop μ-loop
-loop-holds c = rows-none _ _ (c .before .pre .0) (c .before .pre .1)
+loop-holds c = eliminating-none _ _ (c .before .pre .0) (c .before .pre .1)
 
 add-loop : tie.Need-add-loop Inv-loop μ-loop
 add-loop c = omega arith
 
-mul-p : tie.Need-mul-p Inv-loop μ-loop
-mul-p c = omega arith
-
-slice-read-p : tie.Need-slice-read-p Inv-loop μ-loop
-slice-read-p c = omega arith
-
-vanishes-requires : tie.Need-vanishes-requires Inv-loop μ-loop
-vanishes-requires c κs = search needs
+eliminate-row-requires : tie.Need-eliminate-row-requires Inv-loop μ-loop
+eliminate-row-requires c κs = (c .before .loop-test .taken, omega (arith, c .before .before .loop .inv .long, c .before .before .loop .inv .room))
 
 same-length : tie.Need-same-length Inv-loop μ-loop
-same-length c = c .before .before .before .before .loop .inv .long
+same-length c = c .before .before .before .eliminate-row .kept .0 ∙ c .before .before .before .before .before .before .loop .inv .long
 
 returns : tie.Need-returns Inv-loop μ-loop
-returns c =
-    let a = c .before .before .before .before in
-    elimination-stops _ _ _ _ _ (a .loop .inv) (sym (c .before .vanishes .ensures) ∙ c .if1 .taken)
+returns c = row-x-stops _ _ _ _ (c .before .before .before .before .before .before .loop .inv) (c .before .before .before .before .before .loop-test .taken) _ _ (c .before .before .before .eliminate-row .ensures .0) (c .before .before .before .eliminate-row .ensures .1) (not-true _ (c .if1 .taken))
 
-add-u : tie.Need-add-u Inv-loop μ-loop
-add-u c = omega arith
+eliminate-row-requires-2 : tie.Need-eliminate-row-requires-2 Inv-loop μ-loop
+eliminate-row-requires-2 c κs = (c .before .before .before .before .before .before .loop-test .taken, omega (arith, c .before .before .before .before .eliminate-row .kept .0, c .before .before .before .before .before .before .before .loop .inv .long, c .before .before .before .before .before .before .before .loop .inv .room))
 
-mul-u : tie.Need-mul-u Inv-loop μ-loop
-mul-u c = omega arith
+same-length-2 : tie.Need-same-length-2 Inv-loop μ-loop
+same-length-2 c = c .before .before .before .eliminate-row2 .kept .0 ∙ c .before .before .before .before .before .before .before .before .eliminate-row .kept .0 ∙ c .before .before .before .before .before .before .before .before .before .before .before .loop .inv .long
 
-slice-read-u : tie.Need-slice-read-u Inv-loop μ-loop
-slice-read-u c = omega arith
+returns-2 : tie.Need-returns-2 Inv-loop μ-loop
+returns-2 c = row-y-stops _ _ _ _ (c .before .before .before .before .before .before .before .before .before .before .before .loop .inv) (c .before .before .before .before .before .before .before .before .before .before .loop-test .taken) _ _ (c .before .before .before .before .before .before .before .before .eliminate-row .ensures .0) (c .before .before .before .before .before .before .before .before .eliminate-row .ensures .1) (not-false _ (c .before .before .before .before .before .if1 .left)) _ _ (c .before .before .before .eliminate-row2 .ensures .0) (c .before .before .before .eliminate-row2 .ensures .1) (not-true _ (c .if2 .taken))
 
-add-q : tie.Need-add-q Inv-loop μ-loop
-add-q c = omega arith
+eliminate-row-requires-3 : tie.Need-eliminate-row-requires-3 Inv-loop μ-loop
+eliminate-row-requires-3 c κs = (c .before .before .before .before .before .before .before .before .before .before .before .loop-test .taken, omega (arith, c .before .before .before .before .eliminate-row2 .kept .0, c .before .before .before .before .before .before .before .before .before .eliminate-row .kept .0, c .before .before .before .before .before .before .before .before .before .before .before .before .loop .inv .long, c .before .before .before .before .before .before .before .before .before .before .before .before .loop .inv .room))
 
-mul-q : tie.Need-mul-q Inv-loop μ-loop
-mul-q c = omega arith
+same-length-3 : tie.Need-same-length-3 Inv-loop μ-loop
+same-length-3 c = c .before .before .before .eliminate-row3 .kept .0 ∙ c .before .before .before .before .before .before .before .before .eliminate-row2 .kept .0 ∙ c .before .before .before .before .before .before .before .before .before .before .before .before .before .eliminate-row .kept .0 ∙ c .before .before .before .before .before .before .before .before .before .before .before .before .before .before .before .before .loop .inv .long
 
-slice-read-q : tie.Need-slice-read-q Inv-loop μ-loop
-slice-read-q c = omega arith
-
-add-d : tie.Need-add-d Inv-loop μ-loop
-add-d c = omega arith
-
-mul-d : tie.Need-mul-d Inv-loop μ-loop
-mul-d c = omega arith
-
-slice-read-d : tie.Need-slice-read-d Inv-loop μ-loop
-slice-read-d c = omega arith
-
-add-r : tie.Need-add-r Inv-loop μ-loop
-add-r c = omega arith
-
-add-r-2 : tie.Need-add-r-2 Inv-loop μ-loop
-add-r-2 c = omega arith
-
-mul-r : tie.Need-mul-r Inv-loop μ-loop
-mul-r c = omega arith
-
-slice-read-r : tie.Need-slice-read-r Inv-loop μ-loop
-slice-read-r c = omega arith
-
-add-b : tie.Need-add-b Inv-loop μ-loop
-add-b c = omega arith
-
-mul-b : tie.Need-mul-b Inv-loop μ-loop
-mul-b c = omega arith
-
-slice-write-b : tie.Need-slice-write-b Inv-loop μ-loop
-slice-write-b c = omega arith
-
-add-b-2 : tie.Need-add-b-2 Inv-loop μ-loop
-add-b-2 c = omega arith
-
-add-b-3 : tie.Need-add-b-3 Inv-loop μ-loop
-add-b-3 c = omega arith
-
-mul-b-2 : tie.Need-mul-b-2 Inv-loop μ-loop
-mul-b-2 c = omega arith
-
-slice-write-b-2 : tie.Need-slice-write-b-2 Inv-loop μ-loop
-slice-write-b-2 c = simp length-set (omega arith)
+returns-3 : tie.Need-returns-3 Inv-loop μ-loop
+returns-3 c = row-z-stops _ _ _ _ (c .before .before .before .before .before .before .before .before .before .before .before .before .before .before .before .before .loop .inv) (c .before .before .before .before .before .before .before .before .before .before .before .before .before .before .before .loop-test .taken) _ _ (c .before .before .before .before .before .before .before .before .before .before .before .before .before .eliminate-row .ensures .0) (c .before .before .before .before .before .before .before .before .before .before .before .before .before .eliminate-row .ensures .1) (not-false _ (c .before .before .before .before .before .before .before .before .before .before .if1 .left)) _ _ (c .before .before .before .before .before .before .before .before .eliminate-row2 .ensures .0) (c .before .before .before .before .before .before .before .before .eliminate-row2 .ensures .1) (not-false _ (c .before .before .before .before .before .if2 .left)) _ _ (c .before .before .before .eliminate-row3 .ensures .0) (c .before .before .before .eliminate-row3 .ensures .1) (not-true _ (c .if3 .taken))
 
 add-i : tie.Need-add-i Inv-loop μ-loop
 add-i c = omega arith
@@ -111,39 +65,64 @@ loop-less : tie.Need-loop-less Inv-loop μ-loop
 loop-less c = omega arith
 
 loop-again : tie.Need-loop-again Inv-loop μ-loop
-loop-again c =
-    let e = c .before .before .before .before in
-    let a = e .before .before .before .before in
-    rows-more _ _ _ _ (a .loop .inv) (e .before .before .before .loop-test .taken) (sym (e .before .vanishes .ensures) ∙ e .if1 .left) _ _ refl refl
-
-sub-vanishes : tie.Need-sub-vanishes Inv-loop μ-loop
-sub-vanishes c = omega arith
+loop-again c = eliminating-more _ _ _ _ (c .before .before .before .before .before .before .before .before .before .before .before .before .before .before .before .before .loop .inv) (c .before .before .before .before .before .before .before .before .before .before .before .before .before .before .before .loop-test .taken) _ _ (c .before .before .before .before .before .before .before .before .before .before .before .before .before .eliminate-row .ensures .0) (c .before .before .before .before .before .before .before .before .before .before .before .before .before .eliminate-row .ensures .1) (not-false _ (c .before .before .before .before .before .before .before .before .before .before .if1 .left)) _ _ (c .before .before .before .before .before .before .before .before .eliminate-row2 .ensures .0) (c .before .before .before .before .before .before .before .before .eliminate-row2 .ensures .1) (not-false _ (c .before .before .before .before .before .if2 .left)) _ _ (c .before .before .before .eliminate-row3 .ensures .0) (c .before .before .before .eliminate-row3 .ensures .1) (not-false _ (c .if3 .left)) (c .before .before .before .before .before .before .before .before .before .before .before .before .before .eliminate-row .kept .0) (c .before .before .before .before .before .before .before .before .eliminate-row2 .kept .0) (c .before .before .before .eliminate-row3 .kept .0)
 
 mul-vanishes : tie.Need-mul-vanishes Inv-loop μ-loop
 mul-vanishes c = omega arith
 
 slice-read-vanishes : tie.Need-slice-read-vanishes Inv-loop μ-loop
-slice-read-vanishes c = omega arith
+slice-read-vanishes c = omega (arith, c .before .before .loop .inv .long, c .before .before .loop .inv .room)
+
+vanishes-requires : tie.Need-vanishes-requires Inv-loop μ-loop
+vanishes-requires c κs = search needs
+
+same-length-4 : tie.Need-same-length-4 Inv-loop μ-loop
+same-length-4 c = c .before .before .before .before .loop .inv .long
+
+returns-4 : tie.Need-returns-4 Inv-loop μ-loop
+returns-4 c = last-x-stops _ _ _ _ (c .before .before .before .before .loop .inv) (ap vanishing (place (c .before .before .before .before .loop .w) _ _ (omega arith)) ∙ sym (c .before .vanishes .ensures) ∙ c .if4 .taken)
+
+add-vanishes : tie.Need-add-vanishes Inv-loop μ-loop
+add-vanishes c = omega arith
+
+mul-vanishes-2 : tie.Need-mul-vanishes-2 Inv-loop μ-loop
+mul-vanishes-2 c = omega arith
+
+slice-read-vanishes-2 : tie.Need-slice-read-vanishes-2 Inv-loop μ-loop
+slice-read-vanishes-2 c = omega (arith, c .before .before .before .before .before .loop .inv .long, c .before .before .before .before .before .loop .inv .room)
 
 vanishes-requires-2 : tie.Need-vanishes-requires-2 Inv-loop μ-loop
 vanishes-requires-2 c κs = search needs
 
-same-length-2 : tie.Need-same-length-2 Inv-loop μ-loop
-same-length-2 c = c .before .before .before .before .loop .inv .long
+same-length-5 : tie.Need-same-length-5 Inv-loop μ-loop
+same-length-5 c = c .before .before .before .before .before .before .before .loop .inv .long
 
-returns-2 : tie.Need-returns-2 Inv-loop μ-loop
-returns-2 c =
-    let a = c .before .before .before .before in
-    let e : a .before .before .args .n - 1 ≡ a .loop .i = omega arith in
-    elimination-stops _ _ _ _ _ (a .loop .inv) (ap vanishing (place (a .loop .b) _ _ (sym e)) ∙ sym (c .before .vanishes2 .ensures) ∙ c .if2 .taken)
+returns-5 : tie.Need-returns-5 Inv-loop μ-loop
+returns-5 c = last-y-stops _ _ _ _ (c .before .before .before .before .before .before .before .loop .inv) (sym (c .before .vanishes2 .ensures) ∙ c .if5 .taken)
 
-same-length-3 : tie.Need-same-length-3 Inv-loop μ-loop
-same-length-3 c = c .before .before .before .before .loop .inv .long
+add-vanishes-2 : tie.Need-add-vanishes-2 Inv-loop μ-loop
+add-vanishes-2 c = omega arith
 
-returns-3 : tie.Need-returns-3 Inv-loop μ-loop
-returns-3 c =
-    let a = c .before .before .before .before in
-    elimination-done _ _ _ _ (a .loop .inv) (omega arith) (sym (c .before .vanishes2 .ensures) ∙ c .if2 .left)
+mul-vanishes-3 : tie.Need-mul-vanishes-3 Inv-loop μ-loop
+mul-vanishes-3 c = omega arith
+
+slice-read-vanishes-3 : tie.Need-slice-read-vanishes-3 Inv-loop μ-loop
+slice-read-vanishes-3 c = omega (arith, c .before .before .before .before .before .before .before .before .loop .inv .long, c .before .before .before .before .before .before .before .before .loop .inv .room)
+
+vanishes-requires-3 : tie.Need-vanishes-requires-3 Inv-loop μ-loop
+vanishes-requires-3 c κs = search needs
+
+same-length-6 : tie.Need-same-length-6 Inv-loop μ-loop
+same-length-6 c = c .before .before .before .before .before .before .before .before .before .before .loop .inv .long
+
+returns-6 : tie.Need-returns-6 Inv-loop μ-loop
+returns-6 c = last-z-stops _ _ _ _ (c .before .before .before .before .before .before .before .before .before .before .loop .inv) (sym (c .before .vanishes3 .ensures) ∙ c .if6 .taken)
+
+same-length-7 : tie.Need-same-length-7 Inv-loop μ-loop
+same-length-7 c = c .before .before .before .before .before .before .before .before .before .before .loop .inv .long
+
+returns-7 : tie.Need-returns-7 Inv-loop μ-loop
+returns-7 c = eliminated-all _ _ _ _ (c .before .before .before .before .before .before .before .before .before .before .loop .inv) (omega (arith, c .before .before .before .before .before .before .before .before .before .loop-test .left, c .before .before .before .before .before .before .before .before .before .before .loop .inv .inside)) (ap vanishing (place (c .before .before .before .before .before .before .before .before .before .before .loop .w) _ _ (omega arith)) ∙ sym (c .before .before .before .before .before .before .before .vanishes .ensures) ∙ c .before .before .before .before .before .before .if4 .left) (sym (c .before .before .before .before .vanishes2 .ensures) ∙ c .before .before .before .if5 .left) (sym (c .before .vanishes3 .ensures) ∙ c .if6 .left)
 
 pub eliminate-spec : {M : Type 1} → statement M
 eliminate-spec =
@@ -151,42 +130,38 @@ eliminate-spec =
     (tie.spec
     Inv-loop
     μ-loop
-    mul-m
+    mul-y
+    mul-z
     loop-holds
     add-loop
-    mul-p
-    slice-read-p
-    vanishes-requires
+    eliminate-row-requires
     same-length
     returns
-    add-u
-    mul-u
-    slice-read-u
-    add-q
-    mul-q
-    slice-read-q
-    add-d
-    mul-d
-    slice-read-d
-    add-r
-    add-r-2
-    mul-r
-    slice-read-r
-    add-b
-    mul-b
-    slice-write-b
-    add-b-2
-    add-b-3
-    mul-b-2
-    slice-write-b-2
+    eliminate-row-requires-2
+    same-length-2
+    returns-2
+    eliminate-row-requires-3
+    same-length-3
+    returns-3
     add-i
     loop-less
     loop-again
-    sub-vanishes
     mul-vanishes
     slice-read-vanishes
+    vanishes-requires
+    same-length-4
+    returns-4
+    add-vanishes
+    mul-vanishes-2
+    slice-read-vanishes-2
     vanishes-requires-2
-    same-length-2
-    returns-2
-    same-length-3
-    returns-3)
+    same-length-5
+    returns-5
+    add-vanishes-2
+    mul-vanishes-3
+    slice-read-vanishes-3
+    vanishes-requires-3
+    same-length-6
+    returns-6
+    same-length-7
+    returns-7)

@@ -1,6 +1,5 @@
-use mathlib.Core.Path.{_≡_, refl, sym, _∙_, ap, subst}
-use mathlib.Core.Bool.{Bool}
-use Rattle.tridiagonal.proofs.Thomas.{solved, unsolved}
+use Rattle.tridiagonal.proofs.Substitution.{solved, unsolved}
+use native.Mathlib.Omega.{arith}
 use borrow.Author.Needs.{needs}
 use Rattle.tridiagonal.proofs.solve.thomas.Statement.{statement}
 use Rattle.tridiagonal.proofs.solve.thomas.Tie as tie
@@ -19,17 +18,13 @@ same-length : tie.Need-same-length
 same-length c = search needs
 
 returns : tie.Need-returns
-returns c =
-    let s = c .before .before in
-    let i = s .before .before in
-    let e = i .before .before .before in
-    solved _ _ _ _ _ (e .before .before .before .pre .0) (e .eliminate .ensures) (i .if1 .taken) (s .substitute .ensures)
+returns c = solved _ _ _ _ _ (c .before .before .before .before .before .before .before .before .before .before .pre .0) (c .before .before .before .before .before .before .before .eliminate .ensures) (c .before .before .before .before .if1 .taken) (c .before .before .substitute .ensures)
 
 same-length-2 : tie.Need-same-length-2
 same-length-2 c = search needs
 
 returns-2 : tie.Need-returns-2
-returns-2 c = unsolved _ _ _ _ _ (c .before .before .before .eliminate .ensures) (c .if1 .left)
+returns-2 c = unsolved _ _ _ _ (c .before .before .before .eliminate .ensures) (c .if1 .left)
 
 pub thomas-spec : {M : Type 1} → statement M
 thomas-spec =
