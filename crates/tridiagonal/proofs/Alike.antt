@@ -5,13 +5,8 @@ use Prim.Native.Nat.{ℕ, zero, suc, _-_, _<_}
 use native.Mathlib.Omega.{arith}
 use lib.Ieee.{Float}
 use Rattle.tridiagonal.specs.Tridiagonal.{Equations, vanishing, pivot, reduced, eliminated, solvable, back, solution}
+use Rattle.tridiagonal.specs.Steps.{Alike}
 use Rattle.tridiagonal.proofs.Every.{every-same}
-
--- the first n equations of e' are those of e
-pub record Alike (e e' : Equations) (n : ℕ) : Type 0 where
-  pub diagonal : (k : ℕ) → k < n → e' .diagonal k ≡ e .diagonal k
-  pub upper : (k : ℕ) → k < n → e' .upper k ≡ e .upper k
-  pub right : (k : ℕ) → k < n → e' .right k ≡ e .right k
 
 pub back-same : (e e' : Equations) (m n : ℕ) → m < n → Alike e e' n → (j : ℕ) → back e' m j ≡ back e m j
 unfolding back

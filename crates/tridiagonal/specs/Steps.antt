@@ -14,6 +14,12 @@ use Rattle.tridiagonal.specs.Tridiagonal.{Equations, pivot, reduced, sol
 abbrev pub block : List Float → ℕ → ℕ → Equations
 block w at n = record { diagonal = col w at; upper = col w (at + n); right = col w (at + n * 2) }
 
+-- the first n equations of e' are those of e
+pub record Alike (e e' : Equations) (n : ℕ) : Type 0 where
+  pub diagonal : (k : ℕ) → k < n → e' .diagonal k ≡ e .diagonal k
+  pub upper : (k : ℕ) → k < n → e' .upper k ≡ e .upper k
+  pub right : (k : ℕ) → k < n → e' .right k ≡ e .right k
+
 -- row i + 1 with the unknown of row i eliminated
 abbrev pub rowEliminated : List Float → ℕ → ℕ → ℕ → List Float
 rowEliminated w at n i =

@@ -5,7 +5,7 @@ use lib.Dec.{eqb}
 use lib.Ieee.{Float}
 use Rattle.exact.specs.Float.{_⊕_, _⊖_, _⊗_, _⊘_, +0}
 use Rattle.tridiagonal.specs.Tridiagonal.{Equations}
-use Rattle.smooth.specs.Input.{Measured, Trajectory, indexAt, valueAt, sigmaAt, origin}
+use Rattle.trajectory.specs.Input.{Measured, Trajectory, indexAt, valueAt, sigmaAt, origin}
 
 -- A column once the first j measurements have changed it in turn, where step j k changes row k by measurement j.
 unfoldable pub changed : (ℕ → ℕ → Float → Float) → (ℕ → Float) → ℕ → ℕ → Float
@@ -36,8 +36,8 @@ abbrev pub nextAt : Measured → ℕ → ℕ
 nextAt m j = indexAt m j + 1
 
 -- what an anchor adds to the right side, and what a link takes from it at its start and adds at its end
-abbrev pub anchorPull : Trajectory → (ℕ → Float) → ℕ → ℕ → Float
-anchorPull p scale t j = weight (p .anchors) scale t j ⊗ (valueAt (p .anchors) t j ⊖ origin p t)
+abbrev pub anchorPull : Measured → (ℕ → Float) → ℕ → ℕ → Float
+anchorPull m scale t j = weight m scale t j ⊗ (valueAt m t j ⊖ origin m t)
 
 abbrev pub linkPull : Measured → (ℕ → Float) → ℕ → ℕ → Float
 linkPull m scale t j = weight m scale t j ⊗ valueAt m t j
@@ -63,7 +63,7 @@ upper p s t = changed (lower (indexAt (p .links)) (weight (p .links) (s .links) 
 unfoldable pub right : Trajectory → Scales → ℕ → ℕ → Float
 right p s t =
     changed (linkRight (p .links) (s .links) t)
-    (changed (raise (indexAt (p .anchors)) (anchorPull p (s .anchors) t)) zeros (p .anchors .count))
+    (changed (raise (indexAt (p .anchors)) (anchorPull (p .anchors) (s .anchors) t)) zeros (p .anchors .count))
     (p .links .count)
 
 abbrev pub equationsOf : Trajectory → Scales → ℕ → Equations

@@ -33,9 +33,9 @@ valueAt m t j = getD (m .value) (j * 3 + t) nan
 abbrev pub sigmaAt : Measured → ℕ → ℕ → Float
 sigmaAt m t j = getD (m .sigma) (j * 3 + t) nan
 
--- the position of the first anchor, from which the fit counts
-abbrev pub origin : Trajectory → ℕ → Float
-origin p t = valueAt (p .anchors) t 0
+-- of the anchors, the position of the first: the fit counts from there
+abbrev pub origin : Measured → ℕ → Float
+origin m t = valueAt m t 0
 
 -- the floats of work that a track needs
 abbrev pub workNeed : Trajectory → ℕ

@@ -1,5 +1,4 @@
 pub mod Input
 pub mod Equations
-pub mod Track
-pub mod Answer
+pub mod Pass
 pub mod Steps
