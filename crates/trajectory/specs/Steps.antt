@@ -3,7 +3,7 @@
 use mathlib.Core.Path.{_≡_}
 use mathlib.Core.Bool.{Bool, true, not, _&&_}
 use mathlib.Core.List.{List}
-use Prim.Native.Nat.{ℕ, _+_, _*_, _≤_, _<_}
+use Prim.Native.Nat.{ℕ, _+_, _-_, _*_, _≤_, _<_}
 use lib.ListN.{length, set}
 use lib.Ieee.{Float, le}
 use lib.Ieee.Scale.{finite}
@@ -13,7 +13,7 @@ use Rattle.tridiagonal.specs.Tridiagonal.{Equations, solution}
 use Rattle.tridiagonal.specs.Steps.{block, Alike, allSolvable}
 use Rattle.trajectory.specs.Input.{Measured, Trajectory, indexAt}
 use Rattle.trajectory.specs.Equations.{changed, raise, lower, Scales, weight, anchorPull, linkDiagonal, linkRight, equationsOf}
-use Rattle.trajectory.specs.Pass.{held, passes}
+use Rattle.trajectory.specs.Pass.{held, finiteSolution, passes}
 
 -- the columns hold the measurements that are counted, each with an epoch that there is
 pub record Lent (m : Measured) (bound : ℕ) : Type 0 where
@@ -21,6 +21,13 @@ pub record Lent (m : Measured) (bound : ℕ) : Type 0 where
   pub values : m .count * 3 ≤ length (m .value)
   pub sigmas : m .count * 3 ≤ length (m .sigma)
   pub below : (j : ℕ) → j < m .count → indexAt m j < bound
+
+-- there are epochs and anchors, and what is measured stands in its columns
+pub record Valid (p : Trajectory) : Type 0 where
+  pub epochs : 0 < p .n
+  pub some : 0 < p .anchors .count
+  pub anchors : Lent (p .anchors) (p .n)
+  pub links : Lent (p .links) (p .n - 1)
 
 -- an anchor of weight a and pull b at row i of a block
 abbrev pub anchorAdded : List Float → (at n i : ℕ) → (a b : Float) → List Float
@@ -74,6 +81,12 @@ finiteRows w at n = every (λ k. finite (col w (at + n * 2) k)) n
 
 abbrev pub allFinite : List Float → ℕ → Bool
 allFinite w n = onBlocks (λ at. finiteRows w at n) n
+
+-- The equations in the three blocks, solved: true where each epoch is held, no pivot vanishes and each unknown is finite.
+pub record Settled (w : List Float) (n : ℕ) (ok : Bool) (w' : List Float) : Type 0 where
+  pub kept : Kept 0 (n * 9) w w'
+  pub answer : ok ≡ (allHeld w n && (allSolvable w n && onBlocks (λ at. finiteSolution (block w at n) n) n))
+  pub solutions : ok ≡ true → Blocks n (λ at t. (k : ℕ) → k < n → col w' (at + n * 2) k ≡ solution (block w at n) n k)
 
 -- A pass: true where it does not fail, and then the solutions stand in place of the right sides.
 pub record PassDone (p : Trajectory) (w : List Float) (ok : Bool) (w' : List Float) : Type 0 where

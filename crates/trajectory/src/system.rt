@@ -4,7 +4,7 @@ ghost use Prim.Native.Nat.{_+_, _-_, _*_, _<_, _≤_};
 ghost use lib.ListN.{length};
 ghost use Rattle.exact.specs.Float.{_⊖_, _⊗_, _⊘_};
 ghost use Rattle.trajectory.specs.Input.{measured, trajectory};
-ghost use Rattle.trajectory.specs.Steps.{Lent, anchorAdded, linkAdded, Anchored, Linked, Added, Assembled};
+ghost use Rattle.trajectory.specs.Steps.{Lent, Valid, anchorAdded, linkAdded, Anchored, Linked, Added, Assembled};
 use tridiagonal::fill::fill;
 
 // An anchor at row i of a block: its scale c, sigma s, position v and the origin o.
@@ -97,4 +97,35 @@ fn add_links(
         add_link(&mut *w, z, n, i, c, sigma[a + 2], value[a + 2]);
         j += 1;
     }
+}
+
+// The equations of the three axes, by the scales that stand after the blocks.
+pub fn assemble(
+    w: &mut [f64],
+    n: usize,
+    anchors: usize,
+    links: usize,
+    ai: &[usize],
+    av: &[f64],
+    ag: &[f64],
+    li: &[usize],
+    lv: &[f64],
+    lg: &[f64],
+)
+    requires { ⌜ n * 9 + anchors + links ≤ length (now w) ⌝ }
+    requires { ⌜ Valid (trajectory n (measured anchors (now ai) (now av) (now ag)) (measured links (now li) (now lv) (now lg))) ⌝ }
+    ensures { λ _. ⌜ Assembled (trajectory n (measured anchors (now (ai .entry)) (now (av .entry)) (now (ag .entry))) (measured links (now (li .entry)) (now (lv .entry)) (now (lg .entry)))) (now (w .entry)) (now (w .exit)) ⌝ }
+{
+    let from = n * 9;
+    fill(&mut *w, 0, from, 0.0);
+    add_anchors(&mut *w, n, anchors, ai, av, ag);
+    add_links(
+        &mut *w,
+        n,
+        from + anchors,
+        links,
+        li,
+        lv,
+        lg,
+    );
 }
