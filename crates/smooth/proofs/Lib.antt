@@ -1,0 +1,3 @@
+pub mod Weights
+pub mod Rounds
+pub mod Refusals
