@@ -54,7 +54,7 @@ all-below-requires-2 c κs = search needs
 
 returns-6 : tie.Need-returns-6
 unfolding trackOk
-returns-6 c = rw (some-there _ (c .before .before .before .before .before .before .before .before .if1 .left), some-there _ (c .before .before .before .before .before .before .before .if2 .left), sym (c .before .before .before .before .before .before .all-above .ensures) ∙ not-false _ (c .before .before .before .before .before .if3 .left), sym (c .before .before .before .before .all-above2 .ensures) ∙ not-false _ (c .before .before .before .if4 .left), sym (c .before .before .all-below .ensures) ∙ not-false _ (c .before .if5 .left)) (c .all-below2 .ensures ∙ next-below _ _ _)
+returns-6 c = rw (some-there _ (c .before .before .before .before .before .before .before .before .if1 .left), some-there _ (c .before .before .before .before .before .before .before .if2 .left), sym (c .before .before .before .before .before .before .all-above .ensures) ∙ not-false _ (c .before .before .before .before .before .if3 .left), sym (c .before .before .before .before .all-above2 .ensures) ∙ not-false _ (c .before .before .before .if4 .left), sym (c .before .before .all-below .ensures) ∙ not-false _ (c .before .if5 .left)) (c .all-below2 .ensures ∙ next-below (c .before .before .before .before .before .before .before .before .before .before .before .before .before .before .before .args .li .now) (c .before .before .before .before .before .before .before .before .before .before .before .before .before .before .before .args .links) (c .before .before .before .before .before .before .before .before .before .before .before .before .before .before .before .args .n))
 
 pub sound-spec : {M : Type 1} → statement M
 sound-spec =
