@@ -6,7 +6,7 @@ mod weigh;
 
 ghost use mathlib.Core.Path.{_≡_};
 ghost use Rattle.trajectory.specs.Input.{measured, trajectory};
-ghost use Rattle.smooth.specs.Answer.{settingsOk, Called};
+ghost use Rattle.smooth.specs.Answer.{settingsOk, trackNumber, Called};
 use checks::counts;
 use checks::records;
 use checks::sound;
@@ -25,6 +25,18 @@ pub struct Settings {
 pub enum Track {
     Refused(Refusal),
     Smoothed,
+}
+
+impl Track {
+    // The number that a caller outside is given, 0 where there is a track.
+    pub fn number(self) -> u8
+        ensures { λ r. ⌜ r ≡ trackNumber self ⌝ }
+    {
+        match self {
+            Track::Refused(x) => x.number(),
+            Track::Smoothed => 0,
+        }
+    }
 }
 
 // Whether the threshold is in range and the passes are not too many.

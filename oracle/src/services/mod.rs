@@ -6,6 +6,8 @@ mod order;
 mod root;
 mod solve;
 mod standins;
+#[cfg(feature = "track")]
+pub mod track;
 
 use crate::random::Random;
 use crate::tally::Tally;
@@ -33,4 +35,6 @@ pub const SERVICES: &[Service] = &[
     factor::SERVICE,
     solve::SERVICE,
     accuracy::SERVICE,
+    #[cfg(feature = "track")]
+    track::SERVICE,
 ];
