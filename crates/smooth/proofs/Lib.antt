@@ -5,3 +5,5 @@ pub mod FiniteSum
 pub mod Finite
 pub mod Points
 pub mod Answers
+pub mod Passes
+pub mod Trials
