@@ -50,23 +50,12 @@ fn round(
 {
     let from = n * 9;
     weigh_anchors(&mut *w, n, from, anchors, ai, av, ag, h, c, &r[..]);
-    weigh_links(
-        &mut *w,
-        n,
-        from + anchors,
-        links,
-        li,
-        lv,
-        lg,
-        h,
-        c,
-        &r[..],
-    );
-    if pass(&mut *w, n, anchors, links, ai, av, ag, li, lv, lg) {
-        publish(&w[..], n, av[0], av[1], av[2], &mut *r);
-        return true;
+    weigh_links(&mut *w, n, from + anchors, links, li, lv, lg, h, c, &r[..]);
+    if !pass(&mut *w, n, anchors, links, ai, av, ag, li, lv, lg) {
+        return false;
     }
-    false
+    publish(&w[..], n, av[0], av[1], av[2], &mut *r);
+    true
 }
 
 // Up to `rounds` of them. The first that fails ends the work.
@@ -93,7 +82,19 @@ fn refine(
     let mut left = rounds;
     while left > 0 {
         if !round(
-            &mut *w, n, anchors, links, ai, av, ag, li, lv, lg, h, c, &mut *r,
+            &mut *w,
+            n,
+            anchors,
+            links,
+            ai,
+            av,
+            ag,
+            li,
+            lv,
+            lg,
+            h,
+            c,
+            &mut *r,
         ) {
             return;
         }

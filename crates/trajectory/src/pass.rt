@@ -100,17 +100,6 @@ pub fn pass(
     requires { ⌜ Valid (trajectory n (measured anchors (now ai) (now av) (now ag)) (measured links (now li) (now lv) (now lg))) ⌝ }
     ensures { λ r. ⌜ PassDone (trajectory n (measured anchors (now (ai .entry)) (now (av .entry)) (now (ag .entry))) (measured links (now (li .entry)) (now (lv .entry)) (now (lg .entry)))) (now (w .entry)) r (now (w .exit)) ⌝ }
 {
-    assemble(
-        &mut *w,
-        n,
-        anchors,
-        links,
-        ai,
-        av,
-        ag,
-        li,
-        lv,
-        lg,
-    );
+    assemble(&mut *w, n, anchors, links, ai, av, ag, li, lv, lg);
     settle(&mut *w, n)
 }

@@ -43,14 +43,7 @@ fn add_link(w: &mut [f64], at: usize, n: usize, i: usize, c: f64, s: f64, v: f64
 }
 
 // Adds the anchors.
-fn add_anchors(
-    w: &mut [f64],
-    n: usize,
-    count: usize,
-    index: &[usize],
-    value: &[f64],
-    sigma: &[f64],
-)
+fn add_anchors(w: &mut [f64], n: usize, count: usize, index: &[usize], value: &[f64], sigma: &[f64])
     requires { ⌜ (0 < count) × (n * 9 + count ≤ length (now w)) × Lent (measured count (now index) (now value) (now sigma)) n ⌝ }
     ensures { λ _. ⌜ Added (Anchored (now (w .entry)) n (n * 9) (measured count (now (index .entry)) (now (value .entry)) (now (sigma .entry))) count) (now (w .entry)) n (now (w .exit)) ⌝ }
 {
@@ -119,13 +112,5 @@ pub fn assemble(
     let from = n * 9;
     fill(&mut *w, 0, from, 0.0);
     add_anchors(&mut *w, n, anchors, ai, av, ag);
-    add_links(
-        &mut *w,
-        n,
-        from + anchors,
-        links,
-        li,
-        lv,
-        lg,
-    );
+    add_links(&mut *w, n, from + anchors, links, li, lv, lg);
 }

@@ -25,8 +25,6 @@ pub extern "C" fn zaqnuti_smooth(
     ensures { λ x. ⌜ TrackCalled (trajectory n (measured anchors (now (ai .entry)) (now (av .entry)) (now (ag .entry))) (measured links (now (li .entry)) (now (lv .entry)) (now (lg .entry)))) (settings huber iterations) (now (result .entry)) (now (work .entry)) x (now (result .exit)) (now (work .exit)) ⌝ }
 {
     let set = Settings { huber, iterations };
-    let track = smooth(
-        n, anchors, links, ai, av, ag, li, lv, lg, set, result, work,
-    );
+    let track = smooth(n, anchors, links, ai, av, ag, li, lv, lg, set, result, work);
     track.number()
 }
