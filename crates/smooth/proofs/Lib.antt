@@ -1,3 +1,4 @@
+pub mod RootOrder
 pub mod Weights
 pub mod Rounds
 pub mod Refusals
