@@ -1,6 +1,6 @@
 -- The scales of the measurements, one at a time. Assumes nothing.
 use mathlib.Core.Path.{_≡_, refl, sym, _∙_, ap, ap₂}
-use mathlib.Core.Bool.{Bool, true, false, cond}
+use mathlib.Core.Bool.{Bool, true, false, cond, _&&_}
 use mathlib.Core.Logic.{⊎-elim}
 use mathlib.Core.List.{List}
 use Prim.Native.Nat.{ℕ, _+_, _*_, _≤_, _<_}
@@ -8,16 +8,19 @@ use native.Mathlib.Nat.{eq-or-lt-of-le}
 use native.Mathlib.Omega.{arith}
 use lib.Dec.{T}
 use lib.ListN.{length, getD, set}
-use lib.Ieee.{Float, nan, inf, fin, binary64, fits, le, div, ofBits, ofInt}
-use Rattle.exact.specs.Float.{_⊕_, _⊖_, _⊘_, 1·0, decimal, bits}
+use lib.Ieee.{Float, nan, inf, fin, binary64, fits, lt, le, div, ofBits, ofInt}
+use lib.Ieee.Fits.{mul-fits}
+use Rattle.exact.specs.Float.{_⊕_, _⊖_, _⊗_, _⊘_, +0, 1·0, decimal, bits}
 use Rattle.numeric.specs.Root.{rootOf}
 use Rattle.numeric.specs.Real.{square, max}
 use Rattle.tridiagonal.specs.Columns.{col, Kept}
+use Rattle.tridiagonal.proofs.Every.{left-true, right-true}
 use Rattle.tridiagonal.proofs.Cells.{place, hit, miss, kept-none}
 use Rattle.trajectory.specs.Input.{Measured, indexAt, valueAt, sigmaAt}
 use Rattle.trajectory.specs.Equations.{nextAt}
 use Rattle.smooth.specs.Track.{distance, huberOf, anchorScale, linkScale}
 use Rattle.smooth.specs.Steps.{Limit, Weighed, Holds, fitIn}
+use Rattle.smooth.proofs.RootOrder.{root-within}
 
 -- ---- `huber`
 
@@ -48,10 +51,27 @@ above-nan (fin s m k) e = let z : _≡_ {A = ℕ} 0 1 = cc in omega arith
 
 -- no float is at most a NaN
 pub no-limit : (h : Float) → Limit h (bits 0 ⊘ bits 0)
-no-limit h = record { within = λ q f e. absurd (above-nan q (rw no-number at e)) }
+no-limit h = record { within = λ q f p e. absurd (above-nan q (rw no-number at e)) }
 
-pub scale-near : (h c q : Float) → Limit h c → T (fits binary64 q) → le q c ≡ true → 1·0 ≡ huberOf h (rootOf q)
-scale-near h c q l f e = huber-near h (rootOf q) (l .within q f e)
+infinity-is : 1·0 ⊘ +0 ≡ inf false
+unfolding div ofBits
+infinity-is = refl
+
+pub some-limit : (h z : Float) → z ≡ rootOf (h ⊗ h) → (lt +0 h && (lt +0 (h ⊗ h) && (lt (h ⊗ h) (1·0 ⊘ +0) && le z h))) ≡ true → Limit h (h ⊗ h)
+some-limit h z ez e =
+    let c = h ⊗ h in
+    let A = lt +0 h in
+    let B = lt +0 c in
+    let C = lt c (1·0 ⊘ +0) in
+    let D = le z h in
+    let e1 = right-true A (B && (C && D)) e in
+    let e2 = right-true B (C && D) e1 in
+    record {
+      within = λ q f p l. root-within q c h f (mul-fits binary64 h h) p (rw infinity-is at (left-true C D e2)) (left-true B (C && D) e1) (left-true A (B && (C && D)) e) l (rw ez at (right-true C D e2));
+    }
+
+pub scale-near : (h c q : Float) → Limit h c → T (fits binary64 q) → (lt +0 q && le q c) ≡ true → 1·0 ≡ huberOf h (rootOf q)
+scale-near h c q l f e = huber-near h (rootOf q) (l .within q f (left-true (lt +0 q) (le q c) e) (right-true (lt +0 q) (le q c) e))
 
 -- ---- a distance from three residuals and three sigmas
 

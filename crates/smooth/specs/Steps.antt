@@ -5,8 +5,8 @@ use mathlib.Core.List.{List}
 use Prim.Native.Nat.{ℕ, _+_, _*_, _<_}
 use lib.Dec.{T}
 use lib.ListN.{getD}
-use lib.Ieee.{Float, nan, binary64, fits, le}
-use Rattle.exact.specs.Float.{_⊕_}
+use lib.Ieee.{Float, nan, binary64, fits, lt, le}
+use Rattle.exact.specs.Float.{_⊕_, +0}
 use Rattle.numeric.specs.Root.{rootOf}
 use Rattle.tridiagonal.specs.Columns.{col, Kept}
 use Rattle.trajectory.specs.Input.{Trajectory, workNeed}
@@ -17,9 +17,9 @@ use Rattle.smooth.specs.Track.{scalesOf, ones, refined, smoothed}
 abbrev pub fitIn : List Float → ℕ → ℕ → Float
 fitIn r t k = getD r (k * 3 + t) nan
 
--- a float whose root is within the threshold h, as far as it is at most c: its root need not be taken
+-- the root of a positive float up to c is within the threshold h
 pub record Limit (h c : Float) : Type 0 where
-  pub within : (q : Float) → T (fits binary64 q) → le q c ≡ true → le (rootOf q) h ≡ true
+  pub within : (q : Float) → T (fits binary64 q) → lt +0 q ≡ true → le q c ≡ true → le (rootOf q) h ≡ true
 
 -- the scales f of the first m measurements stand at `from`
 pub record Weighed (f : ℕ → Float) (from m : ℕ) (w w' : List Float) : Type 0 where

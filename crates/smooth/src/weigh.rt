@@ -22,14 +22,19 @@ fn huber(h: f64, z: f64) -> f64
     h / max(z, 1e-12)
 }
 
-// A bound for the square of a distance: up to it the distance is within the threshold h.
+// A bound for the square of a distance: up to it the distance is within the threshold h. A NaN where there is none.
 pub fn limit(h: f64) -> f64
     ensures { λ r. ⌜ Limit h r ⌝ }
 {
+    let c = h * h;
+    let z = sqrt(c);
+    if (0.0 < h) & ((0.0 < c) & ((c < 1.0 / 0.0) & (z <= h))) {
+        return c;
+    }
     0.0 / 0.0
 }
 
-// The scale of a residual of x, y, z against sigmas. The root is left out where the square is within the limit c of h.
+// The scale of a residual of x, y, z against sigmas. Most are within the limit c of h and need no root.
 fn scale(x: f64, y: f64, z: f64, sx: f64, sy: f64, sz: f64, h: f64, c: f64) -> f64
     requires { ⌜ Limit h c ⌝ }
     ensures { λ r. ⌜ r ≡ huberOf h (rootOf (square (x ⊘ sx) ⊕ square (y ⊘ sy) ⊕ square (z ⊘ sz))) ⌝ }
@@ -38,7 +43,7 @@ fn scale(x: f64, y: f64, z: f64, sx: f64, sy: f64, sz: f64, h: f64, c: f64) -> f
     let b = y / sy;
     let d = z / sz;
     let q = a * a + b * b + d * d;
-    if q <= c {
+    if (0.0 < q) & (q <= c) {
         return 1.0;
     }
     huber(h, sqrt(q))

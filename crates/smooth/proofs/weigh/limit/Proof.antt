@@ -1,13 +1,20 @@
-use Rattle.smooth.proofs.Weights.{no-limit}
+use Rattle.smooth.proofs.Weights.{no-limit, some-limit}
 use native.Mathlib.Omega.{arith}
 use borrow.Author.Needs.{needs}
 use Rattle.smooth.proofs.weigh.limit.Statement.{statement}
 use Rattle.smooth.proofs.weigh.limit.Tie as tie
 use Rattle.smooth.proofs.weigh.limit.Reads as reads
 use Rattle.smooth.proofs.weigh.limit.Lts as lts
+use Rattle.numeric.proofs.root.sqrt.Reads as sqrt-reads
+
+sqrt-requires : tie.Need-sqrt-requires
+sqrt-requires c κs = search needs
 
 returns : tie.Need-returns
-returns c = no-limit _
+returns c = some-limit _ _ (c .before .sqrt .ensures) (c .if1 .taken)
+
+returns-2 : tie.Need-returns-2
+returns-2 c = no-limit _
 
 pub limit-spec : {M : Type 1} → statement M
-limit-spec = tie.close (tie.spec returns)
+limit-spec = tie.close (tie.spec sqrt-requires returns returns-2)
