@@ -1,8 +1,8 @@
 -- What the call answers and leaves, from its steps; and that every coordinate of a track is finite. Assumes nothing.
 use mathlib.Core.Path.{_≡_, refl, sym, _∙_, ap}
-use mathlib.Core.Bool.{Bool, true, false, cond}
+use mathlib.Core.Bool.{Bool, true, false}
 use mathlib.Core.List.{List, []}
-use Prim.Native.Nat.{ℕ, _+_, _*_, _≤_, _<_}
+use Prim.Native.Nat.{ℕ, _<_}
 use native.Mathlib.Omega.{arith}
 use lib.Dec.{leb}
 use lib.ListN.{length, getD}
@@ -20,7 +20,7 @@ use Rattle.smooth.specs.declared.Settings.{Settings}
 use Rattle.smooth.specs.declared.Track.{Track}
 use Rattle.smooth.specs.declared.Track.the-variants as Track
 use Rattle.smooth.specs.Track.{ones, smoothed, points}
-use Rattle.smooth.specs.Answer.{countsOk, settingsOk, recordsOk, trackOk, Tracked, Refused, Points, unless, trackOf, answerOf, resultAfter, cleared, workAfter, Called}
+use Rattle.smooth.specs.Answer.{countsOk, settingsOk, recordsOk, trackOk, Tracked, Refused, Points, unless, trackOf, cleared, Called}
 use Rattle.smooth.specs.Steps.{FitDone}
 use Rattle.smooth.proofs.Refusals.{counted, valid}
 use Rattle.smooth.proofs.Finite.{smoothed-finite, origin-small}

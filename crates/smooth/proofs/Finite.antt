@@ -1,5 +1,5 @@
 -- Every coordinate of a track is finite. Assumes nothing.
-use mathlib.Core.Path.{_≡_, refl, sym, _∙_, ap, subst}
+use mathlib.Core.Path.{_≡_, refl}
 use mathlib.Core.Bool.{Bool, true, false, _&&_, cond}
 use Prim.Native.Nat.{ℕ, zero, suc, _+_, _-_, _*_, _<_}
 use native.Mathlib.Omega.{arith}
@@ -8,7 +8,6 @@ use lib.ListN.{getD}
 use lib.Ieee.{Float, nan, binary64, fits}
 use lib.Ieee.Scale.{finite}
 use lib.Ieee.Fits.{div-fits}
-use Rattle.exact.specs.Float.{_⊕_}
 use Rattle.numeric.specs.Real.{inRange}
 use Rattle.tridiagonal.specs.Columns.{every}
 use Rattle.tridiagonal.specs.Tridiagonal.{Equations, eliminated, solvable, back, solution}

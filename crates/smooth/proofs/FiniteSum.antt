@@ -11,7 +11,7 @@ use lib.Pow.{pow-mono, pow-pos, pow-add}
 use lib.Ieee.{Float, nan, inf, fin, binary64, Format, add, sum, le, lt, eq, up, down, fits, round, units, odd, size, span, climb, ofInt}
 use lib.Ieee.Scale.{finite}
 use lib.Ieee.Order.{round-mono}
-use lib.Ieee.Fits.{up-pos, down-pos, and-l, and-r}
+use lib.Ieee.Fits.{down-pos, and-l, and-r}
 use lib.Count.{trailingZeros}
 use borrow.Author.Tests.{ltb-true, eqb-true}
 use Rattle.exact.specs.Float.{_⊕_, whole}

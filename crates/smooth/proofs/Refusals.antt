@@ -1,6 +1,6 @@
 -- The tests of why a call turns back. Assumes nothing.
-use mathlib.Core.Path.{_≡_, sym, _∙_, ap}
-use mathlib.Core.Bool.{Bool, true, false, not, _&&_}
+use mathlib.Core.Path.{_≡_, sym, _∙_}
+use mathlib.Core.Bool.{true, false, _&&_}
 use mathlib.Core.List.{List}
 use Prim.Native.Nat.{ℕ, _+_, _-_, _*_, _≤_, _<_}
 use native.Mathlib.Decide.{decLt}
@@ -8,15 +8,15 @@ use native.Mathlib.Omega.{arith}
 use lib.Dec.{leb, ltb}
 use lib.ListN.{length, getD}
 use lib.Ieee.{Float, nan, lt}
-use borrow.Author.Tests.{lt-ltb, le-ltb, le-leb, lt-leb, leb-true, ltb-true}
+use borrow.Author.Tests.{lt-ltb, le-ltb, leb-true, ltb-true}
 use Rattle.exact.specs.Float.{+0}
 use Rattle.numeric.specs.Real.{inRange}
 use Rattle.tridiagonal.specs.Columns.{every}
 use Rattle.tridiagonal.proofs.Every.{every-next, every-stop, every-all, every-same, every-at, left-true, right-true}
 use Rattle.trajectory.specs.Input.{Measured, Trajectory, indexAt, workNeed}
 use Rattle.trajectory.specs.Equations.{nextAt}
-use Rattle.trajectory.specs.Steps.{Lent, Valid}
-use Rattle.smooth.specs.Answer.{columnsLong, countsOk, measuredOk, recordsOk, sigmasAbove, trackOk}
+use Rattle.trajectory.specs.Steps.{Valid}
+use Rattle.smooth.specs.Answer.{columnsLong, countsOk, sigmasAbove, trackOk}
 
 -- ---- a test of each element, one at a time
 

@@ -9,11 +9,11 @@ use native.Mathlib.Omega.{arith}
 use lib.ListN.{length, getD, set, length-set}
 use lib.Ieee.{Float, nan}
 use Rattle.exact.specs.Float.{_⊕_, 1·0}
-use Rattle.tridiagonal.specs.Columns.{col, Kept, Filled, Blocks}
+use Rattle.tridiagonal.specs.Columns.{col, Kept, Filled}
 use Rattle.tridiagonal.specs.Tridiagonal.{solution}
 use Rattle.tridiagonal.proofs.Cells.{place, hit, miss, miss2, miss3, kept-none, kept-then}
-use Rattle.trajectory.specs.Input.{Trajectory, indexAt, valueAt, origin, workNeed}
-use Rattle.trajectory.specs.Equations.{Scales, nextAt, equationsOf}
+use Rattle.trajectory.specs.Input.{Trajectory, origin, workNeed}
+use Rattle.trajectory.specs.Equations.{Scales, equationsOf}
 use Rattle.trajectory.specs.Pass.{passes, fitOf}
 use Rattle.trajectory.specs.Steps.{Valid, scalesIn, PassDone}
 use Rattle.trajectory.proofs.Passing.{passes-same, fit-same}

@@ -1,9 +1,9 @@
 -- The scales of the measurements, one at a time. Assumes nothing.
 use mathlib.Core.Path.{_≡_, refl, sym, _∙_, ap, ap₂}
-use mathlib.Core.Bool.{Bool, true, false, cond, _&&_}
+use mathlib.Core.Bool.{true, false, _&&_}
 use mathlib.Core.Logic.{⊎-elim}
 use mathlib.Core.List.{List}
-use Prim.Native.Nat.{ℕ, _+_, _*_, _≤_, _<_}
+use Prim.Native.Nat.{ℕ, _+_, _*_, _<_}
 use native.Mathlib.Nat.{eq-or-lt-of-le}
 use native.Mathlib.Omega.{arith}
 use lib.Dec.{T}
@@ -13,12 +13,11 @@ use lib.Ieee.Fits.{mul-fits}
 use Rattle.exact.specs.Float.{_⊕_, _⊖_, _⊗_, _⊘_, +0, 1·0, decimal, bits}
 use Rattle.numeric.specs.Root.{rootOf}
 use Rattle.numeric.specs.Real.{square, max}
-use Rattle.tridiagonal.specs.Columns.{col, Kept}
 use Rattle.tridiagonal.proofs.Every.{left-true, right-true}
 use Rattle.tridiagonal.proofs.Cells.{place, hit, miss, kept-none}
-use Rattle.trajectory.specs.Input.{Measured, indexAt, valueAt, sigmaAt}
+use Rattle.trajectory.specs.Input.{Measured, indexAt, valueAt}
 use Rattle.trajectory.specs.Equations.{nextAt}
-use Rattle.smooth.specs.Track.{distance, huberOf, anchorScale, linkScale}
+use Rattle.smooth.specs.Track.{huberOf, anchorScale, linkScale}
 use Rattle.smooth.specs.Steps.{Limit, Weighed, Holds, fitIn}
 use Rattle.smooth.proofs.RootOrder.{root-within}
 

@@ -1,10 +1,9 @@
 -- Document 01, "Trials at the edges": the marked trials of a track. Definitions only.
-use Prim.Native.Nat.{ℕ}
 use mathlib.Core.Path.{_≡_}
 use mathlib.Core.List.{[], _∷_}
 use Rattle.exact.specs.Float.{1·0, whole}
 use Rattle.numeric.specs.declared.refusal.Refusal.the-variants.{FitFailed}
-use Rattle.trajectory.specs.Input.{Measured, Trajectory, measured, trajectory}
+use Rattle.trajectory.specs.Input.{Measured, measured, trajectory}
 use Rattle.smooth.specs.declared.Settings.{Settings}
 use Rattle.smooth.specs.Answer.{Refused, Points, trackOf}
 

@@ -1,18 +1,16 @@
 -- Anchors, added one at a time to the three blocks. Assumes nothing.
 use mathlib.Core.Path.{_≡_, refl, sym, _∙_, ap}
-use mathlib.Core.Bool.{cond}
 use mathlib.Core.List.{List}
 use Prim.Native.Nat.{ℕ, _+_, _*_, _≤_, _<_}
 use native.Mathlib.Omega.{arith}
-use lib.Dec.{eqb}
 use lib.ListN.{length, getD, set, length-set}
 use lib.Ieee.{Float, nan}
 use Rattle.exact.specs.Float.{_⊕_, _⊖_, _⊗_, _⊘_}
-use Rattle.tridiagonal.specs.Columns.{col, Kept, Blocks}
+use Rattle.tridiagonal.specs.Columns.{col, Kept}
 use Rattle.tridiagonal.proofs.Cells.{place, miss, update, kept-none, kept-set, kept-then}
-use Rattle.tridiagonal.proofs.Blocks.{Same, Local, blocks-kept, blocks-step}
+use Rattle.tridiagonal.proofs.Blocks.{Local, blocks-kept, blocks-step}
 use Rattle.trajectory.specs.Input.{Measured, indexAt, valueAt, sigmaAt, origin}
-use Rattle.trajectory.specs.Equations.{changed, raise, weight, anchorPull}
+use Rattle.trajectory.specs.Equations.{weight, anchorPull}
 use Rattle.trajectory.specs.Steps.{anchorAdded, Anchored, Added}
 use Rattle.trajectory.proofs.Changed.{changed-none, raise-next}
 

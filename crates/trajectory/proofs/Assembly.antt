@@ -1,18 +1,16 @@
 -- The equations of the three axes, from the steps that put them together, and what they depend on. Assumes nothing.
-use mathlib.Core.Path.{_≡_, refl, _∙_, ap, fun-ext}
-use mathlib.Core.Bool.{cond}
+use mathlib.Core.Path.{_≡_, refl, _∙_, fun-ext}
 use mathlib.Core.List.{List}
 use Prim.Native.Nat.{ℕ, _+_, _*_, _≤_, _<_}
 use native.Mathlib.Omega.{arith}
-use lib.Dec.{eqb}
 use lib.ListN.{getD}
 use lib.Ieee.{Float, nan}
-use Rattle.exact.specs.Float.{_⊕_, _⊖_, _⊗_, +0}
-use Rattle.tridiagonal.specs.Columns.{col, Kept, Filled, Blocks}
+use Rattle.exact.specs.Float.{+0}
+use Rattle.tridiagonal.specs.Columns.{col, Filled}
 use Rattle.tridiagonal.specs.Steps.{block, Alike}
 use Rattle.tridiagonal.proofs.Cells.{kept-then}
-use Rattle.trajectory.specs.Input.{Measured, Trajectory, indexAt, valueAt, sigmaAt, origin}
-use Rattle.trajectory.specs.Equations.{changed, raise, lower, zeros, Scales, weight, nextAt, anchorPull, linkPull, linkDiagonal, linkRight, diagonal, upper, right, equationsOf}
+use Rattle.trajectory.specs.Input.{Measured, Trajectory, indexAt}
+use Rattle.trajectory.specs.Equations.{raise, lower, zeros, Scales, weight, anchorPull, linkDiagonal, linkRight, diagonal, upper, right, equationsOf}
 use Rattle.trajectory.specs.Steps.{Anchored, Linked, Added, scalesIn, Assembled}
 use Rattle.trajectory.proofs.Changed.{changed-same}
 

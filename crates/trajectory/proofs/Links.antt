@@ -8,11 +8,11 @@ use lib.Dec.{eqb}
 use lib.ListN.{length, getD, set, length-set}
 use lib.Ieee.{Float, nan}
 use Rattle.exact.specs.Float.{_⊕_, _⊖_, _⊗_, _⊘_}
-use Rattle.tridiagonal.specs.Columns.{col, Kept, Blocks}
+use Rattle.tridiagonal.specs.Columns.{col, Kept}
 use Rattle.tridiagonal.proofs.Cells.{place, miss, miss2, miss3, update, kept-none, kept-set, kept-then}
-use Rattle.tridiagonal.proofs.Blocks.{Same, Local, blocks-kept, blocks-step}
+use Rattle.tridiagonal.proofs.Blocks.{Local, blocks-kept, blocks-step}
 use Rattle.trajectory.specs.Input.{Measured, indexAt, valueAt, sigmaAt}
-use Rattle.trajectory.specs.Equations.{changed, raise, lower, weight, linkPull, linkDiagonal, linkRight}
+use Rattle.trajectory.specs.Equations.{weight, linkPull}
 use Rattle.trajectory.specs.Steps.{linkAdded, Linked, Added}
 use Rattle.trajectory.proofs.Changed.{changed-none, lower-next, both-next, across-next}
 

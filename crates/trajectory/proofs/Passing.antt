@@ -1,13 +1,13 @@
 -- The tests of a pass, and the pass as a whole. Assumes nothing.
-use mathlib.Core.Path.{_≡_, refl, sym, _∙_, ap, ap₂}
+use mathlib.Core.Path.{_≡_, refl, sym, _∙_, ap}
 use mathlib.Core.Bool.{Bool, true, false, not, _&&_}
 use mathlib.Core.List.{List}
-use Prim.Native.Nat.{ℕ, _+_, _*_, _≤_, _<_}
+use Prim.Native.Nat.{ℕ, _+_, _*_, _<_}
 use native.Mathlib.Omega.{arith}
 use lib.Ieee.{Float, le}
 use lib.Ieee.Scale.{finite}
 use Rattle.exact.specs.Float.{+0}
-use Rattle.tridiagonal.specs.Columns.{col, Kept, Blocks, every}
+use Rattle.tridiagonal.specs.Columns.{col, every}
 use Rattle.tridiagonal.specs.Tridiagonal.{Equations, solvable, solution}
 use Rattle.tridiagonal.specs.Steps.{block, Alike, allSolvable, Solved}
 use Rattle.tridiagonal.proofs.Cells.{kept-none, kept-then}

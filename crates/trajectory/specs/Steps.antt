@@ -1,15 +1,15 @@
 -- What each step of a pass leaves in the lent work. Definitions only.
 -- The blocks of x, y and z stand first, then the scales of the anchors, then those of the links.
 use mathlib.Core.Path.{_≡_}
-use mathlib.Core.Bool.{Bool, true, not, _&&_}
+use mathlib.Core.Bool.{Bool, true, _&&_}
 use mathlib.Core.List.{List}
 use Prim.Native.Nat.{ℕ, _+_, _-_, _*_, _≤_, _<_}
 use lib.ListN.{length, set}
-use lib.Ieee.{Float, le}
+use lib.Ieee.{Float}
 use lib.Ieee.Scale.{finite}
-use Rattle.exact.specs.Float.{_⊕_, _⊖_, +0}
+use Rattle.exact.specs.Float.{_⊕_, _⊖_}
 use Rattle.tridiagonal.specs.Columns.{col, Kept, Blocks, every}
-use Rattle.tridiagonal.specs.Tridiagonal.{Equations, solution}
+use Rattle.tridiagonal.specs.Tridiagonal.{solution}
 use Rattle.tridiagonal.specs.Steps.{block, Alike, allSolvable}
 use Rattle.trajectory.specs.Input.{Measured, Trajectory, indexAt}
 use Rattle.trajectory.specs.Equations.{changed, raise, lower, Scales, weight, anchorPull, linkDiagonal, linkRight, equationsOf}

@@ -6,15 +6,15 @@ use mathlib.Core.List.{List}
 use Prim.Native.Nat.{ℕ, _+_, _*_, _≤_, _<_}
 use native.Mathlib.Numerals.{add-one}
 use native.Mathlib.Omega.{arith}
-use lib.ListN.{length, getD, set, length-set}
-use lib.Ieee.{Float, nan}
+use lib.ListN.{length, set}
+use lib.Ieee.{Float}
 use Rattle.exact.specs.Float.{_⊖_, _⊗_, _⊘_}
 use Rattle.tridiagonal.specs.Columns.{col, Kept, Blocks}
 use Rattle.tridiagonal.specs.Tridiagonal.{Equations, vanishing, pivot, reduced, solvable}
 use Rattle.tridiagonal.specs.Steps.{block, rowEliminated, allSolvable, Left, Eliminated}
 use Rattle.tridiagonal.proofs.Every.{every-none, every-next, every-not}
 use Rattle.tridiagonal.proofs.Cells.{place, miss2, hit-under, hit-over, grown, kept-none, kept-set, kept-then}
-use Rattle.tridiagonal.proofs.Blocks.{Same, Local, blocks-kept, blocks-step, blocks-map}
+use Rattle.tridiagonal.proofs.Blocks.{Local, blocks-step, blocks-map}
 
 -- ---- the definitions at i + 1
 

@@ -8,14 +8,14 @@ use native.Mathlib.Nat.{eq-or-lt-of-le}
 use native.Mathlib.Omega.{arith}
 use lib.Dec.{ltb}
 use borrow.Author.Tests.{ltb-true, ltb-false}
-use lib.ListN.{length, getD, set, length-set}
-use lib.Ieee.{Float, nan}
+use lib.ListN.{length, set}
+use lib.Ieee.{Float}
 use Rattle.exact.specs.Float.{_⊖_, _⊗_, _⊘_}
 use Rattle.tridiagonal.specs.Columns.{col, Kept, Blocks}
 use Rattle.tridiagonal.specs.Tridiagonal.{Equations, eliminated, back, solution}
 use Rattle.tridiagonal.specs.Steps.{block, rowSolved, Left, Eliminated, Substituted, Solved}
 use Rattle.tridiagonal.proofs.Cells.{hit, miss, kept-none, kept-set, kept-then}
-use Rattle.tridiagonal.proofs.Blocks.{Same, Local, blocks-kept, blocks-step, blocks-map}
+use Rattle.tridiagonal.proofs.Blocks.{Local, blocks-kept, blocks-step, blocks-map}
 use Rattle.tridiagonal.proofs.Alike.{back-same}
 
 back-last : (e : Equations) (m j : ℕ) (a c : Float) → j ≡ 0 → a ≡ e .right m → c ≡ e .diagonal m → a ⊘ c ≡ back e m j

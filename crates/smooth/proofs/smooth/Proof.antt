@@ -6,14 +6,6 @@ use native.Mathlib.Omega.{arith}
 use borrow.Author.Needs.{needs}
 use Rattle.smooth.proofs.smooth.Statement.{statement}
 use Rattle.smooth.proofs.smooth.Tie as tie
-use Rattle.smooth.proofs.smooth.Reads as reads
-use Rattle.smooth.proofs.smooth.Lts as lts
-use Rattle.smooth.proofs.allowed.Reads as allowed-reads
-use Rattle.smooth.proofs.checks.counts.Reads as counts-reads
-use Rattle.smooth.proofs.checks.records.Reads as records-reads
-use Rattle.smooth.proofs.checks.sound.Reads as sound-reads
-use Rattle.smooth.proofs.fit.fit.Reads as fit-reads
-use Rattle.tridiagonal.proofs.fill.fill.Reads as fill-reads
 
 counts-requires : tie.Need-counts-requires
 counts-requires c κs = search needs

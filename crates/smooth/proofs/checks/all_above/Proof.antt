@@ -9,11 +9,8 @@ use Rattle.tridiagonal.specs.Columns.{every}
 use Rattle.tridiagonal.proofs.Every.{every-none}
 use Rattle.smooth.proofs.Refusals.{above-more, above-stop, above-all}
 use native.Mathlib.Omega.{arith}
-use borrow.Author.Needs.{needs}
 use Rattle.smooth.proofs.checks.all_above.Statement.{statement}
 use Rattle.smooth.proofs.checks.all_above.Tie as tie
-use Rattle.smooth.proofs.checks.all_above.Reads as reads
-use Rattle.smooth.proofs.checks.all_above.Lts as lts
 
 abbrev Inv-loop : tie.InvT-loop
 Inv-loop v count k₀ k = (k ≤ count) × (every (λ k. lt +0 (getD v k nan)) k ≡ true)

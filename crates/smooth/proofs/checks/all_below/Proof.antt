@@ -7,11 +7,8 @@ use Rattle.tridiagonal.specs.Columns.{every}
 use Rattle.tridiagonal.proofs.Every.{every-none}
 use Rattle.smooth.proofs.Refusals.{below-more, below-stop, below-all}
 use native.Mathlib.Omega.{arith}
-use borrow.Author.Needs.{needs}
 use Rattle.smooth.proofs.checks.all_below.Statement.{statement}
 use Rattle.smooth.proofs.checks.all_below.Tie as tie
-use Rattle.smooth.proofs.checks.all_below.Reads as reads
-use Rattle.smooth.proofs.checks.all_below.Lts as lts
 
 abbrev Inv-loop : tie.InvT-loop
 Inv-loop v count n k₀ k = (k ≤ count) × (every (λ j. ltb (getD v j 0) n) k ≡ true)

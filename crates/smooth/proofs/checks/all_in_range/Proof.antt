@@ -12,9 +12,6 @@ use native.Mathlib.Omega.{arith}
 use borrow.Author.Needs.{needs}
 use Rattle.smooth.proofs.checks.all_in_range.Statement.{statement}
 use Rattle.smooth.proofs.checks.all_in_range.Tie as tie
-use Rattle.smooth.proofs.checks.all_in_range.Reads as reads
-use Rattle.smooth.proofs.checks.all_in_range.Lts as lts
-use Rattle.numeric.proofs.real.in_range.Reads as in-range-reads
 
 abbrev Inv-loop : tie.InvT-loop
 Inv-loop v count k₀ k = (k ≤ count) × (every (λ k. inRange (getD v k nan)) k ≡ true)

@@ -1,13 +1,9 @@
 use mathlib.Core.Path.{sym, _∙_}
 use borrow.Author.Tests.{le-leb, lt-leb, not-true, not-false}
 use Rattle.smooth.specs.Answer.{countsOk}
-use native.Mathlib.Omega.{arith}
 use borrow.Author.Needs.{needs}
 use Rattle.smooth.proofs.checks.counts.Statement.{statement}
 use Rattle.smooth.proofs.checks.counts.Tie as tie
-use Rattle.smooth.proofs.checks.counts.Reads as reads
-use Rattle.smooth.proofs.checks.counts.Lts as lts
-use Rattle.smooth.proofs.checks.long.Reads as long-reads
 
 returns : tie.Need-returns
 unfolding countsOk

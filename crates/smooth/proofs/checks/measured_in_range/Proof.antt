@@ -1,11 +1,7 @@
 use mathlib.Core.Path.{sym, _∙_}
-use native.Mathlib.Omega.{arith}
 use borrow.Author.Needs.{needs}
 use Rattle.smooth.proofs.checks.measured_in_range.Statement.{statement}
 use Rattle.smooth.proofs.checks.measured_in_range.Tie as tie
-use Rattle.smooth.proofs.checks.measured_in_range.Reads as reads
-use Rattle.smooth.proofs.checks.measured_in_range.Lts as lts
-use Rattle.smooth.proofs.checks.all_in_range.Reads as all-in-range-reads
 
 mul-all-in-range : tie.Need-mul-all-in-range
 mul-all-in-range c = search needs

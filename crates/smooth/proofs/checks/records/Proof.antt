@@ -1,12 +1,8 @@
 use mathlib.Core.Path.{sym, _∙_}
 use Rattle.smooth.specs.Answer.{recordsOk}
-use native.Mathlib.Omega.{arith}
 use borrow.Author.Needs.{needs}
 use Rattle.smooth.proofs.checks.records.Statement.{statement}
 use Rattle.smooth.proofs.checks.records.Tie as tie
-use Rattle.smooth.proofs.checks.records.Reads as reads
-use Rattle.smooth.proofs.checks.records.Lts as lts
-use Rattle.smooth.proofs.checks.measured_in_range.Reads as measured-in-range-reads
 
 measured-in-range-requires : tie.Need-measured-in-range-requires
 measured-in-range-requires c κs = search needs

@@ -2,14 +2,9 @@ use mathlib.Core.Path.{sym, _∙_}
 use borrow.Author.Tests.{not-true, not-false}
 use Rattle.smooth.specs.Answer.{trackOk}
 use Rattle.smooth.proofs.Refusals.{none-there, some-there, next-below}
-use native.Mathlib.Omega.{arith}
 use borrow.Author.Needs.{needs}
 use Rattle.smooth.proofs.checks.sound.Statement.{statement}
 use Rattle.smooth.proofs.checks.sound.Tie as tie
-use Rattle.smooth.proofs.checks.sound.Reads as reads
-use Rattle.smooth.proofs.checks.sound.Lts as lts
-use Rattle.smooth.proofs.checks.all_above.Reads as all-above-reads
-use Rattle.smooth.proofs.checks.all_below.Reads as all-below-reads
 
 returns : tie.Need-returns
 unfolding trackOk

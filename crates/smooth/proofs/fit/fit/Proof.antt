@@ -3,13 +3,6 @@ use native.Mathlib.Omega.{arith}
 use borrow.Author.Needs.{needs}
 use Rattle.smooth.proofs.fit.fit.Statement.{statement}
 use Rattle.smooth.proofs.fit.fit.Tie as tie
-use Rattle.smooth.proofs.fit.fit.Reads as reads
-use Rattle.smooth.proofs.fit.fit.Lts as lts
-use Rattle.smooth.proofs.fit.publish.Reads as publish-reads
-use Rattle.smooth.proofs.fit.refine.Reads as refine-reads
-use Rattle.smooth.proofs.weigh.limit.Reads as limit-reads
-use Rattle.trajectory.proofs.pass.pass.Reads as pass-reads
-use Rattle.tridiagonal.proofs.fill.fill.Reads as fill-reads
 
 mul-fill : tie.Need-mul-fill
 mul-fill c = search needs

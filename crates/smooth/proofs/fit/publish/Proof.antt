@@ -5,11 +5,8 @@ use Rattle.trajectory.proofs.Changed.{Counting}
 use Rattle.smooth.specs.Steps.{Published}
 use Rattle.smooth.proofs.Rounds.{published-none, published-more, published-all}
 use native.Mathlib.Omega.{arith}
-use borrow.Author.Needs.{needs}
 use Rattle.smooth.proofs.fit.publish.Statement.{statement}
 use Rattle.smooth.proofs.fit.publish.Tie as tie
-use Rattle.smooth.proofs.fit.publish.Reads as reads
-use Rattle.smooth.proofs.fit.publish.Lts as lts
 
 abbrev Inv-loop : tie.InvT-loop
 Inv-loop w n x y z r₀ k₀ r k = Counting n k r₀ r (Published w n k x y z r₀ r)

@@ -3,12 +3,8 @@ use borrow.Author.Tests.{not-true, not-false}
 use Rattle.trajectory.specs.Input.{measured, trajectory}
 use Rattle.smooth.proofs.Rounds.{Going, going-none, going-more, going-stop, going-end}
 use native.Mathlib.Omega.{arith}
-use borrow.Author.Needs.{needs}
 use Rattle.smooth.proofs.fit.refine.Statement.{statement}
 use Rattle.smooth.proofs.fit.refine.Tie as tie
-use Rattle.smooth.proofs.fit.refine.Reads as reads
-use Rattle.smooth.proofs.fit.refine.Lts as lts
-use Rattle.smooth.proofs.fit.round.Reads as round-reads
 
 abbrev Inv-loop : tie.InvT-loop
 Inv-loop w₀ n anchors links ai av ag li lv lg h c rounds r₀ left₀ w r left = Going (trajectory n (measured anchors ai av ag) (measured links li lv lg)) h rounds w₀ w r₀ r left

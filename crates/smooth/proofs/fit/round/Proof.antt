@@ -4,12 +4,6 @@ use native.Mathlib.Omega.{arith}
 use borrow.Author.Needs.{needs}
 use Rattle.smooth.proofs.fit.round.Statement.{statement}
 use Rattle.smooth.proofs.fit.round.Tie as tie
-use Rattle.smooth.proofs.fit.round.Reads as reads
-use Rattle.smooth.proofs.fit.round.Lts as lts
-use Rattle.smooth.proofs.fit.publish.Reads as publish-reads
-use Rattle.smooth.proofs.weigh.weigh_anchors.Reads as weigh-anchors-reads
-use Rattle.smooth.proofs.weigh.weigh_links.Reads as weigh-links-reads
-use Rattle.trajectory.proofs.pass.pass.Reads as pass-reads
 
 mul-from : tie.Need-mul-from
 mul-from c = search needs

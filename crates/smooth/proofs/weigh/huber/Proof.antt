@@ -1,11 +1,7 @@
 use Rattle.smooth.proofs.Weights.{huber-near, huber-far}
-use native.Mathlib.Omega.{arith}
 use borrow.Author.Needs.{needs}
 use Rattle.smooth.proofs.weigh.huber.Statement.{statement}
 use Rattle.smooth.proofs.weigh.huber.Tie as tie
-use Rattle.smooth.proofs.weigh.huber.Reads as reads
-use Rattle.smooth.proofs.weigh.huber.Lts as lts
-use Rattle.numeric.proofs.real.max.Reads as max-reads
 
 returns : tie.Need-returns
 returns c = huber-near _ _ (c .if1 .taken)

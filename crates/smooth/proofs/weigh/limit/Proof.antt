@@ -1,11 +1,7 @@
 use Rattle.smooth.proofs.Weights.{no-limit, some-limit}
-use native.Mathlib.Omega.{arith}
 use borrow.Author.Needs.{needs}
 use Rattle.smooth.proofs.weigh.limit.Statement.{statement}
 use Rattle.smooth.proofs.weigh.limit.Tie as tie
-use Rattle.smooth.proofs.weigh.limit.Reads as reads
-use Rattle.smooth.proofs.weigh.limit.Lts as lts
-use Rattle.numeric.proofs.root.sqrt.Reads as sqrt-reads
 
 sqrt-requires : tie.Need-sqrt-requires
 sqrt-requires c κs = search needs

@@ -4,14 +4,9 @@ use lib.Ieee.Fits.{add-fits}
 use Rattle.numeric.specs.Real.{square}
 use Rattle.smooth.specs.Track.{huberOf}
 use Rattle.smooth.proofs.Weights.{scale-near}
-use native.Mathlib.Omega.{arith}
 use borrow.Author.Needs.{needs}
 use Rattle.smooth.proofs.weigh.scale.Statement.{statement}
 use Rattle.smooth.proofs.weigh.scale.Tie as tie
-use Rattle.smooth.proofs.weigh.scale.Reads as reads
-use Rattle.smooth.proofs.weigh.scale.Lts as lts
-use Rattle.numeric.proofs.root.sqrt.Reads as sqrt-reads
-use Rattle.smooth.proofs.weigh.huber.Reads as huber-reads
 
 returns : tie.Need-returns
 unfolding square

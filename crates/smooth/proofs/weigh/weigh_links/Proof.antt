@@ -1,4 +1,4 @@
-use mathlib.Core.Path.{refl, _∙_}
+use mathlib.Core.Path.{refl}
 use Prim.Native.Nat.{_-_}
 use lib.ListN.{length-set}
 use Rattle.trajectory.specs.Input.{measured}
@@ -7,12 +7,8 @@ use Rattle.smooth.specs.Track.{linkScale}
 use Rattle.smooth.specs.Steps.{Weighed, fitIn}
 use Rattle.smooth.proofs.Weights.{weighed-none, weighed-all, link-weighed}
 use native.Mathlib.Omega.{arith}
-use borrow.Author.Needs.{needs}
 use Rattle.smooth.proofs.weigh.weigh_links.Statement.{statement}
 use Rattle.smooth.proofs.weigh.weigh_links.Tie as tie
-use Rattle.smooth.proofs.weigh.weigh_links.Reads as reads
-use Rattle.smooth.proofs.weigh.weigh_links.Lts as lts
-use Rattle.smooth.proofs.weigh.scale.Reads as scale-reads
 
 abbrev Inv-loop : tie.InvT-loop
 Inv-loop w₀ n from count index value sigma h c r j₀ w j = Counting count j w₀ w (Weighed (linkScale (measured count index value sigma) h (fitIn r)) from j w₀ w)

@@ -1,13 +1,9 @@
 use mathlib.Core.Path.{sym, _∙_}
 use borrow.Author.Tests.{not-true, not-false}
 use Rattle.trajectory.proofs.Passing.{second-stops, third-says}
-use native.Mathlib.Omega.{arith}
 use borrow.Author.Needs.{needs}
 use Rattle.trajectory.proofs.pass.all_finite.Statement.{statement}
 use Rattle.trajectory.proofs.pass.all_finite.Tie as tie
-use Rattle.trajectory.proofs.pass.all_finite.Reads as reads
-use Rattle.trajectory.proofs.pass.all_finite.Lts as lts
-use Rattle.trajectory.proofs.pass.block_finite.Reads as block-finite-reads
 
 block-finite-requires : tie.Need-block-finite-requires
 block-finite-requires c κs = search needs

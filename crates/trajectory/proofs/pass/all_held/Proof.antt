@@ -1,13 +1,9 @@
 use mathlib.Core.Path.{sym, _∙_}
 use borrow.Author.Tests.{not-true, not-false}
 use Rattle.trajectory.proofs.Passing.{second-stops, third-says}
-use native.Mathlib.Omega.{arith}
 use borrow.Author.Needs.{needs}
 use Rattle.trajectory.proofs.pass.all_held.Statement.{statement}
 use Rattle.trajectory.proofs.pass.all_held.Tie as tie
-use Rattle.trajectory.proofs.pass.all_held.Reads as reads
-use Rattle.trajectory.proofs.pass.all_held.Lts as lts
-use Rattle.trajectory.proofs.pass.block_held.Reads as block-held-reads
 
 block-held-requires : tie.Need-block-held-requires
 block-held-requires c κs = search needs

@@ -10,9 +10,6 @@ use native.Mathlib.Omega.{arith}
 use borrow.Author.Needs.{needs}
 use Rattle.trajectory.proofs.pass.block_finite.Statement.{statement}
 use Rattle.trajectory.proofs.pass.block_finite.Tie as tie
-use Rattle.trajectory.proofs.pass.block_finite.Reads as reads
-use Rattle.trajectory.proofs.pass.block_finite.Lts as lts
-use Rattle.numeric.proofs.real.is_finite.Reads as is-finite-reads
 
 abbrev Inv-loop : tie.InvT-loop
 Inv-loop w at n m k₀ k = (k ≤ n) × (every (λ k. finite (col w (at + n * 2) k)) k ≡ true)

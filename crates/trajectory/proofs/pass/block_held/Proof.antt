@@ -6,11 +6,8 @@ use Rattle.tridiagonal.proofs.Every.{every-none}
 use Rattle.trajectory.specs.Pass.{held}
 use Rattle.trajectory.proofs.Passing.{held-more, held-stop, held-all}
 use native.Mathlib.Omega.{arith}
-use borrow.Author.Needs.{needs}
 use Rattle.trajectory.proofs.pass.block_held.Statement.{statement}
 use Rattle.trajectory.proofs.pass.block_held.Tie as tie
-use Rattle.trajectory.proofs.pass.block_held.Reads as reads
-use Rattle.trajectory.proofs.pass.block_held.Lts as lts
 
 abbrev Inv-loop : tie.InvT-loop
 Inv-loop w at n k₀ k = (k ≤ n) × (held (block w at n) k ≡ true)

@@ -1,12 +1,7 @@
 use Rattle.trajectory.proofs.Passing.{pass-done}
-use native.Mathlib.Omega.{arith}
 use borrow.Author.Needs.{needs}
 use Rattle.trajectory.proofs.pass.pass.Statement.{statement}
 use Rattle.trajectory.proofs.pass.pass.Tie as tie
-use Rattle.trajectory.proofs.pass.pass.Reads as reads
-use Rattle.trajectory.proofs.pass.pass.Lts as lts
-use Rattle.trajectory.proofs.pass.settle.Reads as settle-reads
-use Rattle.trajectory.proofs.system.assemble.Reads as assemble-reads
 
 assemble-requires : tie.Need-assemble-requires
 assemble-requires c κs = search needs

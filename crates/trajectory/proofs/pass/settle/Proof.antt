@@ -1,14 +1,8 @@
 use borrow.Author.Tests.{not-true, not-false}
 use Rattle.trajectory.proofs.Passing.{not-held, not-solvable, settled}
-use native.Mathlib.Omega.{arith}
 use borrow.Author.Needs.{needs}
 use Rattle.trajectory.proofs.pass.settle.Statement.{statement}
 use Rattle.trajectory.proofs.pass.settle.Tie as tie
-use Rattle.trajectory.proofs.pass.settle.Reads as reads
-use Rattle.trajectory.proofs.pass.settle.Lts as lts
-use Rattle.trajectory.proofs.pass.all_finite.Reads as all-finite-reads
-use Rattle.trajectory.proofs.pass.all_held.Reads as all-held-reads
-use Rattle.tridiagonal.proofs.solve.thomas.Reads as thomas-reads
 
 all-held-requires : tie.Need-all-held-requires
 all-held-requires c κs = search needs

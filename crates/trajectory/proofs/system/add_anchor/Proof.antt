@@ -3,8 +3,6 @@ use native.Mathlib.Omega.{arith}
 use borrow.Author.Needs.{needs}
 use Rattle.trajectory.proofs.system.add_anchor.Statement.{statement}
 use Rattle.trajectory.proofs.system.add_anchor.Tie as tie
-use Rattle.trajectory.proofs.system.add_anchor.Reads as reads
-use Rattle.trajectory.proofs.system.add_anchor.Lts as lts
 
 mul-m : tie.Need-mul-m
 mul-m c = search needs

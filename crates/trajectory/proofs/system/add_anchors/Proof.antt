@@ -1,16 +1,12 @@
-use mathlib.Core.Path.{refl, sym, _∙_}
-use Prim.Native.Nat.{_+_, _-_, _*_}
+use mathlib.Core.Path.{refl, _∙_}
+use Prim.Native.Nat.{_-_, _*_}
 use Rattle.trajectory.specs.Input.{measured}
 use Rattle.trajectory.specs.Steps.{Anchored, Added}
 use Rattle.trajectory.proofs.Changed.{Counting}
 use Rattle.trajectory.proofs.Anchors.{anchors-none, anchors-more, anchors-all}
 use native.Mathlib.Omega.{arith}
-use borrow.Author.Needs.{needs}
 use Rattle.trajectory.proofs.system.add_anchors.Statement.{statement}
 use Rattle.trajectory.proofs.system.add_anchors.Tie as tie
-use Rattle.trajectory.proofs.system.add_anchors.Reads as reads
-use Rattle.trajectory.proofs.system.add_anchors.Lts as lts
-use Rattle.trajectory.proofs.system.add_anchor.Reads as add-anchor-reads
 
 abbrev Inv-loop : tie.InvT-loop
 Inv-loop w₀ n count index value sigma y z from ox oy oz j₀ w j = Counting count j w₀ w (Added (Anchored w₀ n (n * 9) (measured count index value sigma) j) w₀ n w)

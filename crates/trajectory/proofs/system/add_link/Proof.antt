@@ -3,8 +3,6 @@ use native.Mathlib.Omega.{arith}
 use borrow.Author.Needs.{needs}
 use Rattle.trajectory.proofs.system.add_link.Statement.{statement}
 use Rattle.trajectory.proofs.system.add_link.Tie as tie
-use Rattle.trajectory.proofs.system.add_link.Reads as reads
-use Rattle.trajectory.proofs.system.add_link.Lts as lts
 
 add-u : tie.Need-add-u
 add-u c = search needs

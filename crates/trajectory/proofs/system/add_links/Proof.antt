@@ -1,16 +1,12 @@
-use mathlib.Core.Path.{refl, sym, _∙_}
-use Prim.Native.Nat.{_+_, _-_, _*_}
+use mathlib.Core.Path.{refl, _∙_}
+use Prim.Native.Nat.{_-_}
 use Rattle.trajectory.specs.Input.{measured}
 use Rattle.trajectory.specs.Steps.{Linked, Added}
 use Rattle.trajectory.proofs.Changed.{Counting}
 use Rattle.trajectory.proofs.Links.{links-none, links-more, links-all}
 use native.Mathlib.Omega.{arith}
-use borrow.Author.Needs.{needs}
 use Rattle.trajectory.proofs.system.add_links.Statement.{statement}
 use Rattle.trajectory.proofs.system.add_links.Tie as tie
-use Rattle.trajectory.proofs.system.add_links.Reads as reads
-use Rattle.trajectory.proofs.system.add_links.Lts as lts
-use Rattle.trajectory.proofs.system.add_link.Reads as add-link-reads
 
 abbrev Inv-loop : tie.InvT-loop
 Inv-loop w₀ n from count index value sigma y z j₀ w j = Counting count j w₀ w (Added (Linked w₀ n from (measured count index value sigma) j) w₀ n w)

@@ -1,13 +1,7 @@
 use Rattle.trajectory.proofs.Assembly.{assembled}
-use native.Mathlib.Omega.{arith}
 use borrow.Author.Needs.{needs}
 use Rattle.trajectory.proofs.system.assemble.Statement.{statement}
 use Rattle.trajectory.proofs.system.assemble.Tie as tie
-use Rattle.trajectory.proofs.system.assemble.Reads as reads
-use Rattle.trajectory.proofs.system.assemble.Lts as lts
-use Rattle.trajectory.proofs.system.add_anchors.Reads as add-anchors-reads
-use Rattle.trajectory.proofs.system.add_links.Reads as add-links-reads
-use Rattle.tridiagonal.proofs.fill.fill.Reads as fill-reads
 
 mul-from : tie.Need-mul-from
 mul-from c = search needs

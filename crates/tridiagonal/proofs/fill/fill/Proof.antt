@@ -1,14 +1,11 @@
 use native.Mathlib.Omega.{arith}
-use borrow.Author.Needs.{needs}
-use mathlib.Core.Path.{_≡_, refl, sym, _∙_, ap}
-use Prim.Native.Nat.{ℕ, _+_, _-_, _*_, _≤_, _<_}
-use lib.ListN.{length, getD, set, length-set}
+use mathlib.Core.Path.{_≡_, refl}
+use Prim.Native.Nat.{_-_, _≤_}
+use lib.ListN.{length, length-set}
 use Rattle.tridiagonal.specs.Columns.{Filled}
 use Rattle.tridiagonal.proofs.Cells.{filled-none, filled-more, filled-all}
 use Rattle.tridiagonal.proofs.fill.fill.Statement.{statement}
 use Rattle.tridiagonal.proofs.fill.fill.Tie as tie
-use Rattle.tridiagonal.proofs.fill.fill.Reads as reads
-use Rattle.tridiagonal.proofs.fill.fill.Lts as lts
 
 abbrev Inv-loop : tie.InvT-loop
 Inv-loop w₀ lo hi v k₀ w k = (lo ≤ k) × (k ≤ hi) × (length w ≡ length w₀) × Filled lo k v w₀ w

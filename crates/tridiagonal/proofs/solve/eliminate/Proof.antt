@@ -1,4 +1,4 @@
-use mathlib.Core.Path.{refl, sym, _∙_, ap}
+use mathlib.Core.Path.{sym, _∙_, ap}
 use Prim.Native.Nat.{_-_}
 use borrow.Author.Tests.{not-true, not-false}
 use Rattle.tridiagonal.specs.Tridiagonal.{vanishing}
@@ -8,10 +8,6 @@ use native.Mathlib.Omega.{arith}
 use borrow.Author.Needs.{needs}
 use Rattle.tridiagonal.proofs.solve.eliminate.Statement.{statement}
 use Rattle.tridiagonal.proofs.solve.eliminate.Tie as tie
-use Rattle.tridiagonal.proofs.solve.eliminate.Reads as reads
-use Rattle.tridiagonal.proofs.solve.eliminate.Lts as lts
-use Rattle.tridiagonal.proofs.solve.eliminate_row.Reads as eliminate-row-reads
-use Rattle.tridiagonal.proofs.solve.vanishes.Reads as vanishes-reads
 
 abbrev Inv-loop : tie.InvT-loop
 Inv-loop w₀ n y z i₀ w i = Eliminating w₀ n i w

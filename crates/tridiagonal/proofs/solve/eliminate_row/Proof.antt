@@ -5,9 +5,6 @@ use native.Mathlib.Omega.{arith}
 use borrow.Author.Needs.{needs}
 use Rattle.tridiagonal.proofs.solve.eliminate_row.Statement.{statement}
 use Rattle.tridiagonal.proofs.solve.eliminate_row.Tie as tie
-use Rattle.tridiagonal.proofs.solve.eliminate_row.Reads as reads
-use Rattle.tridiagonal.proofs.solve.eliminate_row.Lts as lts
-use Rattle.tridiagonal.proofs.solve.vanishes.Reads as vanishes-reads
 
 add-p : tie.Need-add-p
 add-p c = search needs

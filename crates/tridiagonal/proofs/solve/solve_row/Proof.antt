@@ -1,10 +1,7 @@
 use borrow.Author.Tests.{lt-ltb, le-ltb}
-use native.Mathlib.Omega.{arith}
 use borrow.Author.Needs.{needs}
 use Rattle.tridiagonal.proofs.solve.solve_row.Statement.{statement}
 use Rattle.tridiagonal.proofs.solve.solve_row.Tie as tie
-use Rattle.tridiagonal.proofs.solve.solve_row.Reads as reads
-use Rattle.tridiagonal.proofs.solve.solve_row.Lts as lts
 
 mul-m : tie.Need-mul-m
 mul-m c = search needs

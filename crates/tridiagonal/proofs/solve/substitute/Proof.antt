@@ -1,11 +1,7 @@
 use Rattle.tridiagonal.proofs.Substitution.{Substituting, substituting-none, substituting-more, substituted}
 use native.Mathlib.Omega.{arith}
-use borrow.Author.Needs.{needs}
 use Rattle.tridiagonal.proofs.solve.substitute.Statement.{statement}
 use Rattle.tridiagonal.proofs.solve.substitute.Tie as tie
-use Rattle.tridiagonal.proofs.solve.substitute.Reads as reads
-use Rattle.tridiagonal.proofs.solve.substitute.Lts as lts
-use Rattle.tridiagonal.proofs.solve.solve_row.Reads as solve-row-reads
 
 abbrev Inv-loop : tie.InvT-loop
 Inv-loop w₀ n y z k₀ w k = Substituting w₀ n k w

@@ -1,12 +1,7 @@
 use Rattle.tridiagonal.proofs.Substitution.{solved, unsolved}
-use native.Mathlib.Omega.{arith}
 use borrow.Author.Needs.{needs}
 use Rattle.tridiagonal.proofs.solve.thomas.Statement.{statement}
 use Rattle.tridiagonal.proofs.solve.thomas.Tie as tie
-use Rattle.tridiagonal.proofs.solve.thomas.Reads as reads
-use Rattle.tridiagonal.proofs.solve.thomas.Lts as lts
-use Rattle.tridiagonal.proofs.solve.eliminate.Reads as eliminate-reads
-use Rattle.tridiagonal.proofs.solve.substitute.Reads as substitute-reads
 
 eliminate-requires : tie.Need-eliminate-requires
 eliminate-requires c κs = search needs
