@@ -60,6 +60,7 @@ pub data Tracked : Type 0 where
   Refused : Refusal → Tracked
   Points : List Float → Tracked
 
+-- t where the test holds, and else the refusal
 abbrev pub unless : Bool → Refusal → Tracked → Tracked
 unless b x t = cond b t (Refused x)
 
@@ -71,6 +72,7 @@ trackOf p s r w =
     (unless (recordsOk p) RecordOutOfRange
     (unless (trackOk p) BadTrack (unless (passes p ones) FitFailed (Points (points (smoothed p (s .huber) (s .iterations)) (p .n)))))))
 
+-- the answer's enum, without the points, which stand in the result
 abbrev pub answerOf : Tracked → Track
 answerOf (Refused x) = Track.Refused x
 answerOf (Points ps) = Track.Smoothed
