@@ -17,9 +17,6 @@ use Rattle.trajectory.proofs.Changed.{changed-same}
 -- ---- the same scales give the same steps
 
 module _ (m : Measured) (scale scale' : ℕ → Float) (t j : ℕ) (e : scale j ≡ scale' j) where
-  same-weight : weight m scale t j ≡ weight m scale' t j
-  same-weight = rw e
-
   same-anchor : (k : ℕ) (x : Float) → raise (indexAt m) (weight m scale t) j k x ≡ raise (indexAt m) (weight m scale' t) j k x
   same-anchor k x = rw e
 

@@ -1,4 +1,4 @@
--- Columns in one list of floats, place by place: what stands at a place after a store, what a step keeps, and a part that was lent. Assumes nothing.
+-- Columns in one list of floats, place by place: what stands at a place after a store and what a step keeps. Assumes nothing.
 use mathlib.Core.Path.{_≡_, refl, sym, _∙_, ap}
 use mathlib.Core.Logic.{_⊎_, inl, inr, ⊎-elim}
 use mathlib.Core.List.{List, _++_}
@@ -7,9 +7,8 @@ use mathlib.Core.Bool.{Bool, true, false, cond}
 use native.Mathlib.Nat.{eq-or-lt-of-le}
 use native.Mathlib.Decide.{decLt}
 use native.Mathlib.Omega.{arith}
-use lib.ListN.{length, getD, set, take, drop, replicate, length-set, length-append, length-drop, length-replicate, getD-replicate, List·getD-append}
-use lib.Seq.{getD-set-same, getD-set-other, getD-take, getD-drop, getD-append-add, length-take-le, ext-getD}
-use borrow.Rule.Slice.PartMut.{midOf, postOf, putMid}
+use lib.ListN.{length, getD, set, drop, replicate, length-set, length-append, length-drop, length-replicate, getD-replicate, List·getD-append}
+use lib.Seq.{getD-set-same, getD-set-other, getD-drop, getD-append-add, ext-getD}
 use lib.Dec.{eqb}
 use lib.Ieee.{Float, nan}
 use borrow.Author.Tests.{eqb-true, eqb-false}
@@ -89,34 +88,6 @@ filled-all lo k hi v w w' e s = rw e at s
 
 pub miss3 : (xs : List Float) (i j l k : ℕ) (v w y : Float) → (k ≡ i → ⊥) → (k ≡ j → ⊥) → (k ≡ l → ⊥) → getD (set (set (set xs i v) j w) l y) k nan ≡ getD xs k nan
 miss3 xs i j l k v w y h g f = miss (set (set xs i v) j w) l k y f ∙ miss2 xs i j k v w h g
-
--- ---- a part that was lent and came back: `midOf a k xs` is the part, `putMid a k xs ys` the whole with ys in its place
-
-pub part-at : (a k : ℕ) (xs : List Float) (j : ℕ) → j < k → getD (midOf a k xs) j nan ≡ getD xs (a + j) nan
-part-at a k xs j h = getD-take k (drop a xs) j nan h ∙ getD-drop a xs j nan
-
-pub put-low : (a k : ℕ) (xs ys : List Float) (j : ℕ) → a ≤ length xs → j < a → getD (putMid a k xs ys) j nan ≡ getD xs j nan
-put-low a k xs ys j h l = List·getD-append (take a xs) (ys ++ postOf a k xs) nan j (rw length-take-le l) ∙ getD-take a xs j nan l
-
-after : (a k : ℕ) (xs ys : List Float) (j : ℕ) → a ≤ length xs → getD (putMid a k xs ys) (a + j) nan ≡ getD (ys ++ postOf a k xs) j nan
-after a k xs ys j h =
-    place (putMid a k xs ys) (a + j) (length (take a xs) + j) (omega (arith, length-take-le a xs h))
-    ∙ getD-append-add (take a xs) (ys ++ postOf a k xs) j nan
-
-pub put-at : (a k : ℕ) (xs ys : List Float) (j : ℕ) → a ≤ length xs → j < length ys → getD (putMid a k xs ys) (a + j) nan ≡ getD ys j nan
-put-at a k xs ys j h l = after a k xs ys j h ∙ List·getD-append ys (postOf a k xs) nan j l
-
-pub put-high : (a k : ℕ) (xs ys : List Float) (j : ℕ) → a ≤ length xs → length ys ≡ k → a + k ≤ j → getD (putMid a k xs ys) j nan ≡ getD xs j nan
-put-high a k xs ys j h e l =
-    place (putMid a k xs ys) j (a + (length ys + (j - a - k))) (omega arith)
-    ∙ after a k xs ys (length ys + (j - a - k)) h
-    ∙ getD-append-add ys (postOf a k xs) (j - a - k) nan
-    ∙ getD-drop k (drop a xs) (j - a - k) nan
-    ∙ getD-drop a xs (k + (j - a - k)) nan
-    ∙ place xs (a + (k + (j - a - k))) j (omega arith)
-
-pub put-kept : (a k : ℕ) (xs ys : List Float) → a + k ≤ length xs → length ys ≡ k → Kept a (a + k) xs (putMid a k xs ys)
-put-kept a k xs ys h e = record { low = λ j l. put-low a k xs ys j (omega arith) l; high = λ j l. put-high a k xs ys j (omega arith) e l }
 
 -- ---- a list from its places: v at the first n, and the rest as it was
 pub fill-list : (n : ℕ) (v : Float) (w w' : List Float) → length w' ≡ length w → n ≤ length w → ((k : ℕ) → k < n → getD w' k nan ≡ v) → ((k : ℕ) → n ≤ k → getD w' k nan ≡ getD w k nan)
