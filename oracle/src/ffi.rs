@@ -87,3 +87,68 @@ pub fn solve(l: &Square, b: &Column) -> Column {
     unsafe { zaqnuti_solve(l, b, &mut x) };
     x
 }
+
+#[cfg(feature = "track")]
+mod smoothing {
+    use crate::services::track::Input;
+
+    extern "C" {
+        fn zaqnuti_smooth(
+            n: usize,
+            anchors: usize,
+            links: usize,
+            anchor_index: *const usize,
+            anchor_indices: usize,
+            anchor_value: *const f64,
+            anchor_values: usize,
+            anchor_sigma: *const f64,
+            anchor_sigmas: usize,
+            link_index: *const usize,
+            link_indices: usize,
+            link_value: *const f64,
+            link_values: usize,
+            link_sigma: *const f64,
+            link_sigmas: usize,
+            huber: f64,
+            iterations: usize,
+            result: *mut f64,
+            results: usize,
+            work: *mut f64,
+            works: usize,
+        ) -> u8;
+    }
+
+    /// The track in result and 0, or the number of the refusal.
+    #[inline]
+    pub fn track(input: &Input, result: &mut [f64], work: &mut [f64]) -> u8 {
+        let (a, l) = (&input.anchors, &input.links);
+        // SAFETY: each pointer is given with its length, and the last two are ours alone.
+        unsafe {
+            zaqnuti_smooth(
+                input.n,
+                a.count,
+                l.count,
+                a.index.as_ptr(),
+                a.index.len(),
+                a.value.as_ptr(),
+                a.value.len(),
+                a.sigma.as_ptr(),
+                a.sigma.len(),
+                l.index.as_ptr(),
+                l.index.len(),
+                l.value.as_ptr(),
+                l.value.len(),
+                l.sigma.as_ptr(),
+                l.sigma.len(),
+                input.huber,
+                input.iterations,
+                result.as_mut_ptr(),
+                result.len(),
+                work.as_mut_ptr(),
+                work.len(),
+            )
+        }
+    }
+}
+#[cfg(feature = "track")]
+pub use smoothing::track;

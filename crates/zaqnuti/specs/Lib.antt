@@ -1,3 +1,4 @@
 pub mod Columns
 pub mod Numbers
 pub mod Estimates
+pub mod Track

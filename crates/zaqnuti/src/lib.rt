@@ -5,3 +5,4 @@ pub mod estimates;
 pub mod matrix;
 pub mod numbers;
 pub mod round;
+pub mod track;

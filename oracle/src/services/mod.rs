@@ -21,6 +21,8 @@ mod sigma;
 mod solve;
 mod soundness;
 mod standins;
+#[cfg(feature = "track")]
+pub mod track;
 
 use crate::random::Random;
 use crate::tally::Tally;
@@ -63,4 +65,6 @@ pub const SERVICES: &[Service] = &[
     #[cfg(feature = "fix")]
     fix::SERVICE,
     soundness::SERVICE,
+    #[cfg(feature = "track")]
+    track::SERVICE,
 ];

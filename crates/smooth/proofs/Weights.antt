@@ -1,0 +1,163 @@
+-- The scales of the measurements, one at a time. Assumes nothing.
+use mathlib.Core.Path.{_≡_, refl, sym, _∙_, ap, ap₂}
+use mathlib.Core.Bool.{true, false, _&&_}
+use mathlib.Core.Logic.{⊎-elim}
+use mathlib.Core.List.{List}
+use Prim.Native.Nat.{ℕ, _+_, _*_, _<_}
+use native.Mathlib.Nat.{eq-or-lt-of-le}
+use native.Mathlib.Omega.{arith}
+use lib.Dec.{T}
+use lib.ListN.{length, getD, set}
+use lib.Ieee.{Float, nan, inf, fin, binary64, fits, lt, le, div, ofBits, ofInt}
+use lib.Ieee.Fits.{mul-fits}
+use Rattle.exact.specs.Float.{_⊕_, _⊖_, _⊗_, _⊘_, +0, 1·0, decimal, bits}
+use Rattle.numeric.specs.Root.{rootOf}
+use Rattle.numeric.specs.Real.{square, max}
+use Rattle.tridiagonal.proofs.Every.{left-true, right-true}
+use Rattle.tridiagonal.proofs.Cells.{place, hit, miss, kept-none}
+use Rattle.trajectory.specs.Input.{Measured, indexAt, valueAt}
+use Rattle.trajectory.specs.Equations.{nextAt}
+use Rattle.smooth.specs.Track.{huberOf, anchorScale, linkScale}
+use Rattle.smooth.specs.Steps.{Limit, Weighed, Holds, fitIn}
+use Rattle.smooth.proofs.RootOrder.{root-within}
+
+-- ---- `huber`
+
+-- 1e-12, as the code writes it
+pub floor-is : bits 0x3D71_9799_812D_EA11 ≡ decimal 1 12
+unfolding ofBits ofInt div
+floor-is = refl
+
+pub huber-near : (h z : Float) → le z h ≡ true → 1·0 ≡ huberOf h z
+unfolding huberOf
+huber-near h z e = rw e
+
+pub huber-far : (h z m : Float) → le z h ≡ false → m ≡ max z (bits 0x3D71_9799_812D_EA11) → h ⊘ m ≡ huberOf h z
+unfolding huberOf
+huber-far h z m e f = rw (e, f, floor-is)
+
+-- ---- the limit
+
+no-number : bits 0 ⊘ bits 0 ≡ nan
+unfolding div ofBits
+no-number = refl
+
+above-nan : (q : Float) → le q nan ≡ true → ⊥
+unfolding le
+above-nan nan e = let z : _≡_ {A = ℕ} 0 1 = cc in omega arith
+above-nan (inf s) e = let z : _≡_ {A = ℕ} 0 1 = cc in omega arith
+above-nan (fin s m k) e = let z : _≡_ {A = ℕ} 0 1 = cc in omega arith
+
+-- no float is at most a NaN
+pub no-limit : (h : Float) → Limit h (bits 0 ⊘ bits 0)
+no-limit h = record { within = λ q f p e. absurd (above-nan q (rw no-number at e)) }
+
+infinity-is : 1·0 ⊘ +0 ≡ inf false
+unfolding div ofBits
+infinity-is = refl
+
+pub some-limit : (h z : Float) → z ≡ rootOf (h ⊗ h) → (lt +0 h && (lt +0 (h ⊗ h) && (lt (h ⊗ h) (1·0 ⊘ +0) && le z h))) ≡ true → Limit h (h ⊗ h)
+some-limit h z ez e =
+    let c = h ⊗ h in
+    let A = lt +0 h in
+    let B = lt +0 c in
+    let C = lt c (1·0 ⊘ +0) in
+    let D = le z h in
+    let e1 = right-true A (B && (C && D)) e in
+    let e2 = right-true B (C && D) e1 in
+    record {
+      within = λ q f p l. root-within q c h f (mul-fits binary64 h h) p (rw infinity-is at (left-true C D e2)) (left-true B (C && D) e1) (left-true A (B && (C && D)) e) l (rw ez at (right-true C D e2));
+    }
+
+pub scale-near : (h c q : Float) → Limit h c → T (fits binary64 q) → (lt +0 q && le q c) ≡ true → 1·0 ≡ huberOf h (rootOf q)
+scale-near h c q l f e = huber-near h (rootOf q) (l .within q f (left-true (lt +0 q) (le q c) e) (right-true (lt +0 q) (le q c) e))
+
+-- ---- a distance from three residuals and three sigmas
+
+same-scale : (h : Float) (x y z a b c x' y' z' a' b' c' : Float) → x ≡ x' → y ≡ y' → z ≡ z' → a ≡ a' → b ≡ b' → c ≡ c'
+    → huberOf h (rootOf (square (x ⊘ a) ⊕ square (y ⊘ b) ⊕ square (z ⊘ c))) ≡ huberOf h (rootOf (square (x' ⊘ a') ⊕ square (y' ⊘ b') ⊕ square (z' ⊘ c')))
+same-scale h x y z a b c x' y' z' a' b' c' ex ey ez ea eb ec = rw (ex, ey, ez, ea, eb, ec)
+
+off : (r v : List Float) (a a' b b' : ℕ) → a ≡ a' → b ≡ b' → getD r a nan ⊖ getD v b nan ≡ getD r a' nan ⊖ getD v b' nan
+off r v a a' b b' e f = ap₂ (λ (i j : ℕ). getD r i nan ⊖ getD v j nan) e f
+
+step : (r v : List Float) (a a' b b' c c' : ℕ) → a ≡ a' → b ≡ b' → c ≡ c' → getD r a nan ⊖ getD r b nan ⊖ getD v c nan ≡ getD r a' nan ⊖ getD r b' nan ⊖ getD v c' nan
+step r v a a' b b' c c' e f g = rw (e, f, g)
+
+-- ---- one measurement more
+
+pub weighed-none : (f : ℕ → Float) (from : ℕ) (w : List Float) → Weighed f from 0 w w
+weighed-none f from w = record { kept = kept-none from (from + 0) w; scales = λ j l. absurd (omega arith) }
+
+pub weighed-all : (f : ℕ → Float) (from j m : ℕ) (w w' : List Float) → j ≡ m → Weighed f from j w w' → Weighed f from m w w'
+weighed-all f from j m w w' e s = rw e at s
+
+weighed-more : (f : ℕ → Float) (from j : ℕ) (w₀ w : List Float) (v : Float) → from + j < length w → v ≡ f j → Weighed f from j w₀ w → Weighed f from (j + 1) w₀ (set w (from + j) v)
+weighed-more f from j w₀ w v room e s = record {
+  kept = record {
+    low = λ q g. miss w (from + j) q v (omega arith) ∙ s .kept .low q g;
+    high = λ q g. miss w (from + j) q v (omega arith) ∙ s .kept .high q (omega arith);
+  };
+  scales = λ i g. ⊎-elim
+      (λ q. let h : i ≡ j = omega arith in hit w (from + j) (from + i) v room (omega arith) ∙ e ∙ ap f (sym h))
+      (λ q. miss w (from + j) (from + i) v (omega arith) ∙ s .scales i (omega arith))
+      (eq-or-lt-of-le g);
+}
+
+module _ (m : Measured) (h : Float) (r : List Float) (from j : ℕ) (w₀ w : List Float) (room : from + j < length w) (v : Float) where
+  pub anchor-weighed : (let i = indexAt m j * 3 in
+      v ≡ huberOf h
+      (rootOf
+      (square ((getD r i nan ⊖ getD (m .value) (j * 3) nan) ⊘ getD (m .sigma) (j * 3) nan)
+      ⊕ square ((getD r (i + 1) nan ⊖ getD (m .value) (j * 3 + 1) nan) ⊘ getD (m .sigma) (j * 3 + 1) nan)
+      ⊕ square ((getD r (i + 2) nan ⊖ getD (m .value) (j * 3 + 2) nan) ⊘ getD (m .sigma) (j * 3 + 2) nan))))
+      → Weighed (anchorScale m h (fitIn r)) from j w₀ w → Weighed (anchorScale m h (fitIn r)) from (j + 1) w₀ (set w (from + j) v)
+  unfolding anchorScale
+  anchor-weighed e s =
+      let i = indexAt m j * 3 in
+      weighed-more (anchorScale m h (fitIn r)) from j w₀ w v room
+      (e ∙ same-scale h _ _ _ _ _ _ _ _ _ _ _ _ (off r (m .value) i (i + 0) (j * 3) (j * 3 + 0) (omega arith) (omega arith)) refl refl (place (m .sigma) (j * 3) (j * 3 + 0) (omega arith)) refl refl) s
+
+  pub link-weighed : (let i = indexAt m j * 3 in
+      v ≡ huberOf h
+      (rootOf
+      (square ((getD r (i + 3) nan ⊖ getD r i nan ⊖ getD (m .value) (j * 3) nan) ⊘ getD (m .sigma) (j * 3) nan)
+      ⊕ square ((getD r (i + 4) nan ⊖ getD r (i + 1) nan ⊖ getD (m .value) (j * 3 + 1) nan) ⊘ getD (m .sigma) (j * 3 + 1) nan)
+      ⊕ square ((getD r (i + 5) nan ⊖ getD r (i + 2) nan ⊖ getD (m .value) (j * 3 + 2) nan) ⊘ getD (m .sigma) (j * 3 + 2) nan))))
+      → Weighed (linkScale m h (fitIn r)) from j w₀ w → Weighed (linkScale m h (fitIn r)) from (j + 1) w₀ (set w (from + j) v)
+  unfolding linkScale
+  link-weighed e s =
+      let k = indexAt m j in
+      let i = k * 3 in
+      weighed-more (linkScale m h (fitIn r)) from j w₀ w v room
+      (e ∙ same-scale h _ _ _ _ _ _ _ _ _ _ _ _
+      (step r (m .value) (i + 3) ((k + 1) * 3 + 0) i (i + 0) (j * 3) (j * 3 + 0) (omega arith) (omega arith) (omega arith))
+      (step r (m .value) (i + 4) ((k + 1) * 3 + 1) (i + 1) (i + 1) (j * 3 + 1) (j * 3 + 1) (omega arith) refl refl)
+      (step r (m .value) (i + 5) ((k + 1) * 3 + 2) (i + 2) (i + 2) (j * 3 + 2) (j * 3 + 2) (omega arith) refl refl)
+      (place (m .sigma) (j * 3) (j * 3 + 0) (omega arith)) refl refl) s
+
+-- ---- a list that holds a fit gives the fit's scales
+
+module _ (m : Measured) (n : ℕ) (h : Float) (r : List Float) (f : ℕ → ℕ → Float) (s : Holds r n f) where
+  in-x : (i : ℕ) → i < n → fitIn r 0 i ≡ f 0 i
+  in-x i g = place r (i * 3 + 0) (i * 3) (omega arith) ∙ s .xs i g
+
+  pub held-anchor : (j : ℕ) → indexAt m j < n → anchorScale m h (fitIn r) j ≡ anchorScale m h f j
+  unfolding anchorScale
+  held-anchor j g =
+      let i = indexAt m j in
+      same-scale h _ _ _ _ _ _ _ _ _ _ _ _
+      (ap (λ (x : Float). x ⊖ valueAt m 0 j) (in-x i g))
+      (ap (λ (x : Float). x ⊖ valueAt m 1 j) (s .ys i g))
+      (ap (λ (x : Float). x ⊖ valueAt m 2 j) (s .zs i g))
+      refl refl refl
+
+  pub held-link : (j : ℕ) → nextAt m j < n → linkScale m h (fitIn r) j ≡ linkScale m h f j
+  unfolding linkScale
+  held-link j g =
+      let i = indexAt m j in
+      same-scale h _ _ _ _ _ _ _ _ _ _ _ _
+      (ap₂ (λ (x y : Float). x ⊖ y ⊖ valueAt m 0 j) (in-x (i + 1) g) (in-x i (omega arith)))
+      (ap₂ (λ (x y : Float). x ⊖ y ⊖ valueAt m 1 j) (s .ys (i + 1) g) (s .ys i (omega arith)))
+      (ap₂ (λ (x y : Float). x ⊖ y ⊖ valueAt m 2 j) (s .zs (i + 1) g) (s .zs i (omega arith)))
+      refl refl refl

@@ -1,0 +1,106 @@
+-- What the call answers and leaves in the lent memory: document 01, "Why a call turns back", as far as it is about a track. Definitions only.
+use mathlib.Core.Path.{_≡_}
+use mathlib.Core.Bool.{Bool, true, _&&_, cond}
+use mathlib.Core.List.{List, _++_}
+use Prim.Native.Nat.{ℕ, _*_, _<_}
+use lib.Dec.{leb, ltb}
+use lib.ListN.{length, getD, replicate, drop}
+use lib.Ieee.{Float, nan, lt}
+use lib.Ieee.Scale.{finite}
+use Rattle.exact.specs.Float.{+0}
+use Rattle.numeric.specs.Real.{inRange}
+use Rattle.numeric.specs.Refusal.{numberOf}
+use Rattle.numeric.specs.declared.refusal.Refusal.{Refusal}
+use Rattle.numeric.specs.declared.refusal.Refusal.the-variants.{TooMany, SettingOutOfRange, RecordOutOfRange, BadTrack, FitFailed}
+use Rattle.tridiagonal.specs.Columns.{every}
+use Rattle.trajectory.specs.Input.{Measured, Trajectory, indexAt, workNeed}
+use Rattle.trajectory.specs.Equations.{nextAt}
+use Rattle.trajectory.specs.Pass.{passes}
+use Rattle.smooth.specs.declared.Settings.{Settings}
+use Rattle.smooth.specs.declared.Track.{Track}
+use Rattle.smooth.specs.declared.Track.the-variants as Track
+use Rattle.smooth.specs.Track.{ones, smoothed, points}
+
+-- ---- the tests, in checking order
+
+-- 2: at most 1,024 epochs, anchors and links, and no lent column or buffer is shorter than the counts need; r and w are the lengths of result and work
+abbrev pub columnsLong : Measured → Bool
+columnsLong m = leb (m .count) (length (m .index)) && (leb (m .count * 3) (length (m .value)) && leb (m .count * 3) (length (m .sigma)))
+
+unfoldable pub countsOk : Trajectory → (r w : ℕ) → Bool
+countsOk p r w =
+    leb (p .n) 1024 && (leb (p .anchors .count) 1024 && (leb (p .links .count) 1024
+    && (columnsLong (p .anchors) && (columnsLong (p .links) && (leb (p .n * 3) r && leb (workNeed p) w)))))
+
+-- 3: the threshold is finite and at most 1e9 in magnitude, and there are at most 50 iterations
+unfoldable pub settingsOk : Settings → Bool
+settingsOk s = inRange (s .huber) && leb (s .iterations) 50
+
+-- 4: so is every float of a counted anchor or link
+abbrev pub measuredOk : Measured → Bool
+measuredOk m = every (λ k. inRange (getD (m .value) k nan)) (m .count * 3) && every (λ k. inRange (getD (m .sigma) k nan)) (m .count * 3)
+
+unfoldable pub recordsOk : Trajectory → Bool
+recordsOk p = measuredOk (p .anchors) && measuredOk (p .links)
+
+-- 6: there are epochs and anchors, each sigma is above 0, an anchor's index is below n, and so is a link's index plus one
+abbrev pub sigmasAbove : Measured → Bool
+sigmasAbove m = every (λ k. lt +0 (getD (m .sigma) k nan)) (m .count * 3)
+
+unfoldable pub trackOk : Trajectory → Bool
+trackOk p =
+    ltb 0 (p .n) && (ltb 0 (p .anchors .count)
+    && (sigmasAbove (p .anchors) && (sigmasAbove (p .links)
+    && (every (λ j. ltb (indexAt (p .anchors) j) (p .n)) (p .anchors .count) && every (λ j. ltb (nextAt (p .links) j) (p .n)) (p .links .count)))))
+
+-- ---- the answer
+
+-- why the call turns back, or the track
+pub data Tracked : Type 0 where
+  Refused : Refusal → Tracked
+  Points : List Float → Tracked
+
+-- t where the test holds, and else the refusal
+abbrev pub unless : Bool → Refusal → Tracked → Tracked
+unless b x t = cond b t (Refused x)
+
+-- the first refusal that applies; 10 is a first pass that fails
+unfoldable pub trackOf : Trajectory → Settings → (r w : ℕ) → Tracked
+trackOf p s r w =
+    unless (countsOk p r w) TooMany
+    (unless (settingsOk s) SettingOutOfRange
+    (unless (recordsOk p) RecordOutOfRange
+    (unless (trackOk p) BadTrack (unless (passes p ones) FitFailed (Points (points (smoothed p (s .huber) (s .iterations)) (p .n)))))))
+
+-- the answer's enum, without the points, which stand in the result
+abbrev pub answerOf : Tracked → Track
+answerOf (Refused x) = Track.Refused x
+answerOf (Points ps) = Track.Smoothed
+
+-- what an answer is outside: 0, or the number of the refusal
+abbrev pub trackNumber : Track → ℕ
+trackNumber (Track.Refused x) = numberOf x
+trackNumber Track.Smoothed = 0
+
+-- ---- the lent memory afterwards
+
+-- the result holds the track, or what it held; beyond the track it is as it was
+abbrev pub resultAfter : Tracked → List Float → List Float
+resultAfter (Refused x) r = r
+resultAfter (Points ps) r = ps ++ drop (length ps) r
+
+-- zeros in the needed part
+abbrev pub cleared : ℕ → List Float → List Float
+cleared need w = replicate need +0 ++ drop need w
+
+-- under 2 to 6 the work is as it was, and otherwise its needed part is all zero
+abbrev pub workAfter : ℕ → Tracked → List Float → List Float
+workAfter need (Refused x) w = cond (leb (numberOf x) 6) w (cleared need w)
+workAfter need (Points ps) w = cleared need w
+
+-- What the call answers and leaves. Every coordinate of a track is finite.
+pub record Called (p : Trajectory) (s : Settings) (r w : List Float) (x : Track) (r' w' : List Float) : Type 0 where
+  pub answer : x ≡ answerOf (trackOf p s (length r) (length w))
+  pub result : r' ≡ resultAfter (trackOf p s (length r) (length w)) r
+  pub work : w' ≡ workAfter (workNeed p) (trackOf p s (length r) (length w)) w
+  pub all-finite : (ps : List Float) → trackOf p s (length r) (length w) ≡ Points ps → (k : ℕ) → k < length ps → finite (getD ps k nan) ≡ true

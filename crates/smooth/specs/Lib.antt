@@ -1,0 +1,4 @@
+pub mod Track
+pub mod Answer
+pub mod Steps
+pub mod Trials

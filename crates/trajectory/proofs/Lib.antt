@@ -1,0 +1,5 @@
+pub mod Changed
+pub mod Anchors
+pub mod Links
+pub mod Assembly
+pub mod Passing

@@ -1,0 +1,4 @@
+pub mod Input
+pub mod Equations
+pub mod Pass
+pub mod Steps

@@ -1,0 +1,32 @@
+-- The definitions look at the first n rows of the equations alone. Assumes nothing.
+use mathlib.Core.Path.{_≡_, ap}
+use mathlib.Core.Bool.{not}
+use Prim.Native.Nat.{ℕ, zero, suc, _-_, _<_}
+use native.Mathlib.Omega.{arith}
+use lib.Ieee.{Float}
+use Rattle.tridiagonal.specs.Tridiagonal.{Equations, vanishing, pivot, reduced, eliminated, solvable, back, solution}
+use Rattle.tridiagonal.specs.Steps.{Alike}
+use Rattle.tridiagonal.proofs.Every.{every-same}
+
+pub back-same : (e e' : Equations) (m n : ℕ) → m < n → Alike e e' n → (j : ℕ) → back e' m j ≡ back e m j
+unfolding back
+back-same e e' m n h s zero = rw (s .diagonal m h, s .right m h)
+back-same e e' m n h s (suc j) = rw (s .diagonal (m - suc j) (omega arith), s .upper (m - suc j) (omega arith), s .right (m - suc j) (omega arith), back-same e e' m n h s j)
+
+module _ (e e' : Equations) (n : ℕ) (s : Alike e e' n) where
+  pivot-same : (k : ℕ) → k < n → pivot e' k ≡ pivot e k
+  unfolding pivot
+  pivot-same zero h = s .diagonal 0 h
+  pivot-same (suc k) h = rw (s .diagonal (suc k) h, s .upper k (omega arith), pivot-same k (omega arith))
+
+  pub solvable-same : solvable e' n ≡ solvable e n
+  solvable-same = every-same (λ k. not (vanishing (pivot e' k))) (λ k. not (vanishing (pivot e k))) n (λ k h. ap (λ (x : Float). not (vanishing x)) (pivot-same k h))
+
+  reduced-same : (k : ℕ) → k < n → reduced e' k ≡ reduced e k
+  unfolding reduced
+  reduced-same zero h = s .right 0 h
+  reduced-same (suc k) h = rw (s .right (suc k) h, s .upper k (omega arith), pivot-same k (omega arith), reduced-same k (omega arith))
+
+  pub solution-same : 0 < n → (i : ℕ) → solution e' n i ≡ solution e n i
+  unfolding solution
+  solution-same h i = back-same (eliminated e) (eliminated e') (n - 1) n (omega arith) (record { diagonal = pivot-same; upper = s .upper; right = reduced-same }) (n - 1 - i)

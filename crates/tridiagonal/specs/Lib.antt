@@ -1,0 +1,3 @@
+pub mod Columns
+pub mod Tridiagonal
+pub mod Steps

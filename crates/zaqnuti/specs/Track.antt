@@ -1,0 +1,18 @@
+-- What the entry point of the track answers and leaves. Definitions only.
+use mathlib.Core.Path.{_≡_}
+use mathlib.Core.List.{List}
+use Prim.Native.Nat.{ℕ}
+use lib.Ieee.{Float}
+use Rattle.trajectory.specs.Input.{Trajectory}
+use Rattle.smooth.specs.declared.Settings.{Settings}
+use Rattle.smooth.specs.declared.Track.{Track}
+use Rattle.smooth.specs.Answer.{trackNumber, Called}
+
+abbrev pub settings : Float → ℕ → Settings
+settings huber iterations = record { huber = huber; iterations = iterations }
+
+-- the number of the answer that `smooth` gives, with what it leaves
+pub record TrackCalled (p : Trajectory) (s : Settings) (r w : List Float) (number : ℕ) (r' w' : List Float) : Type 0 where
+  pub answer : Track
+  pub number-is : number ≡ trackNumber answer
+  pub called : Called p s r w answer r' w'
