@@ -1,0 +1,122 @@
+-- `median::median::select` meets its contract: the number looked for stays at place `at` of the first len. Assumes nothing.
+use native.Mathlib.Omega.{arith}
+use mathlib.Core.Path.{refl, _∙_}
+use lib.ListN.{take}
+use borrow.Author.Needs.{needs}
+use Rattle.median.specs.Select.{placed}
+use Rattle.median.proofs.SelectSeek.{Seeking, lesser-found, greater-found, low-turn, high-fewer, high-turn, found}
+use Rattle.median.proofs.median.select.Statement.{statement}
+use Rattle.median.proofs.median.select.Tie as tie
+
+abbrev Inv-loop : tie.InvT-loop
+Inv-loop k₀ n m len₀ at₀ k len at = Seeking (placed m (take n k₀)) k len at
+
+abbrev μ-loop : tie.MeasureT-loop
+μ-loop k₀ n m len₀ at₀ k len at = len
+
+loop-holds : tie.Need-loop-holds Inv-loop μ-loop
+loop-holds c = record { room = omega arith; inside = omega arith; long = c .pre .2; is = refl }
+
+element-copy-out-a : tie.Need-element-copy-out-a Inv-loop μ-loop
+element-copy-out-a c = omega arith
+
+sub-b : tie.Need-sub-b Inv-loop μ-loop
+sub-b c = omega arith
+
+mul-b : tie.Need-mul-b Inv-loop μ-loop
+mul-b c = omega arith
+
+element-copy-out-b : tie.Need-element-copy-out-b Inv-loop μ-loop
+element-copy-out-b c = omega arith
+
+lesser-requires : tie.Need-lesser-requires Inv-loop μ-loop
+lesser-requires c κs = search needs
+
+returns : tie.Need-returns Inv-loop μ-loop
+returns c = c .lesser .ensures ∙ lesser-found (c .before .before .before .before .before .loop .inv) (c .before .before .before .before .if1 .taken) (c .before .if2 .taken)
+
+greater-requires : tie.Need-greater-requires Inv-loop μ-loop
+greater-requires c κs = search needs
+
+returns-2 : tie.Need-returns-2 Inv-loop μ-loop
+returns-2 c = c .greater .ensures ∙ greater-found (c .before .before .before .before .before .loop .inv) (c .before .before .before .before .if1 .taken) (c .before .if2 .left)
+
+pivot-requires : tie.Need-pivot-requires Inv-loop μ-loop
+pivot-requires c κs = (omega arith, omega arith, c .before .before .loop .inv .long)
+
+count-low-requires : tie.Need-count-low-requires Inv-loop μ-loop
+count-low-requires c κs = (omega arith, c .before .before .before .before .loop .inv .long)
+
+keep-low-requires : tie.Need-keep-low-requires Inv-loop μ-loop
+keep-low-requires c κs = (omega arith, c .before .before .before .before .before .before .before .loop .inv .long)
+
+loop-less : tie.Need-loop-less Inv-loop μ-loop
+loop-less c =
+    let q = c .before .before .before in
+    let inv = q .before .before .before .before .before .loop .inv in
+    let pivot = q .before .before .pivot in
+    low-turn (pivot .result) inv (pivot .ensures) (q .count-low .ensures) (c .before .before .if3 .taken) (c .keep-low .ensures) .0
+
+loop-again : tie.Need-loop-again Inv-loop μ-loop
+loop-again c =
+    let q = c .before .before .before in
+    let inv = q .before .before .before .before .before .loop .inv in
+    let pivot = q .before .before .pivot in
+    low-turn (pivot .result) inv (pivot .ensures) (q .count-low .ensures) (c .before .before .if3 .taken) (c .keep-low .ensures) .1
+
+keep-high-requires : tie.Need-keep-high-requires Inv-loop μ-loop
+keep-high-requires c κs = (omega arith, c .before .before .before .before .before .before .before .loop .inv .long)
+
+sub-upto : tie.Need-sub-upto Inv-loop μ-loop
+sub-upto c =
+    let q = c .before .before .before in
+    let inv = q .before .before .before .before .before .loop .inv in
+    let pivot = q .before .before .pivot in
+    let f = high-fewer (pivot .result) inv (pivot .ensures) (q .count-low .ensures) (c .keep-high .ensures) in omega arith
+
+returns-3 : tie.Need-returns-3 Inv-loop μ-loop
+returns-3 c =
+    let q = c .before .before .before .before in
+    let inv = q .before .before .before .before .before .loop .inv in
+    let pivot = q .before .before .pivot in
+    found (pivot .result) inv (pivot .ensures) (q .count-low .ensures) (c .before .before .before .if3 .left) (c .if4 .taken) (c .before .keep-high .ensures)
+
+loop-less-2 : tie.Need-loop-less-2 Inv-loop μ-loop
+loop-less-2 c =
+    let q = c .before .before .before .before in
+    let inv = q .before .before .before .before .before .loop .inv in
+    let pivot = q .before .before .pivot in
+    high-fewer (pivot .result) inv (pivot .ensures) (q .count-low .ensures) (c .before .keep-high .ensures)
+
+loop-again-2 : tie.Need-loop-again-2 Inv-loop μ-loop
+loop-again-2 c =
+    let q = c .before .before .before .before in
+    let inv = q .before .before .before .before .before .loop .inv in
+    let pivot = q .before .before .pivot in
+    high-turn (pivot .result) inv (pivot .ensures) (q .count-low .ensures) (c .if4 .left) (c .before .keep-high .ensures)
+
+pub select-spec : {M : Type 1} → statement M
+select-spec =
+    tie.close
+    (tie.spec
+    Inv-loop
+    μ-loop
+    loop-holds
+    element-copy-out-a
+    sub-b
+    mul-b
+    element-copy-out-b
+    lesser-requires
+    returns
+    greater-requires
+    returns-2
+    pivot-requires
+    count-low-requires
+    keep-low-requires
+    loop-less
+    loop-again
+    keep-high-requires
+    sub-upto
+    returns-3
+    loop-less-2
+    loop-again-2)

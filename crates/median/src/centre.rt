@@ -1,0 +1,60 @@
+// The centre of residuals and their scale.
+ghost use mathlib.Core.Path.{_≡_};
+ghost use Prim.Native.Nat.{_≤_};
+ghost use lib.ListN.{length};
+ghost use Rattle.median.specs.Select.{Front};
+ghost use Rattle.median.specs.Centre.{deviationsOf, centreScaleOf};
+use crate::median::median;
+use numeric::order::float;
+use numeric::order::pattern;
+use numeric::real::abs;
+use numeric::refusal::Refusal;
+
+// The centre and the scale.
+pub struct CentreScale {
+    pub centre: f64,
+    pub scale: f64,
+}
+
+// The answer: why there is none, or the centre and the scale.
+pub enum Centre {
+    Refused(Refusal),
+    Of(CentreScale),
+}
+
+// Puts the absolute deviations of the residuals from the centre into d.
+fn deviations(residuals: &[u64], centre: f64, d: &mut [u64; 64])
+    requires { ⌜ (length (now residuals) ≤ 64) × (length (now d) ≡ 64) ⌝ }
+    ensures { λ r. ⌜ Front (deviationsOf centre (now (residuals .entry))) (length (now (residuals .entry))) (now (d .exit)) ⌝ }
+{
+    let n = residuals.len();
+    for i in 0..n {
+        let b = residuals[i];
+        let x = float(b);
+        d[i] = pattern(abs(x - centre));
+    }
+}
+
+// The residual at place len/2, and 1.4826 times the deviation from it at that place, plus 1e-6.
+pub fn centre_scale(residuals: &[u64]) -> Centre
+    ensures { λ r. ⌜ r ≡ centreScaleOf (now (residuals .entry)) ⌝ }
+{
+    let n = residuals.len();
+    if 64 < n {
+        return Centre::Refused(Refusal::TooMany);
+    }
+    if n == 0 {
+        return Centre::Of(CentreScale {
+            centre: 0.0,
+            scale: 1.0,
+        });
+    }
+    let centre = float(median(residuals));
+    let mut d = [0u64; 64];
+    deviations(residuals, centre, &mut d);
+    let middle = float(median(&d[..n]));
+    Centre::Of(CentreScale {
+        centre: centre,
+        scale: 1.4826 * middle + 1e-6,
+    })
+}
