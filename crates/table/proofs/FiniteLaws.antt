@@ -40,7 +40,6 @@ Small b (inf s) = ⊥
 Small b (fin s m e) = m * up e ≤ b * down e
 
 pub small-finite : (b : ℕ) (x : Float) → Small b x → finite x ≡ true
-unfolding finite
 small-finite b nan h = absurd h
 small-finite b (inf s) h = absurd h
 small-finite b (fin s m e) h = refl

@@ -7,5 +7,6 @@ pub mod FiniteLaws
 pub mod SeriesLaws
 pub mod BuiltLaws
 pub mod InsertLaws
+pub mod AddLaws
 pub mod PlaceLaws
 pub mod Values

@@ -45,13 +45,6 @@ lex g h j k w jl kl = first (ltb g h) refl
     first true e = sym (lt-ltb (g * w + j) (h * w + k) (above g h j k (ltb-true g h e) jl))
     first false e = second (eqb g h) refl (ltb-false g h e)
 
-not-ltb : (a b : ℕ) → not (ltb a b) ≡ leb b a
-not-ltb a b = go (ltb a b) refl
-  where
-    go : (t : Bool) → ltb a b ≡ t → not t ≡ leb b a
-    go true e = sym (lt-leb b a (ltb-true a b e))
-    go false e = sym (le-leb b a (ltb-false a b e))
-
 -- ---- a table that rises
 pub and-left : (a b : Bool) → (a && b) ≡ true → a ≡ true
 and-left true b e = refl
@@ -162,15 +155,3 @@ spot-is s [] zero h nay yea = refl
 spot-is s [] (suc p) h nay yea = absurd (not-suc-le-zero h)
 spot-is s (a ∷ l) zero h nay yea = rw (yea 0 (omega arith) (omega arith))
 spot-is s (a ∷ l) (suc p) h nay yea = rw (nay 0 (omega arith)) (ap suc (spot-is s l p (le-of-suc-le-suc h) (λ j g. nay (suc j) (omega arith)) (λ j g k. yea (suc j) (omega arith) (omega arith))))
-
--- ---- the range test of a sample, as the code has it
-module _ (a b : Sample) (is : a ≡ b) {q r : Bool} (eq : q ≡ inRange (a .time)) (er : r ≡ inRange (a .correction)) where
-  tested : (q && r) ≡ ranged b
-  unfolding ranged
-  tested = rw (eq, er, is)
-
-  pub ranged-not : not (q && r) ≡ true → ranged b ≡ false
-  ranged-not t = sym tested ∙ not-true (q && r) t
-
-  pub ranged-is : not (q && r) ≡ false → ranged b ≡ true
-  ranged-is t = sym tested ∙ not-false (q && r) t

@@ -14,6 +14,8 @@ use Rattle.table.specs.declared.sample.Sample.{Sample}
 use Rattle.table.specs.declared.add.Adding.{Adding}
 use Rattle.table.specs.declared.add.Adding.the-variants.{Refused, Count}
 use Rattle.table.specs.declared.add.Samples.{Samples}
+use Rattle.table.specs.declared.add.Test.{Test}
+use Rattle.table.specs.declared.add.Test.the-variants as Test
 
 -- one sample more: before the first that it precedes, so after those of an equal time
 unfoldable pub insert : Sample → List Sample → List Sample
@@ -55,13 +57,22 @@ pub record Adds (o : Outcome) (r : Adding) (cs vs bs : List ℕ) (ts xs : List F
 abbrev pub counted : Samples → List Sample
 counted new = take (new .count) (new .samples)
 
--- new samples to the first n samples of columns with that capacity: numbers 2, 4 and 11, and then the table with them
+-- what is tested before new samples go to the first n samples of columns with that capacity: numbers 2, 4 and 11
+unfoldable pub testOf : ℕ → ℕ → List Sample → Samples → Test
+testOf n room t new =
+    cond (ltb room n || ltb 64 (new .count)) (Test.Refused TooMany)
+    (cond (not (sound t && every ranged (counted new))) (Test.Refused RecordOutOfRange)
+    (cond (ltb room (n + new .count)) (Test.Refused TableFull)
+    Test.Passed))
+
+-- what comes of a test, where the table t is left if it is passed
+abbrev pub outcomeOf : Test → List Sample → Outcome
+outcomeOf (Test.Refused r) t = refused r
+outcomeOf Test.Passed t = added t
+
+-- new samples to a table: the refusal, or the table with them
 unfoldable pub addOf : ℕ → ℕ → List Sample → Samples → Outcome
-addOf n room t new =
-    cond (ltb room n || ltb 64 (new .count)) (refused TooMany)
-    (cond (not (sound t && every ranged (counted new))) (refused RecordOutOfRange)
-    (cond (ltb room (n + new .count)) (refused TableFull)
-    (added (insertAll t (counted new)))))
+addOf n room t new = outcomeOf (testOf n room t new) (insertAll t (counted new))
 
 -- ---- what the contracts of the steps say
 

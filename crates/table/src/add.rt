@@ -5,19 +5,25 @@ ghost use Prim.Native.Nat.{_+_, _-_, _≤_, _<_};
 ghost use lib.ListN.{length, take};
 ghost use Rattle.walk.specs.Walk.{every};
 ghost use Rattle.table.specs.Table.{rows, capacity, tableOf, ranged, sound};
-ghost use Rattle.table.specs.Add.{spotOf, opened, Inserted, InsertedAll, counted, addOf, Adds};
+ghost use Rattle.table.specs.Add.{spotOf, opened, Inserted, InsertedAll, counted, testOf, addOf, Adds};
 use crate::sample::Sample;
 use crate::sample::capacity_of;
+use crate::sample::is_ranged;
 use crate::sample::is_sound;
 use crate::sample::precedes;
 use crate::sample::sample_at;
-use numeric::real::in_range;
 use numeric::refusal::Refusal;
 
 // Up to 64 samples, in the order in which they arrive.
 pub struct Samples {
     pub count: usize,
     pub samples: [Sample; 64],
+}
+
+// What comes of tests: the refusal of the first that fails, or that all passed.
+pub enum Test {
+    Refused(Refusal),
+    Passed,
 }
 
 // The answer to adding: why nothing was added, or how many samples the table has now.
@@ -140,12 +146,45 @@ fn all_ranged(new: Samples) -> bool
     let mut i: usize = 0;
     while i < m {
         let s = new.samples[i];
-        if !(in_range(s.time) & in_range(s.correction)) {
+        if !is_ranged(s) {
             return false;
         }
         i += 1;
     }
     true
+}
+
+// Numbers 2, 4 and 11, in this order.
+fn tested(
+    cs: &[u8],
+    vs: &[u16],
+    bs: &[u8],
+    ts: &[f64],
+    xs: &[f64],
+    n: usize,
+    new: Samples,
+) -> Test
+    ensures { λ r. ⌜ r ≡ testOf n (capacity (now (cs .entry)) (now (vs .entry)) (now (bs .entry)) (now (ts .entry)) (now (xs .entry)))
+        (tableOf n (now (cs .entry)) (now (vs .entry)) (now (bs .entry)) (now (ts .entry)) (now (xs .entry))) new ⌝ }
+{
+    let m = new.count;
+    let room = capacity_of(cs, vs, bs, ts, xs);
+    if n > room {
+        return Test::Refused(Refusal::TooMany);
+    }
+    if m > 64 {
+        return Test::Refused(Refusal::TooMany);
+    }
+    if !is_sound(cs, vs, bs, ts, xs, n) {
+        return Test::Refused(Refusal::RecordOutOfRange);
+    }
+    if !all_ranged(new) {
+        return Test::Refused(Refusal::RecordOutOfRange);
+    }
+    if room < n + m {
+        return Test::Refused(Refusal::TableFull);
+    }
+    Test::Passed
 }
 
 // The counted samples of new to the first n samples of the table, or the refusal, which leaves every column as it was.
@@ -163,24 +202,14 @@ pub fn add(
         (now (cs .entry)) (now (vs .entry)) (now (bs .entry)) (now (ts .entry)) (now (xs .entry))
         (now (cs .exit)) (now (vs .exit)) (now (bs .exit)) (now (ts .exit)) (now (xs .exit)) ⌝ }
 {
-    let m = new.count;
-    let room = capacity_of(cs, vs, bs, ts, xs);
-    if n > room {
-        return Adding::Refused(Refusal::TooMany);
+    let test = tested(cs, vs, bs, ts, xs, n, new);
+    match test {
+        Test::Refused(r) => Adding::Refused(r),
+        Test::Passed => {
+            let m = new.count;
+            let samples = new.samples;
+            insert_all(cs, vs, bs, ts, xs, n, samples, m);
+            Adding::Count(n + m)
+        }
     }
-    if m > 64 {
-        return Adding::Refused(Refusal::TooMany);
-    }
-    if !is_sound(cs, vs, bs, ts, xs, n) {
-        return Adding::Refused(Refusal::RecordOutOfRange);
-    }
-    if !all_ranged(new) {
-        return Adding::Refused(Refusal::RecordOutOfRange);
-    }
-    if room - n < m {
-        return Adding::Refused(Refusal::TableFull);
-    }
-    let samples = new.samples;
-    insert_all(cs, vs, bs, ts, xs, n, samples, m);
-    Adding::Count(n + m)
 }

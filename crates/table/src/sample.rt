@@ -3,7 +3,7 @@ ghost use mathlib.Core.Path.{_≡_};
 ghost use Prim.Native.Nat.{_≤_, _<_, min};
 ghost use lib.ListN.{length, getD};
 ghost use lib.Dec.{ltb};
-ghost use Rattle.table.specs.Table.{rows, blank, capacity, tableOf, signal, timeKey, placeOf, sound};
+ghost use Rattle.table.specs.Table.{rows, blank, capacity, tableOf, signal, timeKey, placeOf, ranged, sound};
 use numeric::order::key;
 use numeric::order::pattern;
 use numeric::real::in_range;
@@ -82,6 +82,13 @@ pub(crate) fn precedes(a: Sample, b: Sample) -> bool
     (g < h) | ((g == h) & (j < k))
 }
 
+// Whether time and correction are in range.
+pub(crate) fn is_ranged(s: Sample) -> bool
+    ensures { λ r. ⌜ r ≡ ranged s ⌝ }
+{
+    in_range(s.time) & in_range(s.correction)
+}
+
 // Whether rule 4 lets the first n samples pass, in one pass.
 pub(crate) fn is_sound(
     cs: &[u8],
@@ -104,7 +111,7 @@ pub(crate) fn is_sound(
         if (s < signal) | ((s == signal) & (k < place)) {
             return false;
         }
-        if !(in_range(a.time) & in_range(a.correction)) {
+        if !is_ranged(a) {
             return false;
         }
         signal = s;

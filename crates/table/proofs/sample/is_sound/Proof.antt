@@ -6,7 +6,9 @@ use native.Mathlib.Omega.{arith}
 use borrow.Author.Needs.{needs}
 use lib.ListN.{length, getD, take, drop}
 use lib.Dec.{ltb}
-use Rattle.table.proofs.TableLaws.{soundFrom, sound-starts, pass-end, pass-low, pass-out, pass-on, lex, ranged-not, ranged-is}
+use Rattle.table.proofs.TableLaws.{soundFrom, sound-starts, pass-end, pass-low, pass-out, pass-on, lex}
+use Rattle.table.proofs.UnitLaws.{key-lt}
+use borrow.Author.Tests.{not-true, not-false}
 use Rattle.table.proofs.sample.is_sound.Statement.{statement}
 use Rattle.table.proofs.sample.is_sound.Tie as tie
 
@@ -36,19 +38,16 @@ returns c =
     let a = s .args in
     pass-low (rows (a .cs .now) (a .vs .now) (a .bs .now) (a .ts .now) (a .xs .now)) (a .n) (s .pre) (h .i) _ (h .inv .2) (c .before .before .before .before .loop-test .taken) (c .before .before .signal-of .result) (c .before .time-key .result) (cc) (sym (lex (c .before .before .signal-of .result) (h .signal) (c .before .time-key .result) (h .place) (2 ^ 64) (omega arith) (h .inv .1)) ∙ c .if1 .taken)
 
-in-range-requires : tie.Need-in-range-requires Inv-loop μ-loop
-in-range-requires c κs = search needs
-
-in-range-requires-2 : tie.Need-in-range-requires-2 Inv-loop μ-loop
-in-range-requires-2 c κs = search needs
+is-ranged-requires : tie.Need-is-ranged-requires Inv-loop μ-loop
+is-ranged-requires c κs = search needs
 
 returns-2 : tie.Need-returns-2 Inv-loop μ-loop
-unfolding ranged
 returns-2 c =
-    let h = c .before .before .before .before .before .before .before .before .loop in
-    let s = c .before .before .before .before .before .before .before .before .before .before .before .before .before .before in
+    let h = c .before .before .before .before .before .before .before .loop in
+    let s = c .before .before .before .before .before .before .before .before .before .before .before .before .before in
     let a = s .args in
-    pass-out (rows (a .cs .now) (a .vs .now) (a .bs .now) (a .ts .now) (a .xs .now)) (a .n) (s .pre) (h .i) _ (h .inv .2) (c .before .before .before .before .before .before .before .loop-test .taken) (c .before .before .before .before .before .signal-of .result) (c .before .before .before .before .time-key .result) (cc) (ranged-not _ _ (c .before .before .before .before .before .before .sample-at .ensures) (c .before .before .in-range .ensures) (c .before .in-range2 .ensures) (c .if2 .taken))
+    pass-out (rows (a .cs .now) (a .vs .now) (a .bs .now) (a .ts .now) (a .xs .now)) (a .n) (s .pre) (h .i) _ (h .inv .2) (c .before .before .before .before .before .before .loop-test .taken) (c .before .before .before .before .signal-of .result) (c .before .before .before .time-key .result) (cc)
+    (sym (ap ranged (c .before .before .before .before .before .sample-at .ensures)) ∙ sym (c .before .is-ranged .ensures) ∙ not-true (c .before .is-ranged .result) (c .if2 .taken))
 
 add-i : tie.Need-add-i Inv-loop μ-loop
 add-i c = omega arith
@@ -57,12 +56,15 @@ loop-less : tie.Need-loop-less Inv-loop μ-loop
 loop-less c = omega arith
 
 loop-again : tie.Need-loop-again Inv-loop μ-loop
-unfolding ranged
 loop-again c =
-    let h = c .before .before .before .before .before .before .before .before .loop in
-    let s = c .before .before .before .before .before .before .before .before .before .before .before .before .before .before in
+    let h = c .before .before .before .before .before .before .before .loop in
+    let s = c .before .before .before .before .before .before .before .before .before .before .before .before .before in
     let a = s .args in
-    (omega arith, omega arith, pass-on (rows (a .cs .now) (a .vs .now) (a .bs .now) (a .ts .now) (a .xs .now)) (a .n) (s .pre) (h .i) _ (h .inv .2) (c .before .before .before .before .before .before .before .loop-test .taken) (c .before .before .before .before .before .signal-of .result) (c .before .before .before .before .time-key .result) (cc) (sym (lex (c .before .before .before .before .before .signal-of .result) (h .signal) (c .before .before .before .before .time-key .result) (h .place) (2 ^ 64) (omega arith) (h .inv .1)) ∙ c .before .before .before .if1 .left) (ranged-is _ _ (c .before .before .before .before .before .before .sample-at .ensures) (c .before .before .in-range .ensures) (c .before .in-range2 .ensures) (c .if2 .left)))
+    let g = c .before .before .before .before .signal-of .result in
+    let k = c .before .before .before .time-key .result in
+    (omega arith, omega (arith, key-lt (c .before .before .before .before .before .sample-at .result .time), c .before .before .before .time-key .ensures), pass-on (rows (a .cs .now) (a .vs .now) (a .bs .now) (a .ts .now) (a .xs .now)) (a .n) (s .pre) (h .i) _ (h .inv .2) (c .before .before .before .before .before .before .loop-test .taken) g k (cc)
+    (sym (lex g (h .signal) k (h .place) (2 ^ 64) (omega arith) (h .inv .1)) ∙ c .before .before .if1 .left)
+    (sym (ap ranged (c .before .before .before .before .before .sample-at .ensures)) ∙ sym (c .before .is-ranged .ensures) ∙ not-false (c .before .is-ranged .result) (c .if2 .left)))
 
 returns-3 : tie.Need-returns-3 Inv-loop μ-loop
 returns-3 c = pass-end _ _ (c .before .before .before .before .before .before .before .pre) _ _ (c .before .loop .inv .2) (c .loop-test .left)
@@ -78,8 +80,7 @@ is-sound-spec =
     signal-of-requires
     time-key-requires
     returns
-    in-range-requires
-    in-range-requires-2
+    is-ranged-requires
     returns-2
     add-i
     loop-less
