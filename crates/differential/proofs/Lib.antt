@@ -2,3 +2,5 @@
 pub mod RawLaws
 pub mod SampleLaws
 pub mod TestLaws
+pub mod EpochLaws
+pub mod BuildLaws
