@@ -27,10 +27,12 @@ use Rattle.table.specs.declared.add.Adding.the-variants as Adding
 use Rattle.table.specs.declared.add.Test.the-variants.{Refused, Passed}
 use Rattle.table.proofs.TableLaws.{and-left, and-right}
 use Rattle.table.proofs.FiniteLaws.{Small, range-small}
-use Rattle.differential.specs.Record.{rangesOf, statesCount, placeInRange, rangeInRange}
+use Rattle.differential.specs.Record.{rangesOf, statesCount, statesOf, placeInRange, rangeInRange, stateInRange}
 use Rattle.differential.specs.Raw.{rawsOf, Holds}
 use Rattle.differential.specs.Sample.{group, clockOf, kept, sampleOf, corrected, sampleAt, samplesOf, epochSamples}
 use Rattle.differential.specs.AddEpoch.{tooMany, settingsInRange, recordsInRange, addedOf, recordsTest}
+use Rattle.differential.specs.declared.record.Range.{Range}
+use Rattle.differential.specs.declared.record.State.{State}
 use Rattle.differential.specs.declared.record.BaseEpoch.{BaseEpoch}
 use Rattle.differential.specs.declared.record.States.{States}
 use Rattle.differential.specs.declared.record.Settings.{Settings}
@@ -158,3 +160,29 @@ module _ (n room : ℕ) (t : List Sample) (e : BaseEpoch) (s : States) (base rov
         go true true = refl
         go true false = refl
         go false y = refl
+
+-- ---- an epoch is known by what counts of it
+addedBy : ℕ → ℕ → List Sample → ℕ → Float → List Range → ℕ → List State → Vec3 → Vec3 → Settings → Outcome
+addedBy n room t k time ranges m states base rover set =
+    let new = samplesOf time (set .«max_correction») (rawsOf set base rover states ranges) in
+    cond (ltb room n || ltb 64 k || ltb 64 m) (refused TooMany)
+    (cond (not (settingsInRange set)) (refused SettingOutOfRange)
+    (cond (not (placeInRange base && placeInRange rover && inRange time && every rangeInRange ranges && every stateInRange states && sound t)) (refused RecordOutOfRange)
+    (cond (ltb room (n + length new)) (refused TableFull)
+    (added (insertAll t new)))))
+
+added-by : (n room : ℕ) (t : List Sample) (e : BaseEpoch) (s : States) (base rover : Vec3) (set : Settings)
+    → addedOf n room t e s base rover set ≡ addedBy n room t (e .count) (e .time) (rangesOf e) (statesCount s) (statesOf s) base rover set
+unfolding addedOf addedBy tooMany recordsInRange epochSamples
+added-by n room t e s base rover set = refl
+
+pub added-same : (n room : ℕ) (t : List Sample) (e e′ : BaseEpoch) (s s′ : States) (base rover : Vec3) (set : Settings) → e .count ≡ e′ .count → e .time ≡ e′ .time → rangesOf e ≡ rangesOf e′
+    → statesCount s ≡ statesCount s′ → statesOf s ≡ statesOf s′ → addedOf n room t e s base rover set ≡ addedOf n room t e′ s′ base rover set
+added-same n room t e e′ s s′ base rover set a b c d f =
+    added-by n room t e s base rover set
+    ∙ go (e .count) (e .time) (rangesOf e) (statesCount s) (statesOf s) (e′ .count) (e′ .time) (rangesOf e′) (statesCount s′) (statesOf s′) a b c d f
+    ∙ sym (added-by n room t e′ s′ base rover set)
+  where
+    go : (k : ℕ) (x : Float) (l : List Range) (m : ℕ) (j : List State) (k′ : ℕ) (x′ : Float) (l′ : List Range) (m′ : ℕ) (j′ : List State) → k ≡ k′ → x ≡ x′ → l ≡ l′ → m ≡ m′ → j ≡ j′
+        → addedBy n room t k x l m j base rover set ≡ addedBy n room t k′ x′ l′ m′ j′ base rover set
+    go k x l m j k′ x′ l′ m′ j′ a b c d f = rw (a, b, c, d, f)

@@ -1,1 +1,2 @@
 pub mod FactorNumber
+pub mod CorrectionLaws

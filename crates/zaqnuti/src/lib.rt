@@ -1,3 +1,4 @@
 // The static library for C and Rust: an entry point for each service and each call of its own. None of them keeps any state.
+pub mod corrections;
 pub mod matrix;
 pub mod numbers;
