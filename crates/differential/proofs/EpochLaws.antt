@@ -2,17 +2,16 @@
 use mathlib.Core.Path.{_≡_, refl, sym, ap, _∙_, subst}
 use mathlib.Core.List.{List, [], _∷_, _++_}
 use mathlib.Core.Bool.{Bool, true, false, cond, not, _&&_, _||_}
-use Prim.Native.Nat.{ℕ, zero, suc, _+_, _*_, _≤_, _<_}
+use Prim.Native.Nat.{ℕ, _+_, _*_, _≤_, _<_}
 use native.Mathlib.Nat.{le-trans, le-of-eq, le-of-mul-le-mul-right, mul-le-mul-right, mul-right-comm, mul-one}
 use native.Mathlib.Omega.{arith}
-use borrow.Author.Tests.{ltb-false, le-ltb, le-leb, not-true, not-false}
-use lib.Dec.{T, ltb, leb}
-use lib.IntN.{ℤ}
+use borrow.Author.Tests.{ltb-false, le-ltb, not-true}
+use lib.Dec.{ltb, leb}
 use lib.ListN.{length, take}
 use lib.Ieee.{Float, nan, inf, fin, lt, le, up, down, ofInt}
 use lib.Ieee.Scale.{finite}
 use lib.Ieee.Fits.{down-pos}
-use Rattle.exact.specs.Float.{_⊖_, whole}
+use Rattle.exact.specs.Float.{_⊖_}
 use Rattle.walk.specs.Walk.{every, collect}
 use Rattle.numeric.specs.Real.{abs, inRange}
 use Rattle.numeric.specs.declared.vec3.Vec3.{Vec3}

@@ -1,7 +1,7 @@
 -- The tests of the records that are handed over with an epoch, and what has passed them. Assumes nothing.
 use mathlib.Core.Path.{_≡_, refl, sym, ap, _∙_}
 use mathlib.Core.Bool.{Bool, true, false, cond, not, _&&_, _||_}
-use Prim.Native.Nat.{ℕ, _≤_, _<_}
+use Prim.Native.Nat.{ℕ, _≤_}
 use native.Mathlib.Omega.{arith}
 use borrow.Author.Tests.{ltb-false, not-true, not-false}
 use lib.Dec.{ltb}
@@ -12,8 +12,7 @@ use Rattle.numeric.specs.declared.vec3.Vec3.{Vec3}
 use Rattle.numeric.specs.declared.refusal.Refusal.{Refusal}
 use Rattle.numeric.specs.declared.refusal.Refusal.the-variants.{TooMany, SettingOutOfRange, RecordOutOfRange}
 use Rattle.table.specs.declared.add.Test.the-variants.{Refused, Passed}
-use Rattle.table.proofs.TableLaws.{and-left, and-right}
-use Rattle.differential.specs.Record.{rangesOf, statesCount, statesOf, placeInRange, rangeInRange, stateInRange}
+use Rattle.differential.specs.Record.{statesCount, statesOf, placeInRange, rangeInRange, stateInRange}
 use Rattle.differential.specs.AddEpoch.{tooMany, settingsInRange, recordsInRange, recordsTest}
 use Rattle.differential.specs.declared.record.BaseEpoch.{BaseEpoch}
 use Rattle.differential.specs.declared.record.States.{States}

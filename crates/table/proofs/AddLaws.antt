@@ -1,8 +1,8 @@
 -- The tests before samples are added, and the columns after. Assumes nothing.
 use mathlib.Core.Path.{_≡_, refl, sym, ap, _∙_}
-use mathlib.Core.List.{List, [], _∷_, _++_, map}
+use mathlib.Core.List.{List, [], _∷_, map}
 use mathlib.Core.Bool.{Bool, true, false, cond, not, _&&_, _||_}
-use Prim.Native.Nat.{ℕ, zero, suc, _+_, _≤_, _<_, min}
+use Prim.Native.Nat.{ℕ, zero, suc, _+_, _≤_, _<_}
 use native.Mathlib.Nat.{not-suc-le-zero, le-of-suc-le-suc}
 use native.Mathlib.Omega.{arith}
 use borrow.Author.Tests.{ltb-false, lt-ltb, le-ltb, not-true, not-false}
@@ -13,7 +13,7 @@ use lib.Ieee.{Float}
 use Rattle.walk.specs.Walk.{every}
 use Rattle.numeric.specs.declared.refusal.Refusal.the-variants.{TooMany, RecordOutOfRange, TableFull}
 use Rattle.table.specs.Table.{rows, tableOf, ranged, sound}
-use Rattle.table.specs.Add.{insertAll, Outcome, refused, added, counted, testOf, outcomeOf, addOf, InsertedAll, Adds, answerOf, columnAfter}
+use Rattle.table.specs.Add.{added, counted, testOf, addOf, InsertedAll, Adds, columnAfter}
 use Rattle.table.specs.declared.sample.Sample.{Sample}
 use Rattle.table.specs.declared.add.Samples.{Samples}
 use Rattle.table.specs.declared.add.Test.{Test}

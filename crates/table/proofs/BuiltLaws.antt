@@ -1,20 +1,20 @@
 -- The table that samples leave, added one by one, is `builtOf` of them all. Assumes nothing.
-use mathlib.Core.Path.{_≡_, refl, sym, ap, _∙_, subst}
+use mathlib.Core.Path.{_≡_, refl, sym, ap, _∙_}
 use mathlib.Core.List.{List, [], _∷_, _++_, append-assoc, append-nil}
 use mathlib.Core.Bool.{Bool, true, false, cond, _&&_, _||_}
-use Prim.Native.Nat.{ℕ, zero, suc, _+_, _*_, _^_, _≤_, _<_}
+use Prim.Native.Nat.{ℕ, suc, _+_, _*_, _^_, _≤_, _<_}
 use native.Mathlib.Omega.{arith}
 use native.Mathlib.Nat.{le-trans, le-refl}
-use lib.Dec.{T, ltb, leb, eqb}
-use borrow.Author.Tests.{ltb-true, ltb-false, leb-true, eqb-true, eqb-false, lt-ltb, le-ltb, le-leb, eq-eqb, ne-eqb}
+use lib.Dec.{ltb, leb, eqb}
+use borrow.Author.Tests.{ltb-true, ltb-false, leb-true, eqb-true, eqb-false, le-leb, ne-eqb}
 use Rattle.walk.specs.Walk.{collect}
 use Rattle.table.specs.Table.{placeOf, rises, signalOf, timeKey}
-use Rattle.table.specs.Add.{insert, insertAll}
+use Rattle.table.specs.Add.{insertAll}
 use Rattle.table.specs.Build.{builtOf, ofSignal, put, seriesOf, signals, sortTimes, withSignal}
 use Rattle.table.specs.declared.sample.Sample.{Sample}
 use Rattle.table.proofs.TableLaws.{and-left, and-right}
 use Rattle.table.proofs.UnitLaws.{never, key-lt}
-use Rattle.table.proofs.SeriesLaws.{mine, other, collect-cons, insertAll-rises, series-law}
+use Rattle.table.proofs.SeriesLaws.{mine, other, insertAll-rises, series-law}
 
 clash : {A : Type 0} (x : Sample) (l : List Sample) → x ∷ l ≡ [] → A
 clash x l e = absurd (let z : _≡_ {A = ℕ} 0 1 = cc in omega arith)

@@ -1,36 +1,34 @@
 -- Every correction that a sound table gives is finite. Assumes nothing.
 use mathlib.Core.Path.{_≡_, refl, sym, ap, _∙_, subst}
-use mathlib.Core.Logic.{_⊎_, inl, inr}
 use mathlib.Core.List.{List, [], _∷_}
 use mathlib.Core.Bool.{Bool, true, false, cond, not, _&&_, _||_, Bool·beq, true≢false}
-use Prim.Native.Nat.{ℕ, zero, suc, _+_, _*_, _/_, _^_, _-_, _≤_, _<_}
-use native.Mathlib.Nat.{le-trans, le-of-eq, le-of-lt, mul-comm, mul-assoc, mul-left-comm, mul-right-comm, mul-le-mul-right, mul-le-mul, mul-pos, le-of-mul-le-mul-right, mul-one, one-mul, mul-mul-mul-comm, mul-sub}
+use Prim.Native.Nat.{ℕ, zero, suc, _+_, _*_, _^_, _-_, _≤_, _<_}
+use native.Mathlib.Nat.{le-trans, le-of-eq, le-of-lt, mul-comm, mul-assoc, mul-right-comm, mul-le-mul-right, mul-le-mul, mul-pos, le-of-mul-le-mul-right, mul-one, one-mul, mul-mul-mul-comm, mul-sub}
 use native.Mathlib.Omega.{arith}
-use lib.Dec.{T, ltb, leb, eqb, ltb→lt, eqb→eq, lit≤, lit<}
+use lib.Dec.{T, ltb, eqb, ltb→lt, eqb→eq, lit≤, lit<}
 use borrow.Author.Tests.{ltb-true, ltb-false, lt-ltb, le-ltb, ne-eqb, not-true}
-use lib.IntN.{ℤ, pos, negsuc}
+use lib.IntN.{ℤ}
 use lib.Pow.{pow-pos}
 use lib.ListN.{length, getD}
-use lib.Ieee.{Float, nan, inf, fin, lt, le, eq, below, fits, Format, binary64, up, down, round, sum, add, sub, neg, mul, div, odd, unlike, ofInt}
+use lib.Ieee.{Float, nan, inf, fin, lt, le, below, fits, binary64, up, down, round, sum, add, sub, neg, mul, div, odd, unlike, ofInt}
 use lib.Ieee as Ieee
-use lib.Ieee.Fits.{down-pos, up-pos, and-l, and-r, round-is, core}
+use lib.Ieee.Fits.{down-pos, up-pos, and-l, round-is}
 use lib.Ieee.Exact.{HasValue}
 use lib.Ieee.Back.{round-whole}
 use lib.Ieee.Order.{round-mono}
 use lib.Ieee.Scale.{round-same}
 use lib.Ieee.Positive.{positive, above, num, den, above-of-le, le→cross}
 use lib.Ieee.Scale.{finite}
-use Rattle.exact.specs.Float.{whole, _⊕_, _⊖_, _⊗_, _⊘_}
+use Rattle.exact.specs.Float.{whole, _⊖_, _⊗_, _⊘_}
 use Rattle.numeric.specs.Real.{abs, inRange}
 use Rattle.numeric.specs.declared.refusal.Refusal.the-variants.{NoCorrection}
 use Rattle.table.specs.Table.{blank, signal, signalOf, sound}
 use Rattle.table.specs.Query.{GivesFinite, bridged, Found, answerAt, between, earlier, firstOf, lastOf, later, line, missing, near, the}
 use Rattle.table.specs.declared.sample.Sample.{Sample}
-use Rattle.table.specs.declared.query.Correction.{Correction}
 use Rattle.table.specs.declared.query.Correction.the-variants.{Refused, Metres}
 use Rattle.numeric.proofs.RealLaws.{in-range-finite}
 use Rattle.table.proofs.UnitLaws.{units, lt-is, units-exact, down-le, cross, never, not-nan, not-inf}
-use Rattle.table.proofs.TableLaws.{and-left, and-right, sound-at}
+use Rattle.table.proofs.TableLaws.{and-right, sound-at}
 use Rattle.table.proofs.QueryLaws.{Held}
 
 -- finite, and of magnitude at most b

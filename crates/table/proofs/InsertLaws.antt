@@ -1,17 +1,16 @@
 -- Samples added one after the other. Assumes nothing.
 use mathlib.Core.Path.{_≡_, refl, sym, ap, _∙_, subst}
 use mathlib.Core.List.{List, [], _∷_, _++_}
-use mathlib.Core.Bool.{Bool, true, false, cond, _&&_}
-use Prim.Native.Nat.{ℕ, suc, _+_, _≤_, _<_, min}
+use mathlib.Core.Bool.{Bool, true, false, cond}
+use Prim.Native.Nat.{ℕ, _+_, _≤_, _<_, min}
 use native.Mathlib.Omega.{arith}
 use native.Mathlib.Numerals.{add-one}
-use native.Mathlib.Nat.{add-assoc}
 use lib.Dec.{ltb}
 use lib.ListN.{length, getD, take, drop}
 use lib.Seq.{take-suc, drop-drop}
 use lib.Ieee.{Float}
 use Rattle.walk.specs.Walk.{every}
-use Rattle.table.specs.Table.{blank, placeOf, ranged, rises, rows, sound, tableOf}
+use Rattle.table.specs.Table.{blank, placeOf, ranged, rows, sound, tableOf}
 use Rattle.table.specs.Add.{Inserted, InsertedAll, insert, insertAll}
 use Rattle.table.specs.declared.sample.Sample.{Sample}
 use Rattle.table.proofs.TableLaws.{and-left, and-right, every-at}

@@ -1,24 +1,23 @@
 -- The search in a sound table. Assumes nothing.
-use mathlib.Core.Path.{_≡_, refl, sym, ap, _∙_, subst}
-use mathlib.Core.List.{List, [], _∷_}
-use mathlib.Core.Bool.{Bool, true, false, cond, not, _&&_, _||_}
+use mathlib.Core.Path.{_≡_, refl, sym, ap, _∙_}
+use mathlib.Core.List.{List}
+use mathlib.Core.Bool.{Bool, true, false, not, _&&_, _||_}
 use mathlib.Core.Logic.{_⊎_, inl, inr, ⊎-elim}
-use Prim.Native.Nat.{ℕ, zero, suc, _+_, _*_, _^_, _-_, _/_, _≤_, _<_}
+use Prim.Native.Nat.{ℕ, suc, _+_, _*_, _^_, _-_, _≤_, _<_}
 use native.Mathlib.Omega.{arith}
 use lib.ListN.{length, getD, take}
 use lib.Seq.{getD-take, length-take-le}
-use lib.Dec.{T, ltb, leb, eqb}
-use borrow.Author.Tests.{ltb-true, ltb-false, eqb-true, eqb-false, lt-ltb, le-ltb, eq-eqb, ne-eqb, not-true, not-false}
+use lib.Dec.{T, ltb, eqb}
+use borrow.Author.Tests.{ltb-true, ltb-false, eqb-true, lt-ltb, le-ltb, eq-eqb, ne-eqb, not-true, not-false}
 use lib.Ieee.{Float, nan, lt, fits, binary64}
 use lib.Ieee.Scale.{finite}
 use Rattle.exact.specs.Float.{_⊖_}
 use Rattle.numeric.specs.Real.{inRange}
 use Rattle.numeric.specs.declared.refusal.Refusal.the-variants.{NoCorrection, RecordOutOfRange, SettingOutOfRange, TooMany}
 use Rattle.table.specs.Table.{blank, placeOf, rows, signal, signalOf, sound, timeKey}
-use Rattle.table.specs.Query.{bridged, Found, Parted, ahead, answerAt, between, earlier, firstOf, lastOf, later, line, missing, near, queryOf, the}
+use Rattle.table.specs.Query.{bridged, Parted, ahead, answerAt, between, earlier, firstOf, lastOf, later, line, missing, near, queryOf, the}
 use Rattle.table.specs.Add.{spotOf}
 use Rattle.table.specs.declared.sample.Sample.{Sample}
-use Rattle.table.specs.declared.query.Correction.{Correction}
 use Rattle.table.specs.declared.query.Correction.the-variants.{Refused, Metres}
 use Rattle.table.proofs.TableLaws.{Sound, first-at, first-none, last-at, last-none, spot-is}
 use Rattle.table.proofs.ColumnLaws.{rows-at, rows-within}

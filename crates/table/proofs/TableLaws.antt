@@ -1,22 +1,18 @@
 -- The order of the table, and what is first and last in it. Assumes nothing.
-use mathlib.Core.Path.{_≡_, refl, sym, ap, _∙_, subst}
+use mathlib.Core.Path.{_≡_, refl, sym, ap, _∙_}
 use mathlib.Core.List.{List, [], _∷_}
-use mathlib.Core.Bool.{Bool, true, false, cond, not, _&&_, _||_, and-false, and-comm}
-use Prim.Native.Nat.{ℕ, zero, suc, _+_, _*_, _^_, _-_, _≤_, _<_}
+use mathlib.Core.Bool.{Bool, true, false, cond, _&&_, _||_}
+use Prim.Native.Nat.{ℕ, zero, suc, _+_, _*_, _^_, _≤_, _<_}
 use native.Mathlib.Nat.{not-suc-le-zero, le-of-suc-le-suc}
-use native.Mathlib.Numerals.{add-one}
 use native.Mathlib.Omega.{arith}
 use lib.ListN.{length, getD, take, drop}
-use lib.Dec.{T, ltb, leb, eqb}
-use borrow.Author.Tests.{ltb-true, ltb-false, leb-true, leb-false, eqb-true, eqb-false, lt-ltb, le-ltb, le-leb, lt-leb, eq-eqb, ne-eqb, not-true, not-false}
-use lib.Ieee.{Float, nan, inf, fin, lt, le, neg, up, down, binary64}
+use lib.Dec.{ltb, leb, eqb}
+use borrow.Author.Tests.{ltb-true, ltb-false, leb-true, eqb-true, eqb-false, lt-ltb, le-ltb, le-leb, lt-leb}
 use Rattle.walk.specs.Walk.{every}
 use Rattle.walk.proofs.Walk.{left-at, left-end}
-use lib.Ieee.Scale.{finite}
-use Rattle.exact.specs.Float.{_⊖_}
-use Rattle.numeric.specs.Real.{abs, inRange}
-use Rattle.table.specs.Table.{blank, placeOf, ranged, rises, signalOf, sound, timeKey}
-use Rattle.table.specs.Query.{Found, exact, firstOf, lastOf, missing, near, the}
+use Rattle.numeric.specs.Real.{inRange}
+use Rattle.table.specs.Table.{blank, placeOf, ranged, rises, sound}
+use Rattle.table.specs.Query.{Found, firstOf, lastOf, missing, the}
 use Rattle.table.specs.Add.{spotOf}
 use Rattle.table.specs.declared.sample.Sample.{Sample}
 

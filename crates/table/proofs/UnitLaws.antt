@@ -1,15 +1,14 @@
 -- Finite floats as whole numbers of the smallest one, 2 ^ -1074: their order, and their places in totalOrder. Assumes nothing.
-use mathlib.Core.Path.{_≡_, refl, sym, ap, _∙_, subst}
+use mathlib.Core.Path.{_≡_, refl, sym, ap, _∙_}
 use mathlib.Core.Logic.{inl, inr}
-use mathlib.Core.Bool.{Bool, true, false, cond, not, _&&_, _||_}
+use mathlib.Core.Bool.{Bool, true, false, cond}
 use Prim.Native.Nat.{ℕ, zero, suc, _+_, _*_, _/_, _^_, _-_, _≤_, _<_}
-use native.Mathlib.Nat.{le-trans, le-of-eq, lt-of-le-of-lt, lt-of-lt-of-le, mul-comm, mul-assoc, mul-le-mul-right, mul-pos, div-mul-cancel, dvd-mul-left-of-dvd, dvd-mul-right, dvd-mul-left, one-dvd, le-of-mul-le-mul-right, le-div-iff-mul-le, eq-or-lt-of-le, zero-mul, not-le-of-lt, mul-one}
+use native.Mathlib.Nat.{le-trans, le-of-eq, lt-of-le-of-lt, mul-le-mul-right, mul-pos, div-mul-cancel, dvd-mul-left-of-dvd, dvd-mul-right, one-dvd, le-of-mul-le-mul-right, le-div-iff-mul-le, eq-or-lt-of-le, not-le-of-lt}
 use native.Mathlib.Omega.{arith}
-use lib.Dec.{T, ltb, leb, eqb, leb→le, eqb→eq}
+use lib.Dec.{T, ltb, leb→le, eqb→eq}
 use borrow.Author.Tests.{ltb-true, ltb-false, lt-ltb, le-ltb}
 use lib.IntN.{ℤ, pos, negsuc}
 use lib.Pow.{pow-pos, pow-add, pow-lt, shr-mono}
-use lib.Ieee as Ieee
 use lib.Ieee.{Float, nan, inf, fin, isNan, lt, below, fits, binary64, up, down, toBits, ofBits, size}
 use lib.Ieee.Fits.{down-pos, up-pos, and-l, and-r, kept-lt}
 use lib.Ieee.Digits.{size-lt, size-le, size-reaches}

@@ -2,7 +2,6 @@
 use mathlib.Core.Path.{_≡_, refl}
 use mathlib.Core.Bool.{false}
 use mathlib.Core.List.{List, [], _∷_}
-use Prim.Native.Nat.{ℕ}
 use lib.Ieee.{Float, nan, inf, lt, le, eq, add, sub, mul, div, ofBits, ofInt, toBits, isNan}
 use Rattle.exact.specs.Float.{whole, bits, +0}
 use Rattle.walk.specs.Walk.{every}

@@ -155,15 +155,7 @@ fn all_ranged(new: Samples) -> bool
 }
 
 // Numbers 2, 4 and 11, in this order.
-fn tested(
-    cs: &[u8],
-    vs: &[u16],
-    bs: &[u8],
-    ts: &[f64],
-    xs: &[f64],
-    n: usize,
-    new: Samples,
-) -> Test
+fn tested(cs: &[u8], vs: &[u16], bs: &[u8], ts: &[f64], xs: &[f64], n: usize, new: Samples) -> Test
     ensures { λ r. ⌜ r ≡ testOf n (capacity (now (cs .entry)) (now (vs .entry)) (now (bs .entry)) (now (ts .entry)) (now (xs .entry)))
         (tableOf n (now (cs .entry)) (now (vs .entry)) (now (bs .entry)) (now (ts .entry)) (now (xs .entry))) new ⌝ }
 {

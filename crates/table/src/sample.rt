@@ -90,14 +90,7 @@ pub(crate) fn is_ranged(s: Sample) -> bool
 }
 
 // Whether rule 4 lets the first n samples pass, in one pass.
-pub(crate) fn is_sound(
-    cs: &[u8],
-    vs: &[u16],
-    bs: &[u8],
-    ts: &[f64],
-    xs: &[f64],
-    n: usize,
-) -> bool
+pub(crate) fn is_sound(cs: &[u8], vs: &[u16], bs: &[u8], ts: &[f64], xs: &[f64], n: usize) -> bool
     requires { ⌜ n ≤ length (rows (now cs) (now vs) (now bs) (now ts) (now xs)) ⌝ }
     ensures { λ r. ⌜ r ≡ sound (tableOf n (now (cs .entry)) (now (vs .entry)) (now (bs .entry)) (now (ts .entry)) (now (xs .entry))) ⌝ }
 {

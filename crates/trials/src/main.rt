@@ -1,5 +1,6 @@
 // The marked trials through the code, a line for each.
 mod numbers;
+
 use libc::STDOUT_FILENO;
 
 fn report(name: &[u8], holds: bool) {

@@ -1,6 +1,6 @@
 -- Columns read into records, and the outcome of an entry. Assumes nothing.
 use mathlib.Core.Path.{_≡_, refl, sym, ap, _∙_}
-use mathlib.Core.List.{List, [], _∷_, _++_}
+use mathlib.Core.List.{List, [], _∷_}
 use mathlib.Core.Bool.{Bool, true, false, cond, _||_}
 use Prim.Native.Nat.{ℕ, suc, _+_, _*_, _≤_, _<_}
 use native.Mathlib.Numerals.{add-one}
@@ -27,7 +27,7 @@ use Rattle.differential.specs.declared.record.BaseEpoch.{BaseEpoch}
 use Rattle.differential.specs.declared.record.States.{States}
 use Rattle.differential.specs.declared.record.Settings.{Settings}
 use Rattle.differential.proofs.EpochLaws.{added-same}
-use Rattle.zaqnuti.specs.Corrections.{queryNumber, metresAfter, firsts, rangeAt, epochOf, stateAt, statesOf, short, entryOf, outcomeNumber, countAfter, Enters, EpochRead, StatesRead}
+use Rattle.zaqnuti.specs.Corrections.{queryNumber, metresAfter, firsts, rangeAt, epochOf, stateAt, statesOf, short, entryOf, Enters, EpochRead, StatesRead}
 
 -- ---- the loops that read columns
 pub record Reading {A : Type 0} (f : ℕ → A) (k : ℕ) (array : List A) (i : ℕ) : Type 0 where

@@ -211,9 +211,7 @@ fn add_from(
     }
     let epoch = epoch_from(time, k, rc, rv, rb, rp);
     let states = states_from(present, w, sc, sv, sb, sf);
-    add_epoch(
-        cs, vs, bs, ts, xs, n, epoch, states, base, rover, settings,
-    )
+    add_epoch(cs, vs, bs, ts, xs, n, epoch, states, base, rover, settings)
 }
 
 // One base epoch of k ranges, with m states of eight floats each (position, velocity, clock, modelled) or the mark that there are none, to the n samples of
@@ -272,7 +270,26 @@ pub extern "C" fn zaqnuti_add_epoch(
     };
     let count = *n;
     let answer = add_from(
-        cs, vs, bs, ts, xs, count, time, k, rc, rv, rb, rp, present, m, sc, sv, sb, sf, from, to,
+        cs,
+        vs,
+        bs,
+        ts,
+        xs,
+        count,
+        time,
+        k,
+        rc,
+        rv,
+        rb,
+        rp,
+        present,
+        m,
+        sc,
+        sv,
+        sb,
+        sf,
+        from,
+        to,
         settings,
     );
     match answer {

@@ -1,6 +1,8 @@
 //! The services, one file and one line of the table each.
 
 mod accuracy;
+#[cfg(feature = "corrections")]
+mod corrections;
 mod factor;
 mod order;
 mod root;
@@ -33,4 +35,6 @@ pub const SERVICES: &[Service] = &[
     factor::SERVICE,
     solve::SERVICE,
     accuracy::SERVICE,
+    #[cfg(feature = "corrections")]
+    corrections::SERVICE,
 ];

@@ -1,7 +1,6 @@
 -- `differential::raw::is_same` meets its contract. Assumes nothing.
 use mathlib.Core.Path.{refl}
 use Rattle.differential.specs.Raw.{same}
-use borrow.Author.Needs.{needs}
 use Rattle.differential.proofs.raw.is_same.Statement.{statement}
 use Rattle.differential.proofs.raw.is_same.Tie as tie
 

@@ -1,6 +1,6 @@
 -- `differential::raw::raws_of` meets its contract: the outer loop collects what each range gives, and the inner one looks for the first state that is its
 -- satellite's. Assumes nothing.
-use mathlib.Core.Path.{_≡_, refl, sym, ap, _∙_}
+use mathlib.Core.Path.{_≡_, refl, sym, ap}
 use mathlib.Core.Logic.{⊎-elim}
 use mathlib.Core.List.{[]}
 use Prim.Native.Nat.{_≤_, _-_}

@@ -1,7 +1,6 @@
 -- `differential::raw::shifted` meets its contract. Assumes nothing.
 use mathlib.Core.Path.{refl}
 use Rattle.differential.specs.Raw.{shifted}
-use borrow.Author.Needs.{needs}
 use Rattle.differential.proofs.raw.shifted.Statement.{statement}
 use Rattle.differential.proofs.raw.shifted.Tie as tie
 

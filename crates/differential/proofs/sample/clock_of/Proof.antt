@@ -1,5 +1,5 @@
 -- `differential::sample::clock_of` meets its contract. Assumes nothing.
-use mathlib.Core.Path.{_≡_, sym, _∙_}
+use mathlib.Core.Path.{sym, _∙_}
 use native.Mathlib.Omega.{arith}
 use lib.Seq.{length-take-le}
 use Rattle.numeric.proofs.OrderMagnitude.{quotient-nan}

@@ -1,12 +1,11 @@
 -- `differential::sample::samples_of` meets its contract: its loop collects what each raw correction gives. Assumes nothing.
-use mathlib.Core.Path.{_≡_, sym, ap, _∙_}
+use mathlib.Core.Path.{_≡_}
 use mathlib.Core.Logic.{⊎-elim}
-use Prim.Native.Nat.{ℕ, _≤_, _<_, _-_}
+use Prim.Native.Nat.{_≤_, _-_}
 use native.Mathlib.Omega.{arith}
-use lib.Ieee.{nan}
 use lib.ListN.{length, take, getD}
 use Rattle.walk.proofs.Walk.{length-mapped, Collecting, collecting-start, collecting-none, collecting-one, collecting-end}
-use Rattle.differential.specs.Sample.{sampleAt, samplesOf, group, clockOrNan}
+use Rattle.differential.specs.Sample.{sampleAt, samplesOf}
 use Rattle.differential.proofs.RawLaws.{blankRaw}
 use Rattle.differential.proofs.SampleLaws.{sample-high, sample-dropped, sample-kept}
 use borrow.Author.Needs.{needs}

@@ -1,9 +1,6 @@
-use mathlib.Core.Path.{_≡_, refl, sym, ap, _∙_, subst}
-use Prim.Native.Nat.{ℕ, suc, _≤_, _<_, _-_, _+_, _*_, _^_}
-use native.Mathlib.Omega.{arith}
-use lib.ListN.{length, getD, take, drop}
-use lib.Seq.{length-take-le, getD-take}
-use lib.Dec.{T}
+-- `table::add::insert` meets its contract. Assumes nothing.
+use Prim.Native.Nat.{_<_}
+use lib.ListN.{length}
 use Rattle.table.specs.Table.{rows}
 use Rattle.table.proofs.ColumnLaws.{rows-within, spot-within, inserted}
 use borrow.Author.Needs.{needs}

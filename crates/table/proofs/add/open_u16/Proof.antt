@@ -1,8 +1,7 @@
-use Prim.Native.Nat.{_≤_, _-_}
+-- `table::add::open_u16` meets its contract. Assumes nothing.
 use native.Mathlib.Omega.{arith}
 use borrow.Author.Needs.{needs}
 use lib.ListN.{length-set}
-use lib.Ieee.{nan}
 use Rattle.table.proofs.ColumnLaws.{Opening, opening-start, opening-next, opening-end}
 use Rattle.table.proofs.add.open_u16.Statement.{statement}
 use Rattle.table.proofs.add.open_u16.Tie as tie

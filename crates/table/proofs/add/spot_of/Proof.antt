@@ -1,15 +1,13 @@
+-- `table::add::spot_of` meets its contract. Assumes nothing.
 use borrow.Author.Tests.{not-true, not-false}
 use Rattle.table.proofs.QueryLaws.{Spotting, spotting-start, spotting-front, spotting-found, spotting-down}
 use lib.Seq.{length-take-le, getD-take}
-use mathlib.Core.Path.{_≡_, refl, sym, ap, _∙_}
-use mathlib.Core.Bool.{Bool, true, false, _&&_, _||_}
-use Prim.Native.Nat.{ℕ, _≤_, _<_, _-_, _+_, _*_, _^_}
+use Prim.Native.Nat.{_<_, _-_}
 use native.Mathlib.Omega.{arith}
 use borrow.Author.Needs.{needs}
-use lib.ListN.{length, getD, take, drop}
-use lib.Dec.{ltb}
-use Rattle.table.specs.Table.{blank, placeOf, rows, sound}
-use Rattle.table.proofs.TableLaws.{sound-at, spot-is}
+use lib.ListN.{take}
+use Rattle.table.specs.Table.{blank, rows}
+use Rattle.table.proofs.TableLaws.{sound-at}
 use Rattle.table.proofs.add.spot_of.Statement.{statement}
 use Rattle.table.proofs.add.spot_of.Tie as tie
 

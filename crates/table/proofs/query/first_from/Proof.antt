@@ -1,15 +1,14 @@
+-- `table::query::first_from` meets its contract. Assumes nothing.
 use Prim.Native.Nat.{_/_}
 use mathlib.Core.Path.{subst}
 use lib.Dec.{T}
 use lib.Seq.{length-take-le, getD-take}
-use mathlib.Core.Path.{_≡_, refl, sym, ap, _∙_}
-use mathlib.Core.Bool.{Bool, true, false, _&&_, _||_}
-use Prim.Native.Nat.{ℕ, _≤_, _<_, _-_, _+_, _*_, _^_}
+use mathlib.Core.Path.{sym}
+use Prim.Native.Nat.{_<_, _-_, _+_}
 use native.Mathlib.Omega.{arith}
 use borrow.Author.Needs.{needs}
-use lib.ListN.{length, getD, take, drop}
-use lib.Dec.{ltb}
-use Rattle.table.specs.Table.{blank, placeOf, rows, sound}
+use lib.ListN.{take}
+use Rattle.table.specs.Table.{blank, rows}
 use Rattle.table.proofs.TableLaws.{sound-at}
 use Rattle.table.proofs.QueryLaws.{Searching, searching-start, searching-up, searching-down, searching-end, held, Held}
 use Rattle.table.proofs.query.first_from.Statement.{statement}

@@ -1,3 +1,4 @@
+-- `table::query::is_ahead` meets its contract. Assumes nothing.
 use Rattle.table.specs.Query.{ahead}
 use borrow.Author.Needs.{needs}
 use Rattle.table.proofs.query.is_ahead.Statement.{statement}

@@ -1,3 +1,4 @@
+-- `table::query::line_of` meets its contract. Assumes nothing.
 use mathlib.Core.Path.{refl}
 use Rattle.table.specs.Query.{line}
 use Rattle.table.proofs.query.line_of.Statement.{statement}

@@ -1,8 +1,9 @@
-use Rattle.table.specs.declared.query.Correction.the-variants.{Refused, Metres}
-use mathlib.Core.Path.{_≡_, refl, sym, ap, _∙_, subst}
-use Prim.Native.Nat.{ℕ, suc, _≤_, _<_, _-_, _+_, _*_, _^_}
+-- `table::query::look_up` meets its contract. Assumes nothing.
+use Rattle.table.specs.declared.query.Correction.the-variants.{Metres}
+use mathlib.Core.Path.{_≡_, sym, ap, _∙_, subst}
+use Prim.Native.Nat.{suc, _<_, _-_}
 use native.Mathlib.Omega.{arith}
-use lib.ListN.{length, getD, take, drop}
+use lib.ListN.{length, take}
 use lib.Seq.{length-take-le, getD-take}
 use lib.Dec.{T}
 use Rattle.table.specs.Table.{blank, rows}

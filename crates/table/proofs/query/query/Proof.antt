@@ -1,10 +1,10 @@
+-- `table::query::query` meets its contract. Assumes nothing.
 use borrow.Author.Tests.{not-false}
-use mathlib.Core.Path.{_≡_, refl, sym, ap, _∙_, subst, subst⁻¹}
+use mathlib.Core.Path.{_≡_, sym, _∙_, subst, subst⁻¹}
 use mathlib.Core.Bool.{true}
-use Prim.Native.Nat.{ℕ, suc, _≤_, _<_, _-_, _+_, _*_, _^_}
+use Prim.Native.Nat.{_≤_}
 use native.Mathlib.Omega.{arith}
-use lib.ListN.{length, getD, take, drop}
-use lib.Seq.{length-take-le, getD-take}
+use lib.ListN.{length, take}
 use lib.Dec.{T}
 use Rattle.table.proofs.QueryLaws.{held, rule-2, rule-3, rule-4, rule-4-time, no-rule}
 use Rattle.table.proofs.FiniteLaws.{answer-finite}
@@ -54,12 +54,13 @@ returns-5 c =
     let few : s .args .n ≤ length (rows (s .args .cs .now) (s .args .vs .now) (s .args .bs .now) (s .args .ts .now) (s .args .xs .now)) =
     omega (arith, c .before .before .before .before .before .before .before .before .before .capacity-of .ensures, c .before .before .before .before .before .before .before .before .if1 .left) in
     let ok : sound l ≡ true = sym (c .before .before .before .before .before .is-sound .ensures) ∙ not-false _ (c .before .before .before .before .if3 .left) in
-    let is = c .look-up .ensures in
-    (is
-    ∙ no-rule _ _ _ (c .before .before .before .before .before .before .before .before .before .capacity-of .ensures) _ _ _ _ _ _ (c .before .before .before .before .before .before .before .before .if1 .left) (c .before .before .before .before .before .before .before .in-range .ensures) (c .before .before .before .before .before .before .if2 .left) (c .before .before .before .before .before .is-sound .ensures) (c .before .before .before .before .if3 .left) (c .before .before .before .in-range2 .ensures) (c .before .before .is-finite .ensures) (c .before .if4 .left),
-    subst⁻¹ GivesFinite is
-    (answer-finite l (s .args .gap) (s .args .c) (s .args .v) (s .args .b) (s .args .t) ok (held _ _ _ _ _ _ few (λ i h. c .before .before .before .before .before .before .before .before .before .before .before .shared-slice-known4 .given i))
-    (subst T (sym (s .good .1 .1 .1 .1 .1 .1 .1 .1 .1 .1 .0 .1)) tt)))
+    let is = c .look-up .ensures in (
+      is
+          ∙ no-rule _ _ _ (c .before .before .before .before .before .before .before .before .before .capacity-of .ensures) _ _ _ _ _ _ (c .before .before .before .before .before .before .before .before .if1 .left) (c .before .before .before .before .before .before .before .in-range .ensures) (c .before .before .before .before .before .before .if2 .left) (c .before .before .before .before .before .is-sound .ensures) (c .before .before .before .before .if3 .left) (c .before .before .before .in-range2 .ensures) (c .before .before .is-finite .ensures) (c .before .if4 .left),
+      subst⁻¹ GivesFinite is
+          (answer-finite l (s .args .gap) (s .args .c) (s .args .v) (s .args .b) (s .args .t) ok (held _ _ _ _ _ _ few (λ i h. c .before .before .before .before .before .before .before .before .before .before .before .shared-slice-known4 .given i))
+          (subst T (sym (s .good .1 .1 .1 .1 .1 .1 .1 .1 .1 .1 .0 .1)) tt)),
+    )
 
 pub query-spec : {M : Type 1} → statement M
 query-spec =

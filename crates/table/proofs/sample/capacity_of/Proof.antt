@@ -1,3 +1,4 @@
+-- `table::sample::capacity_of` meets its contract. Assumes nothing.
 use Rattle.table.proofs.ColumnLaws.{rows-length}
 use borrow.Author.Needs.{needs}
 use Rattle.table.proofs.sample.capacity_of.Statement.{statement}

@@ -1,11 +1,10 @@
+-- `table::sample::is_sound` meets its contract. Assumes nothing.
 use Rattle.table.specs.Table.{ranged, rows, sound}
-use mathlib.Core.Path.{_≡_, refl, sym, ap, _∙_}
-use mathlib.Core.Bool.{Bool, true, false, _&&_, _||_}
-use Prim.Native.Nat.{ℕ, _≤_, _<_, _-_, _+_, _*_, _^_}
+use mathlib.Core.Path.{_≡_, sym, ap, _∙_}
+use Prim.Native.Nat.{_≤_, _<_, _-_, _+_, _*_, _^_}
 use native.Mathlib.Omega.{arith}
 use borrow.Author.Needs.{needs}
-use lib.ListN.{length, getD, take, drop}
-use lib.Dec.{ltb}
+use lib.ListN.{take, drop}
 use Rattle.table.proofs.TableLaws.{soundFrom, sound-starts, pass-end, pass-low, pass-out, pass-on, lex}
 use Rattle.table.proofs.UnitLaws.{key-lt}
 use borrow.Author.Tests.{not-true, not-false}
@@ -61,10 +60,13 @@ loop-again c =
     let s = c .before .before .before .before .before .before .before .before .before .before .before .before .before in
     let a = s .args in
     let g = c .before .before .before .before .signal-of .result in
-    let k = c .before .before .before .time-key .result in
-    (omega arith, omega (arith, key-lt (c .before .before .before .before .before .sample-at .result .time), c .before .before .before .time-key .ensures), pass-on (rows (a .cs .now) (a .vs .now) (a .bs .now) (a .ts .now) (a .xs .now)) (a .n) (s .pre) (h .i) _ (h .inv .2) (c .before .before .before .before .before .before .loop-test .taken) g k (cc)
-    (sym (lex g (h .signal) k (h .place) (2 ^ 64) (omega arith) (h .inv .1)) ∙ c .before .before .if1 .left)
-    (sym (ap ranged (c .before .before .before .before .before .sample-at .ensures)) ∙ sym (c .before .is-ranged .ensures) ∙ not-false (c .before .is-ranged .result) (c .if2 .left)))
+    let k = c .before .before .before .time-key .result in (
+      omega arith,
+      omega (arith, key-lt (c .before .before .before .before .before .sample-at .result .time), c .before .before .before .time-key .ensures),
+      pass-on (rows (a .cs .now) (a .vs .now) (a .bs .now) (a .ts .now) (a .xs .now)) (a .n) (s .pre) (h .i) _ (h .inv .2) (c .before .before .before .before .before .before .loop-test .taken) g k (cc)
+          (sym (lex g (h .signal) k (h .place) (2 ^ 64) (omega arith) (h .inv .1)) ∙ c .before .before .if1 .left)
+          (sym (ap ranged (c .before .before .before .before .before .sample-at .ensures)) ∙ sym (c .before .is-ranged .ensures) ∙ not-false (c .before .is-ranged .result) (c .if2 .left)),
+    )
 
 returns-3 : tie.Need-returns-3 Inv-loop μ-loop
 returns-3 c = pass-end _ _ (c .before .before .before .before .before .before .before .pre) _ _ (c .before .loop .inv .2) (c .loop-test .left)

@@ -1,3 +1,4 @@
+-- `table::sample::precedes` meets its contract. Assumes nothing.
 use Prim.Native.Nat.{_^_}
 use native.Mathlib.Omega.{arith}
 use Rattle.table.proofs.TableLaws.{lex}

@@ -1,3 +1,4 @@
+-- `table::sample::sample_at` meets its contract. Assumes nothing.
 use native.Mathlib.Omega.{arith}
 use Rattle.table.proofs.ColumnLaws.{rows-at, rows-within, Within}
 use Rattle.table.proofs.sample.sample_at.Statement.{statement}

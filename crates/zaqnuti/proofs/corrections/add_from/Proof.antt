@@ -1,9 +1,5 @@
 -- `zaqnuti::corrections::add_from` meets its contract. Assumes nothing.
-use mathlib.Core.Path.{_≡_, sym, _∙_}
-use mathlib.Core.Bool.{Bool, false, _||_}
-use Prim.Native.Nat.{ℕ, _≤_}
-use lib.Dec.{ltb}
-use borrow.Author.Tests.{ltb-false}
+use mathlib.Core.Path.{sym, _∙_}
 use Rattle.differential.proofs.EpochLaws.{adds-same, adds-nothing}
 use Rattle.zaqnuti.proofs.CorrectionLaws.{few, not-short, entry-many, entry-short, entry-added}
 use borrow.Author.Needs.{needs}

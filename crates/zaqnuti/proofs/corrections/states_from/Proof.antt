@@ -4,7 +4,6 @@ use Prim.Native.Nat.{_-_}
 use native.Mathlib.Omega.{arith}
 use Rattle.zaqnuti.specs.Corrections.{stateAt}
 use Rattle.zaqnuti.proofs.CorrectionLaws.{Reading, reading-start, reading-next, reading-end}
-use borrow.Author.Needs.{needs}
 use Rattle.zaqnuti.proofs.corrections.states_from.Statement.{statement}
 use Rattle.zaqnuti.proofs.corrections.states_from.Tie as tie
 
