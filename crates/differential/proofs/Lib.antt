@@ -4,3 +4,4 @@ pub mod SampleLaws
 pub mod TestLaws
 pub mod EpochLaws
 pub mod BuildLaws
+pub mod SampleValues

@@ -8,6 +8,11 @@ use lib.Ieee.{Float}
 use Rattle.exact.specs.Float.{+0, 1·0, bits, whole}
 use Rattle.numeric.specs.Root.{rootOf}
 use Rattle.numeric.specs.Factor.{cell, Refused, Lower, factorOf}
+use Rattle.numeric.specs.declared.refusal.Refusal.the-variants.{NoCorrection}
+use Rattle.table.specs.Query.{queryOf}
+use Rattle.table.specs.declared.sample.Sample.{Sample}
+use Rattle.table.specs.declared.query.Correction.the-variants as Correction
+use Rattle.table.specs.declared.query.Correction.the-variants.{Metres}
 
 -- all of a list's statements
 abbrev pub All : List (Type 0) → Type 0
@@ -44,5 +49,20 @@ m7 = factorOf identity ≡ Lower identity
 abbrev pub m8 : Type 0
 m8 = (a : List (List Float)) → cell a 0 0 ≡ +0 → factorOf a ≡ Refused
 
+-- samples (10 s, 1 m) and (20 s, 3 m) of one signal
+abbrev pub twoSamples : List Sample
+twoSamples =
+    record { constellation = 1; svid = 5; band = 1; time = whole 10; correction = whole 1 }
+    ∷ record { constellation = 1; svid = 5; band = 1; time = whole 20; correction = whole 3 }
+    ∷ []
+
+-- m10: gap limit 90: 15 s gives 2 m
+abbrev pub m10 : Type 0
+m10 = queryOf 2 2 twoSamples (whole 90) 1 5 1 (whole 15) ≡ Metres (whole 2)
+
+-- m11: gap limit 5: 12
+abbrev pub m11 : Type 0
+m11 = queryOf 2 2 twoSamples (whole 5) 1 5 1 (whole 15) ≡ Correction.Refused NoCorrection
+
 abbrev pub marked : List (Type 0)
-marked = m1 ∷ m2 ∷ m3 ∷ m7 ∷ m8 ∷ []
+marked = m1 ∷ m2 ∷ m3 ∷ m7 ∷ m8 ∷ m10 ∷ m11 ∷ []

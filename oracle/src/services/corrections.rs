@@ -1,12 +1,14 @@
 //! Corrections: sessions of base epochs and queries against the published `build` and `at`, the whole table after each epoch.
 
+mod lent;
+
+use self::lent::{floats, in_range, Columns, Epoch, Table};
 use super::Service;
 use crate::bench;
 use crate::random::Random;
 use crate::tally::Tally;
 use drifters_gnss::differential::{build, Corrections, SatelliteState, Settings};
 use drifters_gnss::rinex::{Base, BaseEpoch, BaseRange};
-use std::collections::BTreeMap;
 use std::hint::black_box;
 
 pub const SERVICE: Service = Service {
@@ -16,252 +18,6 @@ pub const SERVICE: Service = Service {
     bench: Some(time),
     vectors: None,
 };
-
-extern "C" {
-    fn zaqnuti_query(
-        cs: *const u8,
-        csn: usize,
-        vs: *const u16,
-        vsn: usize,
-        bs: *const u8,
-        bsn: usize,
-        ts: *const f64,
-        tsn: usize,
-        xs: *const f64,
-        xsn: usize,
-        n: usize,
-        gap: f64,
-        c: u8,
-        v: u16,
-        b: u8,
-        t: f64,
-        metres: *mut f64,
-    ) -> u8;
-    fn zaqnuti_add_epoch(
-        cs: *mut u8,
-        csn: usize,
-        vs: *mut u16,
-        vsn: usize,
-        bs: *mut u8,
-        bsn: usize,
-        ts: *mut f64,
-        tsn: usize,
-        xs: *mut f64,
-        xsn: usize,
-        n: *mut usize,
-        time: f64,
-        k: usize,
-        rc: *const u8,
-        rcn: usize,
-        rv: *const u16,
-        rvn: usize,
-        rb: *const u8,
-        rbn: usize,
-        rp: *const f64,
-        rpn: usize,
-        present: bool,
-        m: usize,
-        sc: *const u8,
-        scn: usize,
-        sv: *const u16,
-        svn: usize,
-        sb: *const u8,
-        sbn: usize,
-        sf: *const f64,
-        sfn: usize,
-        base: *const [f64; 3],
-        rover: *const [f64; 3],
-        gap: f64,
-        max: f64,
-        on: *const [bool; 8],
-    ) -> u8;
-}
-
-/// The lent columns and the count.
-#[derive(Clone)]
-struct Table {
-    cs: Vec<u8>,
-    vs: Vec<u16>,
-    bs: Vec<u8>,
-    ts: Vec<f64>,
-    xs: Vec<f64>,
-    n: usize,
-}
-
-/// One base epoch as it is handed over.
-#[derive(Clone)]
-struct Epoch {
-    time: f64,
-    ranges: Vec<BaseRange>,
-    present: bool,
-    states: Vec<SatelliteState>,
-}
-
-impl Table {
-    /// Columns of these lengths, full of bytes that no sample has.
-    fn lent(lengths: [usize; 5]) -> Self {
-        Self {
-            cs: vec![0xA5; lengths[0]],
-            vs: vec![0xA5A5; lengths[1]],
-            bs: vec![0x5A; lengths[2]],
-            ts: vec![-7.25e200; lengths[3]],
-            xs: vec![f64::from_bits(0x7FF8_0000_0000_1234); lengths[4]],
-            n: 0,
-        }
-    }
-
-    fn capacity(&self) -> usize {
-        let lengths = [self.cs.len(), self.vs.len(), self.bs.len(), self.ts.len(), self.xs.len()];
-        lengths.into_iter().min().unwrap().min(2048)
-    }
-
-    /// Every bit of the columns, and the count.
-    fn bits(&self) -> (Vec<u8>, Vec<u16>, Vec<u8>, Vec<u64>, Vec<u64>, usize) {
-        let raw = |v: &[f64]| v.iter().map(|x| x.to_bits()).collect();
-        (self.cs.clone(), self.vs.clone(), self.bs.clone(), raw(&self.ts), raw(&self.xs), self.n)
-    }
-
-    /// The table with these series in front, and past them as it was.
-    fn with(&self, series: &BTreeMap<(u8, u16, u8), Vec<(f64, f64)>>) -> Self {
-        let mut t = self.clone();
-        t.n = 0;
-        for ((c, v, b), samples) in series {
-            for (time, x) in samples {
-                let i = t.n;
-                (t.cs[i], t.vs[i], t.bs[i], t.ts[i], t.xs[i]) = (*c, *v, *b, *time, *x);
-                t.n += 1;
-            }
-        }
-        t
-    }
-
-    /// Whether number 4 lets the table pass.
-    fn sound(&self) -> bool {
-        let key = |i: usize| (self.cs[i], self.vs[i], self.bs[i]);
-        (0..self.n).all(|i| in_range(self.ts[i]) && in_range(self.xs[i]))
-            && (1..self.n).all(|i| match key(i - 1).cmp(&key(i)) {
-                std::cmp::Ordering::Less => true,
-                std::cmp::Ordering::Equal => self.ts[i - 1].total_cmp(&self.ts[i]).is_le(),
-                std::cmp::Ordering::Greater => false,
-            })
-    }
-
-    fn query(&self, n: usize, gap: f64, (c, v, b): (u8, u16, u8), t: f64) -> (u8, f64) {
-        let mut metres = -1.5e300;
-        // SAFETY: each pointer comes with its length, and the last is ours alone.
-        let number = unsafe {
-            zaqnuti_query(
-                self.cs.as_ptr(),
-                self.cs.len(),
-                self.vs.as_ptr(),
-                self.vs.len(),
-                self.bs.as_ptr(),
-                self.bs.len(),
-                self.ts.as_ptr(),
-                self.ts.len(),
-                self.xs.as_ptr(),
-                self.xs.len(),
-                n,
-                gap,
-                c,
-                v,
-                b,
-                t,
-                &mut metres,
-            )
-        };
-        (number, metres)
-    }
-}
-
-/// An epoch as the entry point takes it.
-struct Columns {
-    time: f64,
-    k: usize,
-    rc: Vec<u8>,
-    rv: Vec<u16>,
-    rb: Vec<u8>,
-    rp: Vec<f64>,
-    present: bool,
-    m: usize,
-    sc: Vec<u8>,
-    sv: Vec<u16>,
-    sb: Vec<u8>,
-    sf: Vec<f64>,
-}
-
-impl Columns {
-    fn of(e: &Epoch) -> Self {
-        Self {
-            time: e.time,
-            k: e.ranges.len(),
-            rc: e.ranges.iter().map(|r| r.constellation).collect(),
-            rv: e.ranges.iter().map(|r| r.svid).collect(),
-            rb: e.ranges.iter().map(|r| r.band).collect(),
-            rp: e.ranges.iter().map(|r| r.pseudorange).collect(),
-            present: e.present,
-            m: e.states.len(),
-            sc: e.states.iter().map(|s| s.constellation).collect(),
-            sv: e.states.iter().map(|s| s.svid).collect(),
-            sb: e.states.iter().map(|s| s.band).collect(),
-            sf: e.states.iter().flat_map(floats).collect(),
-        }
-    }
-
-    fn add(&self, t: &mut Table, base: &[f64; 3], rover: &[f64; 3], set: &Settings) -> u8 {
-        // SAFETY: each pointer comes with its length or has that of its type, and those that are written are ours alone.
-        unsafe {
-            zaqnuti_add_epoch(
-                t.cs.as_mut_ptr(),
-                t.cs.len(),
-                t.vs.as_mut_ptr(),
-                t.vs.len(),
-                t.bs.as_mut_ptr(),
-                t.bs.len(),
-                t.ts.as_mut_ptr(),
-                t.ts.len(),
-                t.xs.as_mut_ptr(),
-                t.xs.len(),
-                &mut t.n,
-                self.time,
-                self.k,
-                self.rc.as_ptr(),
-                self.rc.len(),
-                self.rv.as_ptr(),
-                self.rv.len(),
-                self.rb.as_ptr(),
-                self.rb.len(),
-                self.rp.as_ptr(),
-                self.rp.len(),
-                self.present,
-                self.m,
-                self.sc.as_ptr(),
-                self.sc.len(),
-                self.sv.as_ptr(),
-                self.sv.len(),
-                self.sb.as_ptr(),
-                self.sb.len(),
-                self.sf.as_ptr(),
-                self.sf.len(),
-                base,
-                rover,
-                set.max_gap,
-                set.max_correction,
-                &set.constellations,
-            )
-        }
-    }
-}
-
-fn in_range(x: f64) -> bool {
-    x.is_finite() && x.abs() <= 1e9
-}
-
-/// A state's floats in the entry point's order.
-fn floats(s: &SatelliteState) -> [f64; 8] {
-    let (p, v) = (s.position, s.velocity);
-    [p[0], p[1], p[2], v[0], v[1], v[2], s.clock, s.modelled]
-}
 
 /// What the Rust builds of the epochs.
 fn reference(epochs: &[Epoch], base: [f64; 3], rover: [f64; 3], set: &Settings) -> Corrections {
@@ -291,7 +47,9 @@ fn refusal(t: &Table, e: &Epoch, base: &[f64; 3], rover: &[f64; 3], set: &Settin
     }
     let coordinates = base.iter().chain(rover).all(|&x| in_range(x));
     let records = e.ranges.iter().all(|r| in_range(r.pseudorange))
-        && states.iter().all(|s| floats(s).iter().all(|&x| in_range(x)));
+        && states
+            .iter()
+            .all(|s| floats(s).iter().all(|&x| in_range(x)));
     if !(coordinates && in_range(e.time) && records && t.sound()) {
         return 4;
     }
@@ -300,15 +58,35 @@ fn refusal(t: &Table, e: &Epoch, base: &[f64; 3], rover: &[f64; 3], set: &Settin
 
 /// A float that numbers 3 and 4 refuse, or that stands at their edge.
 fn odd(random: &mut Random) -> f64 {
-    random.pick(&[f64::NAN, f64::INFINITY, -f64::INFINITY, 1e9, -1e9, 1.000_000_001e9, -1e10, 0.0, -0.0])
+    random.pick(&[
+        f64::NAN,
+        f64::INFINITY,
+        -f64::INFINITY,
+        1e9,
+        -1e9,
+        1.000_000_001e9,
+        -1e10,
+        0.0,
+        -0.0,
+    ])
 }
 
 fn epoch(random: &mut Random, base: [f64; 3], wide: bool) -> Epoch {
     let signal = |random: &mut Random| {
-        let c = if random.below(8) == 0 { random.below(12) as u8 } else { random.pick(&[1, 1, 6, 7]) };
-        (c, 1 + random.below(if wide { 40 } else { 6 }) as u16, 1 + random.below(2) as u8)
+        let c = if random.below(8) == 0 {
+            random.below(12) as u8
+        } else {
+            random.pick(&[1, 1, 6, 7])
+        };
+        (
+            c,
+            1 + random.below(if wide { 40 } else { 6 }) as u16,
+            1 + random.below(2) as u8,
+        )
     };
-    let place = |random: &mut Random, size: f64| -> [f64; 3] { std::array::from_fn(|_| random.unit() * size) };
+    let place = |random: &mut Random, size: f64| -> [f64; 3] {
+        std::array::from_fn(|_| random.unit() * size)
+    };
     let m = random.place(65);
     let mut states: Vec<SatelliteState> = (0..m)
         .map(|_| {
@@ -324,7 +102,11 @@ fn epoch(random: &mut Random, base: [f64; 3], wide: bool) -> Epoch {
             }
         })
         .collect();
-    let k = if random.below(4) == 0 { random.place(8) } else { random.place(65) };
+    let k = if random.below(4) == 0 {
+        random.place(8)
+    } else {
+        random.place(65)
+    };
     let offset = random.unit() * 1e4;
     let mut ranges: Vec<BaseRange> = (0..k)
         .map(|_| {
@@ -339,7 +121,10 @@ fn epoch(random: &mut Random, base: [f64; 3], wide: bool) -> Epoch {
                 .iter()
                 .find(|s| (s.constellation, s.svid, s.band) == (constellation, svid, band));
             let distance = known.map_or(2e7, |s| {
-                let d: f64 = (0..3).map(|i| (s.position[i] - base[i]).powi(2)).sum::<f64>().sqrt();
+                let d: f64 = (0..3)
+                    .map(|i| (s.position[i] - base[i]).powi(2))
+                    .sum::<f64>()
+                    .sqrt();
                 d - s.clock + s.modelled
             });
             BaseRange {
@@ -356,7 +141,12 @@ fn epoch(random: &mut Random, base: [f64; 3], wide: bool) -> Epoch {
         2 => random.unit() * 1e6,
         _ => f64::from(random.between(-4, 12)) * 30.0,
     };
-    let mut e = Epoch { time, ranges: Vec::new(), present: random.below(10) > 0, states: Vec::new() };
+    let mut e = Epoch {
+        time,
+        ranges: Vec::new(),
+        present: random.below(10) > 0,
+        states: Vec::new(),
+    };
     match random.below(40) {
         0 if k > 0 => ranges[random.place(k)].pseudorange = odd(random),
         1 if m > 0 => states[random.place(m)].position[random.place(3)] = odd(random),
@@ -399,7 +189,13 @@ fn compare(tally: &mut Tally, random: &mut Random, count: u64) {
         let set = settings(random);
         let wide = random.below(2) == 0;
         let small = random.below(3) == 0;
-        let lengths = std::array::from_fn(|_| if small { 8 + random.place(120) } else { 1500 + random.place(700) });
+        let lengths = std::array::from_fn(|_| {
+            if small {
+                8 + random.place(120)
+            } else {
+                1500 + random.place(700)
+            }
+        });
         let mut table = Table::lent(lengths);
         let mut epochs: Vec<Epoch> = Vec::new();
         for _ in 0..12 {
@@ -412,7 +208,10 @@ fn compare(tally: &mut Tally, random: &mut Random, count: u64) {
                 3 => s.max_correction = odd(random),
                 _ => {}
             }
-            if (b, r) != (base, rover) || s.max_gap.to_bits() != set.max_gap.to_bits() || s.max_correction.to_bits() != set.max_correction.to_bits() {
+            if (b, r) != (base, rover)
+                || s.max_gap.to_bits() != set.max_gap.to_bits()
+                || s.max_correction.to_bits() != set.max_correction.to_bits()
+            {
                 // Another base, rover or setting is only for a call that is refused.
                 if refusal(&table, &e, &b, &r, &s) == 0 {
                     (b, r, s) = (base, rover, set);
@@ -477,13 +276,32 @@ fn compare(tally: &mut Tally, random: &mut Random, count: u64) {
             if damaged || !same {
                 table = whole;
             }
-            queries(tally, random, &table, &reference(&epochs, base, rover, &set), &mut done, &mut refused, &mut found);
+            queries(
+                tally,
+                random,
+                &table,
+                &reference(&epochs, base, rover, &set),
+                &mut done,
+                &mut refused,
+                &mut found,
+            );
         }
     }
-    tally.note(format!("{accepted} epochs accepted, {found} corrections found, by number {:?}", &refused[2..]));
+    tally.note(format!(
+        "{accepted} epochs accepted, {found} corrections found, by number {:?}",
+        &refused[2..]
+    ));
 }
 
-fn queries(tally: &mut Tally, random: &mut Random, whole: &Table, c: &Corrections, done: &mut u64, refused: &mut [u64; 13], found: &mut u64) {
+fn queries(
+    tally: &mut Tally,
+    random: &mut Random,
+    whole: &Table,
+    c: &Corrections,
+    done: &mut u64,
+    refused: &mut [u64; 13],
+    found: &mut u64,
+) {
     for _ in 0..20 {
         let mut table = whole.clone();
         if table.n > 0 && random.below(40) == 0 {
@@ -499,14 +317,27 @@ fn queries(tally: &mut Tally, random: &mut Random, whole: &Table, c: &Correction
         let key = if whole.n > 0 && random.below(10) > 0 {
             (whole.cs[i], whole.vs[i], whole.bs[i])
         } else {
-            (random.below(9) as u8, random.below(7) as u16, random.below(3) as u8)
+            (
+                random.below(9) as u8,
+                random.below(7) as u16,
+                random.below(3) as u8,
+            )
         };
         let at = if whole.n > 0 { whole.ts[i] } else { 30.0 };
         let other = if whole.n > 0 { whole.ts[j] } else { 60.0 };
         let time = match random.below(8) {
             0 => at,
             1 => at + random.pick(&[5e-7, -5e-7, 1e-6, -1e-6, 2e-6, -2e-6]),
-            2 => random.pick(&[f64::NAN, f64::INFINITY, f64::NEG_INFINITY, 2e9, -2e9, 1e9, 0.0, -0.0]),
+            2 => random.pick(&[
+                f64::NAN,
+                f64::INFINITY,
+                f64::NEG_INFINITY,
+                2e9,
+                -2e9,
+                1e9,
+                0.0,
+                -0.0,
+            ]),
             3 => at + 15.0,
             4 => (at + other) / 2.0,
             _ => at + random.unit() * 60.0,
@@ -516,8 +347,16 @@ fn queries(tally: &mut Tally, random: &mut Random, whole: &Table, c: &Correction
             1 => odd(random),
             _ => random.pick(&[30.0, 60.0, 90.0, 1e6]),
         };
-        let n = if random.below(60) == 0 { table.capacity() + 1 } else { table.n };
-        let theirs = Corrections { max_gap: gap, ..c.clone() }.at(key.0, key.1, key.2, time);
+        let n = if random.below(60) == 0 {
+            table.capacity() + 1
+        } else {
+            table.n
+        };
+        let theirs = Corrections {
+            max_gap: gap,
+            ..c.clone()
+        }
+        .at(key.0, key.1, key.2, time);
         let sound = table.n == n && table.sound();
         let damaged = table.bits() != whole.bits();
         let number = match theirs {
@@ -544,7 +383,11 @@ fn queries(tally: &mut Tally, random: &mut Random, whole: &Table, c: &Correction
 fn time(random: &mut Random) {
     let base = [-2.7e6, -4.3e6, 3.85e6];
     let rover = [-2.69e6, -4.3e6, 3.85e6];
-    let set = Settings { max_gap: 90.0, max_correction: 100.0, constellations: [true; 8] };
+    let set = Settings {
+        max_gap: 90.0,
+        max_correction: 100.0,
+        constellations: [true; 8],
+    };
     // Thirty-two ranges of distinct signals, each with its state.
     let mut one = |time: f64| {
         let states: Vec<SatelliteState> = (0..32)
@@ -561,14 +404,36 @@ fn time(random: &mut Random) {
         let ranges = states
             .iter()
             .map(|s| {
-                let d: f64 = (0..3).map(|i| (s.position[i] - base[i]).powi(2)).sum::<f64>().sqrt();
-                BaseRange { constellation: s.constellation, svid: s.svid, band: 1, pseudorange: d - s.clock + s.modelled }
+                let d: f64 = (0..3)
+                    .map(|i| (s.position[i] - base[i]).powi(2))
+                    .sum::<f64>()
+                    .sqrt();
+                BaseRange {
+                    constellation: s.constellation,
+                    svid: s.svid,
+                    band: 1,
+                    pseudorange: d - s.clock + s.modelled,
+                }
             })
             .collect();
-        Epoch { time, ranges, present: true, states }
+        Epoch {
+            time,
+            ranges,
+            present: true,
+            states,
+        }
     };
     let epochs: Vec<Epoch> = (0..60).map(|i| one(f64::from(i) * 30.0)).collect();
     let first = Columns::of(&epochs[0]);
+    let station = Base {
+        name: String::new(),
+        position: base,
+        epochs: vec![BaseEpoch {
+            tow: epochs[0].time,
+            ranges: epochs[0].ranges.clone(),
+        }],
+    };
+    let states = &epochs[0].states;
     let mut table = Table::lent([2048; 5]);
     bench::row(
         "add an epoch",
@@ -579,7 +444,12 @@ fn time(random: &mut Random) {
             black_box(first.add(black_box(&mut table), &base, &rover, &set));
         },
         || {
-            black_box(reference(black_box(&epochs[..1]), base, rover, &set));
+            black_box(build(
+                black_box(&station),
+                rover,
+                |_| Some(states.clone()),
+                &set,
+            ));
         },
     );
     let mut full = Table::lent([2048; 5]);
@@ -588,7 +458,14 @@ fn time(random: &mut Random) {
     }
     let c = reference(&epochs, base, rover, &set);
     println!("a table of {} samples", full.n);
-    let asked: Vec<((u8, u16, u8), f64)> = (0..64).map(|_| ((1, random.below(16) as u16, 1), 870.0 + random.unit() * 800.0)).collect();
+    let asked: Vec<((u8, u16, u8), f64)> = (0..64)
+        .map(|_| {
+            (
+                (1, random.below(16) as u16, 1),
+                870.0 + random.unit() * 800.0,
+            )
+        })
+        .collect();
     bench::row(
         "query with the table's test",
         full.n,
