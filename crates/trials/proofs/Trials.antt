@@ -2,19 +2,23 @@
 use mathlib.Core.Path.{_≡_, refl, _∙_}
 use Prim.Native.Nat.{_+_}
 use mathlib.Core.Bool.{false}
-use lib.Ieee.{sub, mul, div, lt, eq, isNan, ofInt, ofBits, toBits}
+use lib.Ieee.{add, sub, mul, div, lt, le, eq, isNan, ofInt, ofBits, toBits}
 use Rattle.exact.specs.Float.{+0}
 use Rattle.exact.specs.Products.{lessProducts}
 use Rattle.numeric.specs.Root.{rootOf}
 use Rattle.numeric.specs.Factor.{isPivot, withElement, below, pivotOf, rowOf, Refused, next, factorTo, factorOf}
-use Rattle.numeric.specs.Order.{sign, totalOrder, patternOf}
-use Rattle.numeric.specs.Real.{abs}
+use Rattle.numeric.specs.Order.{sign, totalOrder, keyOf, patternOf}
+use Rattle.numeric.specs.Real.{abs, inRange}
+use Rattle.walk.specs.Walk.{every}
 use Rattle.median.specs.Sorted.{insertBy, sortedBy, medianOf}
 use Rattle.median.specs.Centre.{centreOf, deviationOf, centreAndScaleOf, centreScaleOf}
 use Rattle.estimator.specs.Clocks.{has, appearing, slotFrom, clocksIn, clocksOf}
 use Rattle.estimator.specs.Record.{unsigned, bitSet, usable}
+use Rattle.table.specs.Table.{timeKey, rises, ranged, sound}
+use Rattle.table.specs.Query.{near, firstOf, lastOf, line, bridged, between, answerAt, queryOf}
+use Rattle.smooth.proofs.Trials.{one-point, not-held}
 use Rattle.numeric.proofs.FactorLaws.{factorTo-zero, factorTo-next, refused-more}
-use Rattle.trials.specs.Marked.{All, marked, m1, m2, m3, m4, m5, m6, m7, m8, m9}
+use Rattle.trials.specs.Marked.{All, marked, m1, m2, m3, m4, m5, m6, m7, m8, m9, m10, m11}
 
 root-four : m1
 unfolding rootOf ofInt
@@ -59,6 +63,14 @@ states : m9
 unfolding usable bitSet unsigned
 states c h = rw h
 
+half-way : m10
+unfolding queryOf answerAt between bridged line near firstOf lastOf inRange abs sound ranged rises timeKey keyOf patternOf every lt le add sub mul div ofBits ofInt toBits isNan
+half-way = refl
+
+gap-too-long : m11
+unfolding queryOf answerAt between bridged line near firstOf lastOf inRange abs sound ranged rises timeKey keyOf patternOf every lt le add sub mul div ofBits ofInt toBits isNan
+gap-too-long = refl
+
 -- THE FACT over the list
 pub marked-hold : All marked
-marked-hold = (root-four, (root-two, (root-least, (centre-empty, (centre-four, (slots-five, (identity-factors, (zero-pivot, (states, tt)))))))))
+marked-hold = (root-four, (root-two, (root-least, (centre-empty, (centre-four, (slots-five, (identity-factors, (zero-pivot, (states, (half-way, (gap-too-long, (one-point, (not-held, tt)))))))))))))

@@ -11,12 +11,18 @@ use Rattle.exact.specs.Float.{+0, 1·0, bits, whole}
 use Rattle.numeric.specs.Root.{rootOf}
 use Rattle.numeric.specs.Factor.{cell, Refused, Lower, factorOf}
 use Rattle.numeric.specs.Order.{patternOf}
+use Rattle.numeric.specs.declared.refusal.Refusal.the-variants.{NoCorrection}
 use Rattle.median.specs.Sorted.{medianOf}
 use Rattle.median.specs.Centre.{centreOf, deviationsOf, centreScaleOf}
 use Rattle.median.specs.declared.centre.Centre.the-variants.{Of}
 use Rattle.estimator.specs.Clocks.{slot, clocksOf}
 use Rattle.estimator.specs.Record.{usable}
 use Rattle.estimator.specs.declared.record.Carrier.{Carrier}
+use Rattle.table.specs.Query.{queryOf}
+use Rattle.table.specs.declared.sample.Sample.{Sample}
+use Rattle.table.specs.declared.query.Correction.the-variants as Correction
+use Rattle.table.specs.declared.query.Correction.the-variants.{Metres}
+use Rattle.smooth.specs.Trials.{m12, m13}
 
 -- all of a list's statements
 abbrev pub All : List (Type 0) → Type 0
@@ -80,5 +86,21 @@ inState c z = record { constellation = c .constellation; svid = c .svid; band = 
 abbrev pub m9 : Type 0
 m9 = (c : Carrier) → finite (c .adr) ≡ true → map (λ (z : ℤ). usable (inState c z)) (pos 1 ∷ pos 0 ∷ pos 3 ∷ pos 5 ∷ negsuc 0 ∷ []) ≡ true ∷ false ∷ false ∷ false ∷ false ∷ []
 
+-- samples (10 s, 1 m) and (20 s, 3 m) of one signal
+abbrev pub twoSamples : List Sample
+twoSamples =
+    record { constellation = 1; svid = 5; band = 1; time = whole 10; correction = whole 1 }
+    ∷ record { constellation = 1; svid = 5; band = 1; time = whole 20; correction = whole 3 }
+    ∷ []
+
+-- m10: gap limit 90: 15 s gives 2 m
+abbrev pub m10 : Type 0
+m10 = queryOf 2 2 twoSamples (whole 90) 1 5 1 (whole 15) ≡ Metres (whole 2)
+
+-- m11: gap limit 5: 12
+abbrev pub m11 : Type 0
+m11 = queryOf 2 2 twoSamples (whole 5) 1 5 1 (whole 15) ≡ Correction.Refused NoCorrection
+
+-- m12 and m13, those of a track, stand beside its definition
 abbrev pub marked : List (Type 0)
-marked = m1 ∷ m2 ∷ m3 ∷ m4 ∷ m5 ∷ m6 ∷ m7 ∷ m8 ∷ m9 ∷ []
+marked = m1 ∷ m2 ∷ m3 ∷ m4 ∷ m5 ∷ m6 ∷ m7 ∷ m8 ∷ m9 ∷ m10 ∷ m11 ∷ m12 ∷ m13 ∷ []

@@ -4,3 +4,4 @@ pub mod FactorNumber
 pub mod StepNumber
 pub mod EstimateLaws
 pub mod EstimateValues
+pub mod CorrectionLaws

@@ -2,3 +2,4 @@ pub mod Columns
 pub mod Numbers
 pub mod Estimates
 pub mod Track
+pub mod Corrections

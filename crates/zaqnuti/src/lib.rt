@@ -2,6 +2,7 @@
 pub mod clocks;
 mod columns;
 pub mod estimates;
+pub mod corrections;
 pub mod matrix;
 pub mod numbers;
 pub mod round;

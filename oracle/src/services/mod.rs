@@ -7,6 +7,8 @@ mod centre;
 mod clocks;
 #[cfg(feature = "displacement")]
 mod displacement;
+#[cfg(feature = "corrections")]
+mod corrections;
 mod factor;
 #[cfg(feature = "fix")]
 mod fix;
@@ -67,4 +69,6 @@ pub const SERVICES: &[Service] = &[
     soundness::SERVICE,
     #[cfg(feature = "track")]
     track::SERVICE,
+    #[cfg(feature = "corrections")]
+    corrections::SERVICE,
 ];

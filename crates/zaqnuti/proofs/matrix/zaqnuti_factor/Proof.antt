@@ -1,3 +1,4 @@
+-- `zaqnuti::matrix::zaqnuti_factor` meets its contract. Assumes nothing.
 use mathlib.Core.Path.{sym, _∙_}
 use borrow.Author.Needs.{needs}
 use Rattle.numeric.specs.Factor.{factorOf}

@@ -1,0 +1,12 @@
+-- `differential::raw::is_same` meets its contract. Assumes nothing.
+use mathlib.Core.Path.{refl}
+use Rattle.differential.specs.Raw.{same}
+use Rattle.differential.proofs.raw.is_same.Statement.{statement}
+use Rattle.differential.proofs.raw.is_same.Tie as tie
+
+returns : tie.Need-returns
+unfolding same
+returns c = refl
+
+pub is-same-spec : {M : Type 1} → statement M
+is-same-spec = tie.close (tie.spec returns)

@@ -1,0 +1,52 @@
+-- One base epoch added to the table: numbers 2, 3, 4 and 11 of document 01, and the table afterwards. Definitions only.
+use Prim.Native.Nat.{ℕ, _+_}
+use mathlib.Core.Bool.{Bool, cond, not, _&&_, _||_}
+use mathlib.Core.List.{List}
+use lib.Dec.{ltb}
+use lib.ListN.{length}
+use Rattle.walk.specs.Walk.{every}
+use Rattle.numeric.specs.Real.{inRange}
+use Rattle.numeric.specs.declared.vec3.Vec3.{Vec3}
+use Rattle.numeric.specs.declared.refusal.Refusal.the-variants.{TooMany, SettingOutOfRange, RecordOutOfRange, TableFull}
+use Rattle.table.specs.Table.{sound}
+use Rattle.table.specs.Add.{Outcome, refused, added, insertAll}
+use Rattle.table.specs.declared.sample.Sample.{Sample}
+use Rattle.table.specs.declared.add.Test.{Test}
+use Rattle.table.specs.declared.add.Test.the-variants.{Refused, Passed}
+use Rattle.differential.specs.Record.{rangesOf, statesCount, statesOf, placeInRange, rangeInRange, stateInRange}
+use Rattle.differential.specs.Sample.{epochSamples}
+use Rattle.differential.specs.declared.record.BaseEpoch.{BaseEpoch}
+use Rattle.differential.specs.declared.record.States.{States}
+use Rattle.differential.specs.declared.record.Settings.{Settings}
+
+-- number 2: the table has more samples than its capacity, room, or the epoch or the list of states more than 64 records
+unfoldable pub tooMany : ℕ → ℕ → BaseEpoch → States → Bool
+tooMany n room e s = ltb room n || ltb 64 (e .count) || ltb 64 (statesCount s)
+
+-- number 3 passes
+unfoldable pub settingsInRange : Settings → Bool
+settingsInRange set = inRange (set .«max_gap») && inRange (set .«max_correction»)
+
+-- number 4 passes for all but the table
+unfoldable pub recordsInRange : BaseEpoch → States → Vec3 → Vec3 → Bool
+recordsInRange e s base rover =
+    placeInRange base && placeInRange rover && inRange (e .time) && every rangeInRange (rangesOf e) && every stateInRange (statesOf s)
+
+-- the epoch to the first n samples, t, of columns with the capacity room: the refusal, or the table with the epoch's samples
+unfoldable pub addedOf : ℕ → ℕ → List Sample → BaseEpoch → States → Vec3 → Vec3 → Settings → Outcome
+addedOf n room t e s base rover set =
+    let new = epochSamples base rover set e s in
+    cond (tooMany n room e s) (refused TooMany)
+    (cond (not (settingsInRange set)) (refused SettingOutOfRange)
+    (cond (not (recordsInRange e s base rover && sound t)) (refused RecordOutOfRange)
+    (cond (ltb room (n + length new)) (refused TableFull)
+    (added (insertAll t new)))))
+
+-- ---- what the contracts of the steps say
+
+-- numbers 2, 3 and 4 for all but the table
+unfoldable pub recordsTest : ℕ → ℕ → BaseEpoch → States → Vec3 → Vec3 → Settings → Test
+recordsTest n room e s base rover set =
+    cond (tooMany n room e s) (Refused TooMany)
+    (cond (not (settingsInRange set)) (Refused SettingOutOfRange)
+    (cond (not (recordsInRange e s base rover)) (Refused RecordOutOfRange) Passed))

@@ -1,0 +1,5 @@
+pub mod Record
+pub mod Raw
+pub mod Sample
+pub mod AddEpoch
+pub mod Build

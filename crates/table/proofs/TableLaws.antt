@@ -1,0 +1,153 @@
+-- The order of the table, and what is first and last in it. Assumes nothing.
+use mathlib.Core.Path.{_≡_, refl, sym, ap, _∙_}
+use mathlib.Core.List.{List, [], _∷_}
+use mathlib.Core.Bool.{Bool, true, false, cond, _&&_, _||_}
+use Prim.Native.Nat.{ℕ, zero, suc, _+_, _*_, _^_, _≤_, _<_}
+use native.Mathlib.Nat.{not-suc-le-zero, le-of-suc-le-suc}
+use native.Mathlib.Omega.{arith}
+use lib.ListN.{length, getD, take, drop}
+use lib.Dec.{ltb, leb, eqb}
+use borrow.Author.Tests.{ltb-true, ltb-false, leb-true, eqb-true, eqb-false, lt-ltb, le-ltb, le-leb, lt-leb}
+use Rattle.walk.specs.Walk.{every}
+use Rattle.walk.proofs.Walk.{left-at, left-end}
+use Rattle.numeric.specs.Real.{inRange}
+use Rattle.table.specs.Table.{blank, placeOf, ranged, rises, sound}
+use Rattle.table.specs.Query.{Found, firstOf, lastOf, missing, the}
+use Rattle.table.specs.Add.{spotOf}
+use Rattle.table.specs.declared.sample.Sample.{Sample}
+
+-- ---- two numbers in one: by the first, and where that is equal by the second
+pub lex : (g h j k w : ℕ) → j < w → k < w → (ltb g h || (eqb g h && ltb j k)) ≡ ltb (g * w + j) (h * w + k)
+lex g h j k w jl kl = first (ltb g h) refl
+  where
+    up-by : (x y : ℕ) → x ≤ y → x * w ≤ y * w
+    up-by x y q = native.Mathlib.Nat.mul-le-mul-right w q
+
+    above : (a b i l : ℕ) → a < b → i < w → a * w + i < b * w + l
+    above a b i l p q = omega (arith, up-by (suc a) b p)
+
+    third : (t : Bool) → ltb j k ≡ t → g ≡ h → t ≡ ltb (g * w + j) (h * w + k)
+    third true e q = rw q (sym (lt-ltb (h * w + j) (h * w + k) (omega (arith, ltb-true j k e))))
+    third false e q = rw q (sym (le-ltb (h * w + j) (h * w + k) (omega (arith, ltb-false j k e))))
+
+    second : (t : Bool) → eqb g h ≡ t → h ≤ g → (t && ltb j k) ≡ ltb (g * w + j) (h * w + k)
+    second true e l = third (ltb j k) refl (eqb-true g h e)
+    second false e l =
+        let ne : g ≡ h → ⊥ = eqb-false g h e in
+        let s : h < g = omega arith in
+        sym (le-ltb (g * w + j) (h * w + k) (omega (arith, above h g k j s kl)))
+
+    first : (t : Bool) → ltb g h ≡ t → (t || (eqb g h && ltb j k)) ≡ ltb (g * w + j) (h * w + k)
+    first true e = sym (lt-ltb (g * w + j) (h * w + k) (above g h j k (ltb-true g h e) jl))
+    first false e = second (eqb g h) refl (ltb-false g h e)
+
+-- ---- a table that rises
+pub and-left : (a b : Bool) → (a && b) ≡ true → a ≡ true
+and-left true b e = refl
+and-left false b e = e
+
+pub and-right : (a b : Bool) → (a && b) ≡ true → b ≡ true
+and-right true b e = e
+and-right false b e = absurd (let z : _≡_ {A = ℕ} 0 1 = cc in omega arith)
+
+rises-from : (p : ℕ) (l : List Sample) (j : ℕ) → rises p l ≡ true → j < length l → p ≤ placeOf (getD l j blank)
+unfolding rises
+rises-from p [] j e h = absurd (not-suc-le-zero h)
+rises-from p (a ∷ l) zero e h = leb-true p (placeOf a) (and-left _ _ e)
+rises-from p (a ∷ l) (suc j) e h =
+    let f : p ≤ placeOf a = leb-true p (placeOf a) (and-left _ _ e) in
+    native.Mathlib.Nat.le-trans f (rises-from (placeOf a) l j (and-right (leb p (placeOf a)) _ e) (le-of-suc-le-suc h))
+
+pub rises-at : (p : ℕ) (l : List Sample) (i j : ℕ) → rises p l ≡ true → i ≤ j → j < length l → placeOf (getD l i blank) ≤ placeOf (getD l j blank)
+unfolding rises
+rises-at p [] i j e g h = absurd (not-suc-le-zero h)
+rises-at p (a ∷ l) zero zero e g h = native.Mathlib.Nat.le-refl (placeOf a)
+rises-at p (a ∷ l) zero (suc j) e g h = rises-from (placeOf a) l j (and-right (leb p (placeOf a)) _ e) (le-of-suc-le-suc h)
+rises-at p (a ∷ l) (suc i) zero e g h = absurd (not-suc-le-zero g)
+rises-at p (a ∷ l) (suc i) (suc j) e g h = rises-at (placeOf a) l i j (and-right (leb p (placeOf a)) _ e) (le-of-suc-le-suc g) (le-of-suc-le-suc h)
+
+pub every-at : (q : Sample → Bool) (l : List Sample) (j : ℕ) → every q l ≡ true → j < length l → q (getD l j blank) ≡ true
+unfolding every
+every-at q [] j e h = absurd (not-suc-le-zero h)
+every-at q (a ∷ l) zero e h = and-left _ _ e
+every-at q (a ∷ l) (suc j) e h = every-at q l j (and-right (q a) _ e) (le-of-suc-le-suc h)
+
+-- a sound table, place by place
+pub record Sound (l : List Sample) : Type 0 where
+  pub rising : (i j : ℕ) → i ≤ j → j < length l → placeOf (getD l i blank) ≤ placeOf (getD l j blank)
+  pub times : (j : ℕ) → j < length l → inRange (getD l j blank .time) ≡ true
+  pub values : (j : ℕ) → j < length l → inRange (getD l j blank .correction) ≡ true
+
+pub sound-at : (l : List Sample) → sound l ≡ true → Sound l
+unfolding sound ranged
+sound-at l e =
+    record {
+      rising = λ i j g h. rises-at 0 l i j (and-right (every ranged l) _ e) g h;
+      times = λ j h. and-left _ _ (every-at ranged l j (and-left _ _ e) h);
+      values = λ j h. and-right (inRange (getD l j blank .time)) _ (every-at ranged l j (and-left _ _ e) h);
+    }
+
+-- ---- the pass over the table: what is left is sound, with places from p on
+abbrev pub soundFrom : ℕ → List Sample → Bool
+soundFrom p l = every ranged l && rises p l
+
+pub sound-starts : (l : List Sample) → soundFrom 0 l ≡ sound l
+unfolding sound
+sound-starts l = refl
+
+and-no : (a b : Bool) → (a && (false && b)) ≡ false
+and-no true b = refl
+and-no false b = refl
+
+module _ (l : List Sample) (n : ℕ) (fits : n ≤ length l) (i : ℕ) {w : Bool} (p : ℕ) (inv : soundFrom p (drop i (take n l)) ≡ w) where
+  pub pass-end : n ≤ i → true ≡ w
+  unfolding every rises
+  pass-end h = rw (left-end l n fits i h) at inv
+
+  module _ (h : i < n) (g k : ℕ) (is : g * 2 ^ 64 + k ≡ placeOf (getD l i blank)) where
+    pub pass-low : ltb (g * 2 ^ 64 + k) p ≡ true → false ≡ w
+    unfolding every rises
+    pass-low t =
+        let nay : leb p (placeOf (getD l i blank)) ≡ false = rw (← is) (lt-leb p (g * 2 ^ 64 + k) (ltb-true _ _ t)) in
+        sym (and-no (every ranged (getD l i blank ∷ drop (i + 1) (take n l))) (rises (placeOf (getD l i blank)) (drop (i + 1) (take n l)))) ∙ (rw (left-at l n fits i blank h, nay) at inv)
+
+    pub pass-out : ranged (getD l i blank) ≡ false → false ≡ w
+    unfolding every rises
+    pass-out nay = rw (left-at l n fits i blank h, nay) at inv
+
+    pub pass-on : ltb (g * 2 ^ 64 + k) p ≡ false → ranged (getD l i blank) ≡ true → soundFrom (g * 2 ^ 64 + k) (drop (i + 1) (take n l)) ≡ w
+    unfolding every rises
+    pass-on t r =
+        let yea : leb p (placeOf (getD l i blank)) ≡ true = rw (← is) (le-leb p (g * 2 ^ 64 + k) (ltb-false _ _ t)) in
+        rw is (rw (left-at l n fits i blank h, yea, r) at inv)
+
+-- ---- the first and the last sample that pass, and the spot of a sample
+pub first-at : (q : Sample → Bool) (l : List Sample) (i : ℕ) → i < length l → ((j : ℕ) → j < i → q (getD l j blank) ≡ false) → q (getD l i blank) ≡ true → firstOf q l ≡ the (getD l i blank)
+unfolding firstOf
+first-at q [] i h nay yea = absurd (not-suc-le-zero h)
+first-at q (a ∷ l) zero h nay yea = rw yea
+first-at q (a ∷ l) (suc i) h nay yea = rw (nay 0 (omega arith)) (first-at q l i (le-of-suc-le-suc h) (λ j g. nay (suc j) (omega arith)) yea)
+
+pub first-none : (q : Sample → Bool) (l : List Sample) → ((j : ℕ) → j < length l → q (getD l j blank) ≡ false) → firstOf q l ≡ missing
+unfolding firstOf
+first-none q [] nay = refl
+first-none q (a ∷ l) nay = rw (nay 0 (omega arith)) (first-none q l (λ j g. nay (suc j) (omega arith)))
+
+pub last-none : (q : Sample → Bool) (f : Found) (l : List Sample) → ((j : ℕ) → j < length l → q (getD l j blank) ≡ false) → lastOf q f l ≡ f
+unfolding lastOf
+last-none q f [] nay = refl
+last-none q f (a ∷ l) nay = rw (nay 0 (omega arith)) (last-none q f l (λ j g. nay (suc j) (omega arith)))
+
+pub last-at : (q : Sample → Bool) (f : Found) (l : List Sample) (i : ℕ) → i < length l → q (getD l i blank) ≡ true → ((j : ℕ) → i < j → j < length l → q (getD l j blank) ≡ false) → lastOf q f l ≡ the (getD l i blank)
+unfolding lastOf
+last-at q f [] i h yea nay = absurd (not-suc-le-zero h)
+last-at q f (a ∷ l) zero h yea nay = rw yea (last-none q (the a) l (λ j g. nay (suc j) (omega arith) (omega arith)))
+last-at q f (a ∷ l) (suc i) h yea nay = last-at q (cond (q a) (the a) f) l i (le-of-suc-le-suc h) yea (λ j g k. nay (suc j) (omega arith) (omega arith))
+
+pub spot-is : (s : Sample) (l : List Sample) (p : ℕ) → p ≤ length l → ((j : ℕ) → j < p → ltb (placeOf s) (placeOf (getD l j blank)) ≡ false)
+    → ((j : ℕ) → p ≤ j → j < length l → ltb (placeOf s) (placeOf (getD l j blank)) ≡ true) → p ≡ spotOf s l
+unfolding spotOf
+spot-is s [] zero h nay yea = refl
+spot-is s [] (suc p) h nay yea = absurd (not-suc-le-zero h)
+spot-is s (a ∷ l) zero h nay yea = rw (yea 0 (omega arith) (omega arith))
+spot-is s (a ∷ l) (suc p) h nay yea = rw (nay 0 (omega arith)) (ap suc (spot-is s l p (le-of-suc-le-suc h) (λ j g. nay (suc j) (omega arith)) (λ j g k. yea (suc j) (omega arith) (omega arith))))

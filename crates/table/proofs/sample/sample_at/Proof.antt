@@ -1,0 +1,49 @@
+-- `table::sample::sample_at` meets its contract. Assumes nothing.
+use native.Mathlib.Omega.{arith}
+use Rattle.table.proofs.ColumnLaws.{rows-at, rows-within, Within}
+use Rattle.table.proofs.sample.sample_at.Statement.{statement}
+use Rattle.table.proofs.sample.sample_at.Tie as tie
+
+inside : (c : tie.Start) → Within (c .args .i) (c .args .cs .now) (c .args .vs .now) (c .args .bs .now) (c .args .ts .now) (c .args .xs .now)
+inside c = rows-within (c .args .cs .now) (c .args .vs .now) (c .args .bs .now) (c .args .ts .now) (c .args .xs .now) (c .args .i) (c .pre)
+
+shared-slice-read-t8 : tie.Need-shared-slice-read-t8
+shared-slice-read-t8 c = omega (arith, inside (c .before))
+
+mul-t9 : tie.Need-mul-t9
+mul-t9 c = omega (arith, inside (c .before))
+
+shared-slice-read-t11 : tie.Need-shared-slice-read-t11
+shared-slice-read-t11 c = omega (arith, inside (c .before .before))
+
+shared-slice-read-t13 : tie.Need-shared-slice-read-t13
+shared-slice-read-t13 c = omega (arith, inside (c .before .before .before))
+
+mul-t14 : tie.Need-mul-t14
+mul-t14 c = omega (arith, inside (c .before .before .before))
+
+shared-slice-read-t16 : tie.Need-shared-slice-read-t16
+shared-slice-read-t16 c = omega (arith, inside (c .before .before .before .before))
+
+mul-t17 : tie.Need-mul-t17
+mul-t17 c = omega (arith, inside (c .before .before .before .before))
+
+shared-slice-read-t19 : tie.Need-shared-slice-read-t19
+shared-slice-read-t19 c = omega (arith, inside (c .before .before .before .before .before))
+
+returns : tie.Need-returns
+returns c = let a = c .before .before .before .before .before .args in rows-at (a .cs .now) (a .vs .now) (a .bs .now) (a .ts .now) (a .xs .now) (a .i) (c .before .before .before .before .before .pre)
+
+pub sample-at-spec : {M : Type 1} → statement M
+sample-at-spec =
+    tie.close
+    (tie.spec
+    shared-slice-read-t8
+    mul-t9
+    shared-slice-read-t11
+    shared-slice-read-t13
+    mul-t14
+    shared-slice-read-t16
+    mul-t17
+    shared-slice-read-t19
+    returns)

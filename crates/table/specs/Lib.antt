@@ -1,0 +1,4 @@
+pub mod Table
+pub mod Query
+pub mod Add
+pub mod Build

@@ -1,0 +1,94 @@
+-- The correction of a signal at a time (document 01, "Corrections"; `Corrections::at` of differential.rs). Definitions only.
+use Prim.Native.Nat.{ℕ, _≤_, _<_}
+use mathlib.Core.Path.{_≡_}
+use mathlib.Core.Bool.{Bool, true, false, cond, not, _&&_, _||_}
+use mathlib.Core.List.{List, [], _∷_}
+use lib.ListN.{length, getD}
+use lib.Dec.{eqb, ltb}
+use lib.Ieee.{Float, lt}
+use lib.Ieee.Scale.{finite}
+use Rattle.exact.specs.Float.{_⊕_, _⊖_, _⊗_, _⊘_, bits}
+use Rattle.numeric.specs.Real.{abs, inRange}
+use Rattle.numeric.specs.declared.refusal.Refusal.the-variants.{TooMany, SettingOutOfRange, RecordOutOfRange, NoCorrection}
+use Rattle.table.specs.Table.{signal, signalOf, sound, blank}
+use Rattle.table.specs.declared.sample.Sample.{Sample}
+use Rattle.table.specs.declared.query.Correction.{Correction}
+use Rattle.table.specs.declared.query.Correction.the-variants.{Refused, Metres}
+
+-- 1e-6
+abbrev pub exact : Float
+exact = bits 0x3EB0_C6F7_A0B5_ED8D
+
+-- less than 1e-6 s away
+unfoldable pub near : Float → Float → Bool
+near x t = lt (abs (x ⊖ t)) exact
+
+pub data Found : Type 0 where
+  missing : Found
+  the : Sample → Found
+
+-- the first sample that passes the test
+unfoldable pub firstOf : (Sample → Bool) → List Sample → Found
+firstOf test [] = missing
+firstOf test (s ∷ ss) = cond (test s) (the s) (firstOf test ss)
+
+-- the last sample that passes the test, and f where none does
+unfoldable pub lastOf : (Sample → Bool) → Found → List Sample → Found
+lastOf test f [] = f
+lastOf test f (s ∷ ss) = lastOf test (cond (test s) (the s) f) ss
+
+-- a sample of the signal g before the time t
+abbrev pub earlier : ℕ → Float → Sample → Bool
+earlier g t s = eqb (signalOf s) g && lt (s .time) t
+
+-- a sample of the signal g at or after the time t
+abbrev pub later : ℕ → Float → Sample → Bool
+later g t s = eqb (signalOf s) g && not (lt (s .time) t)
+
+-- the line through two samples, at t
+unfoldable pub line : Float → Sample → Sample → Float
+line t a b = a .correction ⊕ (t ⊖ a .time) ⊘ (b .time ⊖ a .time) ⊗ (b .correction ⊖ a .correction)
+
+-- What the last sample before t, if there is one, and the first one at or after it, b, give, b not being near: where there is none, the end refuses;
+-- then a sample less than 1e-6 s away comes first, and then the gap is tested.
+unfoldable pub bridged : Float → Float → Found → Sample → Correction
+bridged gap t missing b = Refused NoCorrection
+bridged gap t (the a) b =
+    cond (near (a .time) t) (Metres (a .correction))
+    (cond (lt gap (b .time ⊖ a .time)) (Refused NoCorrection) (Metres (line t a b)))
+
+-- What they give, where there may be none at or after t: the end refuses; a sample less than 1e-6 s away comes first.
+unfoldable pub between : Float → Float → Found → Found → Correction
+between gap t f missing = Refused NoCorrection
+between gap t f (the b) = cond (near (b .time) t) (Metres (b .correction)) (bridged gap t f b)
+
+-- the correction of the signal c, v, b at the time t
+unfoldable pub answerAt : List Sample → Float → ℕ → ℕ → ℕ → Float → Correction
+answerAt ss gap c v b t =
+    let g = signal c v b in
+    between gap t (lastOf (earlier g t) missing ss) (firstOf (later g t) ss)
+
+-- a query of the first n samples of columns with that capacity: numbers 2, 3 and 4, and then the answer; a time that is not finite passes 4
+unfoldable pub queryOf : ℕ → ℕ → List Sample → Float → ℕ → ℕ → ℕ → Float → Correction
+queryOf n room ss gap c v b t =
+    cond (ltb room n) (Refused TooMany)
+    (cond (not (inRange gap)) (Refused SettingOutOfRange)
+    (cond (not (sound ss && (inRange t || not (finite t)))) (Refused RecordOutOfRange)
+    (answerAt ss gap c v b t)))
+
+-- every correction given is finite
+abbrev pub GivesFinite : Correction → Type 0
+GivesFinite (Refused n) = Unit {0}
+GivesFinite (Metres x) = finite x ≡ true
+
+-- ---- what the contract of the halving says
+
+-- the samples that stand before the signal g at the time t
+unfoldable pub ahead : ℕ → Float → Sample → Bool
+ahead g t s = ltb (signalOf s) g || (eqb (signalOf s) g && lt (s .time) t)
+
+-- those samples are the first r
+pub record Parted (g : ℕ) (t : Float) (ss : List Sample) (r : ℕ) : Type 0 where
+  pub within : r ≤ length ss
+  pub front : (j : ℕ) → j < r → ahead g t (getD ss j blank) ≡ true
+  pub back : (j : ℕ) → r ≤ j → j < length ss → ahead g t (getD ss j blank) ≡ false

@@ -1,0 +1,207 @@
+// Samples added to a table, each after those that it does not precede.
+ghost use mathlib.Core.Path.{_≡_};
+ghost use mathlib.Core.Bool.{true};
+ghost use Prim.Native.Nat.{_+_, _-_, _≤_, _<_};
+ghost use lib.ListN.{length, take};
+ghost use Rattle.walk.specs.Walk.{every};
+ghost use Rattle.table.specs.Table.{rows, capacity, tableOf, ranged, sound};
+ghost use Rattle.table.specs.Add.{spotOf, opened, Inserted, InsertedAll, counted, testOf, addOf, Adds};
+use crate::sample::Sample;
+use crate::sample::capacity_of;
+use crate::sample::is_ranged;
+use crate::sample::is_sound;
+use crate::sample::precedes;
+use crate::sample::sample_at;
+use numeric::refusal::Refusal;
+
+// Up to 64 samples, in the order in which they arrive.
+pub struct Samples {
+    pub count: usize,
+    pub samples: [Sample; 64],
+}
+
+// What comes of tests: the refusal of the first that fails, or that all passed.
+pub enum Test {
+    Refused(Refusal),
+    Passed,
+}
+
+// The answer to adding: why nothing was added, or how many samples the table has now.
+pub enum Adding {
+    Refused(Refusal),
+    Count(usize),
+}
+
+// How many samples at the front of a sound table the sample s does not precede.
+fn spot_of(cs: &[u8], vs: &[u16], bs: &[u8], ts: &[f64], xs: &[f64], n: usize, s: Sample) -> usize
+    requires { ⌜ n ≤ length (rows (now cs) (now vs) (now bs) (now ts) (now xs)) ⌝ }
+    requires { ⌜ sound (tableOf n (now cs) (now vs) (now bs) (now ts) (now xs)) ≡ true ⌝ }
+    ensures { λ r. ⌜ r ≡ spotOf s (tableOf n (now (cs .entry)) (now (vs .entry)) (now (bs .entry)) (now (ts .entry)) (now (xs .entry))) ⌝ }
+{
+    let mut p = n;
+    while p > 0 {
+        let a = sample_at(cs, vs, bs, ts, xs, p - 1);
+        if !precedes(s, a) {
+            return p;
+        }
+        p -= 1;
+    }
+    p
+}
+
+// x at the place p of a column of which n places are in use, what stood there moved up by one.
+fn open_u8(d: &mut [u8], p: usize, n: usize, x: u8)
+    requires { ⌜ (p ≤ n) × (n < length (now d)) ⌝ }
+    ensures { λ _. ⌜ now (d .exit) ≡ opened p (n - p) x (now (d .entry)) ⌝ }
+{
+    let mut i = n;
+    while i > p {
+        d[i] = d[i - 1];
+        i -= 1;
+    }
+    d[i] = x;
+}
+
+// The same for 16-bit numbers.
+fn open_u16(d: &mut [u16], p: usize, n: usize, x: u16)
+    requires { ⌜ (p ≤ n) × (n < length (now d)) ⌝ }
+    ensures { λ _. ⌜ now (d .exit) ≡ opened p (n - p) x (now (d .entry)) ⌝ }
+{
+    let mut i = n;
+    while i > p {
+        d[i] = d[i - 1];
+        i -= 1;
+    }
+    d[i] = x;
+}
+
+// The same for floats.
+fn open_f64(d: &mut [f64], p: usize, n: usize, x: f64)
+    requires { ⌜ (p ≤ n) × (n < length (now d)) ⌝ }
+    ensures { λ _. ⌜ now (d .exit) ≡ opened p (n - p) x (now (d .entry)) ⌝ }
+{
+    let mut i = n;
+    while i > p {
+        d[i] = d[i - 1];
+        i -= 1;
+    }
+    d[i] = x;
+}
+
+// The sample s into the n samples of a sound table that has room for it.
+fn insert(
+    cs: &mut [u8],
+    vs: &mut [u16],
+    bs: &mut [u8],
+    ts: &mut [f64],
+    xs: &mut [f64],
+    n: usize,
+    s: Sample,
+)
+    requires { ⌜ n < length (rows (now cs) (now vs) (now bs) (now ts) (now xs)) ⌝ }
+    requires { ⌜ sound (tableOf n (now cs) (now vs) (now bs) (now ts) (now xs)) ≡ true ⌝ }
+    ensures { λ _. ⌜ Inserted n s (now (cs .entry)) (now (vs .entry)) (now (bs .entry)) (now (ts .entry)) (now (xs .entry))
+        (now (cs .exit)) (now (vs .exit)) (now (bs .exit)) (now (ts .exit)) (now (xs .exit)) ⌝ }
+{
+    let p = spot_of(cs, vs, bs, ts, xs, n, s);
+    open_u8(cs, p, n, s.constellation);
+    open_u16(vs, p, n, s.svid);
+    open_u8(bs, p, n, s.band);
+    open_f64(ts, p, n, s.time);
+    open_f64(xs, p, n, s.correction);
+}
+
+// The first m samples of new, one after the other, into the n samples of a sound table that has room for them all.
+fn insert_all(
+    cs: &mut [u8],
+    vs: &mut [u16],
+    bs: &mut [u8],
+    ts: &mut [f64],
+    xs: &mut [f64],
+    n: usize,
+    new: [Sample; 64],
+    m: usize,
+)
+    requires { ⌜ m ≤ 64 ⌝ }
+    requires { ⌜ n + m ≤ length (rows (now cs) (now vs) (now bs) (now ts) (now xs)) ⌝ }
+    requires { ⌜ sound (tableOf n (now cs) (now vs) (now bs) (now ts) (now xs)) ≡ true ⌝ }
+    requires { ⌜ every ranged (take m new) ≡ true ⌝ }
+    ensures { λ _. ⌜ InsertedAll n m (take m new) (now (cs .entry)) (now (vs .entry)) (now (bs .entry)) (now (ts .entry)) (now (xs .entry))
+        (now (cs .exit)) (now (vs .exit)) (now (bs .exit)) (now (ts .exit)) (now (xs .exit)) ⌝ }
+{
+    let mut i: usize = 0;
+    while i < m {
+        let s = new[i];
+        insert(cs, vs, bs, ts, xs, n + i, s);
+        i += 1;
+    }
+}
+
+// Whether rule 4 lets the counted samples pass.
+fn all_ranged(new: Samples) -> bool
+    requires { ⌜ new .count ≤ 64 ⌝ }
+    ensures { λ r. ⌜ r ≡ every ranged (counted new) ⌝ }
+{
+    let m = new.count;
+    let mut i: usize = 0;
+    while i < m {
+        let s = new.samples[i];
+        if !is_ranged(s) {
+            return false;
+        }
+        i += 1;
+    }
+    true
+}
+
+// Numbers 2, 4 and 11, in this order.
+fn tested(cs: &[u8], vs: &[u16], bs: &[u8], ts: &[f64], xs: &[f64], n: usize, new: Samples) -> Test
+    ensures { λ r. ⌜ r ≡ testOf n (capacity (now (cs .entry)) (now (vs .entry)) (now (bs .entry)) (now (ts .entry)) (now (xs .entry)))
+        (tableOf n (now (cs .entry)) (now (vs .entry)) (now (bs .entry)) (now (ts .entry)) (now (xs .entry))) new ⌝ }
+{
+    let m = new.count;
+    let room = capacity_of(cs, vs, bs, ts, xs);
+    if n > room {
+        return Test::Refused(Refusal::TooMany);
+    }
+    if m > 64 {
+        return Test::Refused(Refusal::TooMany);
+    }
+    if !is_sound(cs, vs, bs, ts, xs, n) {
+        return Test::Refused(Refusal::RecordOutOfRange);
+    }
+    if !all_ranged(new) {
+        return Test::Refused(Refusal::RecordOutOfRange);
+    }
+    if room < n + m {
+        return Test::Refused(Refusal::TableFull);
+    }
+    Test::Passed
+}
+
+// The counted samples of new to the first n samples of the table, or the refusal, which leaves every column as it was.
+pub fn add(
+    cs: &mut [u8],
+    vs: &mut [u16],
+    bs: &mut [u8],
+    ts: &mut [f64],
+    xs: &mut [f64],
+    n: usize,
+    new: Samples,
+) -> Adding
+    ensures { λ r. ⌜ Adds (addOf n (capacity (now (cs .entry)) (now (vs .entry)) (now (bs .entry)) (now (ts .entry)) (now (xs .entry)))
+        (tableOf n (now (cs .entry)) (now (vs .entry)) (now (bs .entry)) (now (ts .entry)) (now (xs .entry))) new) r
+        (now (cs .entry)) (now (vs .entry)) (now (bs .entry)) (now (ts .entry)) (now (xs .entry))
+        (now (cs .exit)) (now (vs .exit)) (now (bs .exit)) (now (ts .exit)) (now (xs .exit)) ⌝ }
+{
+    let test = tested(cs, vs, bs, ts, xs, n, new);
+    match test {
+        Test::Refused(r) => Adding::Refused(r),
+        Test::Passed => {
+            let m = new.count;
+            let samples = new.samples;
+            insert_all(cs, vs, bs, ts, xs, n, samples, m);
+            Adding::Count(n + m)
+        }
+    }
+}

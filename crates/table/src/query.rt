@@ -1,0 +1,151 @@
+// The correction of a signal at a time: `Corrections::at` of differential.rs.
+ghost use mathlib.Core.Path.{_≡_};
+ghost use mathlib.Core.Bool.{true};
+ghost use Prim.Native.Nat.{_≤_};
+ghost use lib.ListN.{length};
+ghost use Rattle.table.specs.Table.{rows, capacity, tableOf, sound};
+ghost use Rattle.table.specs.Query.{near, line, ahead, Parted, answerAt, queryOf, GivesFinite};
+use crate::sample::Sample;
+use crate::sample::capacity_of;
+use crate::sample::is_sound;
+use crate::sample::sample_at;
+use crate::sample::signal_of;
+use numeric::real::abs;
+use numeric::real::in_range;
+use numeric::real::is_finite;
+use numeric::refusal::Refusal;
+
+// The answer to a query: why there is none, or the correction in metres.
+pub enum Correction {
+    Refused(Refusal),
+    Metres(f64),
+}
+
+// Whether the times x and t are less than 1e-6 s apart.
+fn is_near(x: f64, t: f64) -> bool
+    ensures { λ r. ⌜ r ≡ near x t ⌝ }
+{
+    abs(x - t) < 1e-6
+}
+
+// The line through the samples a and b, at t.
+fn line_of(t: f64, a: Sample, b: Sample) -> f64
+    ensures { λ r. ⌜ r ≡ line t a b ⌝ }
+{
+    a.correction + (t - a.time) / (b.time - a.time) * (b.correction - a.correction)
+}
+
+// Whether the sample stands before the signal g at the time t.
+fn is_ahead(a: Sample, g: u64, t: f64) -> bool
+    ensures { λ r. ⌜ r ≡ ahead g t a ⌝ }
+{
+    let h = signal_of(a.constellation, a.svid, a.band);
+    (h < g) | ((h == g) & (a.time < t))
+}
+
+// How many samples of a sound table stand before the signal g at the time t, by halving.
+fn first_from(
+    cs: &[u8],
+    vs: &[u16],
+    bs: &[u8],
+    ts: &[f64],
+    xs: &[f64],
+    n: usize,
+    g: u64,
+    t: f64,
+) -> usize
+    requires { ⌜ n ≤ length (rows (now cs) (now vs) (now bs) (now ts) (now xs)) ⌝ }
+    requires { ⌜ sound (tableOf n (now cs) (now vs) (now bs) (now ts) (now xs)) ≡ true ⌝ }
+    ensures { λ r. ⌜ Parted g t (tableOf n (now (cs .entry)) (now (vs .entry)) (now (bs .entry)) (now (ts .entry)) (now (xs .entry))) r ⌝ }
+{
+    let mut lo: usize = 0;
+    let mut hi = n;
+    while lo < hi {
+        let mid = lo + (hi - lo) / 2;
+        let a = sample_at(cs, vs, bs, ts, xs, mid);
+        if is_ahead(a, g, t) {
+            lo = mid + 1;
+        } else {
+            hi = mid;
+        }
+    }
+    lo
+}
+
+// The correction that a sound table gives.
+fn look_up(
+    cs: &[u8],
+    vs: &[u16],
+    bs: &[u8],
+    ts: &[f64],
+    xs: &[f64],
+    n: usize,
+    gap: f64,
+    c: u8,
+    v: u16,
+    b: u8,
+    t: f64,
+) -> Correction
+    requires { ⌜ n ≤ length (rows (now cs) (now vs) (now bs) (now ts) (now xs)) ⌝ }
+    requires { ⌜ sound (tableOf n (now cs) (now vs) (now bs) (now ts) (now xs)) ≡ true ⌝ }
+    ensures { λ r. ⌜ r ≡ answerAt (tableOf n (now (cs .entry)) (now (vs .entry)) (now (bs .entry)) (now (ts .entry)) (now (xs .entry))) gap c v b t ⌝ }
+{
+    let g = signal_of(c, v, b);
+    let i = first_from(cs, vs, bs, ts, xs, n, g, t);
+    if i == n {
+        return Correction::Refused(Refusal::NoCorrection);
+    }
+    let p = sample_at(cs, vs, bs, ts, xs, i);
+    if signal_of(p.constellation, p.svid, p.band) != g {
+        return Correction::Refused(Refusal::NoCorrection);
+    }
+    if is_near(p.time, t) {
+        return Correction::Metres(p.correction);
+    }
+    if i == 0 {
+        return Correction::Refused(Refusal::NoCorrection);
+    }
+    let q = sample_at(cs, vs, bs, ts, xs, i - 1);
+    if signal_of(q.constellation, q.svid, q.band) != g {
+        return Correction::Refused(Refusal::NoCorrection);
+    }
+    if is_near(q.time, t) {
+        return Correction::Metres(q.correction);
+    }
+    if p.time - q.time > gap {
+        return Correction::Refused(Refusal::NoCorrection);
+    }
+    Correction::Metres(line_of(t, q, p))
+}
+
+// The correction of the signal c, v, b at the time t, or the refusal. Every correction given is finite.
+pub fn query(
+    cs: &[u8],
+    vs: &[u16],
+    bs: &[u8],
+    ts: &[f64],
+    xs: &[f64],
+    n: usize,
+    gap: f64,
+    c: u8,
+    v: u16,
+    b: u8,
+    t: f64,
+) -> Correction
+    ensures { λ r. ⌜ (r ≡ queryOf n (capacity (now (cs .entry)) (now (vs .entry)) (now (bs .entry)) (now (ts .entry)) (now (xs .entry)))
+        (tableOf n (now (cs .entry)) (now (vs .entry)) (now (bs .entry)) (now (ts .entry)) (now (xs .entry))) gap c v b t) × GivesFinite r ⌝ }
+{
+    if n > capacity_of(cs, vs, bs, ts, xs) {
+        return Correction::Refused(Refusal::TooMany);
+    }
+    if !in_range(gap) {
+        return Correction::Refused(Refusal::SettingOutOfRange);
+    }
+    if !is_sound(cs, vs, bs, ts, xs, n) {
+        return Correction::Refused(Refusal::RecordOutOfRange);
+    }
+    if !(in_range(t) | !is_finite(t)) {
+        return Correction::Refused(Refusal::RecordOutOfRange);
+    }
+    look_up(cs, vs, bs, ts, xs, n, gap, c, v, b, t)
+}

@@ -1,0 +1,16 @@
+-- `zaqnuti::corrections::is_short` meets its contract. Assumes nothing.
+use mathlib.Core.Path.{refl}
+use Rattle.zaqnuti.specs.Corrections.{short}
+use borrow.Author.Needs.{needs}
+use Rattle.zaqnuti.proofs.corrections.is_short.Statement.{statement}
+use Rattle.zaqnuti.proofs.corrections.is_short.Tie as tie
+
+mul-result : tie.Need-mul-result
+mul-result c = search needs
+
+returns : tie.Need-returns
+unfolding short
+returns c = refl
+
+pub is-short-spec : {M : Type 1} → statement M
+is-short-spec = tie.close (tie.spec mul-result returns)

@@ -1,0 +1,32 @@
+-- `zaqnuti::corrections::zaqnuti_query` meets its contract. Assumes nothing.
+use mathlib.Core.Path.{sym, _∙_, subst}
+use Rattle.table.specs.Query.{GivesFinite}
+use Rattle.zaqnuti.proofs.CorrectionLaws.{query-refused, query-metres}
+use borrow.Author.Needs.{needs}
+use Rattle.zaqnuti.proofs.corrections.zaqnuti_query.Statement.{statement}
+use Rattle.zaqnuti.proofs.corrections.zaqnuti_query.Tie as tie
+
+query-requires : tie.Need-query-requires
+query-requires c κs = search needs
+
+enum-known-answer : tie.Need-enum-known-answer
+enum-known-answer c = search needs
+
+number-requires : tie.Need-number-requires
+number-requires c κs = search needs
+
+enum-known-answer-2 : tie.Need-enum-known-answer-2
+enum-known-answer-2 c = search needs
+
+returns : tie.Need-returns
+returns c =
+    let e = sym (c .before .before .answer .given .1) in
+    query-refused _ _ _ (c .number .ensures) (e ∙ c .before .before .before .before .query .ensures .0) (subst GivesFinite (sym e) (c .before .before .before .before .query .ensures .1))
+
+returns-2 : tie.Need-returns-2
+returns-2 c =
+    let e = sym (c .before .answer2 .given .1) in
+    query-metres _ _ _ (e ∙ c .before .before .before .query .ensures .0) (subst GivesFinite (sym e) (c .before .before .before .query .ensures .1))
+
+pub zaqnuti-query-spec : {M : Type 1} → statement M
+zaqnuti-query-spec = tie.close (tie.spec query-requires enum-known-answer number-requires enum-known-answer-2 returns returns-2)

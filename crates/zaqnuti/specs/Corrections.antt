@@ -1,0 +1,115 @@
+-- What the entry points of the corrections read from lent columns, and what they answer. Definitions only.
+use Prim.Native.Nat.{ℕ, zero, suc, _+_, _*_}
+use mathlib.Core.Bool.{Bool, cond, _||_}
+use mathlib.Core.List.{List, [], _∷_, _++_}
+use lib.Dec.{ltb}
+use mathlib.Core.Path.{_≡_}
+use lib.ListN.{length, getD, take}
+use lib.Ieee.{Float, nan}
+use Rattle.numeric.specs.Refusal.{numberOf}
+use Rattle.numeric.specs.declared.vec3.Vec3.{Vec3}
+use Rattle.numeric.specs.declared.refusal.Refusal.the-variants.{TooMany}
+use Rattle.table.specs.Add.{Outcome, refused, added, columnAfter}
+use Rattle.table.specs.declared.sample.Sample.{Sample}
+use Rattle.table.specs.declared.query.Correction.{Correction}
+use Rattle.table.specs.declared.query.Correction.the-variants.{Refused, Metres}
+use Rattle.differential.specs.AddEpoch.{addedOf}
+use Rattle.differential.specs.declared.record.Range.{Range}
+use Rattle.differential.specs.declared.record.BaseEpoch.{BaseEpoch}
+use Rattle.differential.specs.declared.record.State.{State}
+use Rattle.differential.specs.declared.record.States.{States}
+use Rattle.differential.specs.declared.record.Settings.{Settings}
+
+-- ---- a query
+
+-- 0, or the number of the refusal
+abbrev pub queryNumber : Correction → ℕ
+queryNumber (Refused r) = numberOf r
+queryNumber (Metres x) = 0
+
+-- the lent float afterwards: the correction, and as it was where the query is refused
+abbrev pub metresAfter : Correction → Float → Float
+metresAfter (Refused r) old = old
+metresAfter (Metres x) old = x
+
+-- ---- an epoch
+
+-- f of each number below k
+unfoldable pub firsts : {A : Type 0} → (ℕ → A) → ℕ → List A
+firsts f zero = []
+firsts f (suc k) = firsts f k ++ (f k ∷ [])
+
+-- the range at i of columns of constellations, svids, bands and pseudoranges
+abbrev pub rangeAt : List ℕ → List ℕ → List ℕ → List Float → ℕ → Range
+rangeAt cs vs bs ps i = record { constellation = getD cs i 0; svid = getD vs i 0; band = getD bs i 0; pseudorange = getD ps i nan }
+
+abbrev pub epochOf : Float → ℕ → List ℕ → List ℕ → List ℕ → List Float → BaseEpoch
+epochOf time k cs vs bs ps = record { count = k; time = time; ranges = firsts (rangeAt cs vs bs ps) k }
+
+-- the state at i of columns of constellations, svids and bands, and of eight floats for each: position, velocity, clock, modelled
+abbrev pub stateAt : List ℕ → List ℕ → List ℕ → List Float → ℕ → State
+stateAt cs vs bs fs i =
+    record {
+      constellation = getD cs i 0;
+      svid = getD vs i 0;
+      band = getD bs i 0;
+      position = record { x = getD fs (i * 8) nan; y = getD fs (i * 8 + 1) nan; z = getD fs (i * 8 + 2) nan };
+      velocity = record { x = getD fs (i * 8 + 3) nan; y = getD fs (i * 8 + 4) nan; z = getD fs (i * 8 + 5) nan };
+      clock = getD fs (i * 8 + 6) nan;
+      modelled = getD fs (i * 8 + 7) nan;
+    }
+
+abbrev pub statesOf : Bool → ℕ → List ℕ → List ℕ → List ℕ → List Float → States
+statesOf present m cs vs bs fs = record { present = present; count = m; states = firsts (stateAt cs vs bs fs) m }
+
+-- three floats as a place
+abbrev pub placeOf : List Float → Vec3
+placeOf p = record { x = getD p 0 nan; y = getD p 1 nan; z = getD p 2 nan }
+
+abbrev pub settingsOf : Float → Float → List Bool → Settings
+settingsOf gap max on = record { «max_gap» = gap; «max_correction» = max; constellations = on }
+
+-- number 2: a lent column is shorter than the k ranges or m states need
+unfoldable pub short : ℕ → List ℕ → List ℕ → List ℕ → List Float → ℕ → List ℕ → List ℕ → List ℕ → List Float → Bool
+short k rc rv rb rp m sc sv sb sf =
+    ltb (length rc) k || ltb (length rv) k || ltb (length rb) k || ltb (length rp) k || ltb (length sc) m || ltb (length sv) m || ltb (length sb) m || ltb (length sf) (m * 8)
+
+-- the epoch and the states that the columns hold, added; states are not looked at under the mark that there are none
+unfoldable pub entryOf : ℕ → ℕ → List Sample → Float → ℕ → List ℕ → List ℕ → List ℕ → List Float → Bool → ℕ → List ℕ → List ℕ → List ℕ → List Float → Vec3 → Vec3 → Settings → Outcome
+entryOf n room t time k rc rv rb rp present m sc sv sb sf base rover set =
+    cond (short k rc rv rb rp (cond present m 0) sc sv sb sf) (refused TooMany)
+    (addedOf n room t (epochOf time k rc rv rb rp) (statesOf present m sc sv sb sf) base rover set)
+
+-- 0, or the number of the refusal
+abbrev pub outcomeNumber : Outcome → ℕ
+outcomeNumber (refused r) = numberOf r
+outcomeNumber (added t) = 0
+
+-- the lent count afterwards
+abbrev pub countAfter : Outcome → ℕ → ℕ
+countAfter (refused r) n = n
+countAfter (added t) n = length t
+
+-- the number, the count and the columns afterwards are those of the outcome
+pub record Enters (o : Outcome) (r : ℕ) (cs vs bs : List ℕ) (ts xs : List Float) (n : ℕ) (cs′ vs′ bs′ : List ℕ) (ts′ xs′ : List Float) (n′ : ℕ) : Type 0 where
+  pub number : r ≡ outcomeNumber o
+  pub count : n′ ≡ countAfter o n
+  pub constellations : cs′ ≡ columnAfter (λ (s : Sample). s .constellation) o cs
+  pub svids : vs′ ≡ columnAfter (λ (s : Sample). s .svid) o vs
+  pub bands : bs′ ≡ columnAfter (λ (s : Sample). s .band) o bs
+  pub times : ts′ ≡ columnAfter (λ (s : Sample). s .time) o ts
+  pub corrections : xs′ ≡ columnAfter (λ (s : Sample). s .correction) o xs
+
+-- ---- what the contracts of the steps say
+
+-- the epoch e has the time and the first k ranges l
+pub record EpochRead (time : Float) (k : ℕ) (l : List Range) (e : BaseEpoch) : Type 0 where
+  pub count : e .count ≡ k
+  pub time-is : e .time ≡ time
+  pub ranges : take k (e .ranges) ≡ l
+
+-- the states s have the mark and the first m states l
+pub record StatesRead (present : Bool) (m : ℕ) (l : List State) (s : States) : Type 0 where
+  pub mark : s .present ≡ present
+  pub count : s .count ≡ m
+  pub states-are : take m (s .states) ≡ l

@@ -1,0 +1,484 @@
+//! Corrections: sessions of base epochs and queries against the published `build` and `at`, the whole table after each epoch.
+
+mod lent;
+
+use self::lent::{floats, in_range, Columns, Epoch, Table};
+use super::Service;
+use crate::bench;
+use crate::random::Random;
+use crate::tally::Tally;
+use drifters_gnss::differential::{build, Corrections, SatelliteState, Settings};
+use drifters_gnss::rinex::{Base, BaseEpoch, BaseRange};
+use std::hint::black_box;
+
+pub const SERVICE: Service = Service {
+    name: "corrections",
+    count: 400_000,
+    compare,
+    bench: Some(time),
+    vectors: None,
+};
+
+/// What the Rust builds of the epochs.
+fn reference(epochs: &[Epoch], base: [f64; 3], rover: [f64; 3], set: &Settings) -> Corrections {
+    let station = Base {
+        name: String::new(),
+        position: base,
+        epochs: epochs
+            .iter()
+            .map(|e| BaseEpoch {
+                tow: e.time,
+                ranges: e.ranges.clone(),
+            })
+            .collect(),
+    };
+    let mut states = epochs.iter().map(|e| e.present.then(|| e.states.clone()));
+    build(&station, rover, |_| states.next().unwrap(), set)
+}
+
+/// Numbers 2 to 4 of an epoch and the table, 0 where none applies.
+fn refusal(t: &Table, e: &Epoch, base: &[f64; 3], rover: &[f64; 3], set: &Settings) -> u8 {
+    let states: &[SatelliteState] = if e.present { &e.states } else { &[] };
+    if t.n > t.capacity() || e.ranges.len() > 64 || states.len() > 64 {
+        return 2;
+    }
+    if !(in_range(set.max_gap) && in_range(set.max_correction)) {
+        return 3;
+    }
+    let coordinates = base.iter().chain(rover).all(|&x| in_range(x));
+    let records = e.ranges.iter().all(|r| in_range(r.pseudorange))
+        && states
+            .iter()
+            .all(|s| floats(s).iter().all(|&x| in_range(x)));
+    if !(coordinates && in_range(e.time) && records && t.sound()) {
+        return 4;
+    }
+    0
+}
+
+/// A float that numbers 3 and 4 refuse, or that stands at their edge.
+fn odd(random: &mut Random) -> f64 {
+    random.pick(&[
+        f64::NAN,
+        f64::INFINITY,
+        -f64::INFINITY,
+        1e9,
+        -1e9,
+        1.000_000_001e9,
+        -1e10,
+        0.0,
+        -0.0,
+    ])
+}
+
+fn epoch(random: &mut Random, base: [f64; 3], wide: bool) -> Epoch {
+    let signal = |random: &mut Random| {
+        let c = if random.below(8) == 0 {
+            random.below(12) as u8
+        } else {
+            random.pick(&[1, 1, 6, 7])
+        };
+        (
+            c,
+            1 + random.below(if wide { 40 } else { 6 }) as u16,
+            1 + random.below(2) as u8,
+        )
+    };
+    let place = |random: &mut Random, size: f64| -> [f64; 3] {
+        std::array::from_fn(|_| random.unit() * size)
+    };
+    let m = random.place(65);
+    let mut states: Vec<SatelliteState> = (0..m)
+        .map(|_| {
+            let (constellation, svid, band) = signal(random);
+            SatelliteState {
+                constellation,
+                svid,
+                band,
+                position: place(random, 2.6e7),
+                velocity: place(random, 4e3),
+                clock: random.unit() * 1e5,
+                modelled: random.unit() * 30.0,
+            }
+        })
+        .collect();
+    let k = if random.below(4) == 0 {
+        random.place(8)
+    } else {
+        random.place(65)
+    };
+    let offset = random.unit() * 1e4;
+    let mut ranges: Vec<BaseRange> = (0..k)
+        .map(|_| {
+            let (constellation, svid, band) = match states.is_empty() {
+                false if random.below(8) > 0 => {
+                    let s = random.pick(&states);
+                    (s.constellation, s.svid, s.band)
+                }
+                _ => signal(random),
+            };
+            let known = states
+                .iter()
+                .find(|s| (s.constellation, s.svid, s.band) == (constellation, svid, band));
+            let distance = known.map_or(2e7, |s| {
+                let d: f64 = (0..3)
+                    .map(|i| (s.position[i] - base[i]).powi(2))
+                    .sum::<f64>()
+                    .sqrt();
+                d - s.clock + s.modelled
+            });
+            BaseRange {
+                constellation,
+                svid,
+                band,
+                pseudorange: distance + offset + random.unit() * random.pick(&[1.0, 50.0, 300.0]),
+            }
+        })
+        .collect();
+    let time = match random.below(8) {
+        0 => 0.0,
+        1 => -0.0,
+        2 => random.unit() * 1e6,
+        _ => f64::from(random.between(-4, 12)) * 30.0,
+    };
+    let mut e = Epoch {
+        time,
+        ranges: Vec::new(),
+        present: random.below(10) > 0,
+        states: Vec::new(),
+    };
+    match random.below(40) {
+        0 if k > 0 => ranges[random.place(k)].pseudorange = odd(random),
+        1 if m > 0 => states[random.place(m)].position[random.place(3)] = odd(random),
+        2 if m > 0 => states[random.place(m)].velocity[random.place(3)] = odd(random),
+        3 if m > 0 => states[random.place(m)].clock = odd(random),
+        4 if m > 0 => states[random.place(m)].modelled = odd(random),
+        5 => e.time = odd(random),
+        6 if k > 0 => {
+            let r = ranges[0].clone();
+            ranges.resize(65, r);
+        }
+        7 if m > 0 => {
+            let s = states[0];
+            states.resize(65, s);
+        }
+        _ => {}
+    }
+    e.ranges = ranges;
+    e.states = states;
+    e
+}
+
+fn settings(random: &mut Random) -> Settings {
+    let mut set = Settings {
+        max_gap: random.pick(&[0.0, 30.0, 60.0, 90.0, 1e9, -1.0]),
+        max_correction: random.pick(&[0.0, 5.0, 100.0, 100.0, 1e4, 1e9, -1.0]),
+        constellations: [true; 8],
+    };
+    if random.below(3) == 0 {
+        set.constellations = std::array::from_fn(|_| random.below(4) > 0);
+    }
+    set
+}
+
+fn compare(tally: &mut Tally, random: &mut Random, count: u64) {
+    let (mut done, mut accepted, mut refused, mut found) = (0, 0, [0u64; 13], 0);
+    while done < count {
+        let base: [f64; 3] = [-2.7e6 + random.unit() * 1e5, -4.3e6, 3.85e6];
+        let rover: [f64; 3] = std::array::from_fn(|i| base[i] + random.unit() * 1e4);
+        let set = settings(random);
+        let wide = random.below(2) == 0;
+        let small = random.below(3) == 0;
+        let lengths = std::array::from_fn(|_| {
+            if small {
+                8 + random.place(120)
+            } else {
+                1500 + random.place(700)
+            }
+        });
+        let mut table = Table::lent(lengths);
+        let mut epochs: Vec<Epoch> = Vec::new();
+        for _ in 0..12 {
+            let mut e = epoch(random, base, wide);
+            let (mut b, mut r, mut s) = (base, rover, set);
+            match random.below(60) {
+                0 => b[random.place(3)] = odd(random),
+                1 => r[random.place(3)] = odd(random),
+                2 => s.max_gap = odd(random),
+                3 => s.max_correction = odd(random),
+                _ => {}
+            }
+            if (b, r) != (base, rover)
+                || s.max_gap.to_bits() != set.max_gap.to_bits()
+                || s.max_correction.to_bits() != set.max_correction.to_bits()
+            {
+                // Another base, rover or setting is only for a call that is refused.
+                if refusal(&table, &e, &b, &r, &s) == 0 {
+                    (b, r, s) = (base, rover, set);
+                }
+            }
+            if !e.present && random.below(2) == 0 {
+                // What lies beside the mark is not looked at.
+                if let Some(s) = e.states.first_mut() {
+                    s.clock = f64::NAN;
+                }
+            }
+            // A damaged table: two rows exchanged or a float out of range, mended afterwards.
+            let whole = table.clone();
+            if table.n > 1 && random.below(10) == 0 {
+                let i = random.place(table.n);
+                match random.below(4) {
+                    0 => table.ts[i] = odd(random),
+                    1 => table.xs[i] = odd(random),
+                    2 => table.ts.swap(i, 0),
+                    _ => table.vs.swap(i, 0),
+                }
+            }
+            let over = random.below(50) == 0;
+            if over {
+                table.n = table.capacity() + 1;
+            }
+            let before = table.clone();
+            let mut number = refusal(&table, &e, &b, &r, &s);
+            let damaged = before.bits() != whole.bits();
+            if number == 0 && damaged {
+                // Damaged and yet sound: no call, since the Rust has no such table.
+                table = whole;
+                continue;
+            }
+            let mut expected = before.clone();
+            if number == 0 {
+                epochs.push(e.clone());
+                let c = reference(&epochs, base, rover, &set);
+                if c.samples() > table.capacity() {
+                    number = 11;
+                    epochs.pop();
+                } else {
+                    expected = before.with(&c.series);
+                    accepted += 1;
+                }
+            }
+            let ours = Columns::of(&e).add(&mut table, &b, &r, &s);
+            refused[usize::from(number)] += 1;
+            let same = ours == number && table.bits() == expected.bits();
+            done += 1;
+            tally.judge(same, || {
+                format!(
+                    "an epoch at {} of {} ranges and {} states to {} samples: our number {ours}, expected {number}, {} samples against {}",
+                    e.time,
+                    e.ranges.len(),
+                    e.states.len(),
+                    before.n,
+                    table.n,
+                    expected.n
+                )
+            });
+            if damaged || !same {
+                table = whole;
+            }
+            queries(
+                tally,
+                random,
+                &table,
+                &reference(&epochs, base, rover, &set),
+                &mut done,
+                &mut refused,
+                &mut found,
+            );
+        }
+    }
+    tally.note(format!(
+        "{accepted} epochs accepted, {found} corrections found, by number {:?}",
+        &refused[2..]
+    ));
+}
+
+fn queries(
+    tally: &mut Tally,
+    random: &mut Random,
+    whole: &Table,
+    c: &Corrections,
+    done: &mut u64,
+    refused: &mut [u64; 13],
+    found: &mut u64,
+) {
+    for _ in 0..20 {
+        let mut table = whole.clone();
+        if table.n > 0 && random.below(40) == 0 {
+            let i = random.place(table.n);
+            match random.below(3) {
+                0 => table.ts[i] = random.pick(&[f64::NAN, 2e9]),
+                1 => table.xs[i] = random.pick(&[f64::NAN, -2e9]),
+                _ => table.cs.swap(i, 0),
+            }
+        }
+        let i = random.place(whole.n.max(1));
+        let j = random.place(whole.n.max(1));
+        let key = if whole.n > 0 && random.below(10) > 0 {
+            (whole.cs[i], whole.vs[i], whole.bs[i])
+        } else {
+            (
+                random.below(9) as u8,
+                random.below(7) as u16,
+                random.below(3) as u8,
+            )
+        };
+        let at = if whole.n > 0 { whole.ts[i] } else { 30.0 };
+        let other = if whole.n > 0 { whole.ts[j] } else { 60.0 };
+        let time = match random.below(8) {
+            0 => at,
+            1 => at + random.pick(&[5e-7, -5e-7, 1e-6, -1e-6, 2e-6, -2e-6]),
+            2 => random.pick(&[
+                f64::NAN,
+                f64::INFINITY,
+                f64::NEG_INFINITY,
+                2e9,
+                -2e9,
+                1e9,
+                0.0,
+                -0.0,
+            ]),
+            3 => at + 15.0,
+            4 => (at + other) / 2.0,
+            _ => at + random.unit() * 60.0,
+        };
+        let gap = match random.below(8) {
+            0 => (at - other).abs(),
+            1 => odd(random),
+            _ => random.pick(&[30.0, 60.0, 90.0, 1e6]),
+        };
+        let n = if random.below(60) == 0 {
+            table.capacity() + 1
+        } else {
+            table.n
+        };
+        let theirs = Corrections {
+            max_gap: gap,
+            ..c.clone()
+        }
+        .at(key.0, key.1, key.2, time);
+        let sound = table.n == n && table.sound();
+        let damaged = table.bits() != whole.bits();
+        let number = match theirs {
+            _ if n > table.capacity() => 2,
+            _ if !in_range(gap) => 3,
+            _ if !sound || (time.is_finite() && !in_range(time)) => 4,
+            _ if damaged => continue,
+            None => 12,
+            Some(_) => 0,
+        };
+        let (ours, metres) = table.query(n, gap, key, time);
+        refused[usize::from(number)] += 1;
+        *done += 1;
+        let same = ours == number
+            && match theirs {
+                Some(x) if number == 0 => metres.to_bits() == x.to_bits() && metres.is_finite(),
+                _ => metres == -1.5e300,
+            };
+        *found += u64::from(number == 0);
+        tally.judge(same, || format!("{key:?} at {time} with the gap {gap}: our number {ours}, {metres}; expected {number}, {theirs:?}"));
+    }
+}
+
+fn time(random: &mut Random) {
+    let base = [-2.7e6, -4.3e6, 3.85e6];
+    let rover = [-2.69e6, -4.3e6, 3.85e6];
+    let set = Settings {
+        max_gap: 90.0,
+        max_correction: 100.0,
+        constellations: [true; 8],
+    };
+    // Thirty-two ranges of distinct signals, each with its state.
+    let mut one = |time: f64| {
+        let states: Vec<SatelliteState> = (0..32)
+            .map(|i| SatelliteState {
+                constellation: if i < 16 { 1 } else { 6 },
+                svid: i,
+                band: 1,
+                position: std::array::from_fn(|_| random.unit() * 2.6e7),
+                velocity: std::array::from_fn(|_| random.unit() * 4e3),
+                clock: random.unit() * 1e5,
+                modelled: random.unit() * 30.0,
+            })
+            .collect();
+        let ranges = states
+            .iter()
+            .map(|s| {
+                let d: f64 = (0..3)
+                    .map(|i| (s.position[i] - base[i]).powi(2))
+                    .sum::<f64>()
+                    .sqrt();
+                BaseRange {
+                    constellation: s.constellation,
+                    svid: s.svid,
+                    band: 1,
+                    pseudorange: d - s.clock + s.modelled,
+                }
+            })
+            .collect();
+        Epoch {
+            time,
+            ranges,
+            present: true,
+            states,
+        }
+    };
+    let epochs: Vec<Epoch> = (0..60).map(|i| one(f64::from(i) * 30.0)).collect();
+    let first = Columns::of(&epochs[0]);
+    let station = Base {
+        name: String::new(),
+        position: base,
+        epochs: vec![BaseEpoch {
+            tow: epochs[0].time,
+            ranges: epochs[0].ranges.clone(),
+        }],
+    };
+    let states = &epochs[0].states;
+    let mut table = Table::lent([2048; 5]);
+    bench::row(
+        "add an epoch",
+        32,
+        1,
+        || {
+            table.n = 0;
+            black_box(first.add(black_box(&mut table), &base, &rover, &set));
+        },
+        || {
+            black_box(build(
+                black_box(&station),
+                rover,
+                |_| Some(states.clone()),
+                &set,
+            ));
+        },
+    );
+    let mut full = Table::lent([2048; 5]);
+    for e in &epochs {
+        Columns::of(e).add(&mut full, &base, &rover, &set);
+    }
+    let c = reference(&epochs, base, rover, &set);
+    println!("a table of {} samples", full.n);
+    let asked: Vec<((u8, u16, u8), f64)> = (0..64)
+        .map(|_| {
+            (
+                (1, random.below(16) as u16, 1),
+                870.0 + random.unit() * 800.0,
+            )
+        })
+        .collect();
+    bench::row(
+        "query with the table's test",
+        full.n,
+        asked.len(),
+        || {
+            for (key, t) in &asked {
+                black_box(full.query(full.n, 90.0, *key, *t));
+            }
+        },
+        || {
+            for (key, t) in &asked {
+                black_box(c.at(key.0, key.1, key.2, *t));
+            }
+        },
+    );
+}
