@@ -1,8 +1,8 @@
 // The static library for C and Rust: an entry point for each service and each call of its own. None of them keeps any state.
 pub mod clocks;
 mod columns;
-pub mod estimates;
 pub mod corrections;
+pub mod estimates;
 pub mod matrix;
 pub mod numbers;
 pub mod round;
