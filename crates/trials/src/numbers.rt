@@ -28,7 +28,7 @@ fn identity() -> [[f64; 9]; 9] {
     a
 }
 
-// How many cells of the two matrices have unlike patterns.
+// Whether a cell of the two matrices has unlike patterns.
 fn differ(a: [[f64; 9]; 9], b: [[f64; 9]; 9]) -> bool {
     let mut found = false;
     for i in 0..9 {
