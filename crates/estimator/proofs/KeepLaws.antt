@@ -2,11 +2,12 @@
 use mathlib.Core.Path.{_≡_, refl, sym, ap, _∙_}
 use mathlib.Core.List.{List, [], _∷_, _++_, map}
 use mathlib.Core.Bool.{Bool, true, false, cond}
-use Prim.Native.Nat.{ℕ, suc, _+_, _≤_, _<_}
+use Prim.Native.Nat.{ℕ, zero, suc, _+_, _≤_, _<_}
+use native.Mathlib.Nat.{not-suc-le-zero, le-of-suc-le-suc}
 use native.Mathlib.Numerals.{add-one}
 use native.Mathlib.Omega.{arith}
 use lib.ListN.{length, take, drop, set, getD}
-use lib.Seq.{take-suc, take-suc-set, drop-cons, drop-set-lt}
+use lib.Seq.{take-suc, take-suc-set, getD-take, length-take-le, drop-cons, drop-set-lt}
 use Rattle.walk.specs.Walk.{collect}
 use Rattle.walk.proofs.Walk.{Collecting, collecting-start, collecting-none, collecting-one}
 use Rattle.estimator.specs.Record.{keep}
@@ -30,6 +31,11 @@ module _ {A : Type 0} (test : A → Bool) where
 
 -- ---- an array that is filled with what f gives of each element
 
+getD-map-at : {A B : Type 0} (f : A → B) (xs : List A) (j : ℕ) (d : A) (e : B) → j < length xs → getD (map f xs) j e ≡ f (getD xs j d)
+getD-map-at f [] j d e h = absurd (not-suc-le-zero h)
+getD-map-at f (x ∷ xs) zero d e h = refl
+getD-map-at f (x ∷ xs) (suc j) d e h = getD-map-at f xs j d e (le-of-suc-le-suc h)
+
 map-snoc : {A B : Type 0} (f : A → B) (xs : List A) (x : A) → map f (xs ++ (x ∷ [])) ≡ map f xs ++ (f x ∷ [])
 map-snoc f [] x = refl
 map-snoc f (y ∷ ys) x = ap (λ zs. f y ∷ zs) (map-snoc f ys x)
@@ -37,6 +43,11 @@ map-snoc f (y ∷ ys) x = ap (λ zs. f y ∷ zs) (map-snoc f ys x)
 pub filled-next : {A B : Type 0} (f : A → B) (xs : List A) (out : List B) (i : ℕ) (d : A) → i < length xs → i < length out → take i out ≡ map f (take i xs)
     → take (i + 1) (set out i (f (getD xs i d))) ≡ map f (take (i + 1) xs)
 filled-next f xs out i d h g e = rw (add-one, take-suc-set out i (f (getD xs i d)) g, take-suc xs i d h, map-snoc, e)
+
+-- an element of an array that has been filled
+pub filled-at : {A B : Type 0} (f : A → B) (xs : List A) (out : List B) (n j : ℕ) (d : A) (e : B) → n ≤ length xs → j < n → take n out ≡ map f (take n xs) → getD out j e ≡ f (getD xs j d)
+filled-at f xs out n j d e h l all =
+    sym (getD-take n out j e l) ∙ ap (λ ys. getD ys j e) all ∙ getD-map-at f (take n xs) j d e (rw (length-take-le n xs h) l) ∙ ap f (getD-take n xs j d l)
 
 -- ---- elements that are moved to the front of their own array
 

@@ -37,17 +37,23 @@ pub record Input : Type 0 where
 
 -- ---- the rounds
 
--- the row of a pair at the state x: what was observed, less what x says
-unfoldable pub rowAt : Settings → Clocks → List Float → Pair → Row
-rowAt settings k x p =
+unfoldable pub sigmaOf : Settings → Pair → Float
+sigmaOf settings p = elevationSigma (p .elevation) (settings .«sigma_a») (settings .«sigma_b»)
+
+-- the row of a pair with this sigma at the state x: what was observed, less what x says
+unfoldable pub rowWith : Float → Clocks → List Float → Pair → Row
+rowWith sigma k x p =
     let u = p .unit in
     let s = slot k (p .constellation) in
     record {
       unit = u;
       clock = s;
       residual = patternOf (p .observed ⊖ (u .x ⊗ at x 0 ⊕ u .y ⊗ at x 1 ⊕ u .z ⊗ at x 2) ⊖ at x s);
-      sigma = elevationSigma (p .elevation) (settings .«sigma_a») (settings .«sigma_b»);
+      sigma = sigma;
     }
+
+abbrev pub rowAt : Settings → Clocks → List Float → Pair → Row
+rowAt settings k x p = rowWith (sigmaOf settings p) k x p
 
 -- the round at the state x over the pairs ps, with the clocks k
 unfoldable pub roundAt : Settings → Clocks → List Pair → List Float → Outcome

@@ -49,17 +49,23 @@ pub record Input : Type 0 where
 abbrev pub position : List Float → Vec3
 position x = record { x = at x 0; y = at x 1; z = at x 2 }
 
--- the row of an observation at the state x: what was measured, less what x predicts
-unfoldable pub rowAt : Settings → Clocks → List Float → Observation → Row
-rowAt settings k x o =
+unfoldable pub sigmaOf : Settings → Observation → Float
+sigmaOf settings o = elevationSigma (o .elevation) (settings .«sigma_a») (settings .«sigma_b»)
+
+-- the row of an observation with this sigma at the state x: what was measured, less what x predicts
+unfoldable pub rowWith : Float → Clocks → List Float → Observation → Row
+rowWith sigma k x o =
     let g = geometry (o .satellite) (position x) in
     let s = slot k (o .constellation) in
     record {
       unit = record { x = g .x; y = g .y; z = g .z };
       clock = s;
       residual = patternOf (o .pseudorange ⊖ (g .range ⊕ at x s));
-      sigma = elevationSigma (o .elevation) (settings .«sigma_a») (settings .«sigma_b»);
+      sigma = sigma;
     }
+
+abbrev pub rowAt : Settings → Clocks → List Float → Observation → Row
+rowAt settings k x o = rowWith (sigmaOf settings o) k x o
 
 -- the round at the state x over the observations os, with the clocks k
 unfoldable pub roundAt : Settings → Clocks → List Observation → List Float → Outcome

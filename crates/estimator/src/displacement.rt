@@ -1,5 +1,6 @@
 // The displacement between two epochs.
 ghost use mathlib.Core.Path.{_≡_};
+ghost use mathlib.Core.List.{map};
 ghost use lib.ListN.{take};
 ghost use Prim.Native.Nat.{ℕ, _≤_};
 ghost use Rattle.estimator.specs.Rounds.{Ended};
@@ -49,14 +50,28 @@ pub enum Displacement {
     Moved(Delta),
 }
 
-// The row of a pair at the state x.
-pub(crate) fn row_at(settings: Settings, k: Clocks, x: [f64; 9], p: Pair) -> Row
-    ensures { λ r. ⌜ r ≡ spec.rowAt settings k x p ⌝ }
+// The sigma of each pair, which no round changes.
+pub(crate) fn sigmas_of(settings: Settings, pairs: Pairs) -> [f64; 64]
+    requires { ⌜ pairs .count ≤ 64 ⌝ }
+    ensures { λ r. ⌜ take (pairs .count) r ≡ map (spec.sigmaOf settings) (take (pairs .count) (pairs .pair)) ⌝ }
+{
+    let count = pairs.count;
+    let mut sigma = [0.0; 64];
+    for j in 0..count {
+        let p = pairs.pair[j];
+        let s = elevation_sigma(p.elevation, settings.sigma_a, settings.sigma_b);
+        sigma[j] = s;
+    }
+    sigma
+}
+
+// The row of a pair with this sigma at the state x.
+pub(crate) fn row_at(sigma: f64, k: Clocks, x: [f64; 9], p: Pair) -> Row
+    ensures { λ r. ⌜ r ≡ spec.rowWith sigma k x p ⌝ }
 {
     let u = p.unit;
     let s = k.slot(p.constellation);
     let residual = p.observed - (u.x * x[0] + u.y * x[1] + u.z * x[2]) - state_at(x, s);
-    let sigma = elevation_sigma(p.elevation, settings.sigma_a, settings.sigma_b);
     Row {
         unit: u,
         clock: s,
@@ -72,6 +87,7 @@ pub(crate) fn fit_pairs(settings: Settings, k: Clocks, pairs: Pairs, x: &mut [f6
 {
     let n = 3 + k.count;
     let count = pairs.count;
+    let sigma = sigmas_of(settings, pairs);
     let zero = Vec3 {
         x: 0.0,
         y: 0.0,
@@ -93,7 +109,8 @@ pub(crate) fn fit_pairs(settings: Settings, k: Clocks, pairs: Pairs, x: &mut [f6
     while i < settings.rounds {
         for j in 0..count {
             let p = pairs.pair[j];
-            let r = row_at(settings, k, state, p);
+            let s = sigma[j];
+            let r = row_at(s, k, state, p);
             rows.row[j] = r;
         }
         let mut dx = [0.0; 9];

@@ -1,5 +1,6 @@
 // The position from one epoch.
 ghost use mathlib.Core.Path.{_≡_};
+ghost use mathlib.Core.List.{map};
 ghost use lib.ListN.{take};
 ghost use Prim.Native.Nat.{ℕ, _≤_};
 ghost use Rattle.robust.specs.Step.{counted};
@@ -64,9 +65,24 @@ pub struct Fitted {
     pub rows: Rows,
 }
 
-// The row of an observation at the state x.
-pub(crate) fn row_at(settings: Settings, k: Clocks, x: [f64; 9], o: Observation) -> Row
-    ensures { λ r. ⌜ r ≡ spec.rowAt settings k x o ⌝ }
+// The sigma of each observation, which no round changes.
+pub(crate) fn sigmas_of(settings: Settings, sky: Observations) -> [f64; 64]
+    requires { ⌜ sky .count ≤ 64 ⌝ }
+    ensures { λ r. ⌜ take (sky .count) r ≡ map (spec.sigmaOf settings) (take (sky .count) (sky .observation)) ⌝ }
+{
+    let count = sky.count;
+    let mut sigma = [0.0; 64];
+    for j in 0..count {
+        let o = sky.observation[j];
+        let s = elevation_sigma(o.elevation, settings.sigma_a, settings.sigma_b);
+        sigma[j] = s;
+    }
+    sigma
+}
+
+// The row of an observation with this sigma at the state x.
+pub(crate) fn row_at(sigma: f64, k: Clocks, x: [f64; 9], o: Observation) -> Row
+    ensures { λ r. ⌜ r ≡ spec.rowWith sigma k x o ⌝ }
 {
     let at = Vec3 {
         x: x[0],
@@ -81,7 +97,6 @@ pub(crate) fn row_at(settings: Settings, k: Clocks, x: [f64; 9], o: Observation)
     };
     let s = k.slot(o.constellation);
     let residual = o.pseudorange - (g.range + state_at(x, s));
-    let sigma = elevation_sigma(o.elevation, settings.sigma_a, settings.sigma_b);
     Row {
         unit: u,
         clock: s,
@@ -97,6 +112,7 @@ pub(crate) fn fit_sky(settings: Settings, k: Clocks, sky: Observations, guess: V
 {
     let n = 3 + k.count;
     let count = sky.count;
+    let sigma = sigmas_of(settings, sky);
     let zero = Vec3 {
         x: 0.0,
         y: 0.0,
@@ -119,7 +135,8 @@ pub(crate) fn fit_sky(settings: Settings, k: Clocks, sky: Observations, guess: V
         rows.count = count;
         for j in 0..count {
             let o = sky.observation[j];
-            let r = row_at(settings, k, state, o);
+            let s = sigma[j];
+            let r = row_at(s, k, state, o);
             rows.row[j] = r;
         }
         let mut dx = [0.0; 9];

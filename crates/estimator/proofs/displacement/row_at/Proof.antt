@@ -1,5 +1,5 @@
 -- `estimator::displacement::row_at` meets its contract. Assumes nothing.
-use Rattle.estimator.specs.Displacement.{rowAt}
+use Rattle.estimator.specs.Displacement.{rowWith}
 use borrow.Author.Needs.{needs}
 use Rattle.estimator.proofs.displacement.row_at.Statement.{statement}
 use Rattle.estimator.proofs.displacement.row_at.Tie as tie
@@ -19,15 +19,12 @@ array-read-residual-3 c = search needs
 state-at-requires : tie.Need-state-at-requires
 state-at-requires c κs = search needs
 
-elevation-sigma-requires : tie.Need-elevation-sigma-requires
-elevation-sigma-requires c κs = search needs
-
 pattern-requires : tie.Need-pattern-requires
 pattern-requires c κs = search needs
 
 returns : tie.Need-returns
-unfolding rowAt
-returns c = rw (c .pattern .ensures, c .before .elevation-sigma .ensures, c .before .before .state-at .ensures, c .before .before .before .before .before .before .before .slot .ensures)
+unfolding rowWith
+returns c = rw (c .pattern .ensures, c .before .state-at .ensures, c .before .before .before .before .before .before .slot .ensures)
 
 pub row-at-spec : {M : Type 1} → statement M
 row-at-spec =
@@ -38,6 +35,5 @@ row-at-spec =
     array-read-residual-2
     array-read-residual-3
     state-at-requires
-    elevation-sigma-requires
     pattern-requires
     returns)

@@ -2,40 +2,45 @@
 use Prim.Native.Nat.{_+_, _-_, _≤_}
 use mathlib.Core.Path.{_≡_, refl, ap, _∙_}
 use mathlib.Core.List.{map}
-use lib.ListN.{length, take}
+use lib.ListN.{length, getD, take}
+use lib.Ieee.{nan}
 use borrow.Author.Tests.{not-true, not-false}
 use Rattle.walk.proofs.Walk.{length-mapped}
 use Rattle.robust.specs.Step.{counted}
 use Rattle.estimator.specs.Rounds.{short}
-use Rattle.estimator.specs.Fix.{rowAt, roundAt, limit, start, fitOver}
+use Rattle.estimator.specs.Fix.{sigmaOf, rowWith, rowAt, roundAt, limit, start, fitOver}
 use Rattle.estimator.proofs.RoundsLaws.{three-places, left-end, rows-end, left-failed, left-stops, left-goes, rows-stop, rows-go, Rowing, rowing-next, rowing-end}
 use Rattle.estimator.proofs.FixLaws.{blank, fit, Going, GoingRows, going, going-rows, solving, made-rows, reaches-no, reaches-yes}
+use Rattle.estimator.proofs.KeepLaws.{filled-at}
 use borrow.Author.Needs.{needs}
 use native.Mathlib.Omega.{arith}
 use Rattle.estimator.proofs.fix.fit_sky.Statement.{statement}
 use Rattle.estimator.proofs.fix.fit_sky.Tie as tie
 
 abbrev Inv-loop2 : tie.InvT-loop2
-Inv-loop2 settings k sky n count rows₀ state i j₀ rows j = (j ≤ count) × Rowing (rowAt settings k state) (sky .observation) count j rows
+Inv-loop2 settings k sky n count sigma rows₀ state i j₀ rows j = (j ≤ count) × Rowing (rowAt settings k state) (sky .observation) count j rows
 
 abbrev μ-loop2 : tie.MeasureT-loop2
-μ-loop2 settings k sky n count rows₀ state i j₀ rows j = count - j
+μ-loop2 settings k sky n count sigma rows₀ state i j₀ rows j = count - j
 
 abbrev Inv-loop : tie.InvT-loop
-Inv-loop settings k sky n count rows₀ state₀ i₀ rows state i = (i ≤ settings .rounds) × (n ≡ 3 + k .count) × (length (rows .row) ≡ 64) × Going settings k (take (sky .count) (sky .observation)) state₀ i state × GoingRows settings k (take (sky .count) (sky .observation)) state₀ i state (counted rows) × (rows .count ≤ 64)
+Inv-loop settings k sky n count sigma rows₀ state₀ i₀ rows state i = (i ≤ settings .rounds) × (n ≡ 3 + k .count) × (length (rows .row) ≡ 64) × Going settings k (take (sky .count) (sky .observation)) state₀ i state × GoingRows settings k (take (sky .count) (sky .observation)) state₀ i state (counted rows) × (rows .count ≤ 64)
 
 abbrev μ-loop : tie.MeasureT-loop
-μ-loop settings k sky n count rows₀ state₀ i₀ rows state i = settings .rounds - i
+μ-loop settings k sky n count sigma rows₀ state₀ i₀ rows state i = settings .rounds - i
 
 long : (c : tie.Start Inv-loop2 μ-loop2 Inv-loop μ-loop) → length (c .args .t3 .observation) ≡ 64
 long c = search length-mapped
 
 -- the rows of a round, all made
-all : (c : tie.After-loop2 Inv-loop2 μ-loop2 Inv-loop μ-loop) → let s = c .before .before .before .before .before .before .args in counted (c .before .loop2 .rows) ≡ map (rowAt (s .settings) (s .k) (c .before .before .before .before .loop .state)) (take (s .t3 .count) (s .t3 .observation))
+all : (c : tie.After-loop2 Inv-loop2 μ-loop2 Inv-loop μ-loop) → let s = c .before .before .before .before .before .before .before .args in counted (c .before .loop2 .rows) ≡ map (rowAt (s .settings) (s .k) (c .before .before .before .before .loop .state)) (take (s .t3 .count) (s .t3 .observation))
 all c = let h = c .before .loop2 in rowing-end _ _ _ (h .j) (h .rows) (omega arith) (h .inv .1)
 
 add-n : tie.Need-add-n Inv-loop2 μ-loop2 Inv-loop μ-loop
 add-n c = omega arith
+
+sigmas-of-requires : tie.Need-sigmas-of-requires Inv-loop2 μ-loop2 Inv-loop μ-loop
+sigmas-of-requires c κs = search needs
 
 array-write-state : tie.Need-array-write-state Inv-loop2 μ-loop2 Inv-loop μ-loop
 array-write-state c = omega arith
@@ -48,7 +53,7 @@ array-write-state-3 c = omega arith
 
 loop-holds : tie.Need-loop-holds Inv-loop2 μ-loop2 Inv-loop μ-loop
 loop-holds c =
-    let s = c .before .args in
+    let s = c .before .before .args in
     let os = take (s .t3 .count) (s .t3 .observation) in
     (omega arith, refl, refl, going (s .settings) (s .k) os (start (s .guess)), going-rows (s .settings) (s .k) os (start (s .guess)), omega arith)
 
@@ -60,6 +65,12 @@ mul-o c = omega arith
 
 element-copy-out-o : tie.Need-element-copy-out-o Inv-loop2 μ-loop2 Inv-loop μ-loop
 element-copy-out-o c = omega arith
+
+mul-s : tie.Need-mul-s Inv-loop2 μ-loop2 Inv-loop μ-loop
+mul-s c = omega arith
+
+array-read-s : tie.Need-array-read-s Inv-loop2 μ-loop2 Inv-loop μ-loop
+array-read-s c = omega arith
 
 row-at-requires : tie.Need-row-at-requires Inv-loop2 μ-loop2 Inv-loop μ-loop
 row-at-requires c κs = search needs
@@ -78,10 +89,11 @@ loop2-less c = omega arith
 
 loop2-again : tie.Need-loop2-again Inv-loop2 μ-loop2 Inv-loop μ-loop
 loop2-again c =
-    let s = c .before .before .before .before .before .before .before .before in
+    let s = c .before .before .before .before .before .before .before .before .before in
     let l = c .before .before .before .before .before .before .loop in
     let h = c .before .before .before .loop2 in
-    (omega arith, rowing-next (rowAt (s .args .settings) (s .args .k) (l .state)) (s .args .t3 .observation) _ (h .j) (h .rows) blank (c .row-at .result) (omega arith) (omega (arith, long s)) (c .row-at .ensures) (h .inv .1))
+    let g = c .before .before .before .before .before .before .before .sigmas-of in
+    (omega arith, rowing-next (rowAt (s .args .settings) (s .args .k) (l .state)) (s .args .t3 .observation) _ (h .j) (h .rows) blank (c .row-at .result) (omega arith) (omega (arith, long s)) (c .row-at .ensures ∙ ap (λ z. rowWith z (s .args .k) (l .state) (getD (s .args .t3 .observation) (h .j) blank)) (filled-at (sigmaOf (s .args .settings)) (s .args .t3 .observation) (g .result) (s .args .t3 .count) (h .j) blank nan (omega (arith, long s)) (omega arith) (g .ensures))) (h .inv .1))
 
 round-step-requires : tie.Need-round-step-requires Inv-loop2 μ-loop2 Inv-loop μ-loop
 round-step-requires c κs = search needs
@@ -89,7 +101,7 @@ round-step-requires c κs = search needs
 returns : tie.Need-returns Inv-loop2 μ-loop2 Inv-loop μ-loop
 unfolding fitOver
 returns c =
-    let s = c .before .before .before .before .before .before .before .before .before .args in
+    let s = c .before .before .before .before .before .before .before .before .before .before .args in
     let os = take (s .t3 .count) (s .t3 .observation) in
     let l = c .before .before .before .before .before .before .before .loop in
     let t = c .before .before .before in
@@ -106,7 +118,7 @@ is-short-requires c κs = search needs
 returns-2 : tie.Need-returns-2 Inv-loop2 μ-loop2 Inv-loop μ-loop
 unfolding fitOver
 returns-2 c =
-    let s = c .before .before .before .before .before .before .before .before .before .before .before .before .args in
+    let s = c .before .before .before .before .before .before .before .before .before .before .before .before .before .args in
     let os = take (s .t3 .count) (s .t3 .observation) in
     let l = c .before .before .before .before .before .before .before .before .before .before .loop in
     let t = c .before .before .before .before .before .before in
@@ -127,7 +139,7 @@ loop-less c = omega arith
 
 loop-again : tie.Need-loop-again Inv-loop2 μ-loop2 Inv-loop μ-loop
 loop-again c =
-    let s = c .before .before .before .before .before .before .before .before .before .before .before .before .args in
+    let s = c .before .before .before .before .before .before .before .before .before .before .before .before .before .args in
     let os = take (s .t3 .count) (s .t3 .observation) in
     let l = c .before .before .before .before .before .before .before .before .before .before .loop in
     let t = c .before .before .before .before .before .before in
@@ -143,7 +155,7 @@ loop-again c =
 returns-3 : tie.Need-returns-3 Inv-loop2 μ-loop2 Inv-loop μ-loop
 unfolding fitOver
 returns-3 c =
-    let s = c .before .before .before .before .args in
+    let s = c .before .before .before .before .before .args in
     let os = take (s .t3 .count) (s .t3 .observation) in
     let l = c .before .before .loop in
     reaches-yes _ _ (l .inv .5) refl (left-end (roundAt (s .settings) (s .k) os) (3 + s .k .count) limit (s .settings .rounds) (fit (s .settings) (s .k) os (start (s .guess))) (l .i) (l .state) (omega arith) (l .inv .3)) (rows-end (roundAt (s .settings) (s .k) os) (3 + s .k .count) limit (s .settings .rounds) (fit (s .settings) (s .k) os (start (s .guess))) (l .i) (l .state) (omega arith) (counted (l .rows)) (l .inv .4))
@@ -157,6 +169,7 @@ fit-sky-spec =
     Inv-loop
     μ-loop
     add-n
+    sigmas-of-requires
     array-write-state
     array-write-state-2
     array-write-state-3
@@ -164,6 +177,8 @@ fit-sky-spec =
     loop2-holds
     mul-o
     element-copy-out-o
+    mul-s
+    array-read-s
     row-at-requires
     mul-r
     element-set-from-r

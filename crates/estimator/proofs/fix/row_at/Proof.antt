@@ -1,5 +1,5 @@
 -- `estimator::fix::row_at` meets its contract. Assumes nothing.
-use Rattle.estimator.specs.Fix.{rowAt}
+use Rattle.estimator.specs.Fix.{rowWith}
 use borrow.Author.Needs.{needs}
 use Rattle.estimator.proofs.fix.row_at.Statement.{statement}
 use Rattle.estimator.proofs.fix.row_at.Tie as tie
@@ -7,8 +7,8 @@ use Rattle.estimator.proofs.fix.row_at.Tie as tie
 array-read-residual : tie.Need-array-read-residual
 array-read-residual c = search needs
 
-array-read-t17 : tie.Need-array-read-t17
-array-read-t17 c = search needs
+array-read-t16 : tie.Need-array-read-t16
+array-read-t16 c = search needs
 
 array-read-residual-2 : tie.Need-array-read-residual-2
 array-read-residual-2 c = search needs
@@ -22,26 +22,22 @@ slot-requires c κs = search needs
 state-at-requires : tie.Need-state-at-requires
 state-at-requires c κs = search needs
 
-elevation-sigma-requires : tie.Need-elevation-sigma-requires
-elevation-sigma-requires c κs = search needs
-
 pattern-requires : tie.Need-pattern-requires
 pattern-requires c κs = search needs
 
 returns : tie.Need-returns
-unfolding rowAt
-returns c = rw (c .pattern .ensures, c .before .elevation-sigma .ensures, c .before .before .before .before .state-at .ensures, c .before .before .before .before .before .slot .ensures, c .before .before .before .before .before .before .geometry .ensures)
+unfolding rowWith
+returns c = rw (c .pattern .ensures, c .before .before .before .state-at .ensures, c .before .before .before .before .slot .ensures, c .before .before .before .before .before .geometry .ensures)
 
 pub row-at-spec : {M : Type 1} → statement M
 row-at-spec =
     tie.close
     (tie.spec
     array-read-residual
-    array-read-t17
+    array-read-t16
     array-read-residual-2
     geometry-requires
     slot-requires
     state-at-requires
-    elevation-sigma-requires
     pattern-requires
     returns)
