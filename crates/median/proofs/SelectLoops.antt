@@ -88,3 +88,7 @@ map-next f i a k h g e = rw (add-one, take-suc-set k i (f (getD a i 0)) g, take-
 
 pub map-all : (f : ℕ → ℕ) (i : ℕ) (a k : List ℕ) → i ≡ length a → take i k ≡ map f (take i a) → take (length a) k ≡ map f a
 map-all f i a k e h = ap (λ (n : ℕ). take n k) (sym e) ∙ h ∙ ap (λ (n : ℕ). map f (take n a)) e ∙ ap (map f) (take-length a)
+
+pub map-twice : (f g : ℕ → ℕ) (xs : List ℕ) → map (λ x. f (g x)) xs ≡ map f (map g xs)
+map-twice f g [] = refl
+map-twice f g (x ∷ xs) = ap (λ ys. f (g x) ∷ ys) (map-twice f g xs)

@@ -1,11 +1,15 @@
 // The centre of residuals and their scale.
 ghost use mathlib.Core.Path.{_≡_};
+ghost use mathlib.Core.List.{map};
 ghost use Prim.Native.Nat.{_≤_};
 ghost use lib.ListN.{length};
+ghost use Rattle.numeric.specs.Order.{keyOf};
 ghost use Rattle.median.specs.Select.{Front};
 ghost use Rattle.median.specs.Centre.{deviationsOf, centreScaleOf};
-use crate::median::median;
+use crate::median::keys;
+use crate::median::middle;
 use numeric::order::float;
+use numeric::order::key;
 use numeric::order::pattern;
 use numeric::real::abs;
 use numeric::refusal::Refusal;
@@ -22,16 +26,16 @@ pub enum Centre {
     Of(CentreScale),
 }
 
-// Puts the absolute deviations of the residuals from the centre into d.
-fn deviations(residuals: &[u64], centre: f64, d: &mut [u64; 64])
-    requires { ⌜ (length (now residuals) ≤ 64) × (length (now d) ≡ 64) ⌝ }
-    ensures { λ r. ⌜ Front (deviationsOf centre (now (residuals .entry))) (length (now (residuals .entry))) (now (d .exit)) ⌝ }
+// Puts the keys of the absolute deviations of the residuals from the centre into the front of k.
+fn deviations(residuals: &[u64], centre: f64, k: &mut [u64; 64])
+    requires { ⌜ (length (now residuals) ≤ 64) × (length (now k) ≡ 64) ⌝ }
+    ensures { λ r. ⌜ Front (map keyOf (deviationsOf centre (now (residuals .entry)))) (length (now (residuals .entry))) (now (k .exit)) ⌝ }
 {
     let n = residuals.len();
     for i in 0..n {
         let b = residuals[i];
         let x = float(b);
-        d[i] = pattern(abs(x - centre));
+        k[i] = key(pattern(abs(x - centre)));
     }
 }
 
@@ -49,12 +53,13 @@ pub fn centre_scale(residuals: &[u64]) -> Centre
             scale: 1.0,
         });
     }
-    let centre = float(median(residuals));
-    let mut d = [0u64; 64];
-    deviations(residuals, centre, &mut d);
-    let middle = float(median(&d[..n]));
+    let mut k = [0u64; 64];
+    keys(residuals, &mut k);
+    let centre = float(middle(&mut k, n));
+    deviations(residuals, centre, &mut k);
+    let deviation = float(middle(&mut k, n));
     Centre::Of(CentreScale {
         centre: centre,
-        scale: 1.4826 * middle + 1e-6,
+        scale: 1.4826 * deviation + 1e-6,
     })
 }

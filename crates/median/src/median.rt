@@ -4,7 +4,7 @@ ghost use mathlib.Core.Path.{_≡_};
 ghost use mathlib.Core.List.{map};
 ghost use Prim.Native.Nat.{_/_, _≤_, _<_, min, max};
 ghost use lib.ListN.{take, length};
-ghost use Rattle.numeric.specs.Order.{keyOf};
+ghost use Rattle.numeric.specs.Order.{keyOf, patternAt};
 ghost use Rattle.median.specs.Sorted.{medianOf, count};
 ghost use Rattle.median.specs.Select.{placed, lows, highs, Front};
 use numeric::order::key;
@@ -86,7 +86,7 @@ fn keep_high(k: &mut [u64; 64], n: usize, p: u64) -> usize
 // The number at place m of the first n numbers of k in ascending order. k is left with other contents.
 fn select(k: &mut [u64; 64], n: usize, m: usize) -> u64
     requires { ⌜ (m < n) × (n ≤ 64) × (length (now k) ≡ 64) ⌝ }
-    ensures { λ r. ⌜ r ≡ placed m (take n (now (k .entry))) ⌝ }
+    ensures { λ r. ⌜ (r ≡ placed m (take n (now (k .entry)))) × (length (now (k .exit)) ≡ 64) ⌝ }
 {
     let mut len = n;
     let mut at = m;
@@ -115,26 +115,35 @@ fn select(k: &mut [u64; 64], n: usize, m: usize) -> u64
     }
 }
 
-// The keys of the first n patterns.
-fn keys(patterns: &[u64], n: usize) -> [u64; 64]
-    requires { ⌜ (n ≤ 64) × (n ≤ length (now patterns)) ⌝ }
-    ensures { λ r. ⌜ take n r ≡ map keyOf (take n (now (patterns .entry))) ⌝ }
+// Puts the keys of the patterns into the front of k.
+pub(crate) fn keys(patterns: &[u64], k: &mut [u64; 64])
+    requires { ⌜ (length (now patterns) ≤ 64) × (length (now k) ≡ 64) ⌝ }
+    ensures { λ _. ⌜ Front (map keyOf (now (patterns .entry))) (length (now (patterns .entry))) (now (k .exit)) ⌝ }
 {
-    let mut k = [0u64; 64];
+    let n = patterns.len();
     for i in 0..n {
         let b = patterns[i];
         k[i] = key(b);
     }
-    k
 }
 
-// The median of the first n patterns.
-fn median_of(patterns: &[u64], n: usize) -> u64
-    requires { ⌜ (0 < n) × (n ≤ 64) × (n ≤ length (now patterns)) ⌝ }
-    ensures { λ r. ⌜ r ≡ medianOf (take n (now (patterns .entry))) ⌝ }
+// The pattern at place n/2 of n patterns whose keys stand in the front of k, which is left with other contents.
+pub(crate) fn middle(k: &mut [u64; 64], n: usize) -> u64
+    requires { ⌜ (0 < n) × (n ≤ 64) × (length (now k) ≡ 64) ⌝ }
+    ensures { λ r. ⌜ (r ≡ patternAt (placed (n / 2) (take n (now (k .entry))))) × (length (now (k .exit)) ≡ 64) ⌝ }
 {
-    let mut k = keys(patterns, n);
-    pattern_at(select(&mut k, n, n / 2))
+    pattern_at(select(k, n, n / 2))
+}
+
+// The median of one to 64 patterns.
+fn median_of(patterns: &[u64]) -> u64
+    requires { ⌜ (0 < length (now patterns)) × (length (now patterns) ≤ 64) ⌝ }
+    ensures { λ r. ⌜ r ≡ medianOf (now (patterns .entry)) ⌝ }
+{
+    let n = patterns.len();
+    let mut k = [0u64; 64];
+    keys(patterns, &mut k);
+    middle(&mut k, n)
 }
 
 // The median of the patterns, or of the first 64 if there are more.
@@ -145,8 +154,8 @@ pub fn median(patterns: &[u64]) -> u64
     if n == 0 {
         return 0;
     }
-    if n < 64 {
-        return median_of(patterns, n);
+    if n <= 64 {
+        return median_of(patterns);
     }
-    median_of(patterns, 64)
+    median_of(&patterns[..64])
 }

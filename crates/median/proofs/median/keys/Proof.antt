@@ -6,18 +6,18 @@ use lib.ListN.{take, length, length-set}
 use borrow.Author.Needs.{needs}
 use mathlib.Core.List.{map}
 use Rattle.numeric.specs.Order.{keyOf}
-use Rattle.median.proofs.SelectLoops.{map-next}
+use Rattle.median.proofs.SelectLoops.{map-next, map-all}
 use Rattle.median.proofs.median.keys.Statement.{statement}
 use Rattle.median.proofs.median.keys.Tie as tie
 
 abbrev Inv-loop : tie.InvT-loop
-Inv-loop patterns n k₀ i₀ k i = (i ≤ n) × (length k ≡ 64) × (take i k ≡ map keyOf (take i patterns))
+Inv-loop patterns k₀ n i₀ k i = (i ≤ length patterns) × (length k ≡ 64) × (take i k ≡ map keyOf (take i patterns))
 
 abbrev μ-loop : tie.MeasureT-loop
-μ-loop patterns n k₀ i₀ k i = n - i
+μ-loop patterns k₀ n i₀ k i = length patterns - i
 
 loop-holds : tie.Need-loop-holds Inv-loop μ-loop
-loop-holds c = (omega arith, refl, refl)
+loop-holds c = (omega arith, c .before .pre .1, refl)
 
 mul-b : tie.Need-mul-b Inv-loop μ-loop
 mul-b c = omega arith
@@ -31,8 +31,8 @@ key-requires c κs = search needs
 mul-k : tie.Need-mul-k Inv-loop μ-loop
 mul-k c = omega arith
 
-array-write-k : tie.Need-array-write-k Inv-loop μ-loop
-array-write-k c = omega arith
+element-write-k : tie.Need-element-write-k Inv-loop μ-loop
+element-write-k c = omega arith
 
 add-i : tie.Need-add-i Inv-loop μ-loop
 add-i c = omega arith
@@ -49,7 +49,11 @@ loop-again c =
     (omega arith, length-set (t .loop .k) (t .loop .i) (c .key .result) ∙ t .loop .inv .1, rw (c .key .ensures) (map-next keyOf (t .loop .i) (s .patterns .now) (t .loop .k) b d (t .loop .inv .2)))
 
 returns : tie.Need-returns Inv-loop μ-loop
-returns c = let e : c .before .loop .i ≡ c .before .before .before .args .n = omega arith in rw (← e) (c .before .loop .inv .2)
+returns c =
+    let t = c .before in
+    let s = t .before .before in
+    let all = map-all keyOf (t .loop .i) (s .args .patterns .now) (t .loop .k) (omega arith) (t .loop .inv .2) in
+    record { long = t .loop .inv .1; few = s .pre .0; is = all }
 
 pub keys-spec : {M : Type 1} → statement M
 keys-spec =
@@ -62,7 +66,7 @@ keys-spec =
     shared-slice-read-b
     key-requires
     mul-k
-    array-write-k
+    element-write-k
     add-i
     loop-less
     loop-again

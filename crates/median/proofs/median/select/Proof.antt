@@ -33,13 +33,13 @@ lesser-requires : tie.Need-lesser-requires Inv-loop μ-loop
 lesser-requires c κs = search needs
 
 returns : tie.Need-returns Inv-loop μ-loop
-returns c = c .lesser .ensures ∙ lesser-found (c .before .before .before .before .before .loop .inv) (c .before .before .before .before .if1 .taken) (c .before .if2 .taken)
+returns c = let inv = c .before .before .before .before .before .loop .inv in (c .lesser .ensures ∙ lesser-found inv (c .before .before .before .before .if1 .taken) (c .before .if2 .taken), inv .long)
 
 greater-requires : tie.Need-greater-requires Inv-loop μ-loop
 greater-requires c κs = search needs
 
 returns-2 : tie.Need-returns-2 Inv-loop μ-loop
-returns-2 c = c .greater .ensures ∙ greater-found (c .before .before .before .before .before .loop .inv) (c .before .before .before .before .if1 .taken) (c .before .if2 .left)
+returns-2 c = let inv = c .before .before .before .before .before .loop .inv in (c .greater .ensures ∙ greater-found inv (c .before .before .before .before .if1 .taken) (c .before .if2 .left), inv .long)
 
 pivot-requires : tie.Need-pivot-requires Inv-loop μ-loop
 pivot-requires c κs = (omega arith, omega arith, c .before .before .loop .inv .long)
@@ -79,7 +79,7 @@ returns-3 c =
     let q = c .before .before .before .before in
     let inv = q .before .before .before .before .before .loop .inv in
     let pivot = q .before .before .pivot in
-    found (pivot .result) inv (pivot .ensures) (q .count-low .ensures) (c .before .before .before .if3 .left) (c .if4 .taken) (c .before .keep-high .ensures)
+    (found (pivot .result) inv (pivot .ensures) (q .count-low .ensures) (c .before .before .before .if3 .left) (c .if4 .taken) (c .before .keep-high .ensures), c .before .keep-high .ensures .long)
 
 loop-less-2 : tie.Need-loop-less-2 Inv-loop μ-loop
 loop-less-2 c =
