@@ -10,8 +10,8 @@ pub struct Place {
     pub quarter: f64,
 }
 
-// The place for the middle c of the floats from 1 up and below 4 whose exponent's lowest digit and first 5 digits after the point are those of i, for distances
-// from it in units of the float's leading digit: half and quarter are twice as large for the floats from 2 up.
+// The place for the middle c of the floats from 1 up and below 4 whose exponent's lowest digit and first 5 digits after the point are those of i. A float from 2 up
+// lies twice as far from c as its digits from the middle's, so that half and quarter are doubled there.
 #[rattlefmt::skip]
 pub fn place_of(i: u64) -> Place {
     match i {

@@ -1,30 +1,13 @@
 -- `numeric::root::normal` meets its contract: the answer's digits were tested by `near`, or it comes from `positive`. Assumes nothing.
-use mathlib.Core.Path.{_≡_, refl, sym, ap, _∙_, subst}
-use Prim.Native.Nat.{ℕ, _+_, _*_, _/_, _%_, _^_, _≤_, _<_}
+use Prim.Native.Nat.{_+_, _%_, _^_}
 use native.Mathlib.Omega.{arith}
-use lib.Ieee.{binary64, ofBits, toBits}
-use Rattle.numeric.specs.Root.{Nearest, rootOf}
+use lib.Ieee.{binary64, toBits}
 use Rattle.numeric.proofs.Reading.{no-nan}
 use Rattle.numeric.proofs.Special.{is-number}
-use Rattle.numeric.proofs.Parts.{normal-parts}
-use Rattle.numeric.proofs.RootLaws.{Wide, wide, result}
+use Rattle.numeric.proofs.NormalRoot.{room, found}
 use borrow.Author.Needs.{needs}
 use Rattle.numeric.proofs.root.normal.Statement.{statement}
 use Rattle.numeric.proofs.root.normal.Tie as tie
-
--- what the root is taken of
-room : (b : ℕ) → Wide (b % 2 ^ 52 + 2 ^ 52) ((b / 2 ^ 52 + 51) % 2)
-room b = wide (b % 2 ^ 52 + 2 ^ 52) ((b / 2 ^ 52 + 51) % 2) (omega arith) (omega arith) (omega arith)
-
--- the exponent of the root
-exponent : (b q : ℕ) → ((b / 2 ^ 52 + 51) / 2 + 485) * 2 ^ 52 + q ≡ ((b + 2 ^ 52) / 2 ^ 53 + 510) * 2 ^ 52 + q
-exponent b q = omega arith
-
-found : (b q w : ℕ) → 2 ^ 52 ≤ b → b < 0x7ff0_0000_0000_0000 → w ≡ (b % 2 ^ 52 + 2 ^ 52) * (1 + (b / 2 ^ 52 + 51) % 2) → Nearest (w * 2 ^ 52) q
-    → ofBits binary64 (((b + 2 ^ 52) / 2 ^ 53 + 510) * 2 ^ 52 + q) ≡ rootOf (ofBits binary64 b)
-found b q w l h e n =
-    ap (ofBits binary64) (sym (exponent b q))
-    ∙ result (ofBits binary64 b) (b % 2 ^ 52 + 2 ^ 52) (b / 2 ^ 52 + 51) q (normal-parts b (b % 2 ^ 52 + 2 ^ 52) l h refl) (subst (λ (z : ℕ). Nearest (z * 2 ^ 52) q) e n) .is
 
 from-table-requires : tie.Need-from-table-requires
 from-table-requires c κs = search needs
