@@ -33,13 +33,15 @@ pub fn turned(s: Vec3, t: f64) -> Vec3
     }
 }
 
-// The line of sight from the satellite, turned with the earth while its signal travels, to the receiver.
+// The line of sight from the satellite, turned with the earth while its signal travels, to the receiver. The turn changes the distance by so little that
+// its root helps to find the range.
 pub fn geometry(satellite: Vec3, receiver: Vec3) -> Sight
     ensures { λ r. ⌜ r ≡ spec.geometry satellite receiver ⌝ }
 {
-    let t = travel_angle(satellite.sub(receiver).norm());
+    let distance = satellite.sub(receiver).norm();
+    let t = travel_angle(distance);
     let d = receiver.sub(turned(satellite, t));
-    let range = d.norm();
+    let range = d.norm_beside(distance);
     Sight {
         x: d.x / range,
         y: d.y / range,

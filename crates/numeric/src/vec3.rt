@@ -2,6 +2,7 @@
 ghost use mathlib.Core.Path.{_≡_};
 ghost use Rattle.numeric.specs.Vec3 as spec;
 use crate::root::sqrt;
+use crate::root::sqrt_beside;
 
 pub struct Vec3 {
     pub x: f64,
@@ -37,5 +38,12 @@ impl Vec3 {
         ensures { λ r. ⌜ r ≡ spec.norm self ⌝ }
     {
         sqrt(self.x * self.x + self.y * self.y + self.z * self.z)
+    }
+
+    // The length, quicker where r is that of a vector nearly as long.
+    pub(crate) fn norm_beside(self, r: f64) -> f64
+        ensures { λ s. ⌜ s ≡ spec.norm self ⌝ }
+    {
+        sqrt_beside(self.x * self.x + self.y * self.y + self.z * self.z, r)
     }
 }

@@ -1,15 +1,14 @@
 -- `root::root::is_root` meets its contract. Assumes nothing.
 use mathlib.Core.Path.{_≡_, refl, sym, ap, _∙_, subst}
 use mathlib.Core.Bool.{false≢true}
-use Prim.Native.Nat.{_+_, _-_, _*_, _/_, _%_, _^_, _≤_, _<_}
+use Prim.Native.Nat.{_+_, _-_, _*_, _/_, _^_, _≤_, _<_}
 use native.Mathlib.Omega.{arith}
 use lib.Dec.{T}
-use lib.Ieee.{binary64, fits, ofBits, toBits}
+use lib.Ieee.{binary64, fits, toBits}
 use Rattle.numeric.specs.Root.{rootOf}
 use Rattle.numeric.proofs.Reading.{by-bits}
 use Rattle.numeric.proofs.Special.{is-number}
-use Rattle.numeric.proofs.Parts.{normal-parts}
-use Rattle.numeric.proofs.RootLaws.{Wide, wide, result}
+use Rattle.numeric.proofs.NormalRoot.{room, found}
 use borrow.Author.Needs.{needs}
 use Rattle.numeric.proofs.root.is_root.Statement.{statement}
 use Rattle.numeric.proofs.root.is_root.Tie as tie
@@ -19,10 +18,6 @@ held-x c = subst T (sym (c .good .0 .1)) tt
 
 held-s : (c : tie.Start) → T (fits binary64 (c .args .s))
 held-s c = subst T (sym (c .good .1 .0 .1)) tt
-
--- b is the bits of x: its digits, and what the root is taken of
-room : (c : tie.Else4) → let b = toBits binary64 (c .before .before .before .before .args .x) in Wide (b % 2 ^ 52 + 2 ^ 52) ((b / 2 ^ 52 + 51) % 2)
-room c = let b = toBits binary64 (c .before .before .before .before .args .x) in wide (b % 2 ^ 52 + 2 ^ 52) ((b / 2 ^ 52 + 51) % 2) (omega arith) (omega arith) (omega arith)
 
 returns : tie.Need-returns
 returns c = λ e. absurd (false≢true e)
@@ -42,11 +37,11 @@ returns-4 c = λ e. absurd (false≢true e)
 float-to-bits-n : tie.Need-float-to-bits-n
 float-to-bits-n c = is-number (c .before .before .before .before .args .s) (c .before .before .if2 .left)
 
-add-y : tie.Need-add-y
-add-y c = search needs
+add-k : tie.Need-add-k
+add-k c = search needs
 
-add-base : tie.Need-add-base
-add-base c = search needs
+add-k-2 : tie.Need-add-k-2
+add-k-2 c = search needs
 
 mul-base : tie.Need-mul-base
 mul-base c = search needs
@@ -60,29 +55,23 @@ sub-q c = search needs
 returns-6 : tie.Need-returns-6
 returns-6 c = λ e. absurd (false≢true e)
 
-add-m : tie.Need-add-m
-add-m c = search needs
-
-add-near : tie.Need-add-near
-add-near c = search needs
-
-mul-near : tie.Need-mul-near
-mul-near c = omega (arith, room (c .before .before))
+radicand-requires : tie.Need-radicand-requires
+radicand-requires c κs = search needs
 
 near-requires : tie.Need-near-requires
-near-requires c κs = omega (arith, room (c .before .before))
+near-requires c κs = omega (arith, room (toBits binary64 (c .before .before .before .before .before .before .before .args .x)), c .radicand .ensures)
 
 returns-7 : tie.Need-returns-7
 returns-7 c =
-    let d = c .before .before .before .before .before .before .before in
+    let d = c .before .before .before .before .before .before .before .before in
     let b = toBits binary64 (d .args .x) in
     let n = toBits binary64 (d .args .s) in
-    let base = ((b / 2 ^ 52 + 51) / 2 + 485) * 2 ^ 52 in
+    let base = ((b + 2 ^ 52) / 2 ^ 53 + 510) * 2 ^ 52 in
     let sum : n ≡ base + (n - base) = omega arith in
     let from : 2 ^ 52 ≤ b = omega arith in
     let below : b < 0x7ff0_0000_0000_0000 = omega arith in
     λ e. sym (by-bits (d .args .s) (base + (n - base)) (held-s d) sum)
-    ∙ result (ofBits binary64 b) (b % 2 ^ 52 + 2 ^ 52) (b / 2 ^ 52 + 51) (n - base) (normal-parts b (b % 2 ^ 52 + 2 ^ 52) from below refl) (c .near .ensures e) .is
+    ∙ found b (n - base) (c .before .radicand .result) from below (c .before .radicand .ensures) (c .near .ensures e)
     ∙ ap rootOf (by-bits (d .args .x) b (held-x d) refl)
 
 pub is-root-spec : {M : Type 1} → statement M
@@ -95,14 +84,12 @@ is-root-spec =
     returns-3
     returns-4
     float-to-bits-n
-    add-y
-    add-base
+    add-k
+    add-k-2
     mul-base
     returns-5
     sub-q
     returns-6
-    add-m
-    add-near
-    mul-near
+    radicand-requires
     near-requires
     returns-7)

@@ -19,12 +19,12 @@ turned-requires c κs = search needs
 sub-requires-2 : tie.Need-sub-requires-2
 sub-requires-2 c κs = search needs
 
-norm-requires-2 : tie.Need-norm-requires-2
-norm-requires-2 c κs = search needs
+norm-beside-requires : tie.Need-norm-beside-requires
+norm-beside-requires c κs = search needs
 
 returns : tie.Need-returns
 unfolding geometry gap
-returns c = let d = c .before .before .before in let e = d .before .before in rw (d .norm2 .ensures, d .before .sub2 .ensures, e .turned .ensures, e .before .travel-angle .ensures, e .before .before .norm .ensures, e .before .before .before .sub .ensures)
+returns c = let d = c .before .before .before in let e = d .before .before in rw (d .norm-beside .ensures, d .before .sub2 .ensures, e .turned .ensures, e .before .travel-angle .ensures, e .before .before .norm .ensures, e .before .before .before .sub .ensures)
 
 pub geometry-spec : {M : Type 1} → statement M
-geometry-spec = tie.close (tie.spec sub-requires norm-requires travel-angle-requires turned-requires sub-requires-2 norm-requires-2 returns)
+geometry-spec = tie.close (tie.spec sub-requires norm-requires travel-angle-requires turned-requires sub-requires-2 norm-beside-requires returns)
