@@ -9,7 +9,8 @@ use borrow.Author.Tests.{lt-ltb, le-ltb, ltb-false}
 use lib.ListN.{length, take, drop}
 use lib.Seq.{take-at, take-length}
 use Rattle.estimator.specs.declared.displacement.Displacement.{Displacement}
-use Rattle.line_form.specs.Print.{answerText, Put}
+use Rattle.line_form.specs.Print.{answerText}
+use Rattle.line_form.specs.Written.{Put}
 use Rattle.line_form.specs.Reads.{Displaces}
 use Rattle.line_form.specs.Answer.{answerOf, lineAfter, countAfter, Answered}
 

@@ -8,7 +8,8 @@ use native.Mathlib.Omega.{arith}
 use borrow.Author.Tests.{lt-ltb, le-ltb}
 use lib.ListN.{length, take, drop, set, length-append, length-drop, length-set, take-append-drop}
 use lib.Seq.{take-at, drop-at, drop-drop, take-set-le, set-split, append-snoc, length-take-le}
-use Rattle.line_form.specs.Print.{glyph, digits, places, decimalText, written, Put}
+use Rattle.line_form.specs.Print.{glyph, digits, places, decimalText}
+use Rattle.line_form.specs.Written.{written, Put}
 
 pub length-digits : (b k n : ℕ) → length (digits b k n) ≡ k
 unfolding digits

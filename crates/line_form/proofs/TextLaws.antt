@@ -20,7 +20,7 @@ use Rattle.estimator.specs.declared.displacement.Displacement.the-variants.{Ref
 use Rattle.line_form.specs.Split.{split, before}
 use Rattle.line_form.specs.Line.{isSettings, given, firstOf, lineOf}
 use Rattle.line_form.specs.Text.{whole, recordsForm, linesForm, isText, none, added, previousAfter, currentAfter, previousFrom, currentFrom, inputIn, inputOf, displacementIn}
-use Rattle.line_form.specs.Print.{Printable}
+use Rattle.line_form.specs.Written.{Printable}
 use Rattle.line_form.specs.Reads.{Displaces}
 use Rattle.line_form.specs.declared.line.Given.{Given}
 use Rattle.line_form.specs.declared.line.First.{First}

@@ -5,16 +5,24 @@ use mathlib.Core.List.{List, [], _∷_, _++_}
 use Prim.Native.Nat.{ℕ, _^_}
 use lib.ListN.{replicate}
 use lib.IntN.{negsuc}
-use lib.Ieee.{ofBits, toBits}
+use lib.Ieee.{ofInt, ofBits, toBits, neg, le, lt, isNan}
 use Rattle.exact.specs.Float.{+0, bits}
-use Rattle.walk.specs.Walk.{every}
+use Rattle.walk.specs.Walk.{every, collect, fold}
+use Rattle.numeric.specs.Real.{abs, inRange}
+use Rattle.estimator.specs.Rules.{ruled}
+use Rattle.estimator.specs.Record.{placeable}
+use Rattle.estimator.specs.Pair.{pairsOf}
+use Rattle.estimator.specs.Valid.{settingsPass, badInterval, displacementInput, displacementCounts}
+use Rattle.estimator.specs.Front.{displacementRules}
+use Rattle.estimator.specs.Displacement.{displacementOf}
 use Rattle.numeric.specs.declared.refusal.Refusal.the-variants.{BrokenForm, TooFewPairs, NoCorrection}
 use Rattle.estimator.specs.declared.record.Carrier.{Carrier}
 use Rattle.estimator.specs.declared.displacement.Displacement.the-variants.{Refused, Moved}
 use Rattle.line_form.specs.Split.{split}
 use Rattle.line_form.specs.Field.{decimal, plain, isNumber, number, isState, state, hex, isFloat, pattern}
-use Rattle.line_form.specs.Line.{isPlace, place, settingsForm, isSettings, carrierForm, carrier, lineOf}
-use Rattle.line_form.specs.Text.{recordsForm, isText, displacementIn}
+use Rattle.line_form.specs.Line.{isPlace, place, settingsForm, isSettings, given, carrierForm, carrier, lineOf}
+use Rattle.line_form.specs.Text.{recordsForm, isText, none, inputOf, displacementIn}
+use Rattle.line_form.specs.Answer.{answerOf}
 use Rattle.line_form.specs.Print.{digits, places, answerText}
 use Rattle.line_form.specs.declared.line.Line.the-variants.{Previous}
 
@@ -172,6 +180,11 @@ the-carrier : lineOf (80 ∷ 44 ∷ 54 ∷ 44 ∷ 49 ∷ 50 ∷ 44 ∷ 49 ∷ 53
     48 ∷ 48 ∷ 48 ∷ []) ≡ Previous one
 unfolding isText recordsForm split isSettings settingsForm lineOf carrierForm carrier isPlace place number isNumber plain every decimal state isState pattern isFloat hex example one ofBits
 the-carrier = refl
+
+-- document 01: the example alone gives R,7
+the-answer : answerOf example ≡ 82 ∷ 44 ∷ 55 ∷ 10 ∷ []
+unfolding answerOf displacementIn inputOf given none fold isText recordsForm split isSettings settingsForm lineOf isPlace place number isNumber plain every decimal pattern isFloat hex example displacementOf ruled displacementRules displacementInput displacementCounts settingsPass badInterval placeable abs inRange pairsOf collect digits places ofInt ofBits neg le lt isNan
+the-answer = refl
 
 -- ---- answers
 

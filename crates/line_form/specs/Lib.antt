@@ -5,4 +5,5 @@ pub mod Fields
 pub mod Reads
 pub mod Text
 pub mod Print
+pub mod Written
 pub mod Answer

@@ -1,13 +1,10 @@
 -- The output line (document 01, "The line form and its program"). Definitions only.
-use Prim.Native.Nat.{ℕ, zero, suc, _+_, _/_, _%_, _≤_}
-use mathlib.Core.Path.{_≡_}
-use mathlib.Core.Bool.{cond, not}
+use Prim.Native.Nat.{ℕ, zero, suc, _+_, _/_, _%_}
+use mathlib.Core.Bool.{cond}
 use mathlib.Core.List.{List, [], _∷_, _++_}
-use lib.Dec.{T, ltb}
-use lib.ListN.{length, take, drop}
-use lib.Ieee.{Float, binary64, toBits, isNan}
+use lib.Dec.{ltb}
+use lib.Ieee.{Float, binary64, toBits}
 use Rattle.numeric.specs.Refusal.{numberOf}
-use Rattle.numeric.specs.declared.vec3.Vec3.{Vec3}
 use Rattle.estimator.specs.declared.displacement.Displacement.{Displacement}
 use Rattle.estimator.specs.declared.displacement.Displacement.the-variants.{Refused, Moved}
 
@@ -47,27 +44,3 @@ answerText (Refused r) = ended (82 ∷ []) (decimalText (numberOf r) ∷ [])
 answerText (Moved d) =
     ended (65 ∷ [])
     (decimalText (d .used) ∷ decimalText (d .screened) ∷ floatText (d .delta .x) ∷ floatText (d .delta .y) ∷ floatText (d .delta .z) ∷ [])
-
--- ---- how the line is written
-
--- a NaN has no pattern of its own; an accepted displacement has none (estimator, `Accepted`)
-abbrev pub Numbers : Vec3 → Type 0
-Numbers v = (T (not (isNan (v .x)))) × (T (not (isNan (v .y)))) × (T (not (isNan (v .z))))
-
-abbrev pub Printable : Displacement → Type 0
-Printable (Refused r) = Unit {0}
-Printable (Moved d) = Numbers (d .delta)
-
--- the last three fields
-abbrev pub vectorText : Vec3 → List ℕ
-vectorText v = ended (floatText (v .x)) (floatText (v .y) ∷ floatText (v .z) ∷ [])
-
--- the bytes bs in the place of those from at on
-abbrev pub written : List ℕ → ℕ → List ℕ → List ℕ
-written d at bs = take at d ++ bs ++ drop (at + length bs) d
-
--- a was d, the bytes bs were written at, and the next place is r
-pub record Put (d a : List ℕ) (at : ℕ) (bs : List ℕ) (r : ℕ) : Type 0 where
-  pub bytes : a ≡ written d at bs
-  pub next : r ≡ at + length bs
-  pub room : r ≤ length d

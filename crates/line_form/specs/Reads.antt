@@ -6,7 +6,7 @@ use Rattle.estimator.specs.declared.displacement.Displacement.{Displacement}
 use Rattle.line_form.specs.Field.{isNumber, number, isState, state, isFloat, pattern, float}
 use Rattle.line_form.specs.Line.{isPlace, place, settingsForm, given, carrierForm, carrier}
 use Rattle.line_form.specs.Text.{displacementIn}
-use Rattle.line_form.specs.Print.{Printable}
+use Rattle.line_form.specs.Written.{Printable}
 use Rattle.line_form.specs.declared.field.Number.{Number}
 use Rattle.line_form.specs.declared.field.Signed.{Signed}
 use Rattle.line_form.specs.declared.field.Real.{Real}

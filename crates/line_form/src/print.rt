@@ -3,7 +3,8 @@ ghost use mathlib.Core.Path.{_≡_};
 ghost use mathlib.Core.List.{[], _∷_, _++_};
 ghost use Prim.Native.Nat.{_+_, _≤_, _<_};
 ghost use lib.ListN.{length};
-ghost use Rattle.line_form.specs.Print.{glyph, digits, places, decimalText, hexText, answerText, Numbers, Printable, vectorText, written, Put};
+ghost use Rattle.line_form.specs.Print.{glyph, digits, places, decimalText, hexText, answerText};
+ghost use Rattle.line_form.specs.Written.{Numbers, Printable, vectorText, written, Put};
 use estimator::displacement::Displacement;
 use numeric::vec3::Vec3;
 
