@@ -3,6 +3,7 @@ pub mod clocks;
 mod columns;
 pub mod corrections;
 pub mod estimates;
+pub mod line;
 pub mod matrix;
 pub mod numbers;
 pub mod round;

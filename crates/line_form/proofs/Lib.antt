@@ -1,0 +1,9 @@
+pub mod SplitLaws
+pub mod FieldLaws
+pub mod PartLaws
+pub mod PrintLaws
+pub mod LineLaws
+pub mod TextLaws
+pub mod FloatLaws
+pub mod AnswerLaws
+pub mod Values

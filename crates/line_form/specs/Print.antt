@@ -1,0 +1,46 @@
+-- The output line (document 01, "The line form and its program"). Definitions only.
+use Prim.Native.Nat.{ℕ, zero, suc, _+_, _/_, _%_}
+use mathlib.Core.Bool.{cond}
+use mathlib.Core.List.{List, [], _∷_, _++_}
+use lib.Dec.{ltb}
+use lib.Ieee.{Float, binary64, toBits}
+use Rattle.numeric.specs.Refusal.{numberOf}
+use Rattle.estimator.specs.declared.displacement.Displacement.{Displacement}
+use Rattle.estimator.specs.declared.displacement.Displacement.the-variants.{Refused, Moved}
+
+-- the digits below 16: 0 to 9 and A to F
+abbrev pub glyph : ℕ → ℕ
+glyph d = cond (ltb d 10) (48 + d) (55 + d)
+
+-- the last k digits of n in base b, the most significant first
+unfoldable pub digits : ℕ → ℕ → ℕ → List ℕ
+digits b zero n = []
+digits b (suc k) n = digits b k (n / b) ++ (glyph (n % b) ∷ [])
+
+-- how many decimal digits n has, if it is below 10 ^ (f + 1)
+unfoldable pub places : ℕ → ℕ → ℕ
+places zero n = 1
+places (suc f) n = let p = places f (n / 10) in cond (ltb n 10) 1 (suc p)
+
+-- a number of 64 bits in decimal
+abbrev pub decimalText : ℕ → List ℕ
+decimalText n = digits 10 (places 20 n) n
+
+-- 64 bits as sixteen hexadecimal digits
+abbrev pub hexText : ℕ → List ℕ
+hexText p = digits 16 16 p
+
+abbrev pub floatText : Float → List ℕ
+floatText x = hexText (toBits binary64 x)
+
+-- fields parted by commas (44), and an LF (10)
+abbrev pub ended : List ℕ → List (List ℕ) → List ℕ
+ended f [] = f ++ (10 ∷ [])
+ended f (g ∷ fs) = (f ++ (44 ∷ [])) ++ ended g fs
+
+-- R,number (R is 82) and A,used,screened,dx,dy,dz (A is 65)
+abbrev pub answerText : Displacement → List ℕ
+answerText (Refused r) = ended (82 ∷ []) (decimalText (numberOf r) ∷ [])
+answerText (Moved d) =
+    ended (65 ∷ [])
+    (decimalText (d .used) ∷ decimalText (d .screened) ∷ floatText (d .delta .x) ∷ floatText (d .delta .y) ∷ floatText (d .delta .z) ∷ [])
