@@ -15,26 +15,34 @@ pub const LINE: usize = 59;
 const BROKEN: u8 = 1;
 
 /// A float: its 64 bits as 16 upper-case hexadecimal digits.
-fn float(field: &str) -> Option<f64> {
-    let digit = |b: u8| matches!(b, b'0'..=b'9' | b'A'..=b'F');
-    if field.len() != 16 || !field.bytes().all(digit) {
+fn float(field: &[u8]) -> Option<f64> {
+    if field.len() != 16 {
         return None;
     }
-    u64::from_str_radix(field, 16).ok().map(f64::from_bits)
+    let mut bits = 0;
+    for &byte in field {
+        let digit = match byte {
+            b'0'..=b'9' => byte - b'0',
+            b'A'..=b'F' => byte - b'A' + 10,
+            _ => return None,
+        };
+        bits = bits << 4 | u64::from(digit);
+    }
+    Some(f64::from_bits(bits))
 }
 
 /// Any other number: decimal without plus sign or leading zeros, no minus sign before 0, within the
 /// width of its type.
-fn whole<N: FromStr>(field: &str) -> Option<N> {
-    let digits = field.strip_prefix('-').unwrap_or(field);
-    if field != "0" && !digits.starts_with(|c| matches!(c, '1'..='9')) {
+fn whole<N: FromStr>(field: &[u8]) -> Option<N> {
+    let digits = field.strip_prefix(b"-").unwrap_or(field);
+    if field != b"0" && !matches!(digits.first(), Some(b'1'..=b'9')) {
         return None;
     }
-    field.parse().ok()
+    std::str::from_utf8(field).ok()?.parse().ok()
 }
 
 /// Line `S`, behind its letter: an input without records.
-fn settings<'a>(mut next: impl FnMut() -> Option<&'a str>) -> Option<Displacement> {
+fn settings<'a>(mut next: impl FnMut() -> Option<&'a [u8]>) -> Option<Displacement> {
     Some(Displacement {
         dt: float(next()?)?,
         receiver: [float(next()?)?, float(next()?)?, float(next()?)?],
@@ -54,7 +62,7 @@ fn settings<'a>(mut next: impl FnMut() -> Option<&'a str>) -> Option<Displacemen
 }
 
 /// Line `P` or `C`, behind its letter.
-fn carrier<'a>(mut next: impl FnMut() -> Option<&'a str>) -> Option<Carrier> {
+fn carrier<'a>(mut next: impl FnMut() -> Option<&'a [u8]>) -> Option<Carrier> {
     Some(Carrier {
         constellation: whole(next()?)?,
         svid: whole(next()?)?,
@@ -72,15 +80,15 @@ pub fn read(text: &[u8]) -> Option<Displacement> {
     if text.len() > BYTES {
         return None;
     }
-    let lines = std::str::from_utf8(text).ok()?.strip_suffix('\n')?;
+    let lines = text.strip_suffix(b"\n")?;
     let mut input: Option<Displacement> = None;
-    for line in lines.split('\n') {
-        let mut fields = line.split(',');
+    for line in lines.split(|&byte| byte == b'\n') {
+        let mut fields = line.split(|&byte| byte == b',');
         let letter = fields.next()?;
         match (letter, &mut input) {
-            ("S", None) => input = Some(settings(|| fields.next())?),
-            ("P", Some(input)) => input.previous.push(carrier(|| fields.next())?),
-            ("C", Some(input)) => input.current.push(carrier(|| fields.next())?),
+            (b"S", None) => input = Some(settings(|| fields.next())?),
+            (b"P", Some(input)) => input.previous.push(carrier(|| fields.next())?),
+            (b"C", Some(input)) => input.current.push(carrier(|| fields.next())?),
             _ => return None,
         }
         if fields.next().is_some() {
@@ -172,7 +180,7 @@ mod tests {
     fn whole_numbers_are_those_that_print_as_their_field() {
         fn same<N: FromStr + ToString + PartialEq>(field: &str) -> bool {
             let printed = field.parse().ok().filter(|n: &N| n.to_string() == field);
-            whole::<N>(field) == printed
+            whole::<N>(field.as_bytes()) == printed
         }
         for n in -70_000..70_000i64 {
             for field in [

@@ -17,7 +17,7 @@ use std::hint::black_box;
 
 pub const SERVICE: Service = Service {
     name: "line",
-    count: 100_000,
+    count: 40_000,
     compare,
     bench: Some(time),
     vectors: None,
