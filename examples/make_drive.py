@@ -1,9 +1,9 @@
 #!/usr/bin/env python3
 """Writes the texts of a drive, and the true displacements beside them.
 
-A van drives eleven seconds through Leipzig, an epoch each second: it goes at town speed, brakes,
-passes under a railway bridge, turns to the right and speeds up. Satellites of GPS (1), GLONASS (3)
-and Galileo (6) move on circular orbits. What the receiver meets on the way:
+A van drives ten seconds through Leipzig, with an epoch at each second from 0 to 10: it goes at town
+speed, brakes, passes under a railway bridge, turns to the right and speeds up. Satellites of GPS (1),
+GLONASS (3) and Galileo (6) move on circular orbits. What the receiver meets on the way:
 
   epoch 2   GLONASS 7 slips by five wavelengths, and no state bit tells of it
   epoch 4   Galileo 11 is lost behind a house; it is back at epoch 6, marked as reset
@@ -127,8 +127,7 @@ class Satellite:
         at = [(START[i] + length * d[i]) / radius for i in range(3)]
         # Two orbits of an inclination pass there: one goes north, the other south.
         lat = math.asin(at[2])
-        cosine = math.cos(math.radians(inclination)) / math.cos(lat)
-        course = math.asin(max(-1.0, min(1.0, cosine)))
+        course = math.asin(math.cos(math.radians(inclination)) / math.cos(lat))
         if not eastwards:
             course = math.pi - course
         lon = math.atan2(at[1], at[0])
@@ -171,22 +170,22 @@ SATELLITES = [
         (GPS, 5, 48.0, 22.0, True),
         (GPS, 13, 292.0, 61.0, False),
         (GPS, 15, 208.0, 74.0, True),
-        (GPS, 20, 341.0, 7.3, True),
+        (GPS, 20, 335.0, 7.3, True),
         (GPS, 24, 96.0, 41.0, False),
         (GPS, 31, 231.0, 28.0, True),
-        (GLONASS, 7, 62.0, 55.0, True),
+        (GLONASS, 7, 44.0, 34.0, True),
         (GLONASS, 8, 318.0, 33.0, True),
-        (GLONASS, 22, 171.0, 48.0, False),
-        (GLONASS, 23, 262.0, 17.0, False),
+        (GLONASS, 22, 201.0, 30.0, False),
+        (GLONASS, 23, 140.0, 52.0, False),
         (GALILEO, 2, 124.0, 66.0, True),
-        (GALILEO, 11, 22.0, 38.0, False),
+        (GALILEO, 11, 55.0, 38.0, False),
         (GALILEO, 25, 301.0, 24.0, True),
         (GALILEO, 36, 192.0, 31.0, True),
     ]
 ]
 
 # What is still seen under the bridge: along the road, fore and aft.
-UNDER_BRIDGE = {(GPS, 5), (GPS, 31), (GLONASS, 7), (GLONASS, 23), (GALILEO, 11), (GALILEO, 36)}
+UNDER_BRIDGE = {(GPS, 5), (GPS, 31), (GLONASS, 7), (GLONASS, 22), (GALILEO, 11), (GALILEO, 36)}
 # The epochs without a satellite, but for the bridge.
 LOST = {(GALILEO, 11): {4, 5}}
 # What the receiver marks beside the valid carrier.

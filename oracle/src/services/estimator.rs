@@ -95,7 +95,7 @@ pub fn compare<const F: usize, const C: usize, K: Call<F, C>>(
         });
     }
     tally.note(format!(
-        "{numbers}; of those {still} with zero rounds, {far} with a float above 1e9, {odd} with one that is not finite"
+        "{numbers}; accepted with zero rounds {still}, with a float above 1e9 {far}, with one that is not finite {odd}"
     ));
 }
 

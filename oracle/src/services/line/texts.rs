@@ -9,8 +9,8 @@ use drifters_gnss::tdcp::Carrier;
 /// The example of document 01, which gives `R,7`.
 pub const EXAMPLE: &str = "S,3FF0000000000000,0000000000000000,0000000000000000,0000000000000000,3FE0000000000000,3FF0000000000000,0000000000000000,3FF8000000000000,4024000000000000,4\n";
 
-/// Whole numbers at the edges of each width, and what is none in the form.
-pub const WHOLES: [&str; 40] = [
+/// Whole numbers at the edges of each width, some that wrap to a small one, and what is none in the form.
+pub const WHOLES: [&str; 46] = [
     "0",
     "1",
     "9",
@@ -18,13 +18,18 @@ pub const WHOLES: [&str; 40] = [
     "255",
     "256",
     "65535",
+    "257",
     "65536",
+    "65537",
     "2147483647",
     "2147483648",
     "4294967295",
     "4294967296",
+    "4294967297",
     "18446744073709551615",
     "18446744073709551616",
+    "18446744073709551617",
+    "340282366920938463463374607431768211457",
     "99999999999999999999999999",
     "50",
     "51",
@@ -32,6 +37,7 @@ pub const WHOLES: [&str; 40] = [
     "-8",
     "-2147483648",
     "-2147483649",
+    "-4294967295",
     "-4294967296",
     "-0",
     "00",
