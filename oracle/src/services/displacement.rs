@@ -7,6 +7,7 @@ use crate::numbers::Numbers;
 use crate::random::Random;
 use crate::sky::displacement as sky;
 use crate::tally::{hex, Tally};
+use crate::vectors::{raw, Vectors};
 use crate::{bench, ffi};
 use std::hint::black_box;
 
@@ -15,7 +16,7 @@ pub const SERVICE: Service = Service {
     count: 500_000,
     compare,
     bench: Some(time),
-    vectors: None,
+    vectors: Some(vectors),
 };
 
 /// A call as the library takes it.
@@ -185,4 +186,44 @@ fn time(random: &mut Random) {
             },
         );
     }
+}
+
+/// How many records of an epoch a case has room for.
+const ROOM: usize = 64;
+
+/// dt, receiver 3, settings 5, rounds, how many previous records, how many current ones; of each record, of 64 an epoch at most, constellation,
+/// svid, band, state, adr, satellite 3, elevation, rate; number, used, screened, displacement 3 (zeros where refused).
+fn vectors(random: &mut Random) -> Vectors {
+    let wanted = [(0, 18), (2, 1), (3, 2), (4, 3), (5, 2), (7, 3), (8, 3), (9, 2), (10, 3)];
+    Vectors::of_each(&wanted, || {
+        let input = sky::input(random);
+        let call = Call::of(&input);
+        let (p, c) = (call.previous.count, call.current.count);
+        let records = || input.previous.iter().chain(&input.current);
+        // Few records, but for the number of too many; and no state below -1, which is stored as all ones.
+        let long = p.max(c) > ROOM + 1 || (p + c > 40 && p.max(c) <= ROOM);
+        if long || records().any(|r| r.state < -1) {
+            return None;
+        }
+        let answer = input.answer();
+        let number = *answer.as_ref().err().unwrap_or(&0);
+        let (counts, delta) = match &answer {
+            Ok(d) => ([d.used, d.screened], [d.delta.x, d.delta.y, d.delta.z]),
+            Err(_) => ([0; 2], [0.0; 3]),
+        };
+        let mut case = vec![call.dt.to_bits()];
+        case.extend(raw(&call.receiver).chain(raw(&call.settings)));
+        case.extend([call.rounds, p, c].map(|n| n as u64));
+        for e in [&call.previous, &call.current] {
+            for k in 0..e.count.min(ROOM) {
+                case.extend([u64::from(e.constellation[k]), u64::from(e.svid[k])]);
+                case.extend([u64::from(e.band[k]), e.state[k] as u64]);
+                case.extend(raw(&e.floats[6 * k..6 * k + 6]));
+            }
+        }
+        case.push(u64::from(number));
+        case.extend(counts.map(|n| n as u64));
+        case.extend(delta.map(f64::to_bits));
+        Some((number, case))
+    })
 }
