@@ -2,6 +2,8 @@
 
 mod bench;
 mod big;
+#[cfg(all(test, feature = "displacement", feature = "fix", feature = "corrections"))]
+mod edges;
 mod estimate;
 mod ffi;
 #[cfg(any(feature = "robust", feature = "displacement", feature = "fix"))]
