@@ -2,6 +2,8 @@
 
 mod bench;
 mod big;
+#[cfg(all(test, feature = "displacement", feature = "fix", feature = "corrections"))]
+mod edges;
 mod estimate;
 mod ffi;
 #[cfg(feature = "displacement")]
@@ -112,7 +114,7 @@ fn vectors(given: &Arguments) -> Result<bool, String> {
         if let Some(make) = service.vectors {
             let made = make(&mut Random::new(given.seed, service.name));
             stream.add(place as u64 + 1, &made);
-            println!("{}: {} cases", service.name, made.numbers.len() / made.case);
+            println!("{}: {} cases", service.name, made.cases.len());
         }
     }
     stream

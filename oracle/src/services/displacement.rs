@@ -1,11 +1,13 @@
 //! The displacement, against `delta_position` within document 01's rules.
 
-use super::estimator::{self, turn_columns, Answer};
+use super::estimator::{self, turn_columns, Answer, Call as _};
 use super::Service;
 use crate::estimate::Displacement;
 use crate::ffi::{self, Carriers};
 use crate::line_form;
 use crate::random::Random;
+use crate::sky;
+use crate::vectors::{raw, Vectors};
 use std::hint::black_box;
 
 pub const SERVICE: Service = Service {
@@ -13,7 +15,7 @@ pub const SERVICE: Service = Service {
     count: 500_000,
     compare: estimator::compare::<3, 2, Call>,
     bench: Some(|random| estimator::time::<3, 2, Call>(random, "displacement", 768)),
-    vectors: None,
+    vectors: Some(vectors),
 };
 
 /// A call as the library takes it.
@@ -97,4 +99,44 @@ impl estimator::Call<3, 2> for Call {
         let lines = line_form::lines(input).join("\n");
         format!("counts {counts:?}:\n{lines}")
     }
+}
+
+/// How many records of an epoch a case has room for.
+const ROOM: usize = 64;
+
+/// dt, receiver 3, settings 5, rounds, how many previous records, how many current ones; of each record, of 64 an epoch at most, constellation,
+/// svid, band, state, adr, satellite 3, elevation, rate; number, used, screened, displacement 3 (zeros where refused).
+fn vectors(random: &mut Random) -> Vectors {
+    let wanted = [(0, 18), (2, 1), (3, 2), (4, 3), (5, 2), (7, 3), (8, 3), (9, 2), (10, 3)];
+    Vectors::of_each(&wanted, || {
+        let input: Displacement = sky::input(random);
+        let call = Call::of(&input);
+        let (p, c) = (call.previous.columns.count, call.current.columns.count);
+        let records = || input.previous.iter().chain(&input.current);
+        // Few records, but for the number of too many; and no state below -1, which is stored as all ones.
+        let long = p.max(c) > ROOM + 1 || (p + c > 40 && p.max(c) <= ROOM);
+        if long || records().any(|r| r.state < -1) {
+            return None;
+        }
+        let answer = input.answer();
+        let number = *answer.as_ref().err().unwrap_or(&0);
+        let (counts, delta) = match &answer {
+            Ok(d) => ([d.used, d.screened], [d.delta.x, d.delta.y, d.delta.z]),
+            Err(_) => ([0; 2], [0.0; 3]),
+        };
+        let mut case = vec![call.dt.to_bits()];
+        case.extend(raw(&call.receiver).chain(raw(&call.settings)));
+        case.extend([call.rounds, p, c].map(|n| n as u64));
+        for e in [&call.previous, &call.current] {
+            for k in 0..e.columns.count.min(ROOM) {
+                case.extend([u64::from(e.columns.constellation[k]), u64::from(e.svid[k])]);
+                case.extend([u64::from(e.band[k]), e.state[k] as u64]);
+                case.extend(raw(&e.columns.floats[6 * k..6 * k + 6]));
+            }
+        }
+        case.push(u64::from(number));
+        case.extend(counts.map(|n| n as u64));
+        case.extend(delta.map(f64::to_bits));
+        Some((number, case))
+    })
 }

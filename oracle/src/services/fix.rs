@@ -1,11 +1,13 @@
 //! The fix, against `solve_full` within document 01's rules.
 
-use super::estimator::{self, turn_columns, Answer};
+use super::estimator::{self, turn_columns, Answer, Call as _};
 use super::Service;
 use crate::estimate::Fix;
 use crate::ffi::{self, observations, Columns};
-use crate::random::Random;
+use crate::random::{pattern, Random};
+use crate::sky;
 use crate::tally::hex;
+use crate::vectors::{raw, Vectors};
 use std::hint::black_box;
 
 pub const SERVICE: Service = Service {
@@ -13,7 +15,7 @@ pub const SERVICE: Service = Service {
     count: 300_000,
     compare: estimator::compare::<5, 1, Call>,
     bench: Some(|random| estimator::time::<5, 1, Call>(random, "fix", 384)),
-    vectors: None,
+    vectors: Some(vectors),
 };
 
 /// A call as the library takes it.
@@ -89,4 +91,40 @@ impl estimator::Call<5, 1> for Call {
             records.join("\n")
         )
     }
+}
+
+/// How many records a case has room for.
+const ROOM: usize = 64;
+
+/// Guess 3, settings 4, rounds, how many records; of each record, of 64 at most, constellation, pseudorange, satellite 3, elevation; number, used,
+/// position 3, chi, pdop (zeros where refused).
+fn vectors(random: &mut Random) -> Vectors {
+    let wanted = [(0, 18), (2, 1), (3, 3), (4, 3), (8, 3), (9, 2), (10, 4)];
+    Vectors::of_each(&wanted, || {
+        let input: Fix = sky::input(random);
+        let call = Call::of(&input);
+        let o = &call.observations;
+        // Few records, but for the number of too many.
+        if o.count > ROOM + 1 || (o.count > 20 && o.count <= ROOM) {
+            return None;
+        }
+        let answer = input.answer();
+        let number = *answer.as_ref().err().unwrap_or(&0);
+        let (used, solution) = match &answer {
+            Ok(s) => {
+                let p = s.position;
+                (s.used, [p.x, p.y, p.z, s.chi, s.pdop])
+            }
+            Err(_) => (0, [0.0; 5]),
+        };
+        let mut case: Vec<u64> = raw(&call.guess).chain(raw(&call.settings)).collect();
+        case.extend([call.rounds, o.count].map(|n| n as u64));
+        for k in 0..o.count.min(ROOM) {
+            case.push(u64::from(o.constellation[k]));
+            case.extend(raw(&o.floats[5 * k..5 * k + 5]));
+        }
+        case.extend([u64::from(number), used as u64]);
+        case.extend(solution.map(pattern));
+        Some((number, case))
+    })
 }
