@@ -165,7 +165,7 @@ fn long(random: &mut Random) -> Vec<u8> {
             let mut all = mixed(random);
             let letter = random.pick(&["P", "C"]);
             let of = |l: &&String| l.starts_with(letter);
-            let Some(last) = all.iter().filter(of).last().cloned() else {
+            let Some(last) = all.iter().rfind(of).cloned() else {
                 return text_of(&all);
             };
             let wanted = 63 + random.place(4);
