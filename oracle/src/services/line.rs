@@ -76,8 +76,9 @@ fn compare(tally: &mut Tally, random: &mut Random, count: u64) {
 
 fn time(random: &mut Random) {
     for n in [12, 30, 64] {
+        // So few that one turn of each side is shorter than a time slice.
         let mut texts = Vec::new();
-        while texts.len() < 768 / n {
+        while texts.len() < 192 / n {
             let input = Displacement::clean(random, n);
             if input.answer().is_ok() {
                 texts.push(line_form::text(&line_form::lines(&input)));
