@@ -24,6 +24,32 @@ const fn sub(
     }
 }
 
+/// The stand-ins are imported behind a line that occurs once.
+macro_rules! import_behind {
+    ($file:expr, $line:literal) => {
+        sub($file, $line, concat!($line, "use standins::StandIn;\n"), 1)
+    };
+}
+
+/// What begins so, and occurs once, is public.
+macro_rules! public {
+    ($file:expr, $item:literal) => {
+        sub($file, $item, concat!("pub ", $item), 1)
+    };
+}
+
+const fn square(file: &'static str, count: usize) -> Substitution {
+    sub(file, ".powi(2)", ".square()", count)
+}
+
+const fn hypotenuse(file: &'static str, count: usize) -> Substitution {
+    sub(file, ".hypot(", ".hypotenuse(", count)
+}
+
+const fn travel(file: &'static str) -> Substitution {
+    sub(file, ".sin_cos()", ".travel_sine_cosine()", 1)
+}
+
 /// What no file of drifters-gnss may hold once it is substituted: each has a stand-in, or none at all.
 pub const ABSENT: &[&str] = &[
     ".powi(",
@@ -49,12 +75,7 @@ pub const SUBSTITUTIONS: &[Substitution] = &[
     sub(CORE_LIB, "//!", "//", 25),
     sub(CORE_LIB, "\n#![", "\n// #![", 3),
     // The stand-ins of document 01, "The reference"; `sqrt` and `abs` are std's.
-    sub(
-        ROBUST,
-        "use drifters_core::math::{Cholesky, Matrix};\n",
-        "use drifters_core::math::{Cholesky, Matrix};\nuse standins::StandIn;\n",
-        1,
-    ),
+    import_behind!(ROBUST, "use drifters_core::math::{Cholesky, Matrix};\n"),
     sub(ROBUST, "z.max(1e-9)", "z.greater(1e-9)", 1),
     sub(
         ROBUST,
@@ -62,40 +83,20 @@ pub const SUBSTITUTIONS: &[Substitution] = &[
         "elevation.greater(3.0).radians().elevation_sine().greater(0.05)",
         1,
     ),
-    sub(
-        WLS,
-        "use drifters_core::math::{Cholesky, Matrix};\n",
-        "use drifters_core::math::{Cholesky, Matrix};\nuse standins::StandIn;\n",
-        1,
-    ),
-    sub(WLS, ".powi(2)", ".square()", 4),
-    sub(WLS, ".hypot(", ".hypotenuse(", 2),
-    sub(WLS, ".sin_cos()", ".travel_sine_cosine()", 1),
-    sub(
-        TDCP,
-        "use drifters_core::math::Vec3;\n",
-        "use drifters_core::math::Vec3;\nuse standins::StandIn;\n",
-        1,
-    ),
-    sub(TDCP, ".powi(2)", ".square()", 3),
-    sub(TDCP, ".hypot(", ".hypotenuse(", 2),
-    sub(TDCP, ".sin_cos()", ".travel_sine_cosine()", 1),
-    sub(
-        SMOOTH,
-        "use drifters_core::math::Vec3;\n",
-        "use drifters_core::math::Vec3;\nuse standins::StandIn;\n",
-        1,
-    ),
-    sub(SMOOTH, ".powi(2)", ".square()", 3),
+    import_behind!(WLS, "use drifters_core::math::{Cholesky, Matrix};\n"),
+    square(WLS, 4),
+    hypotenuse(WLS, 2),
+    travel(WLS),
+    import_behind!(TDCP, "use drifters_core::math::Vec3;\n"),
+    square(TDCP, 3),
+    hypotenuse(TDCP, 2),
+    travel(TDCP),
+    import_behind!(SMOOTH, "use drifters_core::math::Vec3;\n"),
+    square(SMOOTH, 3),
     sub(SMOOTH, "z.max(1e-12)", "z.greater(1e-12)", 1),
-    sub(
-        DIFFERENTIAL,
-        "use crate::rinex::Base;\n",
-        "use crate::rinex::Base;\nuse standins::StandIn;\n",
-        1,
-    ),
-    sub(DIFFERENTIAL, ".powi(2)", ".square()", 3),
-    sub(DIFFERENTIAL, ".sin_cos()", ".travel_sine_cosine()", 1),
+    import_behind!(DIFFERENTIAL, "use crate::rinex::Base;\n"),
+    square(DIFFERENTIAL, 3),
+    travel(DIFFERENTIAL),
     // What the comparison reads or makes, and the published text keeps to itself.
     sub(
         MATRIX,
@@ -103,12 +104,13 @@ pub const SUBSTITUTIONS: &[Substitution] = &[
         "    /// The lower-triangular factor.\n    pub lower: Matrix<N, N>,\n",
         1,
     ),
-    sub(
-        ROBUST,
-        "    slot: [usize; 8],\n    count: usize,\n",
-        "    pub slot: [usize; 8],\n    pub count: usize,\n",
-        1,
-    ),
+    public!(ROBUST, "slot: [usize; 8],\n"),
+    public!(ROBUST, "count: usize,\n"),
+    public!(WLS, "fn geometry("),
+    public!(TDCP, "fn geometry("),
+    public!(TDCP, "fn usable(&self)"),
+    public!(DIFFERENTIAL, "series: BTreeMap<(u8, u16, u8), Vec<(f64, f64)>>,\n"),
+    public!(DIFFERENTIAL, "max_gap: f64,\n}"),
     // The loop of `assign` from a state handed in.
     sub(
         ROBUST,
@@ -121,15 +123,6 @@ pub const SUBSTITUTIONS: &[Substitution] = &[
         ROBUST,
         "    let dx = Cholesky::new(&ata)?.solve(&atb);\n",
         "    let factor = Cholesky::new(&ata)?;\n    let dx = factor.solve(&atb);\n    crate::record::note(&ata, &atb, &factor, &dx);\n",
-        1,
-    ),
-    sub(WLS, "\nfn geometry(", "\npub fn geometry(", 1),
-    sub(TDCP, "\nfn geometry(", "\npub fn geometry(", 1),
-    sub(TDCP, "    fn usable(&self)", "    pub fn usable(&self)", 1),
-    sub(
-        DIFFERENTIAL,
-        "    series: BTreeMap<(u8, u16, u8), Vec<(f64, f64)>>,\n    max_gap: f64,\n",
-        "    pub series: BTreeMap<(u8, u16, u8), Vec<(f64, f64)>>,\n    pub max_gap: f64,\n",
         1,
     ),
 ];

@@ -1,16 +1,24 @@
 //! The C entry points of the Rattle library, and a safe function over each.
 
+#[cfg(any(feature = "displacement", feature = "fix"))]
+mod columns;
 #[cfg(feature = "displacement")]
 mod displacement;
 #[cfg(feature = "fix")]
 mod fix;
+#[cfg(feature = "line")]
+mod line;
 #[cfg(feature = "robust")]
 mod robust;
 
+#[cfg(any(feature = "displacement", feature = "fix"))]
+pub use columns::Columns;
 #[cfg(feature = "displacement")]
 pub use displacement::*;
 #[cfg(feature = "fix")]
 pub use fix::*;
+#[cfg(feature = "line")]
+pub use line::*;
 #[cfg(feature = "robust")]
 pub use robust::*;
 

@@ -2,8 +2,13 @@
 
 mod bench;
 mod big;
+#[cfg(all(test, feature = "displacement", feature = "fix", feature = "corrections"))]
+mod edges;
 mod estimate;
 mod ffi;
+#[cfg(feature = "displacement")]
+#[cfg_attr(not(feature = "line"), allow(dead_code))]
+mod line_form;
 #[cfg(any(feature = "robust", feature = "displacement", feature = "fix"))]
 mod numbers;
 mod random;
@@ -24,7 +29,7 @@ use vectors::Stream;
 const USAGE: &str = "oracle compare [--seed S] [--count N] [SERVICE..]
 oracle bench [SERVICE..]
 oracle accuracy [--seed S] [--count N]
-oracle vectors [--seed S] FILE";
+oracle vectors [--seed S] FILE [TEXTS]";
 
 /// What the command line says.
 struct Arguments {
@@ -93,23 +98,42 @@ fn bench(given: &Arguments) -> Result<bool, String> {
     Ok(true)
 }
 
-/// Writes the stored answers of every service that has some; a service's kind is its place in the table.
+/// Writes the stored answers of every service that has some; a service's kind is its place in the
+/// table. The stored texts of the line form go to a file of their own.
 fn vectors(given: &Arguments) -> Result<bool, String> {
-    let [file] = given.words.as_slice() else {
-        return Err("vectors takes one file".to_string());
+    let (file, texts) = match given.words.as_slice() {
+        [file] => (file, None),
+        [file, texts] => (file, Some(texts)),
+        _ => return Err("vectors takes one file or two".to_string()),
     };
+    if let Some(texts) = texts {
+        line_vectors(given.seed, texts)?;
+    }
     let mut stream = Stream::default();
     for (place, service) in SERVICES.iter().enumerate() {
         if let Some(make) = service.vectors {
             let made = make(&mut Random::new(given.seed, service.name));
             stream.add(place as u64 + 1, &made);
-            println!("{}: {} cases", service.name, made.numbers.len() / made.case);
+            println!("{}: {} cases", service.name, made.cases.len());
         }
     }
     stream
         .write(Path::new(file))
         .map_err(|e| format!("{file}: {e}"))?;
     Ok(true)
+}
+
+/// Writes the stored texts of the line form.
+#[cfg(feature = "line")]
+fn line_vectors(seed: u64, file: &str) -> Result<(), String> {
+    let (count, bytes) = services::line::cases(&mut Random::new(seed, "line"));
+    println!("line: {count} texts");
+    std::fs::write(file, bytes).map_err(|e| format!("{file}: {e}"))
+}
+
+#[cfg(not(feature = "line"))]
+fn line_vectors(_: u64, file: &str) -> Result<(), String> {
+    Err(format!("{file}: built without the line form"))
 }
 
 fn run() -> Result<bool, String> {

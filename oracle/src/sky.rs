@@ -1,10 +1,14 @@
 //! Receivers on the earth and satellites in their view, as both estimators' inputs begin.
 
-pub mod displacement;
-pub mod fix;
+mod displacement;
+mod fix;
+mod turns;
+
+pub use turns::input;
+#[cfg(any(feature = "displacement", feature = "fix"))]
+pub use turns::Input;
 
 use crate::random::{exp2, Random};
-use crate::rules;
 
 /// A random direction.
 pub fn direction(random: &mut Random) -> [f64; 3] {
@@ -80,7 +84,7 @@ impl Place {
 }
 
 /// What a sky is made of.
-struct Plan {
+pub struct Plan {
     /// How many satellites.
     count: usize,
     /// Their constellations, each of which has one satellite before any has two.
@@ -92,6 +96,16 @@ struct Plan {
 }
 
 impl Plan {
+    /// A usual sky of so many satellites, each of which counts.
+    #[cfg(any(feature = "displacement", feature = "fix"))]
+    fn clean(random: &mut Random, count: usize) -> Self {
+        Self {
+            count,
+            clean: true,
+            ..Self::usual(random)
+        }
+    }
+
     /// A usual sky.
     fn usual(random: &mut Random) -> Self {
         let slots = 1 + random.place(4);
@@ -168,54 +182,4 @@ fn constellations(random: &mut Random, slots: usize) -> Vec<u8> {
         out.push(random.pick(&[7, 8, 9, 100, 255]));
     }
     out
-}
-
-/// A float next to x: x itself, or up to three patterns off.
-fn beside(random: &mut Random, x: f64) -> f64 {
-    let by = random.pick(&[-3, -1, 0, 0, 0, 1, 2]);
-    f64::from_bits(x.to_bits().wrapping_add_signed(by))
-}
-
-/// A float that the limits let pass, of any class and size.
-fn within(random: &mut Random) -> f64 {
-    loop {
-        let x = random.float();
-        if x.abs() <= rules::LIMIT {
-            return x;
-        }
-    }
-}
-
-/// In place of x: a float that the limits let pass, any float, or x within the limits.
-fn turned(random: &mut Random, kind: u64, x: f64) -> f64 {
-    match kind {
-        0 => within(random),
-        1 => random.float(),
-        _ => x.clamp(-rules::LIMIT, rules::LIMIT),
-    }
-}
-
-/// A setting at an edge: zeros, signs, the limit, what is not finite.
-fn setting(random: &mut Random) -> f64 {
-    match random.below(4) {
-        0 => random.pick(&[0.0, -0.0, -1.0, 1.0, 1e-9, 5e-324, 1e-200, 50.0, 1e5]),
-        1 => random.unit().signum() * beside(random, rules::LIMIT),
-        2 => random.unit() * exp2(random.between(-600, 29)),
-        _ => random.float(),
-    }
-}
-
-/// The power of two by which a sky is flattened, so that squares of what is left may underflow.
-fn flatness(random: &mut Random) -> f64 {
-    exp2(random.between(-590, -20))
-}
-
-/// A count of rounds at an edge.
-fn rounds(random: &mut Random) -> usize {
-    match random.below(4) {
-        0 => 0,
-        1 => random.pick(&[1, 2, 49, 50]),
-        2 => random.pick(&[51, 52, 1 << 32, usize::MAX]),
-        _ => random.place(rules::ROUNDS + 1),
-    }
 }

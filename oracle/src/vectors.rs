@@ -3,12 +3,39 @@
 use std::path::Path;
 use std::{fs, io};
 
-/// The answers of one service.
+/// The answers of one service: its cases, each as its numbers.
 pub struct Vectors {
-    /// How many numbers one case has.
-    pub case: usize,
-    /// The cases, one after the other.
-    pub numbers: Vec<u64>,
+    pub cases: Vec<Vec<u64>>,
+}
+
+impl Vectors {
+    /// Cases of one length, from their numbers one after the other.
+    pub fn alike(case: usize, numbers: Vec<u64>) -> Self {
+        Self {
+            cases: numbers.chunks_exact(case).map(<[u64]>::to_vec).collect(),
+        }
+    }
+
+    /// As many cases of each answer's number as are wanted, out of those that `next` makes; it may make none.
+    pub fn of_each(wanted: &[(u8, usize)], mut next: impl FnMut() -> Option<(u8, Vec<u64>)>) -> Self {
+        let mut left = wanted.to_vec();
+        let mut cases = Vec::new();
+        while left.iter().any(|l| l.1 > 0) {
+            let Some((number, case)) = next() else {
+                continue;
+            };
+            if let Some(l) = left.iter_mut().find(|l| l.0 == number && l.1 > 0) {
+                l.1 -= 1;
+                cases.push(case);
+            }
+        }
+        Self { cases }
+    }
+}
+
+/// The patterns of floats as they are handed over.
+pub fn raw(floats: &[f64]) -> impl Iterator<Item = u64> + '_ {
+    floats.iter().map(|x| x.to_bits())
 }
 
 /// The stream so far.
@@ -18,7 +45,7 @@ pub struct Stream(Vec<u8>);
 impl Stream {
     /// Adds the cases of a service, each behind the number of its kind.
     pub fn add(&mut self, kind: u64, vectors: &Vectors) {
-        for case in vectors.numbers.chunks_exact(vectors.case) {
+        for case in &vectors.cases {
             for n in std::iter::once(&kind).chain(case) {
                 self.0.extend_from_slice(&n.to_le_bytes());
             }

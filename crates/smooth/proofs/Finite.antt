@@ -9,9 +9,9 @@ use lib.Ieee.{Float, nan, binary64, fits}
 use lib.Ieee.Scale.{finite}
 use lib.Ieee.Fits.{div-fits}
 use Rattle.numeric.specs.Real.{inRange}
-use Rattle.tridiagonal.specs.Columns.{every}
+use Rattle.tridiagonal.specs.Columns.{eachBelow}
 use Rattle.tridiagonal.specs.Tridiagonal.{Equations, eliminated, solvable, back, solution}
-use Rattle.tridiagonal.proofs.Every.{left-true, right-true, every-at}
+use Rattle.tridiagonal.proofs.EachBelow.{left-true, right-true, each-at}
 use Rattle.trajectory.specs.Input.{Trajectory, origin}
 use Rattle.trajectory.specs.Equations.{Scales, equationsOf}
 use Rattle.trajectory.specs.Pass.{held, finiteSolution, axisSolved, passes, fitOf}
@@ -44,7 +44,7 @@ module _ (p : Trajectory) (small-origin : (t : ℕ) → t < 3 → inRange (origi
       let A = held e (p .n) in
       let B = solvable e (p .n) in
       let C = finiteSolution e (p .n) in
-      add-finite (solution e (p .n) k) (origin (p .anchors) t) (solution-fits e (p .n) k) (every-at (λ k. finite (solution e (p .n) k)) (p .n) (right-true B C (right-true A (B && C) h)) k g) (small-origin t l)
+      add-finite (solution e (p .n) k) (origin (p .anchors) t) (solution-fits e (p .n) k) (each-at (λ k. finite (solution e (p .n) k)) (p .n) (right-true B C (right-true A (B && C) h)) k g) (small-origin t l)
 
   axis-of : (s : Scales) → passes p s ≡ true → (t : ℕ) → t < 3 → axisSolved (equationsOf p s t) (p .n) ≡ true
   unfolding passes
@@ -77,6 +77,6 @@ module _ (p : Trajectory) (small-origin : (t : ℕ) → t < 3 → inRange (origi
 pub origin-small : (p : Trajectory) → 0 < p .anchors .count → recordsOk p ≡ true → (t : ℕ) → t < 3 → inRange (origin (p .anchors) t) ≡ true
 unfolding recordsOk
 origin-small p h e t l =
-    let A = every (λ k. inRange (getD (p .anchors .value) k nan)) (p .anchors .count * 3) in
-    let B = every (λ k. inRange (getD (p .anchors .sigma) k nan)) (p .anchors .count * 3) in
-    every-at (λ k. inRange (getD (p .anchors .value) k nan)) (p .anchors .count * 3) (left-true A B (left-true (A && B) (measuredOk (p .links)) e)) (0 * 3 + t) (omega arith)
+    let A = eachBelow (λ k. inRange (getD (p .anchors .value) k nan)) (p .anchors .count * 3) in
+    let B = eachBelow (λ k. inRange (getD (p .anchors .sigma) k nan)) (p .anchors .count * 3) in
+    each-at (λ k. inRange (getD (p .anchors .value) k nan)) (p .anchors .count * 3) (left-true A B (left-true (A && B) (measuredOk (p .links)) e)) (0 * 3 + t) (omega arith)

@@ -16,7 +16,7 @@ use lib.Count.{trailingZeros}
 use borrow.Author.Tests.{ltb-true, eqb-true}
 use Rattle.exact.specs.Float.{_⊕_, whole}
 use Rattle.numeric.specs.Real.{abs, inRange}
-use Rattle.tridiagonal.proofs.Every.{right-true}
+use Rattle.tridiagonal.proofs.EachBelow.{right-true}
 
 -- ---- rounding
 

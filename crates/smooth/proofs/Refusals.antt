@@ -11,8 +11,8 @@ use lib.Ieee.{Float, nan, lt}
 use borrow.Author.Tests.{lt-ltb, le-ltb, leb-true, ltb-true}
 use Rattle.exact.specs.Float.{+0}
 use Rattle.numeric.specs.Real.{inRange}
-use Rattle.tridiagonal.specs.Columns.{every}
-use Rattle.tridiagonal.proofs.Every.{every-next, every-stop, every-all, every-same, every-at, left-true, right-true}
+use Rattle.tridiagonal.specs.Columns.{eachBelow}
+use Rattle.tridiagonal.proofs.EachBelow.{each-next, each-stop, each-all, each-same, each-at, left-true, right-true}
 use Rattle.trajectory.specs.Input.{Measured, Trajectory, indexAt, workNeed}
 use Rattle.trajectory.specs.Equations.{nextAt}
 use Rattle.trajectory.specs.Steps.{Valid}
@@ -21,33 +21,33 @@ use Rattle.smooth.specs.Answer.{columnsLong, countsOk, sigmasAbove, trac
 -- ---- a test of each element, one at a time
 
 module _ (v : List Float) (k n : ℕ) where
-  pub above-more : every (λ k. lt +0 (getD v k nan)) k ≡ true → lt +0 (getD v k nan) ≡ true → every (λ k. lt +0 (getD v k nan)) (k + 1) ≡ true
-  above-more s e = every-next (λ k. lt +0 (getD v k nan)) k true s e
+  pub above-more : eachBelow (λ k. lt +0 (getD v k nan)) k ≡ true → lt +0 (getD v k nan) ≡ true → eachBelow (λ k. lt +0 (getD v k nan)) (k + 1) ≡ true
+  above-more s e = each-next (λ k. lt +0 (getD v k nan)) k true s e
 
-  pub above-stop : every (λ k. lt +0 (getD v k nan)) k ≡ true → k < n → lt +0 (getD v k nan) ≡ false → false ≡ every (λ k. lt +0 (getD v k nan)) n
-  above-stop s h e = every-stop (λ k. lt +0 (getD v k nan)) k n s h e
+  pub above-stop : eachBelow (λ k. lt +0 (getD v k nan)) k ≡ true → k < n → lt +0 (getD v k nan) ≡ false → false ≡ eachBelow (λ k. lt +0 (getD v k nan)) n
+  above-stop s h e = each-stop (λ k. lt +0 (getD v k nan)) k n s h e
 
-  pub above-all : every (λ k. lt +0 (getD v k nan)) k ≡ true → k ≡ n → true ≡ every (λ k. lt +0 (getD v k nan)) n
-  above-all s e = every-all (λ k. lt +0 (getD v k nan)) k n s e
+  pub above-all : eachBelow (λ k. lt +0 (getD v k nan)) k ≡ true → k ≡ n → true ≡ eachBelow (λ k. lt +0 (getD v k nan)) n
+  above-all s e = each-all (λ k. lt +0 (getD v k nan)) k n s e
 
-  pub range-more : every (λ k. inRange (getD v k nan)) k ≡ true → inRange (getD v k nan) ≡ true → every (λ k. inRange (getD v k nan)) (k + 1) ≡ true
-  range-more s e = every-next (λ k. inRange (getD v k nan)) k true s e
+  pub range-more : eachBelow (λ k. inRange (getD v k nan)) k ≡ true → inRange (getD v k nan) ≡ true → eachBelow (λ k. inRange (getD v k nan)) (k + 1) ≡ true
+  range-more s e = each-next (λ k. inRange (getD v k nan)) k true s e
 
-  pub range-stop : every (λ k. inRange (getD v k nan)) k ≡ true → k < n → inRange (getD v k nan) ≡ false → false ≡ every (λ k. inRange (getD v k nan)) n
-  range-stop s h e = every-stop (λ k. inRange (getD v k nan)) k n s h e
+  pub range-stop : eachBelow (λ k. inRange (getD v k nan)) k ≡ true → k < n → inRange (getD v k nan) ≡ false → false ≡ eachBelow (λ k. inRange (getD v k nan)) n
+  range-stop s h e = each-stop (λ k. inRange (getD v k nan)) k n s h e
 
-  pub range-all : every (λ k. inRange (getD v k nan)) k ≡ true → k ≡ n → true ≡ every (λ k. inRange (getD v k nan)) n
-  range-all s e = every-all (λ k. inRange (getD v k nan)) k n s e
+  pub range-all : eachBelow (λ k. inRange (getD v k nan)) k ≡ true → k ≡ n → true ≡ eachBelow (λ k. inRange (getD v k nan)) n
+  range-all s e = each-all (λ k. inRange (getD v k nan)) k n s e
 
 module _ (v : List ℕ) (k n bound : ℕ) where
-  pub below-more : every (λ j. ltb (getD v j 0) bound) k ≡ true → getD v k 0 < bound → every (λ j. ltb (getD v j 0) bound) (k + 1) ≡ true
-  below-more s h = every-next (λ j. ltb (getD v j 0) bound) k true s (lt-ltb _ _ h)
+  pub below-more : eachBelow (λ j. ltb (getD v j 0) bound) k ≡ true → getD v k 0 < bound → eachBelow (λ j. ltb (getD v j 0) bound) (k + 1) ≡ true
+  below-more s h = each-next (λ j. ltb (getD v j 0) bound) k true s (lt-ltb _ _ h)
 
-  pub below-stop : every (λ j. ltb (getD v j 0) bound) k ≡ true → k < n → bound ≤ getD v k 0 → false ≡ every (λ j. ltb (getD v j 0) bound) n
-  below-stop s h g = every-stop (λ j. ltb (getD v j 0) bound) k n s h (le-ltb _ _ g)
+  pub below-stop : eachBelow (λ j. ltb (getD v j 0) bound) k ≡ true → k < n → bound ≤ getD v k 0 → false ≡ eachBelow (λ j. ltb (getD v j 0) bound) n
+  below-stop s h g = each-stop (λ j. ltb (getD v j 0) bound) k n s h (le-ltb _ _ g)
 
-  pub below-all : every (λ j. ltb (getD v j 0) bound) k ≡ true → k ≡ n → true ≡ every (λ j. ltb (getD v j 0) bound) n
-  below-all s e = every-all (λ j. ltb (getD v j 0) bound) k n s e
+  pub below-all : eachBelow (λ j. ltb (getD v j 0) bound) k ≡ true → k ≡ n → true ≡ eachBelow (λ j. ltb (getD v j 0) bound) n
+  below-all s e = each-all (λ j. ltb (getD v j 0) bound) k n s e
 
 -- there is none, and there are some
 pub none-there : (n : ℕ) → n ≡ 0 → ltb 0 n ≡ false
@@ -57,8 +57,8 @@ pub some-there : (n : ℕ) → (n ≡ 0 → ⊥) → ltb 0 n ≡ true
 some-there n e = lt-ltb 0 n (omega arith)
 
 -- a link's next epoch is one that there is
-pub next-below : (v : List ℕ) (count n : ℕ) → every (λ j. ltb (getD v j 0) (n - 1)) count ≡ every (λ j. ltb (getD v j 0 + 1) n) count
-next-below v count n = every-same (λ j. ltb (getD v j 0) (n - 1)) (λ j. ltb (getD v j 0 + 1) n) count (λ j h. one (getD v j 0))
+pub next-below : (v : List ℕ) (count n : ℕ) → eachBelow (λ j. ltb (getD v j 0) (n - 1)) count ≡ eachBelow (λ j. ltb (getD v j 0 + 1) n) count
+next-below v count n = each-same (λ j. ltb (getD v j 0) (n - 1)) (λ j. ltb (getD v j 0 + 1) n) count (λ j h. one (getD v j 0))
   where
     one : (i : ℕ) → ltb i (n - 1) ≡ ltb (i + 1) n
     one i = go (decLt (i + 1) n)
@@ -132,8 +132,8 @@ valid p r w c h =
     let b1 = ltb 0 (p .anchors .count) in
     let b2 = sigmasAbove (p .anchors) in
     let b3 = sigmasAbove (p .links) in
-    let b4 = every (λ j. ltb (indexAt (p .anchors) j) (p .n)) (p .anchors .count) in
-    let b5 = every (λ j. ltb (nextAt (p .links) j) (p .n)) (p .links .count) in
+    let b4 = eachBelow (λ j. ltb (indexAt (p .anchors) j) (p .n)) (p .anchors .count) in
+    let b5 = eachBelow (λ j. ltb (nextAt (p .links) j) (p .n)) (p .links .count) in
     let t4 = b4 && b5 in
     let t3 = b3 && t4 in
     let t2 = b2 && t3 in
@@ -149,12 +149,12 @@ valid p r w c h =
         indices = c .anchors .indices;
         values = c .anchors .values;
         sigmas = c .anchors .sigmas;
-        below = λ j l. ltb-true _ _ (every-at (λ j. ltb (indexAt (p .anchors) j) (p .n)) (p .anchors .count) (left-true b4 b5 h4) j l);
+        below = λ j l. ltb-true _ _ (each-at (λ j. ltb (indexAt (p .anchors) j) (p .n)) (p .anchors .count) (left-true b4 b5 h4) j l);
       };
       links = record {
         indices = c .links .indices;
         values = c .links .values;
         sigmas = c .links .sigmas;
-        below = λ j l. let g : nextAt (p .links) j < p .n = ltb-true _ _ (every-at (λ j. ltb (nextAt (p .links) j) (p .n)) (p .links .count) (right-true b4 b5 h4) j l) in omega arith;
+        below = λ j l. let g : nextAt (p .links) j < p .n = ltb-true _ _ (each-at (λ j. ltb (nextAt (p .links) j) (p .n)) (p .links .count) (right-true b4 b5 h4) j l) in omega arith;
       };
     }

@@ -13,7 +13,7 @@ use lib.Ieee.Fits.{mul-fits}
 use Rattle.exact.specs.Float.{_⊕_, _⊖_, _⊗_, _⊘_, +0, 1·0, decimal, bits}
 use Rattle.numeric.specs.Root.{rootOf}
 use Rattle.numeric.specs.Real.{square, max}
-use Rattle.tridiagonal.proofs.Every.{left-true, right-true}
+use Rattle.tridiagonal.proofs.EachBelow.{left-true, right-true}
 use Rattle.tridiagonal.proofs.Cells.{place, hit, miss, kept-none}
 use Rattle.trajectory.specs.Input.{Measured, indexAt, valueAt}
 use Rattle.trajectory.specs.Equations.{nextAt}

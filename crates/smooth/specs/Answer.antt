@@ -12,7 +12,7 @@ use Rattle.numeric.specs.Real.{inRange}
 use Rattle.numeric.specs.Refusal.{numberOf}
 use Rattle.numeric.specs.declared.refusal.Refusal.{Refusal}
 use Rattle.numeric.specs.declared.refusal.Refusal.the-variants.{TooMany, SettingOutOfRange, RecordOutOfRange, BadTrack, FitFailed}
-use Rattle.tridiagonal.specs.Columns.{every}
+use Rattle.tridiagonal.specs.Columns.{eachBelow}
 use Rattle.trajectory.specs.Input.{Measured, Trajectory, indexAt, workNeed}
 use Rattle.trajectory.specs.Equations.{nextAt}
 use Rattle.trajectory.specs.Pass.{passes}
@@ -38,20 +38,20 @@ settingsOk s = inRange (s .huber) && leb (s .iterations) 50
 
 -- 4: so is every float of a counted anchor or link
 abbrev pub measuredOk : Measured → Bool
-measuredOk m = every (λ k. inRange (getD (m .value) k nan)) (m .count * 3) && every (λ k. inRange (getD (m .sigma) k nan)) (m .count * 3)
+measuredOk m = eachBelow (λ k. inRange (getD (m .value) k nan)) (m .count * 3) && eachBelow (λ k. inRange (getD (m .sigma) k nan)) (m .count * 3)
 
 unfoldable pub recordsOk : Trajectory → Bool
 recordsOk p = measuredOk (p .anchors) && measuredOk (p .links)
 
 -- 6: there are epochs and anchors, each sigma is above 0, an anchor's index is below n, and so is a link's index plus one
 abbrev pub sigmasAbove : Measured → Bool
-sigmasAbove m = every (λ k. lt +0 (getD (m .sigma) k nan)) (m .count * 3)
+sigmasAbove m = eachBelow (λ k. lt +0 (getD (m .sigma) k nan)) (m .count * 3)
 
 unfoldable pub trackOk : Trajectory → Bool
 trackOk p =
     ltb 0 (p .n) && (ltb 0 (p .anchors .count)
     && (sigmasAbove (p .anchors) && (sigmasAbove (p .links)
-    && (every (λ j. ltb (indexAt (p .anchors) j) (p .n)) (p .anchors .count) && every (λ j. ltb (nextAt (p .links) j) (p .n)) (p .links .count)))))
+    && (eachBelow (λ j. ltb (indexAt (p .anchors) j) (p .n)) (p .anchors .count) && eachBelow (λ j. ltb (nextAt (p .links) j) (p .n)) (p .links .count)))))
 
 -- ---- the answer
 

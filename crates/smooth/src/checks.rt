@@ -7,7 +7,7 @@ ghost use lib.Ieee.{nan};
 ghost use lib.Ieee as Ieee;
 ghost use Rattle.exact.specs.Float.{+0};
 ghost use Rattle.numeric.specs.Real.{inRange};
-ghost use Rattle.tridiagonal.specs.Columns.{every};
+ghost use Rattle.tridiagonal.specs.Columns.{eachBelow};
 ghost use Rattle.trajectory.specs.Input.{measured, trajectory};
 ghost use Rattle.smooth.specs.Answer.{columnsLong, countsOk, measuredOk, recordsOk, trackOk};
 use numeric::real::in_range;
@@ -57,7 +57,7 @@ pub fn counts(
 // Whether the first `count` floats are finite and at most 1e9 in magnitude.
 fn all_in_range(v: &[f64], count: usize) -> bool
     requires { ⌜ count ≤ length (now v) ⌝ }
-    ensures { λ x. ⌜ x ≡ every (λ k. inRange (getD (now (v .entry)) k nan)) count ⌝ }
+    ensures { λ x. ⌜ x ≡ eachBelow (λ k. inRange (getD (now (v .entry)) k nan)) count ⌝ }
 {
     let mut k: usize = 0;
     while k < count {
@@ -72,7 +72,7 @@ fn all_in_range(v: &[f64], count: usize) -> bool
 // Whether the first `count` floats are above 0.
 fn all_above(v: &[f64], count: usize) -> bool
     requires { ⌜ count ≤ length (now v) ⌝ }
-    ensures { λ x. ⌜ x ≡ every (λ k. Ieee.lt +0 (getD (now (v .entry)) k nan)) count ⌝ }
+    ensures { λ x. ⌜ x ≡ eachBelow (λ k. Ieee.lt +0 (getD (now (v .entry)) k nan)) count ⌝ }
 {
     let mut k: usize = 0;
     while k < count {
@@ -87,7 +87,7 @@ fn all_above(v: &[f64], count: usize) -> bool
 // Whether the first `count` indices are below n.
 fn all_below(v: &[usize], count: usize, n: usize) -> bool
     requires { ⌜ count ≤ length (now v) ⌝ }
-    ensures { λ x. ⌜ x ≡ every (λ j. ltb (getD (now (v .entry)) j 0) n) count ⌝ }
+    ensures { λ x. ⌜ x ≡ eachBelow (λ j. ltb (getD (now (v .entry)) j 0) n) count ⌝ }
 {
     let mut k: usize = 0;
     while k < count {

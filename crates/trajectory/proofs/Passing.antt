@@ -7,11 +7,11 @@ use native.Mathlib.Omega.{arith}
 use lib.Ieee.{Float, le}
 use lib.Ieee.Scale.{finite}
 use Rattle.exact.specs.Float.{+0}
-use Rattle.tridiagonal.specs.Columns.{col, every}
+use Rattle.tridiagonal.specs.Columns.{col, eachBelow}
 use Rattle.tridiagonal.specs.Tridiagonal.{Equations, solvable, solution}
 use Rattle.tridiagonal.specs.Steps.{block, Alike, allSolvable, Solved}
 use Rattle.tridiagonal.proofs.Cells.{kept-none, kept-then}
-use Rattle.tridiagonal.proofs.Every.{every-same, every-next, every-stop, every-all}
+use Rattle.tridiagonal.proofs.EachBelow.{each-same, each-next, each-stop, each-all}
 use Rattle.tridiagonal.proofs.Alike.{solvable-same, solution-same}
 use Rattle.trajectory.specs.Input.{Trajectory}
 use Rattle.trajectory.specs.Equations.{Scales, equationsOf}
@@ -61,22 +61,22 @@ three f g e h i = rw (e, h, i)
 
 module _ (w : List Float) (at n k : ℕ) where
   pub held-more : held (block w at n) k ≡ true → le (col w at k) +0 ≡ false → held (block w at n) (k + 1) ≡ true
-  held-more s e = every-next (λ k. not (le (col w at k) +0)) k true s (ap not e)
+  held-more s e = each-next (λ k. not (le (col w at k) +0)) k true s (ap not e)
 
   pub held-stop : held (block w at n) k ≡ true → k < n → le (col w at k) +0 ≡ true → false ≡ held (block w at n) n
-  held-stop s h e = every-stop (λ k. not (le (col w at k) +0)) k n s h (ap not e)
+  held-stop s h e = each-stop (λ k. not (le (col w at k) +0)) k n s h (ap not e)
 
   pub held-all : held (block w at n) k ≡ true → k ≡ n → true ≡ held (block w at n) n
-  held-all s e = every-all (λ k. not (le (col w at k) +0)) k n s e
+  held-all s e = each-all (λ k. not (le (col w at k) +0)) k n s e
 
-  pub finite-more : every (λ k. finite (col w (at + n * 2) k)) k ≡ true → finite (col w (at + n * 2) k) ≡ true → every (λ k. finite (col w (at + n * 2) k)) (k + 1) ≡ true
-  finite-more s e = every-next (λ k. finite (col w (at + n * 2) k)) k true s e
+  pub finite-more : eachBelow (λ k. finite (col w (at + n * 2) k)) k ≡ true → finite (col w (at + n * 2) k) ≡ true → eachBelow (λ k. finite (col w (at + n * 2) k)) (k + 1) ≡ true
+  finite-more s e = each-next (λ k. finite (col w (at + n * 2) k)) k true s e
 
-  pub finite-stop : every (λ k. finite (col w (at + n * 2) k)) k ≡ true → k < n → finite (col w (at + n * 2) k) ≡ false → false ≡ finiteRows w at n
-  finite-stop s h e = every-stop (λ k. finite (col w (at + n * 2) k)) k n s h e
+  pub finite-stop : eachBelow (λ k. finite (col w (at + n * 2) k)) k ≡ true → k < n → finite (col w (at + n * 2) k) ≡ false → false ≡ finiteRows w at n
+  finite-stop s h e = each-stop (λ k. finite (col w (at + n * 2) k)) k n s h e
 
-  pub finite-all : every (λ k. finite (col w (at + n * 2) k)) k ≡ true → k ≡ n → true ≡ finiteRows w at n
-  finite-all s e = every-all (λ k. finite (col w (at + n * 2) k)) k n s e
+  pub finite-all : eachBelow (λ k. finite (col w (at + n * 2) k)) k ≡ true → k ≡ n → true ≡ finiteRows w at n
+  finite-all s e = each-all (λ k. finite (col w (at + n * 2) k)) k n s e
 
 -- ---- the equations, solved
 
@@ -97,7 +97,7 @@ module _ (w : List Float) (n : ℕ) (b1 : Bool) (e1 : b1 ≡ allHeld w n) where
     }
 
     rows : (at : ℕ) → ((k : ℕ) → k < n → col w' (at + n * 2) k ≡ solution (block w at n) n k) → finiteRows w' at n ≡ finiteSolution (block w at n) n
-    rows at u = every-same (λ k. finite (col w' (at + n * 2) k)) (λ k. finite (solution (block w at n) n k)) n (λ k h. ap finite (u k h))
+    rows at u = each-same (λ k. finite (col w' (at + n * 2) k)) (λ k. finite (solution (block w at n) n k)) n (λ k h. ap finite (u k h))
 
     pub settled : b2 ≡ true → (b3 : Bool) → b3 ≡ allFinite w' n → Settled w n b3 w'
     settled y2 b3 e3 =
@@ -120,10 +120,10 @@ module _ (p : Trajectory) (w w1 w2 : List Float) (ok : Bool) (some : 0 < p .n) (
 
   -- what is tested of a block is tested of its axis
   same-held : (at t : ℕ) → Alike (e t) (block w1 at n) n → held (block w1 at n) n ≡ held (e t) n
-  same-held at t h = every-same (λ k. not (le (block w1 at n .diagonal k) +0)) (λ k. not (le (e t .diagonal k) +0)) n (λ k l. ap (λ (x : Float). not (le x +0)) (h .diagonal k l))
+  same-held at t h = each-same (λ k. not (le (block w1 at n .diagonal k) +0)) (λ k. not (le (e t .diagonal k) +0)) n (λ k l. ap (λ (x : Float). not (le x +0)) (h .diagonal k l))
 
   same-finite : (at t : ℕ) → Alike (e t) (block w1 at n) n → finiteSolution (block w1 at n) n ≡ finiteSolution (e t) n
-  same-finite at t h = every-same (λ k. finite (solution (block w1 at n) n k)) (λ k. finite (solution (e t) n k)) n (λ k l. ap finite (solution-same (e t) (block w1 at n) n h some k))
+  same-finite at t h = each-same (λ k. finite (solution (block w1 at n) n k)) (λ k. finite (solution (e t) n k)) n (λ k l. ap finite (solution-same (e t) (block w1 at n) n h some k))
 
   same-held-all : allHeld w1 n ≡ onAxes (λ t. held (e t) n)
   same-held-all = rw (same-held 0 0 (a .blocks .x), same-held (n * 3) 1 (a .blocks .y), same-held (n * 6) 2 (a .blocks .z))

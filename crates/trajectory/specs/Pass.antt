@@ -4,17 +4,17 @@ use Prim.Native.Nat.{ℕ}
 use lib.Ieee.{Float, le}
 use lib.Ieee.Scale.{finite}
 use Rattle.exact.specs.Float.{_⊕_, +0}
-use Rattle.tridiagonal.specs.Columns.{every}
+use Rattle.tridiagonal.specs.Columns.{eachBelow}
 use Rattle.tridiagonal.specs.Tridiagonal.{Equations, solvable, solution}
 use Rattle.trajectory.specs.Input.{Trajectory, origin}
 use Rattle.trajectory.specs.Equations.{Scales, equationsOf}
 
 -- every epoch is held by some measurement: no diagonal is at or below 0
 abbrev pub held : Equations → ℕ → Bool
-held e n = every (λ k. not (le (e .diagonal k) +0)) n
+held e n = eachBelow (λ k. not (le (e .diagonal k) +0)) n
 
 abbrev pub finiteSolution : Equations → ℕ → Bool
-finiteSolution e n = every (λ k. finite (solution e n k)) n
+finiteSolution e n = eachBelow (λ k. finite (solution e n k)) n
 
 -- an axis fails where an epoch is not held, a pivot vanishes or an unknown is not finite
 abbrev pub axisSolved : Equations → ℕ → Bool

@@ -8,7 +8,7 @@ use lib.ListN.{length, set}
 use lib.Ieee.{Float}
 use lib.Ieee.Scale.{finite}
 use Rattle.exact.specs.Float.{_⊕_, _⊖_}
-use Rattle.tridiagonal.specs.Columns.{col, Kept, Blocks, every}
+use Rattle.tridiagonal.specs.Columns.{col, Kept, Blocks, eachBelow}
 use Rattle.tridiagonal.specs.Tridiagonal.{solution}
 use Rattle.tridiagonal.specs.Steps.{block, Alike, allSolvable}
 use Rattle.trajectory.specs.Input.{Measured, Trajectory, indexAt}
@@ -77,7 +77,7 @@ abbrev pub allHeld : List Float → ℕ → Bool
 allHeld w n = onBlocks (λ at. held (block w at n) n) n
 
 abbrev pub finiteRows : List Float → ℕ → ℕ → Bool
-finiteRows w at n = every (λ k. finite (col w (at + n * 2) k)) n
+finiteRows w at n = eachBelow (λ k. finite (col w (at + n * 2) k)) n
 
 abbrev pub allFinite : List Float → ℕ → Bool
 allFinite w n = onBlocks (λ at. finiteRows w at n) n

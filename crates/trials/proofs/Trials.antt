@@ -32,7 +32,7 @@ root-least : m3
 unfolding rootOf ofBits
 root-least = refl
 
-centre-empty : m4
+pub centre-empty : m4
 unfolding centreScaleOf centreAndScaleOf
 centre-empty = refl
 
@@ -44,7 +44,7 @@ slots-five : m6
 unfolding clocksOf clocksIn appearing has slotFrom
 slots-five = refl
 
-identity-factors : m7
+pub identity-factors : m7
 unfolding factorOf factorTo next isPivot pivotOf rowOf below withElement lessProducts rootOf sub mul div lt ofBits
 identity-factors = refl
 
@@ -53,7 +53,7 @@ zero-no-pivot : isPivot +0 ≡ false
 unfolding isPivot lt ofBits
 zero-no-pivot = refl
 
-zero-pivot : m8
+pub zero-pivot : m8
 unfolding factorOf pivotOf lessProducts
 zero-pivot a e =
     let first : factorTo (0 + 1) a ≡ Refused = factorTo-next 0 a _ (factorTo-zero a) ∙ rw (e, zero-no-pivot) in
@@ -63,11 +63,11 @@ states : m9
 unfolding usable bitSet unsigned
 states c h = rw h
 
-half-way : m10
+pub half-way : m10
 unfolding queryOf answerAt between bridged line near firstOf lastOf inRange abs sound ranged rises timeKey keyOf patternOf every lt le add sub mul div ofBits ofInt toBits isNan
 half-way = refl
 
-gap-too-long : m11
+pub gap-too-long : m11
 unfolding queryOf answerAt between bridged line near firstOf lastOf inRange abs sound ranged rises timeKey keyOf patternOf every lt le add sub mul div ofBits ofInt toBits isNan
 gap-too-long = refl
 

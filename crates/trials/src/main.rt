@@ -1,7 +1,10 @@
 // The marked trials through the code, a line for each.
+mod carriers;
 mod centre;
 mod clocks;
+mod corrections;
 mod numbers;
+mod track;
 
 use libc::STDOUT_FILENO;
 
@@ -23,4 +26,9 @@ fn main() {
     report(b"m6", clocks::five());
     report(b"m7", numbers::identity_factors());
     report(b"m8", numbers::zero_pivot_refused());
+    report(b"m9", carriers::states());
+    report(b"m10", corrections::bridged());
+    report(b"m11", corrections::gap_too_long());
+    report(b"m12", track::one_point());
+    report(b"m13", track::not_held());
 }

@@ -6,7 +6,7 @@ use native.Mathlib.Omega.{arith}
 use lib.Ieee.{Float}
 use Rattle.tridiagonal.specs.Tridiagonal.{Equations, vanishing, pivot, reduced, eliminated, solvable, back, solution}
 use Rattle.tridiagonal.specs.Steps.{Alike}
-use Rattle.tridiagonal.proofs.Every.{every-same}
+use Rattle.tridiagonal.proofs.EachBelow.{each-same}
 
 pub back-same : (e e' : Equations) (m n : ℕ) → m < n → Alike e e' n → (j : ℕ) → back e' m j ≡ back e m j
 unfolding back
@@ -20,7 +20,7 @@ module _ (e e' : Equations) (n : ℕ) (s : Alike e e' n) where
   pivot-same (suc k) h = rw (s .diagonal (suc k) h, s .upper k (omega arith), pivot-same k (omega arith))
 
   pub solvable-same : solvable e' n ≡ solvable e n
-  solvable-same = every-same (λ k. not (vanishing (pivot e' k))) (λ k. not (vanishing (pivot e k))) n (λ k h. ap (λ (x : Float). not (vanishing x)) (pivot-same k h))
+  solvable-same = each-same (λ k. not (vanishing (pivot e' k))) (λ k. not (vanishing (pivot e k))) n (λ k h. ap (λ (x : Float). not (vanishing x)) (pivot-same k h))
 
   reduced-same : (k : ℕ) → k < n → reduced e' k ≡ reduced e k
   unfolding reduced

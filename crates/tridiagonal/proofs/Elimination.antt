@@ -12,7 +12,7 @@ use Rattle.exact.specs.Float.{_⊖_, _⊗_, _⊘_}
 use Rattle.tridiagonal.specs.Columns.{col, Kept, Blocks}
 use Rattle.tridiagonal.specs.Tridiagonal.{Equations, vanishing, pivot, reduced, solvable}
 use Rattle.tridiagonal.specs.Steps.{block, rowEliminated, allSolvable, Left, Eliminated}
-use Rattle.tridiagonal.proofs.Every.{every-none, every-next, every-not}
+use Rattle.tridiagonal.proofs.EachBelow.{each-none, each-next, each-not}
 use Rattle.tridiagonal.proofs.Cells.{place, miss2, hit-under, hit-over, grown, kept-none, kept-set, kept-then}
 use Rattle.tridiagonal.proofs.Blocks.{Local, blocks-step, blocks-map}
 
@@ -39,7 +39,7 @@ pub record Rows (w₀ : List Float) (n i at : ℕ) (w : List Float) : Type 0 whe
 rows-none : (w₀ : List Float) (n at : ℕ) → Rows w₀ n 0 at w₀
 unfolding pivot reduced
 rows-none w₀ n at = record {
-  fine = every-none _;
+  fine = each-none _;
   pivots = λ k l. let e : k ≡ 0 = omega arith in rw e;
   below = λ k l m. refl;
   uppers = λ k m. refl;
@@ -60,10 +60,10 @@ rows-local w₀ n i g at t w w' e s = record {
 module _ (w₀ : List Float) (n i at : ℕ) (w : List Float) (inside : i < n) (s : Rows w₀ n i at w) where
   -- the pivot of row i stands in its place
   solvable-next : (t : Bool) → t ≡ not (vanishing (col w at i)) → solvable (block w₀ at n) (i + 1) ≡ t
-  solvable-next t e = every-next (λ k. not (vanishing (pivot (block w₀ at n) k))) i t (s .fine) (ap (λ (x : Float). not (vanishing x)) (sym (s .pivots i (omega arith))) ∙ sym e)
+  solvable-next t e = each-next (λ k. not (vanishing (pivot (block w₀ at n) k))) i t (s .fine) (ap (λ (x : Float). not (vanishing x)) (sym (s .pivots i (omega arith))) ∙ sym e)
 
   solvable-stop : not (vanishing (col w at i)) ≡ false → solvable (block w₀ at n) n ≡ false
-  solvable-stop e = every-not (λ k. not (vanishing (pivot (block w₀ at n) k))) i n inside (ap (λ (x : Float). not (vanishing x)) (sym (s .pivots i (omega arith))) ∙ e) (s .fine)
+  solvable-stop e = each-not (λ k. not (vanishing (pivot (block w₀ at n) k))) i n inside (ap (λ (x : Float). not (vanishing x)) (sym (s .pivots i (omega arith))) ∙ e) (s .fine)
 
   left-all : i + 1 ≡ n → Left w₀ at n w
   left-all e = record { pivots = λ k l. s .pivots k (omega arith); uppers = s .uppers; rights = λ k l. s .rights k (omega arith) }

@@ -1,5 +1,5 @@
 pub mod Cells
-pub mod Every
+pub mod EachBelow
 pub mod Blocks
 pub mod Alike
 pub mod Elimination

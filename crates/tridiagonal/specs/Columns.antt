@@ -27,6 +27,6 @@ pub record Blocks (n : ℕ) (P : ℕ → ℕ → Type 0) : Type 0 where
   pub z : P (n * 6) 2
 
 -- the test holds of each of the first n
-unfoldable pub every : (ℕ → Bool) → ℕ → Bool
-every f zero = true
-every f (suc k) = every f k && f k
+unfoldable pub eachBelow : (ℕ → Bool) → ℕ → Bool
+eachBelow f zero = true
+eachBelow f (suc k) = eachBelow f k && f k

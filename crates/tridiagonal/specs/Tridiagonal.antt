@@ -5,7 +5,7 @@ use Prim.Native.Nat.{ℕ, zero, suc, _-_}
 use lib.Ieee.{Float, lt}
 use Rattle.exact.specs.Float.{_⊖_, _⊗_, _⊘_, bits}
 use Rattle.numeric.specs.Real.{abs}
-use Rattle.tridiagonal.specs.Columns.{every}
+use Rattle.tridiagonal.specs.Columns.{eachBelow}
 
 -- The equations: row i is upper (i − 1) · x (i − 1) + diagonal i · x i + upper i · x (i + 1) = right i.
 pub record Equations : Type 0 where
@@ -43,7 +43,7 @@ vanishing p = lt (abs p) smallestNormal
 
 -- none of the first n pivots vanishes
 abbrev pub solvable : Equations → ℕ → Bool
-solvable e n = every (λ k. not (vanishing (pivot e k))) n
+solvable e n = eachBelow (λ k. not (vanishing (pivot e k))) n
 
 -- ---- the back substitution, from the last row to the first
 

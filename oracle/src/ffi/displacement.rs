@@ -1,45 +1,36 @@
 //! The entry point of the displacement.
 
+use super::columns::{call, Columns};
 use drifters_gnss::tdcp::Carrier;
 
 /// An epoch of carriers as the library takes it: its columns, of which each may be longer or shorter
-/// than the count needs; six floats for each record.
+/// than the count needs.
 pub struct Carriers {
-    pub constellation: Vec<u8>,
+    pub columns: Columns<6>,
     pub svid: Vec<u16>,
     pub band: Vec<u32>,
     pub state: Vec<i32>,
-    pub floats: Vec<f64>,
-    pub count: usize,
 }
 
 impl Carriers {
     /// The columns of some records.
     pub fn of(records: &[Carrier]) -> Self {
-        let floats = |c: &Carrier| {
+        let columns = records.iter().map(|c| {
             let [x, y, z] = c.satellite;
-            [c.adr, x, y, z, c.elevation, c.rate]
-        };
+            (c.constellation, [c.adr, x, y, z, c.elevation, c.rate])
+        });
         Self {
-            constellation: records.iter().map(|c| c.constellation).collect(),
+            columns: Columns::of(columns),
             svid: records.iter().map(|c| c.svid).collect(),
             band: records.iter().map(|c| c.band).collect(),
             state: records.iter().map(|c| c.state).collect(),
-            floats: records.iter().flat_map(floats).collect(),
-            count: records.len(),
         }
     }
 
     /// Whether each column has what the count needs.
     pub fn whole(&self) -> bool {
-        let shortest = [
-            self.constellation.len(),
-            self.svid.len(),
-            self.band.len(),
-            self.state.len(),
-            self.floats.len() / 6,
-        ];
-        shortest.iter().all(|&n| n >= self.count)
+        let others = [self.svid.len(), self.band.len(), self.state.len()];
+        self.columns.whole() && others.iter().all(|&n| n >= self.columns.count)
     }
 }
 
@@ -92,35 +83,11 @@ pub fn displacement(
     // SAFETY: each column has its length beside it, the arrays are as long as their types say, and
     // the last two are ours alone.
     unsafe {
-        zaqnuti_displacement(
-            previous.constellation.as_ptr(),
-            previous.constellation.len(),
-            previous.svid.as_ptr(),
-            previous.svid.len(),
-            previous.band.as_ptr(),
-            previous.band.len(),
-            previous.state.as_ptr(),
-            previous.state.len(),
-            previous.floats.as_ptr(),
-            previous.floats.len(),
-            previous.count,
-            current.constellation.as_ptr(),
-            current.constellation.len(),
-            current.svid.as_ptr(),
-            current.svid.len(),
-            current.band.as_ptr(),
-            current.band.len(),
-            current.state.as_ptr(),
-            current.state.len(),
-            current.floats.as_ptr(),
-            current.floats.len(),
-            current.count,
-            dt,
-            receiver,
-            settings,
-            rounds,
-            delta,
-            counts,
-        )
+        call!(zaqnuti_displacement();
+            [previous.columns.constellation], [previous.svid], [previous.band], [previous.state],
+            [previous.columns.floats], previous.columns.count,
+            [current.columns.constellation], [current.svid], [current.band], [current.state],
+            [current.columns.floats], current.columns.count,
+            dt, receiver, settings, rounds, delta, counts,)
     }
 }

@@ -1,33 +1,14 @@
 //! The entry point of the fix.
 
+use super::columns::{call, Columns};
 use drifters_gnss::wls::Observation;
 
-/// The observations of an epoch as the library takes them: columns, of which each may be longer or
-/// shorter than the count needs; five floats for each record.
-pub struct Observations {
-    pub constellation: Vec<u8>,
-    pub floats: Vec<f64>,
-    pub count: usize,
-}
-
-impl Observations {
-    /// The columns of some records.
-    pub fn of(records: &[Observation]) -> Self {
-        let floats = |o: &Observation| {
-            let [x, y, z] = o.satellite;
-            [o.pseudorange, x, y, z, o.elevation]
-        };
-        Self {
-            constellation: records.iter().map(|o| o.constellation).collect(),
-            floats: records.iter().flat_map(floats).collect(),
-            count: records.len(),
-        }
-    }
-
-    /// Whether each column has what the count needs.
-    pub fn whole(&self) -> bool {
-        self.constellation.len() >= self.count && self.floats.len() / 5 >= self.count
-    }
+/// The observations of an epoch as the library takes them.
+pub fn observations(records: &[Observation]) -> Columns<5> {
+    Columns::of(records.iter().map(|o| {
+        let [x, y, z] = o.satellite;
+        (o.constellation, [o.pseudorange, x, y, z, o.elevation])
+    }))
 }
 
 extern "C" {
@@ -48,7 +29,7 @@ extern "C" {
 /// Solution and count in the last two and 0, or the number and both untouched.
 #[inline]
 pub fn fix(
-    observations: &Observations,
+    epoch: &Columns<5>,
     guess: &[f64; 3],
     settings: &[f64; 4],
     rounds: usize,
@@ -58,17 +39,8 @@ pub fn fix(
     // SAFETY: each column has its length beside it, the arrays are as long as their types say, and
     // the last two are ours alone.
     unsafe {
-        zaqnuti_fix(
-            observations.constellation.as_ptr(),
-            observations.constellation.len(),
-            observations.floats.as_ptr(),
-            observations.floats.len(),
-            observations.count,
-            guess,
-            settings,
-            rounds,
-            solution,
-            used,
-        )
+        call!(zaqnuti_fix();
+            [epoch.constellation], [epoch.floats], epoch.count,
+            guess, settings, rounds, solution, used,)
     }
 }

@@ -127,21 +127,26 @@ fn time(random: &mut Random) {
     }
 }
 
-/// How many residuals, 64 of them (zeros beyond), centre, scale.
+/// How many residuals, their patterns, number, centre, scale (zeros where refused).
 fn vectors(random: &mut Random) -> Vectors {
-    let mut numbers = Vec::new();
-    let lengths = [0, 1, 2, 3, 4, 5, 63, 64];
-    for k in 0..40 {
+    let lengths = [0, 1, 2, 3, 4, 5, MOST - 1, MOST, MOST + 1];
+    let one = |k: usize| {
         let length = match lengths.get(k) {
             Some(&length) => length,
             None => random.place(MOST + 1),
         };
-        let mut residuals = list(random, length);
-        let answer = reference(&residuals);
-        residuals.resize(MOST, 0);
-        numbers.push(length as u64);
-        numbers.extend(residuals);
-        numbers.extend(answer.map(pattern));
+        let residuals = list(random, length);
+        let (number, answer) = match length {
+            0..=MOST => (0, reference(&residuals)),
+            _ => (TOO_MANY, [0.0; 2]),
+        };
+        let mut case = vec![length as u64];
+        case.extend(residuals);
+        case.push(u64::from(number));
+        case.extend(answer.map(pattern));
+        case
+    };
+    Vectors {
+        cases: (0..40).map(one).collect(),
     }
-    Vectors { case: 67, numbers }
 }

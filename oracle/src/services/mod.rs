@@ -5,13 +5,17 @@ mod accuracy;
 mod centre;
 #[cfg(feature = "robust")]
 mod clocks;
-#[cfg(feature = "displacement")]
-mod displacement;
 #[cfg(feature = "corrections")]
 mod corrections;
+#[cfg(feature = "displacement")]
+mod displacement;
+#[cfg(any(feature = "displacement", feature = "fix"))]
+mod estimator;
 mod factor;
 #[cfg(feature = "fix")]
 mod fix;
+#[cfg(feature = "line")]
+pub mod line;
 mod order;
 mod root;
 #[cfg(feature = "robust")]
@@ -71,4 +75,6 @@ pub const SERVICES: &[Service] = &[
     track::SERVICE,
     #[cfg(feature = "corrections")]
     corrections::SERVICE,
+    #[cfg(feature = "line")]
+    line::SERVICE,
 ];

@@ -91,10 +91,10 @@ fn vectors(random: &mut Random) -> Vectors {
         0 => (random.pick(&SPECIAL), random.pick(&SPECIAL)),
         _ => pair(random),
     });
-    Vectors {
-        case: 3,
-        numbers: pairs
+    Vectors::alike(
+        3,
+        pairs
             .flat_map(|(a, b)| [a, b, u64::from(reference(a, b))])
             .collect(),
-    }
+    )
 }

@@ -120,11 +120,11 @@ fn vectors(random: &mut Random) -> Vectors {
             input(random, place)
         })
         .collect();
-    Vectors {
-        case: 2,
-        numbers: specials
+    Vectors::alike(
+        2,
+        specials
             .chain(others)
             .flat_map(|x| [x.to_bits(), pattern(x.sqrt())])
             .collect(),
-    }
+    )
 }

@@ -8,7 +8,7 @@ use crate::numbers::Numbers;
 use crate::random::{exp2, pattern, Random};
 use crate::sky;
 use crate::tally::{hex, Tally};
-use crate::vectors::Vectors;
+use crate::vectors::{raw, Vectors};
 use crate::{bench, ffi};
 use drifters_gnss::robust::{step, Row};
 use std::hint::black_box;
@@ -275,38 +275,26 @@ fn time(random: &mut Random) {
     }
 }
 
-/// Rows, unknowns, huber, units 192, clocks 64, residuals 64, sigmas 64 (anything beyond the rows),
-/// number, step 9 (zeros where refused).
+/// Rows, unknowns, huber; of each row, of 64 at most, unit, clock, residual, sigma; number, step 9 (zeros where refused).
 fn vectors(random: &mut Random) -> Vectors {
-    let mut numbers = Vec::new();
-    // So many of each number, of all kinds.
-    let mut left = [(0, 20), (2, 1), (4, 3), (10, 6)];
-    while left.iter().any(|l| l.1 > 0) {
-        let mut input = input(random);
-        let rows = &mut input.rows;
+    Vectors::of_each(&[(0, 24), (2, 2), (4, 4), (10, 6)], || {
+        let input = input(random);
+        let rows = &input.rows;
         // A case has room for 64 rows; more of them are refused with or without their floats.
-        if !rows.whole() {
-            continue;
+        if !rows.whole() || rows.count > MOST + 1 {
+            return None;
         }
-        rows.units.resize(3 * MOST, 0.0);
-        rows.clocks.resize(MOST, 0);
-        rows.residuals.resize(MOST, 0);
-        rows.sigmas.resize(MOST, 0.0);
         let answer = reference(&input);
         let number = answer.err().unwrap_or(0);
-        let Some(of) = left.iter_mut().find(|l| l.0 == number && l.1 > 0) else {
-            continue;
-        };
-        of.1 -= 1;
-        let rows = &input.rows;
-        numbers.extend([rows.count as u64, input.unknowns as u64]);
-        numbers.push(input.huber.to_bits());
-        numbers.extend(rows.units.iter().map(|x| x.to_bits()));
-        numbers.extend(&rows.clocks);
-        numbers.extend(&rows.residuals);
-        numbers.extend(rows.sigmas.iter().map(|x| x.to_bits()));
-        numbers.push(u64::from(number));
-        numbers.extend(answer.unwrap_or([0.0; 9]).map(pattern));
-    }
-    Vectors { case: 397, numbers }
+        let mut case = vec![rows.count as u64, input.unknowns as u64];
+        case.push(input.huber.to_bits());
+        for k in 0..rows.count.min(MOST) {
+            case.extend(raw(&rows.units[3 * k..3 * k + 3]));
+            case.extend([rows.clocks[k], rows.residuals[k]]);
+            case.extend(raw(&rows.sigmas[k..k + 1]));
+        }
+        case.push(u64::from(number));
+        case.extend(answer.unwrap_or([0.0; 9]).map(pattern));
+        Some((number, case))
+    })
 }

@@ -4,6 +4,7 @@ use super::Service;
 use crate::random::{exp2, pattern, Random};
 use crate::sky;
 use crate::tally::{hex, Tally};
+use crate::vectors::{raw, Vectors};
 use crate::{bench, ffi};
 use drifters_core::frames::Ecef;
 use drifters_gnss::wls::Observation;
@@ -15,7 +16,7 @@ pub const SERVICE: Service = Service {
     count: 5_000_000,
     compare,
     bench: Some(time),
-    vectors: None,
+    vectors: Some(vectors),
 };
 
 /// The range at which the travel angle is 2^-10, about.
@@ -128,4 +129,16 @@ fn time(random: &mut Random) {
             }
         },
     );
+}
+
+/// Satellite 3, receiver 3, unit vector 3, range.
+fn vectors(random: &mut Random) -> Vectors {
+    let one = |_| {
+        let (satellite, at) = pair(random);
+        let given = raw(&satellite).chain(raw(&at));
+        given.chain(by_wls(satellite, at).map(pattern)).collect()
+    };
+    Vectors {
+        cases: (0..60).map(one).collect(),
+    }
 }

@@ -4,6 +4,7 @@ use super::Service;
 use crate::ffi;
 use crate::random::{pattern, Random};
 use crate::tally::{hex, Tally};
+use crate::vectors::Vectors;
 use drifters_gnss::robust::elevation_sigma;
 
 pub const SERVICE: Service = Service {
@@ -11,7 +12,7 @@ pub const SERVICE: Service = Service {
     count: 10_000_000,
     compare,
     bench: None,
-    vectors: None,
+    vectors: Some(vectors),
 };
 
 /// An elevation: of the sky, next to where the limit of 3 degrees lies, or any float.
@@ -27,14 +28,20 @@ fn elevation(random: &mut Random) -> f64 {
     }
 }
 
+/// An elevation and the two numbers of the sigma.
+fn input(random: &mut Random) -> [f64; 3] {
+    let elevation = elevation(random);
+    let (a, b) = match random.below(4) {
+        0 => (random.float(), random.float()),
+        1 => (0.008, 0.002),
+        _ => (random.unit(), 20.0 * random.unit()),
+    };
+    [elevation, a, b]
+}
+
 fn compare(tally: &mut Tally, random: &mut Random, count: u64) {
     for _ in 0..count {
-        let elevation = elevation(random);
-        let (a, b) = match random.below(4) {
-            0 => (random.float(), random.float()),
-            1 => (0.008, 0.002),
-            _ => (random.unit(), 20.0 * random.unit()),
-        };
+        let [elevation, a, b] = input(random);
         let ours = ffi::elevation_sigma(elevation, a, b);
         let theirs = elevation_sigma(elevation, a, b);
         tally.judge(pattern(ours) == pattern(theirs), || {
@@ -45,5 +52,19 @@ fn compare(tally: &mut Tally, random: &mut Random, count: u64) {
                 hex([pattern(theirs)])
             )
         });
+    }
+}
+
+/// Elevation, a, b, sigma.
+fn vectors(random: &mut Random) -> Vectors {
+    let one = |_| {
+        let given = input(random);
+        let [elevation, a, b] = given;
+        let mut case = given.map(f64::to_bits).to_vec();
+        case.push(pattern(elevation_sigma(elevation, a, b)));
+        case
+    };
+    Vectors {
+        cases: (0..60).map(one).collect(),
     }
 }

@@ -2,6 +2,7 @@
 
 use super::accuracy::{all_finite, check};
 use super::Service;
+use crate::estimate::{Displacement, Fix};
 use crate::ffi::Square;
 use crate::random::Random;
 use crate::sky;
@@ -34,10 +35,10 @@ fn compare(tally: &mut Tally, random: &mut Random, count: u64) {
     let mut largest = 0f64;
     while calls < count {
         let (accepted, rounds) = if calls % 2 == 0 {
-            let input = sky::displacement::input(random);
+            let input: Displacement = sky::input(random);
             rounds_of(|| input.answer().is_ok())
         } else {
-            let input = sky::fix::input(random);
+            let input: Fix = sky::input(random);
             rounds_of(|| input.answer().is_ok())
         };
         if !accepted {

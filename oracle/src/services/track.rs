@@ -3,6 +3,7 @@
 use super::Service;
 use crate::random::{exp2, Random};
 use crate::tally::{hex, Tally};
+use crate::vectors::{raw, Vectors};
 use crate::{bench, ffi};
 use drifters_core::math::Vec3;
 use drifters_gnss::smooth::{smooth, Anchor, Link, Settings};
@@ -13,7 +14,7 @@ pub const SERVICE: Service = Service {
     count: 200_000,
     compare,
     bench: Some(time),
-    vectors: None,
+    vectors: Some(vectors),
 };
 
 /// The most epochs, anchors and links of a call.
@@ -282,10 +283,6 @@ fn lent(random: &mut Random, n: usize) -> Vec<f64> {
     (0..n).map(|_| f64::from_bits(random.bits())).collect()
 }
 
-fn raw(floats: &[f64]) -> impl Iterator<Item = u64> + '_ {
-    floats.iter().map(|x| x.to_bits())
-}
-
 fn compare(tally: &mut Tally, random: &mut Random, count: u64) {
     let (mut accepted, mut numbers) = (0, [0u64; 11]);
     for _ in 0..count {
@@ -402,4 +399,49 @@ fn time(random: &mut Random) {
             },
         );
     }
+}
+
+/// How many epochs, anchors and links a case has room for, and how long the lent buffers are.
+const ROOM: usize = 8;
+
+/// Epochs, anchors, links, huber, iterations; of each anchor and then of each link index, value 3, sigma 3; number, the result's 24 floats afterwards
+/// and how many floats of the work are zeros afterwards, where all of both were 1 before.
+fn vectors(random: &mut Random) -> Vectors {
+    let wanted = [(0, 20), (2, 2), (3, 3), (4, 4), (6, 5), (10, 4)];
+    Vectors::of_each(&wanted, || {
+        let n = 1 + random.place(4);
+        let mut input = sound(random, n);
+        if random.below(2) == 0 {
+            spoil(random, &mut input);
+        }
+        let (n, a, l) = (input.n, &input.anchors, &input.links);
+        let few = |c: &Columns| c.count <= ROOM && c.long();
+        if !(few(a) && few(l)) {
+            return None;
+        }
+        // More epochs than there is room for are refused by the lent buffers.
+        let (room, work) = (3 * ROOM, 11 * ROOM);
+        let answer = reference(&input, room, work);
+        let number = *answer.as_ref().err().unwrap_or(&0);
+        let mut case = vec![n as u64, a.count as u64, l.count as u64];
+        case.extend([input.huber.to_bits(), input.iterations as u64]);
+        for c in [a, l] {
+            for j in 0..c.count {
+                case.push(c.index[j] as u64);
+                case.extend(raw(&c.value[3 * j..3 * j + 3]));
+                case.extend(raw(&c.sigma[3 * j..3 * j + 3]));
+            }
+        }
+        let zeros = match number {
+            2..=6 => 0,
+            _ => input.need(),
+        };
+        let track = answer.unwrap_or_default();
+        let mut result: Vec<f64> = track.iter().flat_map(|p| [p.x, p.y, p.z]).collect();
+        result.resize(room, 1.0);
+        case.push(u64::from(number));
+        case.extend(raw(&result));
+        case.push(zeros as u64);
+        Some((number, case))
+    })
 }

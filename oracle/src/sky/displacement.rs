@@ -1,9 +1,9 @@
-//! Inputs of the displacement: drives under a usual or a narrow sky, the edges of each rule, odd
-//! floats, and good inputs with one field replaced.
+//! Inputs of the displacement: drives under a sky, and the edges that only they have.
 
-use super::{along, beside, direction, flatness, rounds, setting, turned, within, Place, Plan};
+use super::turns::{next_to, Beside, Floats, Input};
+use super::{along, direction, Place, Plan};
 use crate::estimate::Displacement;
-use crate::random::{exp2, Random};
+use crate::random::Random;
 use crate::rules;
 use drifters_core::frames::Ecef;
 use drifters_gnss::tdcp::{geometry, Carrier, Settings};
@@ -90,245 +90,160 @@ fn drive(random: &mut Random, plan: &Plan) -> Displacement {
     }
 }
 
-/// A drive under a usual sky of so many satellites, each of which counts.
-#[cfg(feature = "displacement")]
-pub fn clean(random: &mut Random, count: usize) -> Displacement {
-    let plan = Plan {
-        count,
-        clean: true,
-        ..Plan::usual(random)
-    };
-    let mut out = drive(random, &plan);
-    out.settings = Settings {
-        mask: -90.0,
-        ..Settings::default()
-    };
-    out
-}
-
 /// One carrier of either epoch.
 fn one<'a>(random: &mut Random, input: &'a mut Displacement) -> Option<&'a mut Carrier> {
-    let epoch = match random.below(2) {
-        0 => &mut input.previous,
-        _ => &mut input.current,
+    let mut all: Vec<&mut Carrier> = input
+        .previous
+        .iter_mut()
+        .chain(&mut input.current)
+        .collect();
+    let count = all.len();
+    (count > 0).then(|| all.swap_remove(random.place(count)))
+}
+
+/// About 64 records in each epoch; those that are added have a signal each, or all the same.
+fn fill(random: &mut Random, input: &mut Displacement) {
+    let shared = random.below(2) == 0;
+    let full = 63 + random.place(4);
+    for epoch in [&mut input.previous, &mut input.current] {
+        if let Some(&last) = epoch.last() {
+            let mut svid = 1000;
+            while epoch.len() < full {
+                svid += u16::from(!shared);
+                epoch.push(Carrier { svid, ..last });
+            }
+        }
+        if random.below(2) == 0 {
+            epoch.truncate(rules::RECORDS);
+        }
+    }
+}
+
+/// A detector next to the screen.
+fn screen_one(random: &mut Random, input: &mut Displacement) {
+    let pairs = rules::pairs(input);
+    if !pairs.is_empty() {
+        let off = (random.pick(&pairs).1 - rules::centre(&pairs)).abs();
+        input.settings.screen = next_to(random, off);
+    }
+}
+
+/// Two of one signal in an epoch, of which the first may be unusable.
+fn repeat_one(random: &mut Random, input: &mut Displacement) {
+    let state = random.pick(&[1, 0, 3, 5]);
+    let from = random.below(2) == 0;
+    let epoch = match random.below(3) {
+        0 => &mut input.current,
+        _ => &mut input.previous,
     };
-    let n = epoch.len();
-    (n > 0).then(|| &mut epoch[random.place(n)])
-}
-
-/// Puts a float into one of a carrier's six.
-fn put(random: &mut Random, c: &mut Carrier, x: f64) {
-    match random.below(6) {
-        0 => c.adr = x,
-        1 => c.elevation = x,
-        2 => c.rate = x,
-        k => c.satellite[k as usize - 3] = x,
+    if let Some(&c) = epoch.last() {
+        let adr = if from { c.adr + 1.0 } else { c.adr };
+        let place = random.place(epoch.len());
+        epoch.insert(place, Carrier { state, adr, ..c });
     }
 }
 
-/// Puts a float into one of the settings, of the coordinates, or into the interval.
-fn put_beside(random: &mut Random, input: &mut Displacement, x: f64) {
-    let set = &mut input.settings;
-    match random.below(9) {
-        0 => set.screen = x,
-        1 => set.sigma_a = x,
-        2 => set.sigma_b = x,
-        3 => set.huber = x,
-        4 => set.mask = x,
-        5 => input.dt = x,
-        k => input.receiver[k as usize - 6] = x,
+/// A carrier that is unusable, or has another signal.
+fn lose_one(random: &mut Random, input: &mut Displacement) {
+    let nan = f64::from_bits(0x7FF0_0000_0000_0000 | random.bits());
+    let adr = random.pick(&[nan, nan, f64::INFINITY, f64::NEG_INFINITY]);
+    let bits = random.bits();
+    let kind = random.below(5);
+    if let Some(c) = one(random, input) {
+        match kind {
+            0 => c.adr = adr,
+            1 => c.state = bits as i32,
+            2 => c.svid ^= 1 << (bits % 16),
+            3 => c.band ^= 1 << (bits % 32),
+            _ => c.constellation ^= 1 << (bits % 8),
+        }
     }
 }
 
-/// Brings an input to an edge of a rule.
-fn edge(random: &mut Random, input: &mut Displacement) {
-    match random.below(16) {
-        // About 64 records; those that are added have a signal each, or all the same.
-        0 => {
-            let shared = random.below(2) == 0;
-            let full = 63 + random.place(4);
-            for epoch in [&mut input.previous, &mut input.current] {
-                if let Some(&last) = epoch.last() {
-                    let mut svid = 1000;
-                    while epoch.len() < full {
-                        svid += u16::from(!shared);
-                        epoch.push(Carrier { svid, ..last });
-                    }
+/// Five to seven equal pairs.
+fn equal_pairs(random: &mut Random, input: &mut Displacement) {
+    if let (Some(&p), Some(&c)) = (input.previous.first(), input.current.first()) {
+        let c = Carrier {
+            state: 1,
+            constellation: p.constellation,
+            svid: p.svid,
+            band: p.band,
+            ..c
+        };
+        let n = 5 + random.place(3);
+        input.previous = vec![Carrier { state: 1, ..p }; n];
+        input.current = vec![c; n];
+        input.settings.mask = -90.0;
+        input.settings.iterations = random.pick(&[0, 0, 4]);
+    }
+}
+
+impl Input for Displacement {
+    const EDGES: u64 = 9;
+
+    fn under(random: &mut Random, plan: &Plan) -> Self {
+        drive(random, plan)
+    }
+
+    #[cfg(any(feature = "displacement", feature = "fix"))]
+    fn clean(random: &mut Random, count: usize) -> Self {
+        let plan = Plan::clean(random, count);
+        Self {
+            settings: Settings {
+                mask: -90.0,
+                ..Settings::default()
+            },
+            ..drive(random, &plan)
+        }
+    }
+
+    fn records(&mut self) -> Vec<Floats<'_>> {
+        let records = self.previous.iter_mut().chain(&mut self.current);
+        records
+            .map(|c| Floats {
+                measured: vec![&mut c.adr, &mut c.rate],
+                satellite: &mut c.satellite,
+                elevation: &mut c.elevation,
+            })
+            .collect()
+    }
+
+    fn beside(&mut self) -> Beside<'_> {
+        let set = &mut self.settings;
+        Beside {
+            place: &mut self.receiver,
+            sigma_a: &mut set.sigma_a,
+            sigma_b: &mut set.sigma_b,
+            huber: &mut set.huber,
+            mask: &mut set.mask,
+            rounds: &mut set.iterations,
+            more: vec![&mut set.screen, &mut self.dt],
+        }
+    }
+
+    fn own_edge(&mut self, random: &mut Random, which: u64) {
+        match which {
+            0 => fill(random, self),
+            1 | 2 => screen_one(random, self),
+            3 => {
+                let edge = next_to(random, rules::INTERVAL);
+                let odd = random.float();
+                let some = [edge, edge, 0.0, -0.0, -1.0, 5e-324, 1e-300, 6e5, odd];
+                self.dt = random.pick(&some);
+            }
+            4 | 5 => repeat_one(random, self),
+            6 => lose_one(random, self),
+            7 => equal_pairs(random, self),
+            // Previous carriers below the mask, which nothing tests.
+            _ => {
+                for p in &mut self.previous {
+                    p.elevation = -random.unit().abs();
                 }
-                if random.below(2) == 0 {
-                    epoch.truncate(rules::RECORDS);
-                }
             }
-        }
-        // An elevation next to the mask.
-        1 | 2 => {
-            if let Some(c) = input.current.first() {
-                input.settings.mask = beside(random, c.elevation);
-            }
-        }
-        // A detector next to the screen.
-        3 | 4 => {
-            let pairs = rules::pairs(input);
-            if !pairs.is_empty() {
-                let off = (random.pick(&pairs).1 - rules::centre(&pairs)).abs();
-                input.settings.screen = beside(random, off);
-            }
-        }
-        5 => input.settings.iterations = rounds(random),
-        6 => {
-            let edge = beside(random, rules::INTERVAL);
-            let odd = random.float();
-            let some = [edge, edge, 0.0, -0.0, -1.0, 5e-324, 1e-300, 6e5, odd];
-            input.dt = random.pick(&some);
-        }
-        7 => {
-            let x = setting(random);
-            put_beside(random, input, x);
-        }
-        // Two of one signal in an epoch, of which the first may be unusable.
-        8 | 9 => {
-            let state = random.pick(&[1, 0, 3, 5]);
-            let from = random.below(2) == 0;
-            let epoch = match random.below(3) {
-                0 => &mut input.current,
-                _ => &mut input.previous,
-            };
-            if let Some(&c) = epoch.last() {
-                let adr = if from { c.adr + 1.0 } else { c.adr };
-                let place = random.place(epoch.len());
-                epoch.insert(place, Carrier { state, adr, ..c });
-            }
-        }
-        // A carrier that is unusable, or has another signal.
-        10 => {
-            let adr = random.pick(&[f64::NAN, -f64::NAN, f64::INFINITY, f64::NEG_INFINITY]);
-            let bits = random.bits();
-            let kind = random.below(5);
-            if let Some(c) = one(random, input) {
-                match kind {
-                    0 => c.adr = adr,
-                    1 => c.state = bits as i32,
-                    2 => c.svid ^= 1 << (bits % 16),
-                    3 => c.band ^= 1 << (bits % 32),
-                    _ => c.constellation ^= 1 << (bits % 8),
-                }
-            }
-        }
-        11 => {
-            let x = random.unit().signum() * beside(random, 90.0);
-            if let Some(c) = one(random, input) {
-                c.elevation = x;
-            }
-        }
-        // A float of a record next to the limit.
-        12 => {
-            let x = random.unit().signum() * beside(random, rules::LIMIT);
-            if let Some(c) = one(random, input) {
-                put(random, c, x);
-            }
-        }
-        // Equal pairs.
-        13 => {
-            if let (Some(&p), Some(&c)) = (input.previous.first(), input.current.first()) {
-                let c = Carrier {
-                    state: 1,
-                    constellation: p.constellation,
-                    svid: p.svid,
-                    band: p.band,
-                    ..c
-                };
-                let n = 5 + random.place(3);
-                input.previous = vec![Carrier { state: 1, ..p }; n];
-                input.current = vec![c; n];
-                input.settings.mask = -90.0;
-                input.settings.iterations = random.pick(&[0, 0, 4]);
-            }
-        }
-        // Previous carriers below the mask, which nothing tests.
-        14 => {
-            for p in &mut input.previous {
-                p.elevation = -random.unit().abs();
-            }
-        }
-        // A receiver at a satellite, or at the earth's centre.
-        _ => {
-            input.receiver = match input.current.first() {
-                Some(c) if random.below(2) == 0 => c.satellite,
-                _ => [0.0; 3],
-            };
         }
     }
-}
 
-/// Replaces one field by an odd value.
-fn damage(random: &mut Random, input: &mut Displacement) {
-    let x = if random.below(3) == 0 {
-        random.float()
-    } else {
-        within(random)
-    };
-    if random.below(3) == 0 {
-        put_beside(random, input, x);
-    } else if let Some(c) = one(random, input) {
-        put(random, c, x);
+    fn open_screen(&mut self, random: &mut Random) {
+        self.settings.screen = random.pick(&[0.5, 1e9, 1e9, 1e9]);
     }
-}
-
-/// Floats of any size in all places, or of one power of two in some columns.
-fn odd(random: &mut Random, input: &mut Displacement) {
-    let kind = random.below(4);
-    let scale = exp2(random.between(-60, 12));
-    let records = input.previous.iter_mut().chain(&mut input.current);
-    for c in records {
-        c.adr = turned(random, kind, c.adr * scale);
-        c.rate = turned(random, kind, c.rate * scale);
-        c.satellite = c.satellite.map(|x| turned(random, kind, x * scale));
-        if kind < 2 {
-            c.elevation = 90.0 * random.unit();
-        }
-    }
-    if kind == 3 {
-        input.receiver = input.receiver.map(|x| turned(random, kind, x * scale));
-    }
-    input.settings.screen = random.pick(&[0.5, 1e9, 1e9, 1e9]);
-}
-
-/// A sky that is nearly flat: all heights are next to nothing.
-fn flatten(random: &mut Random, input: &mut Displacement) {
-    let by = flatness(random);
-    let records = input.previous.iter_mut().chain(&mut input.current);
-    records.for_each(|c| c.satellite[2] *= by);
-    input.receiver[2] *= by;
-    input.settings.iterations = random.pick(&[1, 1, 2, 4]);
-    input.settings.screen = 1e9;
-    if random.below(2) == 0 {
-        input.settings.sigma_a = exp2(random.between(-500, 20));
-        input.settings.sigma_b = 0.0;
-    }
-}
-
-/// An input of any kind.
-pub fn input(random: &mut Random) -> Displacement {
-    let kind = random.below(32);
-    let plan = match kind {
-        0..=11 => Plan::usual(random),
-        12..=15 => Plan::narrow(random),
-        16..=18 => Plan::scarce(random),
-        _ if random.below(4) == 0 => Plan::scarce(random),
-        _ => Plan::usual(random),
-    };
-    let mut out = drive(random, &plan);
-    match kind {
-        0..=18 => {}
-        19..=26 => {
-            edge(random, &mut out);
-            if random.below(4) == 0 {
-                edge(random, &mut out);
-            }
-        }
-        27..=29 => damage(random, &mut out),
-        30 => flatten(random, &mut out),
-        _ => odd(random, &mut out),
-    }
-    out
 }

@@ -1,10 +1,9 @@
-//! Inputs of the fix: pseudoranges under a usual or a narrow sky, the edges of each rule, odd floats,
-//! and good inputs with one field replaced.
+//! Inputs of the fix: pseudoranges under a sky, and the edges that only they have.
 
-use super::{along, beside, direction, flatness, rounds, setting, turned, within, Place, Plan};
+use super::turns::{Beside, Floats, Input};
+use super::{along, direction, Place, Plan};
 use crate::estimate::Fix;
 use crate::random::{exp2, Random};
-use crate::rules;
 use drifters_gnss::wls::{geometry, Observation, Settings};
 
 /// Pseudoranges from a true place, with clocks, noise and outliers, and a guess.
@@ -55,169 +54,68 @@ fn standing(random: &mut Random, plan: &Plan) -> Fix {
     }
 }
 
-/// A usual sky of so many satellites, each of which counts, and a guess some kilometres off.
-#[cfg(feature = "fix")]
-pub fn clean(random: &mut Random, count: usize) -> Fix {
-    let plan = Plan {
-        count,
-        clean: true,
-        ..Plan::usual(random)
-    };
-    let mut out = standing(random, &plan);
-    let place = out.guess;
-    let length = (place[0] * place[0] + place[1] * place[1] + place[2] * place[2]).sqrt();
-    if !(6e6..7e6).contains(&length) {
-        return clean(random, count);
+impl Input for Fix {
+    const EDGES: u64 = 2;
+
+    fn under(random: &mut Random, plan: &Plan) -> Self {
+        standing(random, plan)
     }
-    out.settings = Settings {
-        mask: -90.0,
-        ..Settings::default()
-    };
-    out
-}
 
-/// One observation.
-fn one<'a>(random: &mut Random, input: &'a mut Fix) -> Option<&'a mut Observation> {
-    let n = input.observations.len();
-    (n > 0).then(|| &mut input.observations[random.place(n)])
-}
-
-/// Puts a float into one of an observation's five.
-fn put(random: &mut Random, o: &mut Observation, x: f64) {
-    match random.below(5) {
-        0 => o.pseudorange = x,
-        1 => o.elevation = x,
-        k => o.satellite[k as usize - 2] = x,
-    }
-}
-
-/// Puts a float into one of the settings or of the coordinates.
-fn put_beside(random: &mut Random, input: &mut Fix, x: f64) {
-    let set = &mut input.settings;
-    match random.below(7) {
-        0 => set.sigma_a = x,
-        1 => set.sigma_b = x,
-        2 => set.huber = x,
-        3 => set.mask = x,
-        k => input.guess[k as usize - 4] = x,
-    }
-}
-
-/// Brings an input to an edge of a rule.
-fn edge(random: &mut Random, input: &mut Fix) {
-    match random.below(8) {
-        // About 64 observations.
-        0 => {
-            let full = 63 + random.place(4);
-            if let Some(&last) = input.observations.last() {
-                input.observations.resize(full, last);
-            }
-        }
-        // An elevation next to the mask.
-        1 | 2 => {
-            if let Some(o) = input.observations.first() {
-                input.settings.mask = beside(random, o.elevation);
-            }
-        }
-        3 => input.settings.iterations = rounds(random),
-        4 => {
-            let x = setting(random);
-            put_beside(random, input, x);
-        }
-        5 => {
-            let x = random.unit().signum() * beside(random, 90.0);
-            if let Some(o) = one(random, input) {
-                o.elevation = x;
-            }
-        }
-        // A float of a record next to the limit.
-        6 => {
-            let x = random.unit().signum() * beside(random, rules::LIMIT);
-            if let Some(o) = one(random, input) {
-                put(random, o, x);
-            }
-        }
-        // A guess at a satellite, or satellites at one place.
-        _ => {
-            if let Some(&o) = input.observations.first() {
-                if random.below(2) == 0 {
-                    input.guess = o.satellite;
-                } else {
-                    let same = |p: &mut Observation| p.satellite = o.satellite;
-                    input.observations.iter_mut().for_each(same);
-                }
+    #[cfg(any(feature = "displacement", feature = "fix"))]
+    fn clean(random: &mut Random, count: usize) -> Self {
+        let plan = Plan::clean(random, count);
+        loop {
+            let out = standing(random, &plan);
+            let [x, y, z] = out.guess;
+            // The guess is some kilometres off, and no farther.
+            if (6e6..7e6).contains(&(x * x + y * y + z * z).sqrt()) {
+                return Self {
+                    settings: Settings {
+                        mask: -90.0,
+                        ..Settings::default()
+                    },
+                    ..out
+                };
             }
         }
     }
-}
 
-/// Replaces one field by an odd value.
-fn damage(random: &mut Random, input: &mut Fix) {
-    let x = if random.below(3) == 0 {
-        random.float()
-    } else {
-        within(random)
-    };
-    if random.below(3) == 0 {
-        put_beside(random, input, x);
-    } else if let Some(o) = one(random, input) {
-        put(random, o, x);
+    fn records(&mut self) -> Vec<Floats<'_>> {
+        let records = self.observations.iter_mut();
+        records
+            .map(|o| Floats {
+                measured: vec![&mut o.pseudorange],
+                satellite: &mut o.satellite,
+                elevation: &mut o.elevation,
+            })
+            .collect()
     }
-}
 
-/// Floats of any size in all places, or of one power of two in some columns.
-fn odd(random: &mut Random, input: &mut Fix) {
-    let kind = random.below(4);
-    let scale = exp2(random.between(-60, 12));
-    for o in &mut input.observations {
-        o.pseudorange = turned(random, kind, o.pseudorange * scale);
-        o.satellite = o.satellite.map(|x| turned(random, kind, x * scale));
-        if kind < 2 {
-            o.elevation = 90.0 * random.unit();
+    fn beside(&mut self) -> Beside<'_> {
+        let set = &mut self.settings;
+        Beside {
+            place: &mut self.guess,
+            sigma_a: &mut set.sigma_a,
+            sigma_b: &mut set.sigma_b,
+            huber: &mut set.huber,
+            mask: &mut set.mask,
+            rounds: &mut set.iterations,
+            more: Vec::new(),
         }
     }
-    if kind == 3 {
-        input.guess = input.guess.map(|x| turned(random, kind, x * scale));
-    }
-}
 
-/// A sky that is nearly flat: all heights are next to nothing.
-fn flatten(random: &mut Random, input: &mut Fix) {
-    let by = flatness(random);
-    input
-        .observations
-        .iter_mut()
-        .for_each(|o| o.satellite[2] *= by);
-    input.guess[2] *= by;
-    input.settings.iterations = random.pick(&[1, 1, 2, 25]);
-    if random.below(2) == 0 {
-        input.settings.sigma_a = exp2(random.between(-500, 20));
-        input.settings.sigma_b = 0.0;
-    }
-}
-
-/// An input of any kind.
-pub fn input(random: &mut Random) -> Fix {
-    let kind = random.below(32);
-    let plan = match kind {
-        0..=11 => Plan::usual(random),
-        12..=15 => Plan::narrow(random),
-        16..=18 => Plan::scarce(random),
-        _ if random.below(4) == 0 => Plan::scarce(random),
-        _ => Plan::usual(random),
-    };
-    let mut out = standing(random, &plan);
-    match kind {
-        0..=18 => {}
-        19..=26 => {
-            edge(random, &mut out);
-            if random.below(4) == 0 {
-                edge(random, &mut out);
+    fn own_edge(&mut self, random: &mut Random, which: u64) {
+        let Some(&last) = self.observations.last() else {
+            return;
+        };
+        if which == 0 {
+            // About 64 observations.
+            self.observations.resize(63 + random.place(4), last);
+        } else {
+            // Satellites at one place.
+            for o in &mut self.observations {
+                o.satellite = last.satellite;
             }
         }
-        27..=29 => damage(random, &mut out),
-        30 => flatten(random, &mut out),
-        _ => odd(random, &mut out),
     }
-    out
 }

@@ -5,21 +5,21 @@ use lib.ListN.{getD}
 use lib.Ieee.{nan, lt}
 use borrow.Author.Tests.{not-true, not-false}
 use Rattle.exact.specs.Float.{+0}
-use Rattle.tridiagonal.specs.Columns.{every}
-use Rattle.tridiagonal.proofs.Every.{every-none}
+use Rattle.tridiagonal.specs.Columns.{eachBelow}
+use Rattle.tridiagonal.proofs.EachBelow.{each-none}
 use Rattle.smooth.proofs.Refusals.{above-more, above-stop, above-all}
 use native.Mathlib.Omega.{arith}
 use Rattle.smooth.proofs.checks.all_above.Statement.{statement}
 use Rattle.smooth.proofs.checks.all_above.Tie as tie
 
 abbrev Inv-loop : tie.InvT-loop
-Inv-loop v count k₀ k = (k ≤ count) × (every (λ k. lt +0 (getD v k nan)) k ≡ true)
+Inv-loop v count k₀ k = (k ≤ count) × (eachBelow (λ k. lt +0 (getD v k nan)) k ≡ true)
 
 abbrev μ-loop : tie.MeasureT-loop
 μ-loop v count k₀ k = count - k
 
 loop-holds : tie.Need-loop-holds Inv-loop μ-loop
-loop-holds c = (omega arith, every-none _)
+loop-holds c = (omega arith, each-none _)
 
 mul-if1 : tie.Need-mul-if1 Inv-loop μ-loop
 mul-if1 c = omega arith

@@ -3,21 +3,21 @@ use mathlib.Core.Bool.{true}
 use Prim.Native.Nat.{_-_, _≤_}
 use lib.Dec.{ltb}
 use lib.ListN.{getD}
-use Rattle.tridiagonal.specs.Columns.{every}
-use Rattle.tridiagonal.proofs.Every.{every-none}
+use Rattle.tridiagonal.specs.Columns.{eachBelow}
+use Rattle.tridiagonal.proofs.EachBelow.{each-none}
 use Rattle.smooth.proofs.Refusals.{below-more, below-stop, below-all}
 use native.Mathlib.Omega.{arith}
 use Rattle.smooth.proofs.checks.all_below.Statement.{statement}
 use Rattle.smooth.proofs.checks.all_below.Tie as tie
 
 abbrev Inv-loop : tie.InvT-loop
-Inv-loop v count n k₀ k = (k ≤ count) × (every (λ j. ltb (getD v j 0) n) k ≡ true)
+Inv-loop v count n k₀ k = (k ≤ count) × (eachBelow (λ j. ltb (getD v j 0) n) k ≡ true)
 
 abbrev μ-loop : tie.MeasureT-loop
 μ-loop v count n k₀ k = count - k
 
 loop-holds : tie.Need-loop-holds Inv-loop μ-loop
-loop-holds c = (omega arith, every-none _)
+loop-holds c = (omega arith, each-none _)
 
 mul-if1 : tie.Need-mul-if1 Inv-loop μ-loop
 mul-if1 c = omega arith

@@ -5,8 +5,8 @@ use lib.ListN.{getD}
 use lib.Ieee.{nan}
 use borrow.Author.Tests.{not-true, not-false}
 use Rattle.numeric.specs.Real.{inRange}
-use Rattle.tridiagonal.specs.Columns.{every}
-use Rattle.tridiagonal.proofs.Every.{every-none}
+use Rattle.tridiagonal.specs.Columns.{eachBelow}
+use Rattle.tridiagonal.proofs.EachBelow.{each-none}
 use Rattle.smooth.proofs.Refusals.{range-more, range-stop, range-all}
 use native.Mathlib.Omega.{arith}
 use borrow.Author.Needs.{needs}
@@ -14,13 +14,13 @@ use Rattle.smooth.proofs.checks.all_in_range.Statement.{statement}
 use Rattle.smooth.proofs.checks.all_in_range.Tie as tie
 
 abbrev Inv-loop : tie.InvT-loop
-Inv-loop v count k₀ k = (k ≤ count) × (every (λ k. inRange (getD v k nan)) k ≡ true)
+Inv-loop v count k₀ k = (k ≤ count) × (eachBelow (λ k. inRange (getD v k nan)) k ≡ true)
 
 abbrev μ-loop : tie.MeasureT-loop
 μ-loop v count k₀ k = count - k
 
 loop-holds : tie.Need-loop-holds Inv-loop μ-loop
-loop-holds c = (omega arith, every-none _)
+loop-holds c = (omega arith, each-none _)
 
 mul-in-range : tie.Need-mul-in-range Inv-loop μ-loop
 mul-in-range c = omega arith

@@ -3,8 +3,8 @@ use mathlib.Core.Bool.{true}
 use Prim.Native.Nat.{_+_, _-_, _*_, _≤_}
 use lib.Ieee.Scale.{finite}
 use borrow.Author.Tests.{not-true, not-false}
-use Rattle.tridiagonal.specs.Columns.{col, every}
-use Rattle.tridiagonal.proofs.Every.{every-none}
+use Rattle.tridiagonal.specs.Columns.{col, eachBelow}
+use Rattle.tridiagonal.proofs.EachBelow.{each-none}
 use Rattle.trajectory.proofs.Passing.{finite-more, finite-stop, finite-all}
 use native.Mathlib.Omega.{arith}
 use borrow.Author.Needs.{needs}
@@ -12,7 +12,7 @@ use Rattle.trajectory.proofs.pass.block_finite.Statement.{statement}
 use Rattle.trajectory.proofs.pass.block_finite.Tie as tie
 
 abbrev Inv-loop : tie.InvT-loop
-Inv-loop w at n m k₀ k = (k ≤ n) × (every (λ k. finite (col w (at + n * 2) k)) k ≡ true)
+Inv-loop w at n m k₀ k = (k ≤ n) × (eachBelow (λ k. finite (col w (at + n * 2) k)) k ≡ true)
 
 abbrev μ-loop : tie.MeasureT-loop
 μ-loop w at n m k₀ k = n - k
@@ -24,7 +24,7 @@ add-m : tie.Need-add-m Inv-loop μ-loop
 add-m c = omega arith
 
 loop-holds : tie.Need-loop-holds Inv-loop μ-loop
-loop-holds c = (omega arith, every-none _)
+loop-holds c = (omega arith, each-none _)
 
 add-is-finite : tie.Need-add-is-finite Inv-loop μ-loop
 add-is-finite c = omega arith

@@ -2,7 +2,7 @@ use mathlib.Core.Path.{_≡_}
 use mathlib.Core.Bool.{true}
 use Prim.Native.Nat.{_-_, _≤_}
 use Rattle.tridiagonal.specs.Steps.{block}
-use Rattle.tridiagonal.proofs.Every.{every-none}
+use Rattle.tridiagonal.proofs.EachBelow.{each-none}
 use Rattle.trajectory.specs.Pass.{held}
 use Rattle.trajectory.proofs.Passing.{held-more, held-stop, held-all}
 use native.Mathlib.Omega.{arith}
@@ -16,7 +16,7 @@ abbrev μ-loop : tie.MeasureT-loop
 μ-loop w at n k₀ k = n - k
 
 loop-holds : tie.Need-loop-holds Inv-loop μ-loop
-loop-holds c = (omega arith, every-none _)
+loop-holds c = (omega arith, each-none _)
 
 add-if1 : tie.Need-add-if1 Inv-loop μ-loop
 add-if1 c = omega arith

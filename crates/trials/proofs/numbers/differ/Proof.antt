@@ -1,3 +1,7 @@
+use mathlib.Core.Path.{_≡_, refl, sym, _∙_}
+use mathlib.Core.Bool.{true, false}
+use lib.Dec.{eqb}
+use borrow.Author.Tests.{eq-eqb}
 use Prim.Native.Nat.{_-_, _≤_, _<_}
 use native.Mathlib.Omega.{arith}
 use borrow.Author.Needs.{needs}
@@ -5,22 +9,22 @@ use Rattle.trials.proofs.numbers.differ.Statement.{statement}
 use Rattle.trials.proofs.numbers.differ.Tie as tie
 
 abbrev Inv-loop2 : tie.InvT-loop2
-Inv-loop2 a b found₀ i j₀ found j = (i < 9) × (j ≤ 9)
+Inv-loop2 a b found₀ i j₀ found j = (i < 9) × (j ≤ 9) × (a ≡ b → found ≡ false)
 
 abbrev μ-loop2 : tie.MeasureT-loop2
 μ-loop2 a b found₀ i j₀ found j = 9 - j
 
 abbrev Inv-loop : tie.InvT-loop
-Inv-loop a b found₀ i₀ found i = i ≤ 9
+Inv-loop a b found₀ i₀ found i = (i ≤ 9) × (a ≡ b → found ≡ false)
 
 abbrev μ-loop : tie.MeasureT-loop
 μ-loop a b found₀ i₀ found i = 9 - i
 
 loop-holds : tie.Need-loop-holds Inv-loop2 μ-loop2 Inv-loop μ-loop
-loop-holds c = omega arith
+loop-holds c = (omega arith, λ e. refl)
 
 loop2-holds : tie.Need-loop2-holds Inv-loop2 μ-loop2 Inv-loop μ-loop
-loop2-holds c = omega arith
+loop2-holds c = (omega arith, omega arith, c .before .loop .inv .1)
 
 mul-x : tie.Need-mul-x Inv-loop2 μ-loop2 Inv-loop μ-loop
 mul-x c = omega arith
@@ -59,7 +63,12 @@ loop2-less : tie.Need-loop2-less Inv-loop2 μ-loop2 Inv-loop μ-loop
 loop2-less c = omega arith
 
 loop2-again : tie.Need-loop2-again Inv-loop2 μ-loop2 Inv-loop μ-loop
-loop2-again c = omega arith
+loop2-again c =
+    let i = c .before .before .before .before .before .loop2 .inv in (
+      omega arith,
+      omega arith,
+      λ e. let q : eqb (c .before .pattern .result) (c .pattern2 .result) ≡ true = eq-eqb _ _ (c .before .pattern .ensures ∙ rw e (sym (c .pattern2 .ensures))) in rw (i .2 e, q),
+    )
 
 add-i : tie.Need-add-i Inv-loop2 μ-loop2 Inv-loop μ-loop
 add-i c = omega arith
@@ -68,10 +77,10 @@ loop-less : tie.Need-loop-less Inv-loop2 μ-loop2 Inv-loop μ-loop
 loop-less c = omega arith
 
 loop-again : tie.Need-loop-again Inv-loop2 μ-loop2 Inv-loop μ-loop
-loop-again c = omega arith
+loop-again c = (omega arith, c .before .loop2 .inv .2)
 
 returns : tie.Need-returns Inv-loop2 μ-loop2 Inv-loop μ-loop
-returns c = tt
+returns c = c .before .loop .inv .1
 
 pub differ-spec : {M : Type 1} → statement M
 differ-spec =

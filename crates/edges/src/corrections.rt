@@ -1,0 +1,108 @@
+// The trials of the corrections.
+use crate::report::adding;
+use crate::report::correction;
+use differential::add_epoch::add_epoch;
+use differential::record::BaseEpoch;
+use differential::record::Range;
+use differential::record::Settings;
+use differential::record::State;
+use differential::record::States;
+use numeric::vec3::Vec3;
+use table::query::query;
+
+// The range of satellite `svid`, which is 20,000 km off.
+fn range(svid: u16, pseudorange: f64) -> Range {
+    Range {
+        constellation: 1,
+        svid: svid,
+        band: 1,
+        pseudorange: pseudorange,
+    }
+}
+
+// The states of three satellites at one place.
+fn states(zero: Vec3) -> States {
+    let position = Vec3 {
+        x: 0.0,
+        y: 0.0,
+        z: 2e7,
+    };
+    let mut s = State {
+        constellation: 1,
+        svid: 1,
+        band: 1,
+        position: position,
+        velocity: zero,
+        clock: 0.0,
+        modelled: 0.0,
+    };
+    let all = [s; 64];
+    let mut out = States {
+        present: true,
+        count: 3,
+        states: all,
+    };
+    s.svid = 2;
+    out.states[1] = s;
+    s.svid = 3;
+    out.states[2] = s;
+    out
+}
+
+// Three ranges, of which the last is 5 m too long: its correction is 5 m, since the clock is that of the other two.
+fn five_metres(name: &[u8], maximum: f64) {
+    let zero = Vec3 {
+        x: 0.0,
+        y: 0.0,
+        z: 0.0,
+    };
+    let mut ranges = [range(1, 2e7); 64];
+    ranges[1] = range(2, 2e7);
+    ranges[2] = range(3, 2e7 + 5.0);
+    let epoch = BaseEpoch {
+        count: 3,
+        time: 10.0,
+        ranges: ranges,
+    };
+    let settings = Settings {
+        max_gap: 90.0,
+        max_correction: maximum,
+        constellations: [true; 8],
+    };
+    let mut cs = [0u8; 4];
+    let mut vs = [0u16; 4];
+    let mut bs = [0u8; 4];
+    let mut ts = [0.0; 4];
+    let mut xs = [0.0; 4];
+    let a = add_epoch(
+        &mut cs,
+        &mut vs,
+        &mut bs,
+        &mut ts,
+        &mut xs,
+        0,
+        epoch,
+        states(zero),
+        zero,
+        zero,
+        settings,
+    );
+    adding(name, a);
+}
+
+// Samples of 1 m at 10 s and 3 m at 20 s, asked for 15 s.
+fn half_way(name: &[u8], gap: f64) {
+    let cs = [1u8; 2];
+    let vs = [5u16; 2];
+    let bs = [1u8; 2];
+    let ts = [10.0, 20.0];
+    let xs = [1.0, 3.0];
+    correction(name, query(&cs, &vs, &bs, &ts, &xs, 2, gap, 1, 5, 1, 15.0));
+}
+
+pub fn run() {
+    five_metres(b"correction equal to the maximum", 5.0);
+    five_metres(b"correction above the maximum", 4.999999999999999);
+    half_way(b"gap equal to the limit", 10.0);
+    half_way(b"gap above the limit", 9.999999999999998);
+}

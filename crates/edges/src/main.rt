@@ -1,0 +1,12 @@
+// The trials of document 01, "Trials at the edges", that are run: a line for each.
+mod corrections;
+mod displacement;
+mod fix;
+mod report;
+mod sky;
+
+fn main() {
+    displacement::run();
+    fix::run();
+    corrections::run();
+}

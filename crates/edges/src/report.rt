@@ -1,0 +1,88 @@
+// A line for each trial: its name, and what came.
+use estimator::displacement::Displacement;
+use estimator::fix::Fix;
+use libc::STDOUT_FILENO;
+use numeric::order::pattern;
+use numeric::refusal::Refusal;
+use numeric::vec3::Vec3;
+use table::add::Adding;
+use table::query::Correction;
+
+fn text(t: &[u8]) {
+    io::write_all(STDOUT_FILENO, t);
+}
+
+fn number(n: u64) {
+    io::print_decimal(STDOUT_FILENO, n);
+}
+
+// A float as its 64 bits.
+fn float(x: f64) {
+    text(b" ");
+    io::print_hex(STDOUT_FILENO, pattern(x), 16);
+}
+
+fn vector(v: Vec3) {
+    float(v.x);
+    float(v.y);
+    float(v.z);
+}
+
+fn refused(r: Refusal) {
+    text(b": refused by ");
+    number(r.number() as u64);
+}
+
+pub fn displacement(name: &[u8], d: Displacement) {
+    text(name);
+    match d {
+        Displacement::Moved(d) => {
+            text(b": used ");
+            number(d.used as u64);
+            text(b", screened ");
+            number(d.screened as u64);
+            text(b", moved");
+            vector(d.delta);
+        }
+        Displacement::Refused(r) => refused(r),
+    }
+    text(b"\n");
+}
+
+pub fn fix(name: &[u8], f: Fix) {
+    text(name);
+    match f {
+        Fix::At(s) => {
+            text(b": used ");
+            number(s.used as u64);
+            text(b", at");
+            vector(s.position);
+        }
+        Fix::Refused(r) => refused(r),
+    }
+    text(b"\n");
+}
+
+pub fn adding(name: &[u8], a: Adding) {
+    text(name);
+    match a {
+        Adding::Count(n) => {
+            text(b": samples ");
+            number(n as u64);
+        }
+        Adding::Refused(r) => refused(r),
+    }
+    text(b"\n");
+}
+
+pub fn correction(name: &[u8], c: Correction) {
+    text(name);
+    match c {
+        Correction::Metres(x) => {
+            text(b": metres");
+            float(x);
+        }
+        Correction::Refused(r) => refused(r),
+    }
+    text(b"\n");
+}

@@ -1,0 +1,121 @@
+// One maker of skies: satellites well apart, over a receiver that moves from one place to another between two epochs.
+use estimator::record::Carrier;
+use estimator::record::Epoch;
+use estimator::record::Observation;
+use estimator::record::Observations;
+use numeric::sight::geometry;
+use numeric::vec3::Vec3;
+use std::num::nearest_u64_to_f64;
+
+// Where the receiver is at the previous epoch, and where a fix finds it.
+pub fn start() -> Vec3 {
+    Vec3 {
+        x: 0.0,
+        y: 0.0,
+        z: 6.37e6,
+    }
+}
+
+// Where it is at the current epoch.
+fn end() -> Vec3 {
+    Vec3 {
+        x: 1.0,
+        y: 2.0,
+        z: 6.370003e6,
+    }
+}
+
+// A coordinate: one of 64 steps.
+fn along(n: u64) -> f64 {
+    (nearest_u64_to_f64(n % 64) - 31.5) * 6e5
+}
+
+// The place of satellite k.
+fn satellite(k: u64) -> Vec3 {
+    let i = k % 64;
+    Vec3 {
+        x: along(i * 37),
+        y: along(i * 23),
+        z: 2.4e7 + 0.2 * along(i * 11),
+    }
+}
+
+// The constellation after g, where there are so many of them.
+fn after(g: u8, slots: u8) -> u8 {
+    if g >= slots {
+        return 0;
+    }
+    let h = g + 1;
+    if h < slots { h } else { 0 }
+}
+
+// Satellite k of the constellation g: the phase is the range, and the rate the change in range of the second between the epochs.
+fn carrier(k: u64, g: u8, current: bool) -> Carrier {
+    let place = satellite(k);
+    let then = geometry(place, start()).range;
+    let now = geometry(place, end()).range;
+    let adr = if current { now } else { then };
+    Carrier {
+        constellation: g,
+        svid: (k % 64) as u16,
+        band: 1575,
+        adr: adr,
+        state: 1,
+        satellite: place,
+        elevation: 45.0,
+        rate: now - then,
+    }
+}
+
+// An epoch that counts n equal carriers.
+pub fn equal(n: usize, current: bool) -> Epoch {
+    let first = carrier(0, 0, current);
+    let carriers = [first; 64];
+    Epoch {
+        count: n,
+        carriers: carriers,
+    }
+}
+
+// An epoch that counts n carriers of so many constellations in turn.
+pub fn epoch(n: usize, slots: u8, current: bool) -> Epoch {
+    let mut out = equal(n, current);
+    let mut g: u8 = 0;
+    for i in 0..64 {
+        let c = carrier(i as u64, g, current);
+        out.carriers[i] = c;
+        g = after(g, slots);
+    }
+    out
+}
+
+// The observation of satellite k of the constellation g: the pseudorange is the range.
+fn observation(k: u64, g: u8) -> Observation {
+    let place = satellite(k);
+    Observation {
+        constellation: g,
+        band: 1,
+        svid: (k % 64) as u16,
+        modelled: 0.0,
+        pseudorange: geometry(place, start()).range,
+        satellite: place,
+        elevation: 45.0,
+    }
+}
+
+// An epoch that counts n observations of so many constellations in turn.
+pub fn observations(n: usize, slots: u8) -> Observations {
+    let first = observation(0, 0);
+    let all = [first; 64];
+    let mut out = Observations {
+        count: n,
+        observation: all,
+    };
+    let mut g: u8 = 0;
+    for i in 0..64 {
+        let o = observation(i as u64, g);
+        out.observation[i] = o;
+        g = after(g, slots);
+    }
+    out
+}

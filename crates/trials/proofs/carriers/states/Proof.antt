@@ -1,0 +1,70 @@
+use mathlib.Core.Path.{_≡_, refl, _∙_}
+use lib.IntN.{pos, negsuc}
+use lib.Ieee.{ofInt, ofBits, toBits, neg, add, sub, mul, div, le, lt, eq, isNan}
+use Rattle.walk.specs.Walk.{every, first, collect}
+use Rattle.numeric.specs.Real.{abs, inRange}
+use Rattle.numeric.specs.Order.{sign, exponent, digits, isNaN, isQuiet, payload, payloadOrder, unordered, totalOrder, patternOf}
+use Rattle.median.specs.Sorted.{insertBy, sortedBy, medianOf}
+use Rattle.median.specs.Centre.{centreOf}
+use Rattle.estimator.specs.Rules.{ruled}
+use Rattle.estimator.specs.Record.{placeable, isElevation, sound, unsigned, bitSet, usable, same}
+use Rattle.estimator.specs.Clocks.{has, appearing, slotFrom, clocksIn, clocksOf}
+use Rattle.estimator.specs.Pair.{pairOf, firstPair, pairAt, pairsOf}
+use Rattle.estimator.specs.Screen.{centre, within, keptOf}
+use Rattle.estimator.specs.Valid.{settingsPass, badInterval, displacementInput, displacementCounts}
+use Rattle.estimator.specs.Front.{displacementRules}
+use Rattle.estimator.specs.Rounds.{fitFrom}
+use Rattle.estimator.specs.Displacement.{fitOver, fitOf, displacementOf}
+use Rattle.trials.specs.Carriers.{sixIn, usedOf}
+use borrow.Author.Needs.{needs}
+use Rattle.trials.proofs.carriers.states.Statement.{statement}
+use Rattle.trials.proofs.carriers.states.Tie as tie
+
+in-1 : usedOf (displacementOf (sixIn (pos 1))) ≡ 6
+unfolding displacementOf fitOf fitOver fitFrom ruled every first collect abs inRange placeable isElevation sound unsigned bitSet usable same has appearing slotFrom clocksIn clocksOf pairOf firstPair pairAt pairsOf centre within keptOf settingsPass badInterval displacementInput displacementCounts displacementRules sign exponent digits isNaN isQuiet payload payloadOrder unordered totalOrder patternOf insertBy sortedBy medianOf centreOf ofInt ofBits toBits neg add sub mul div le lt eq isNan
+in-1 = refl
+
+in-0 : usedOf (displacementOf (sixIn (pos 0))) ≡ 0
+unfolding displacementOf fitOf fitOver fitFrom ruled every first collect abs inRange placeable isElevation sound unsigned bitSet usable same has appearing slotFrom clocksIn clocksOf pairOf firstPair pairAt pairsOf centre within keptOf settingsPass badInterval displacementInput displacementCounts displacementRules sign exponent digits isNaN isQuiet payload payloadOrder unordered totalOrder patternOf insertBy sortedBy medianOf centreOf ofInt ofBits toBits neg add sub mul div le lt eq isNan
+in-0 = refl
+
+in-3 : usedOf (displacementOf (sixIn (pos 3))) ≡ 0
+unfolding displacementOf fitOf fitOver fitFrom ruled every first collect abs inRange placeable isElevation sound unsigned bitSet usable same has appearing slotFrom clocksIn clocksOf pairOf firstPair pairAt pairsOf centre within keptOf settingsPass badInterval displacementInput displacementCounts displacementRules sign exponent digits isNaN isQuiet payload payloadOrder unordered totalOrder patternOf insertBy sortedBy medianOf centreOf ofInt ofBits toBits neg add sub mul div le lt eq isNan
+in-3 = refl
+
+in-5 : usedOf (displacementOf (sixIn (pos 5))) ≡ 0
+unfolding displacementOf fitOf fitOver fitFrom ruled every first collect abs inRange placeable isElevation sound unsigned bitSet usable same has appearing slotFrom clocksIn clocksOf pairOf firstPair pairAt pairsOf centre within keptOf settingsPass badInterval displacementInput displacementCounts displacementRules sign exponent digits isNaN isQuiet payload payloadOrder unordered totalOrder patternOf insertBy sortedBy medianOf centreOf ofInt ofBits toBits neg add sub mul div le lt eq isNan
+in-5 = refl
+
+in-minus : usedOf (displacementOf (sixIn (negsuc 0))) ≡ 0
+unfolding displacementOf fitOf fitOver fitFrom ruled every first collect abs inRange placeable isElevation sound unsigned bitSet usable same has appearing slotFrom clocksIn clocksOf pairOf firstPair pairAt pairsOf centre within keptOf settingsPass badInterval displacementInput displacementCounts displacementRules sign exponent digits isNaN isQuiet payload payloadOrder unordered totalOrder patternOf insertBy sortedBy medianOf centreOf ofInt ofBits toBits neg add sub mul div le lt eq isNan
+in-minus = refl
+
+used-in-requires : tie.Need-used-in-requires
+used-in-requires c κs = search needs
+
+used-in-requires-2 : tie.Need-used-in-requires-2
+used-in-requires-2 c κs = search needs
+
+used-in-requires-3 : tie.Need-used-in-requires-3
+used-in-requires-3 c κs = search needs
+
+used-in-requires-4 : tie.Need-used-in-requires-4
+used-in-requires-4 c κs = search needs
+
+used-in-requires-5 : tie.Need-used-in-requires-5
+used-in-requires-5 c κs = search needs
+
+returns : tie.Need-returns
+returns c = rw (c .before .before .before .before .used-in .ensures ∙ in-1, c .before .before .before .used-in2 .ensures ∙ in-0, c .before .before .used-in3 .ensures ∙ in-3, c .before .used-in4 .ensures ∙ in-5, c .used-in5 .ensures ∙ in-minus)
+
+pub states-spec : {M : Type 1} → statement M
+states-spec =
+    tie.close
+    (tie.spec
+    used-in-requires
+    used-in-requires-2
+    used-in-requires-3
+    used-in-requires-4
+    used-in-requires-5
+    returns)

@@ -1,0 +1,39 @@
+use lib.Ieee.{ofBits, ofInt}
+use Rattle.table.specs.Table.{rows}
+use borrow.Author.Needs.{needs}
+use Rattle.trials.proofs.corrections.half_way.Statement.{statement}
+use Rattle.trials.proofs.corrections.half_way.Tie as tie
+
+slice-aggregate-query : tie.Need-slice-aggregate-query
+slice-aggregate-query c = search needs
+
+slice-aggregate-query-2 : tie.Need-slice-aggregate-query-2
+slice-aggregate-query-2 c = search needs
+
+slice-aggregate-query-3 : tie.Need-slice-aggregate-query-3
+slice-aggregate-query-3 c = search needs
+
+slice-aggregate-query-4 : tie.Need-slice-aggregate-query-4
+slice-aggregate-query-4 c = search needs
+
+slice-aggregate-query-5 : tie.Need-slice-aggregate-query-5
+slice-aggregate-query-5 c = search needs
+
+query-requires : tie.Need-query-requires
+query-requires c κs = search needs
+
+returns : tie.Need-returns
+unfolding rows ofBits ofInt
+returns c = c .query .ensures .0
+
+pub half-way-spec : {M : Type 1} → statement M
+half-way-spec =
+    tie.close
+    (tie.spec
+    slice-aggregate-query
+    slice-aggregate-query-2
+    slice-aggregate-query-3
+    slice-aggregate-query-4
+    slice-aggregate-query-5
+    query-requires
+    returns)

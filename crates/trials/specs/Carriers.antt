@@ -1,0 +1,38 @@
+-- What the trial of a carrier's state hands to a displacement. Definitions only.
+use Prim.Native.Nat.{ℕ}
+use lib.IntN.{ℤ}
+use lib.ListN.{replicate}
+use lib.Ieee.{Float}
+use Rattle.exact.specs.Float.{+0, 1·0, bits}
+use Rattle.numeric.specs.declared.vec3.Vec3.{Vec3}
+use Rattle.estimator.specs.Displacement.{Input, input}
+use Rattle.estimator.specs.declared.record.Carrier.{Carrier}
+use Rattle.estimator.specs.declared.record.Epoch.{Epoch}
+use Rattle.estimator.specs.declared.displacement.Settings.{Settings}
+use Rattle.estimator.specs.declared.displacement.Displacement.{Displacement}
+use Rattle.estimator.specs.declared.displacement.Displacement.the-variants.{Refused, Moved}
+
+-- 10
+abbrev pub ten : Float
+ten = bits 0x4024_0000_0000_0000
+
+abbrev pub origin : Vec3
+origin = record { x = +0; y = +0; z = +0 }
+
+-- a carrier in the state z, at the mask
+abbrev pub carrierIn : ℤ → Carrier
+carrierIn z = record { constellation = 1; svid = 5; band = 1575; adr = +0; state = z; satellite = origin; elevation = ten; rate = +0 }
+
+abbrev pub epochIn : ℤ → Epoch
+epochIn z = record { count = 6; carriers = replicate 64 (carrierIn z) }
+
+-- six of them at either epoch, a second apart, and zero rounds
+abbrev pub sixIn : ℤ → Input
+sixIn z =
+    input (epochIn z) (epochIn z) 1·0 origin
+    (record { screen = bits 0x3FE0_0000_0000_0000; «sigma_a» = 1·0; «sigma_b» = +0; huber = 1·0; mask = ten; rounds = 0; agreement = +0 })
+
+-- how many pairs are used, 0 where the displacement is refused
+abbrev pub usedOf : Displacement → ℕ
+usedOf (Moved d) = d .used
+usedOf (Refused r) = 0

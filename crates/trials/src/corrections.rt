@@ -1,0 +1,42 @@
+// The marked trials of the corrections.
+ghost use mathlib.Core.Path.{_≡_};
+ghost use mathlib.Core.Bool.{true};
+ghost use Rattle.exact.specs.Float.{whole};
+ghost use Rattle.table.specs.Query.{queryOf};
+ghost use Rattle.trials.specs.Marked.{twoSamples};
+use table::query::Correction;
+use table::query::query;
+
+// The correction at 15 s of samples (10 s, 1 m), (20 s, 3 m).
+fn half_way(gap: f64) -> Correction
+    ensures { λ r. ⌜ r ≡ queryOf 2 2 twoSamples gap 1 5 1 (whole 15) ⌝ }
+{
+    let cs = [1u8; 2];
+    let vs = [5u16; 2];
+    let bs = [1u8; 2];
+    let ts = [10.0, 20.0];
+    let xs = [1.0, 3.0];
+    query(&cs, &vs, &bs, &ts, &xs, 2, gap, 1, 5, 1, 15.0)
+}
+
+// Gap limit 90: 2 m.
+pub fn bridged() -> bool
+    ensures { λ r. ⌜ r ≡ true ⌝ }
+{
+    let answer = half_way(90.0);
+    match answer {
+        Correction::Metres(x) => x == 2.0,
+        Correction::Refused(_) => false,
+    }
+}
+
+// Gap limit 5: 12.
+pub fn gap_too_long() -> bool
+    ensures { λ r. ⌜ r ≡ true ⌝ }
+{
+    let answer = half_way(5.0);
+    match answer {
+        Correction::Metres(_) => false,
+        Correction::Refused(r) => r.number() == 12,
+    }
+}
