@@ -1,0 +1,49 @@
+// Replays stored texts of the line form from standard input. A case is the number 1, the text's length and its bytes, the answer's length and its bytes; a number has eight bytes, the least first.
+mod read;
+
+use libc::STDOUT_FILENO;
+
+// What was replayed.
+struct Tally {
+    cases: u64,
+    differ: u64,
+}
+
+// One case: whether the answer is the stored line.
+fn agrees() -> bool {
+    let mut text = io::large_buffer();
+    let size = read::size();
+    read::bytes(&mut text, size);
+    let n = io::count(size, &text);
+    let mut stored = [0u8; 128];
+    let length = read::size();
+    read::bytes(&mut stored, length);
+    let m = io::count(length, &stored);
+    let mut line = [0u8; 128];
+    let k = line_form::answer(&text[..n], &mut line);
+    check::same(&line[..k], &stored[..m])
+}
+
+// The cases up to the first number that is not 1.
+fn replay() -> Tally {
+    let mut cases: u64 = 0;
+    let mut differ: u64 = 0;
+    while cases < 100000 {
+        if read::number() != 1 {
+            break;
+        }
+        if !agrees() {
+            differ += 1;
+        }
+        cases += 1;
+    }
+    Tally { cases, differ }
+}
+
+fn main() {
+    let t = replay();
+    io::print_decimal(STDOUT_FILENO, t.cases);
+    io::write_all(STDOUT_FILENO, b" texts replayed, ");
+    io::print_decimal(STDOUT_FILENO, t.differ);
+    io::write_all(STDOUT_FILENO, b" differ\n");
+}
