@@ -73,7 +73,8 @@ fn first(change: impl Fn(&mut Carrier)) -> String {
 }
 
 fn displacements(out: &mut String) {
-    let mut line = |name: &str, came: String| writeln!(out, "displacement, {name}: {came}").unwrap();
+    let mut line =
+        |name: &str, came: String| writeln!(out, "displacement, {name}: {came}").unwrap();
     let of = |n, slots| between(epoch(n, slots, false), epoch(n, slots, true), 8);
     line("64 records", of(64, 1));
     line("65 records", of(65, 1));
@@ -83,9 +84,15 @@ fn displacements(out: &mut String) {
     line("seven slots of 10 rows", of(10, 7));
     line("seven slots of 11 rows", of(11, 7));
     line("elevation equal to the mask", first(|c| c.elevation = 10.0));
-    line("elevation below the mask", first(|c| c.elevation = 10f64.next_down()));
+    line(
+        "elevation below the mask",
+        first(|c| c.elevation = 10f64.next_down()),
+    );
     line("detector equal to the screen", first(|c| c.adr += 0.5));
-    line("detector below the screen", first(|c| c.adr += 0.4990234375));
+    line(
+        "detector below the screen",
+        first(|c| c.adr += 0.4990234375),
+    );
     let six = vec![epoch(1, 1, false)[0]; 6];
     line("six equal pairs, zero rounds", between(six.clone(), six, 0));
 }
@@ -189,7 +196,10 @@ fn half_way(max_gap: f64) -> String {
 fn corrections(out: &mut String) {
     let mut line = |name: &str, came: String| writeln!(out, "{name}: {came}").unwrap();
     line("correction equal to the maximum", five_metres(5.0));
-    line("correction above the maximum", five_metres(5f64.next_down()));
+    line(
+        "correction above the maximum",
+        five_metres(5f64.next_down()),
+    );
     line("gap equal to the limit", half_way(10.0));
     line("gap above the limit", half_way(10f64.next_down()));
 }

@@ -2,7 +2,12 @@
 
 mod bench;
 mod big;
-#[cfg(all(test, feature = "displacement", feature = "fix", feature = "corrections"))]
+#[cfg(all(
+    test,
+    feature = "displacement",
+    feature = "fix",
+    feature = "corrections"
+))]
 mod edges;
 mod estimate;
 mod ffi;

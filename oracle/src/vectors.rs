@@ -17,7 +17,10 @@ impl Vectors {
     }
 
     /// As many cases of each answer's number as are wanted, out of those that `next` makes; it may make none.
-    pub fn of_each(wanted: &[(u8, usize)], mut next: impl FnMut() -> Option<(u8, Vec<u64>)>) -> Self {
+    pub fn of_each(
+        wanted: &[(u8, usize)],
+        mut next: impl FnMut() -> Option<(u8, Vec<u64>)>,
+    ) -> Self {
         let mut left = wanted.to_vec();
         let mut cases = Vec::new();
         while left.iter().any(|l| l.1 > 0) {

@@ -58,7 +58,7 @@ fn rows() -> [[f64; 9]; 9] {
     m
 }
 
-// How many of the next 81 numbers are not the pattern of the matrix's cell.
+// Whether one of the next 81 numbers is not the pattern of the matrix's cell.
 fn cells_differ(m: [[f64; 9]; 9]) -> bool {
     let mut differ = false;
     for i in 0..9 {

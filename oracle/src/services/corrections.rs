@@ -498,7 +498,9 @@ fn rows(t: &Table) -> Vec<u64> {
     (0..t.n.min(ROOM))
         .flat_map(|i| {
             let signal = [u64::from(t.cs[i]), u64::from(t.vs[i]), u64::from(t.bs[i])];
-            signal.into_iter().chain([t.ts[i].to_bits(), t.xs[i].to_bits()])
+            signal
+                .into_iter()
+                .chain([t.ts[i].to_bits(), t.xs[i].to_bits()])
         })
         .collect()
 }
@@ -518,7 +520,10 @@ fn session(random: &mut Random) -> Option<([f64; 3], [f64; 3], Settings, Vec<Epo
     };
     let count = random.place(4);
     let epochs: Vec<Epoch> = (0..count).map(|_| epoch(random, base, false)).collect();
-    if epochs.iter().any(|e| refusal(&empty, e, &base, &rover, &set) != 0) {
+    if epochs
+        .iter()
+        .any(|e| refusal(&empty, e, &base, &rover, &set) != 0)
+    {
         return None;
     }
     let c = reference(&epochs, base, rover, &set);
@@ -578,11 +583,19 @@ fn epoch_case(random: &mut Random) -> Option<(u8, Vec<u64>)> {
     let on = set.constellations.iter().enumerate();
     case.push(on.map(|(c, &on)| u64::from(on) << c).sum());
     for r in e.ranges.iter().take(64) {
-        case.extend([u64::from(r.constellation), u64::from(r.svid), u64::from(r.band)]);
+        case.extend([
+            u64::from(r.constellation),
+            u64::from(r.svid),
+            u64::from(r.band),
+        ]);
         case.push(r.pseudorange.to_bits());
     }
     for s in e.states.iter().take(64) {
-        case.extend([u64::from(s.constellation), u64::from(s.svid), u64::from(s.band)]);
+        case.extend([
+            u64::from(s.constellation),
+            u64::from(s.svid),
+            u64::from(s.band),
+        ]);
         case.extend(raw(&floats(s)));
     }
     case.extend([u64::from(number), after.n as u64]);
@@ -614,7 +627,12 @@ fn query_case(random: &mut Random) -> Option<(u8, Vec<u64>)> {
     let metres = theirs.filter(|_| number == 0).unwrap_or(0.0);
     let mut case = vec![1, table.n as u64];
     case.extend(rows(&table));
-    case.extend([gap.to_bits(), u64::from(key.0), u64::from(key.1), u64::from(key.2)]);
+    case.extend([
+        gap.to_bits(),
+        u64::from(key.0),
+        u64::from(key.1),
+        u64::from(key.2),
+    ]);
     case.extend([time.to_bits(), u64::from(number), pattern(metres)]);
     Some((number, case))
 }

@@ -107,7 +107,17 @@ const ROOM: usize = 64;
 /// dt, receiver 3, settings 5, rounds, how many previous records, how many current ones; of each record, of 64 an epoch at most, constellation,
 /// svid, band, state, adr, satellite 3, elevation, rate; number, used, screened, displacement 3 (zeros where refused).
 fn vectors(random: &mut Random) -> Vectors {
-    let wanted = [(0, 18), (2, 1), (3, 2), (4, 3), (5, 2), (7, 3), (8, 3), (9, 2), (10, 3)];
+    let wanted = [
+        (0, 18),
+        (2, 1),
+        (3, 2),
+        (4, 3),
+        (5, 2),
+        (7, 3),
+        (8, 3),
+        (9, 2),
+        (10, 3),
+    ];
     Vectors::of_each(&wanted, || {
         let input: Displacement = sky::input(random);
         let call = Call::of(&input);

@@ -20,25 +20,17 @@ use borrow.Author.Needs.{needs}
 use Rattle.trials.proofs.carriers.states.Statement.{statement}
 use Rattle.trials.proofs.carriers.states.Tie as tie
 
-in-1 : usedOf (displacementOf (sixIn (pos 1))) ≡ 6
-unfolding displacementOf fitOf fitOver fitFrom ruled every first collect abs inRange placeable isElevation sound unsigned bitSet usable same has appearing slotFrom clocksIn clocksOf pairOf firstPair pairAt pairsOf centre within keptOf settingsPass badInterval displacementInput displacementCounts displacementRules sign exponent digits isNaN isQuiet payload payloadOrder unordered totalOrder patternOf insertBy sortedBy medianOf centreOf ofInt ofBits toBits neg add sub mul div le lt eq isNan
-in-1 = refl
+-- what a displacement uses of six carriers in each state
+record Used : Type 0 where
+  in-1 : usedOf (displacementOf (sixIn (pos 1))) ≡ 6
+  in-0 : usedOf (displacementOf (sixIn (pos 0))) ≡ 0
+  in-3 : usedOf (displacementOf (sixIn (pos 3))) ≡ 0
+  in-5 : usedOf (displacementOf (sixIn (pos 5))) ≡ 0
+  in-minus-1 : usedOf (displacementOf (sixIn (negsuc 0))) ≡ 0
 
-in-0 : usedOf (displacementOf (sixIn (pos 0))) ≡ 0
+used : Used
 unfolding displacementOf fitOf fitOver fitFrom ruled every first collect abs inRange placeable isElevation sound unsigned bitSet usable same has appearing slotFrom clocksIn clocksOf pairOf firstPair pairAt pairsOf centre within keptOf settingsPass badInterval displacementInput displacementCounts displacementRules sign exponent digits isNaN isQuiet payload payloadOrder unordered totalOrder patternOf insertBy sortedBy medianOf centreOf ofInt ofBits toBits neg add sub mul div le lt eq isNan
-in-0 = refl
-
-in-3 : usedOf (displacementOf (sixIn (pos 3))) ≡ 0
-unfolding displacementOf fitOf fitOver fitFrom ruled every first collect abs inRange placeable isElevation sound unsigned bitSet usable same has appearing slotFrom clocksIn clocksOf pairOf firstPair pairAt pairsOf centre within keptOf settingsPass badInterval displacementInput displacementCounts displacementRules sign exponent digits isNaN isQuiet payload payloadOrder unordered totalOrder patternOf insertBy sortedBy medianOf centreOf ofInt ofBits toBits neg add sub mul div le lt eq isNan
-in-3 = refl
-
-in-5 : usedOf (displacementOf (sixIn (pos 5))) ≡ 0
-unfolding displacementOf fitOf fitOver fitFrom ruled every first collect abs inRange placeable isElevation sound unsigned bitSet usable same has appearing slotFrom clocksIn clocksOf pairOf firstPair pairAt pairsOf centre within keptOf settingsPass badInterval displacementInput displacementCounts displacementRules sign exponent digits isNaN isQuiet payload payloadOrder unordered totalOrder patternOf insertBy sortedBy medianOf centreOf ofInt ofBits toBits neg add sub mul div le lt eq isNan
-in-5 = refl
-
-in-minus : usedOf (displacementOf (sixIn (negsuc 0))) ≡ 0
-unfolding displacementOf fitOf fitOver fitFrom ruled every first collect abs inRange placeable isElevation sound unsigned bitSet usable same has appearing slotFrom clocksIn clocksOf pairOf firstPair pairAt pairsOf centre within keptOf settingsPass badInterval displacementInput displacementCounts displacementRules sign exponent digits isNaN isQuiet payload payloadOrder unordered totalOrder patternOf insertBy sortedBy medianOf centreOf ofInt ofBits toBits neg add sub mul div le lt eq isNan
-in-minus = refl
+used = record { in-1 = refl; in-0 = refl; in-3 = refl; in-5 = refl; in-minus-1 = refl }
 
 used-in-requires : tie.Need-used-in-requires
 used-in-requires c κs = search needs
@@ -56,7 +48,7 @@ used-in-requires-5 : tie.Need-used-in-requires-5
 used-in-requires-5 c κs = search needs
 
 returns : tie.Need-returns
-returns c = rw (c .before .before .before .before .used-in .ensures ∙ in-1, c .before .before .before .used-in2 .ensures ∙ in-0, c .before .before .used-in3 .ensures ∙ in-3, c .before .used-in4 .ensures ∙ in-5, c .used-in5 .ensures ∙ in-minus)
+returns c = rw (c .before .before .before .before .used-in .ensures ∙ used .in-1, c .before .before .before .used-in2 .ensures ∙ used .in-0, c .before .before .used-in3 .ensures ∙ used .in-3, c .before .used-in4 .ensures ∙ used .in-5, c .used-in5 .ensures ∙ used .in-minus-1)
 
 pub states-spec : {M : Type 1} → statement M
 states-spec =

@@ -1,0 +1,58 @@
+use Prim.Native.Nat.{_-_, _≤_}
+use native.Mathlib.Omega.{arith}
+use borrow.Author.Needs.{needs}
+use Rattle.vectors.proofs.rounds.next_rows.Statement.{statement}
+use Rattle.vectors.proofs.rounds.next_rows.Tie as tie
+
+abbrev Inv-loop : tie.InvT-loop
+Inv-loop n out₀ i₀ i-end out i = (i ≤ i-end) × (i-end ≤ 64)
+
+abbrev μ-loop : tie.MeasureT-loop
+μ-loop n out₀ i₀ i-end out i = i-end - i
+
+zero-requires : tie.Need-zero-requires Inv-loop μ-loop
+zero-requires c κs = search needs
+
+least-requires : tie.Need-least-requires Inv-loop μ-loop
+least-requires c κs = search needs
+
+loop-holds : tie.Need-loop-holds Inv-loop μ-loop
+loop-holds c = omega arith
+
+next-row-requires : tie.Need-next-row-requires Inv-loop μ-loop
+next-row-requires c κs = search needs
+
+mul-r : tie.Need-mul-r Inv-loop μ-loop
+mul-r c = omega arith
+
+element-set-from-r : tie.Need-element-set-from-r Inv-loop μ-loop
+element-set-from-r c = search needs
+
+add-i : tie.Need-add-i Inv-loop μ-loop
+add-i c = omega arith
+
+loop-less : tie.Need-loop-less Inv-loop μ-loop
+loop-less c = omega arith
+
+loop-again : tie.Need-loop-again Inv-loop μ-loop
+loop-again c = omega arith
+
+returns : tie.Need-returns Inv-loop μ-loop
+returns c = tt
+
+pub next-rows-spec : {M : Type 1} → statement M
+next-rows-spec =
+    tie.close
+    (tie.spec
+    Inv-loop
+    μ-loop
+    zero-requires
+    least-requires
+    loop-holds
+    next-row-requires
+    mul-r
+    element-set-from-r
+    add-i
+    loop-less
+    loop-again
+    returns)
