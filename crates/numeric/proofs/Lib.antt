@@ -20,5 +20,6 @@ pub mod FactorColumns
 pub mod FactorElements
 pub mod FactorFinite
 pub mod FactorUsed
+pub mod SolveUsed
 pub mod Answers
 pub mod SoundSystem
