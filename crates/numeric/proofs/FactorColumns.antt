@@ -9,7 +9,7 @@ use mathlib.Core.Logic.{_≢_}
 use mathlib.Core.Bool.{true, false}
 use mathlib.Core.List.{List, []}
 use lib.ListN.{set, replicate, length, length-set, getD-replicate}
-use lib.Seq.{getD-set-same, getD-set-other, ext-getD}
+use lib.Seq.{getD-set-same, getD-set-other}
 use lib.Ieee.{Float, nan}
 use Rattle.exact.specs.Float.{_⊖_, _⊗_, _⊘_}
 use Rattle.exact.specs.Products.{lessProducts}
@@ -21,7 +21,7 @@ use Rattle.numeric.proofs.FactorLaws.{below-zero, below-next, pivotOf-i
 -- ---- what a row reads of the factor is the rows above it
 
 -- l and m have the same first n rows
-abbrev Agree : ℕ → List (List Float) → List (List Float) → Type 0
+abbrev pub Agree : ℕ → List (List Float) → List (List Float) → Type 0
 Agree n l m = (k : ℕ) → k < n → row l k ≡ row m k
 
 below-agree : (j : ℕ) (l m : List (List Float)) (a : List Float) → Agree j l m → below j l a ≡ below j m a
@@ -45,27 +45,29 @@ below-length (suc j) l a = length-set (below j l a) j (lessProducts (at a j) (at
 
 -- ---- the columns
 
--- n columns are done in the rows above row i, and one less from there on; the rows above row n are the factor's, each with its pivot accepted
-pub record Columns (n i : ℕ) (a w : List (List Float)) : Type 0 where
+-- Of the first m rows: n columns are done in the rows above row i, and one less from there on; the rows above row n are the factor's, each with its pivot accepted. The other rows are zeros.
+pub record Columns (m n i : ℕ) (a w : List (List Float)) : Type 0 where
   pub nine : length w ≡ 9
   pub pivots : (r : ℕ) → r < n → isPivot (pivotOf r w (row a r)) ≡ true
   pub whole : (r : ℕ) → r < n → row w r ≡ rowOf r w (row a r)
   pub done : (r : ℕ) → n ≤ r → r < i → row w r ≡ below n w (row a r)
-  pub left : (j : ℕ) → j + 1 ≡ n → (r : ℕ) → i ≤ r → r < 9 → row w r ≡ below j w (row a r)
+  pub left : (j : ℕ) → j + 1 ≡ n → (r : ℕ) → i ≤ r → r < m → row w r ≡ below j w (row a r)
+  pub rest : (r : ℕ) → m ≤ r → r < 9 → row w r ≡ zeros
 
-pub columns-none : (a : List (List Float)) → Columns 0 9 a (replicate 9 zeros)
-columns-none a =
+pub columns-none : (m : ℕ) → m ≤ 9 → (a : List (List Float)) → Columns m 0 m a (replicate 9 zeros)
+columns-none m mb a =
     record {
       nine = refl;
       pivots = λ r b. absurd (not-suc-le-zero b);
       whole = λ r b. absurd (not-suc-le-zero b);
-      done = λ r b rb. getD-replicate 9 r zeros [] rb ∙ sym (below-zero (replicate 9 zeros) (row a r));
+      done = λ r b rb. getD-replicate 9 r zeros [] (omega arith) ∙ sym (below-zero (replicate 9 zeros) (row a r));
       left = λ j e r b rb. absurd (omega arith);
+      rest = λ r b rb. getD-replicate 9 r zeros [] rb;
     }
 
 -- row i of w set
 module _ (w : List (List Float)) (i : ℕ) (x : List Float) where
-  kept : (k : ℕ) → k ≢ i → row (set w i x) k ≡ row w k
+  pub kept : (k : ℕ) → k ≢ i → row (set w i x) k ≡ row w k
   kept k d = getD-set-other w i k x [] d
 
   kept-squares : (k : ℕ) → k ≢ i → (z : Float) (n : ℕ) → lessProducts z (cell w k) (cell w k) n ≡ lessProducts z (cell (set w i x) k) (cell (set w i x) k) n
@@ -75,7 +77,7 @@ module _ (w : List (List Float)) (i : ℕ) (x : List Float) where
   kept-above n b k kb = sym (kept k (omega arith))
 
 -- the pivot of the next column, its root on the diagonal
-module _ (a w : List (List Float)) (j : ℕ) (b : j < 9) (h : Columns j 9 a w) (p : Float) (e : p ≡ lessProducts (cell a j j) (cell w j) (cell w j) j) where
+module _ (a w : List (List Float)) (m j : ℕ) (mb : m ≤ 9) (b : j < m) (h : Columns m j m a w) (p : Float) (e : p ≡ lessProducts (cell a j j) (cell w j) (cell w j) j) where
   pub columns-pivot : p ≡ pivotOf j w (row a j)
   columns-pivot =
       e ∙ ap (λ (r : List Float). lessProducts (cell a j j) (at r) (at r) j) (h .done j (le-refl j) b) ∙ sym (pivotOf-is j w (row a j))
@@ -108,7 +110,7 @@ module _ (a w : List (List Float)) (j : ℕ) (b : j < 9) (h : Columns j 9 a w) (
     same : row (set w j x) j ≡ x
     same = getD-set-same w j x [] (omega (arith, h .nine))
 
-    pub columns-root : Columns (j + 1) (j + 1) a (set w j (set (row w j) j d))
+    pub columns-root : Columns m (j + 1) (j + 1) a (set w j (set (row w j) j d))
     unfolding x
     columns-root =
         record {
@@ -117,6 +119,7 @@ module _ (a w : List (List Float)) (j : ℕ) (b : j < 9) (h : Columns j 9 a w) (
           whole = λ r rb. whole r rb (ℕ-discrete r j);
           done = λ r rb rc. absurd (omega arith);
           left = λ k f r rb rc. let g : k ≡ j = omega arith in rw g (kept w j x r (omega arith) ∙ h .done r (omega arith) rc ∙ below-agree j w (set w j x) (row a r) (kept-above w j x j (le-refl j)));
+          rest = λ r rb rc. kept w j x r (omega arith) ∙ h .rest r rb rc;
         }
       where
         pivots : (r : ℕ) → r < j + 1 → Dec (r ≡ j) → isPivot (pivotOf r (set w j x) (row a r)) ≡ true
@@ -128,7 +131,7 @@ module _ (a w : List (List Float)) (j : ℕ) (b : j < 9) (h : Columns j 9 a w) (
         whole r rb (no f) = kept w j x r f ∙ h .whole r (omega arith) ∙ row-agree r w (set w j x) (row a r) (kept-above w j x r (omega arith))
 
 -- one element more of column j
-module _ (a w : List (List Float)) (j i : ℕ) (b : j < i) (c : i < 9) (h : Columns (j + 1) i a w) (s d : Float) (e : s ≡ lessProducts (cell a i j) (cell w i) (cell w j) j) (q : d ≡ cell w j j) where
+module _ (a w : List (List Float)) (m j i : ℕ) (mb : m ≤ 9) (b : j < i) (c : i < m) (h : Columns m (j + 1) i a w) (s d : Float) (e : s ≡ lessProducts (cell a i j) (cell w i) (cell w j) j) (q : d ≡ cell w j j) where
   y : List Float
   y = set (row w i) j (s ⊘ d)
 
@@ -158,7 +161,7 @@ module _ (a w : List (List Float)) (j i : ℕ) (b : j < i) (c : i < 9) (h : Colu
       → lessProducts z (cell w r) (cell w r) n ≡ lessProducts z (cell (set w i (set (row w i) j (s ⊘ d))) r) (cell (set w i (set (row w i) j (s ⊘ d))) r) n
   pivot-kept r f z n = kept-squares w i (set (row w i) j (s ⊘ d)) r f z n
 
-  pub columns-element : Columns (j + 1) (i + 1) a (set w i (set (row w i) j (s ⊘ d)))
+  pub columns-element : Columns m (j + 1) (i + 1) a (set w i (set (row w i) j (s ⊘ d)))
   unfolding y
   columns-element =
       record {
@@ -167,6 +170,7 @@ module _ (a w : List (List Float)) (j i : ℕ) (b : j < i) (c : i < 9) (h : Colu
         whole = λ r rb. kept w i y r (omega arith) ∙ h .whole r rb ∙ row-agree r w (set w i y) (row a r) (kept-above w i y r (omega arith));
         done = λ r rb rc. done r rb rc (ℕ-discrete r i);
         left = λ k f r rb rc. kept w i y r (omega arith) ∙ h .left k f r (omega arith) rc ∙ below-agree k w (set w i y) (row a r) (kept-above w i y k (omega arith));
+        rest = λ r rb rc. kept w i y r (omega arith) ∙ h .rest r rb rc;
       }
     where
       done : (r : ℕ) → j + 1 ≤ r → r < i + 1 → Dec (r ≡ i) → row (set w i y) r ≡ below (j + 1) (set w i y) (row a r)
@@ -176,37 +180,40 @@ module _ (a w : List (List Float)) (j i : ℕ) (b : j < i) (c : i < 9) (h : Colu
 -- ---- the factor
 
 -- the factor's first n rows are those of w
-record Made (n : ℕ) (a w : List (List Float)) : Type 0 where
-  l : List (List Float)
-  is : factorTo n a ≡ Lower l
-  nine : length l ≡ 9
-  rows : Agree n l w
+pub record Made (n : ℕ) (a w : List (List Float)) : Type 0 where
+  pub l : List (List Float)
+  pub is : factorTo n a ≡ Lower l
+  pub nine : length l ≡ 9
+  pub rows : Agree n l w
 
-module _ (a w : List (List Float)) (n : ℕ) (h : Columns n 9 a w) (b : n ≤ 9) where
-  made : (m : ℕ) → m ≤ n → Made m a w
-  made zero mb = record { l = replicate 9 zeros; is = factorTo-zero a; nine = refl; rows = λ k kb. absurd (not-suc-le-zero kb) }
-  made (suc m) mb = step (made m (omega arith))
-    where
-      step : Made m a w → Made (suc m) a w
-      step g = record { l = set (g .l) m r; is = is; nine = length-set (g .l) m r ∙ g .nine; rows = λ k kb. rows k kb (ℕ-discrete k m) }
-        where
-          r : List Float
-          r = rowOf m (g .l) (row a m)
+pub made-none : (a w : List (List Float)) → Made 0 a w
+made-none a w = record { l = replicate 9 zeros; is = factorTo-zero a; nine = refl; rows = λ k kb. absurd (not-suc-le-zero kb) }
 
-          is : factorTo (suc m) a ≡ Lower (set (g .l) m r)
-          is = rw (← (add-one m)) (factorTo-next m a (g .l) (g .is) ∙ rw (pivot-agree m (g .l) w (row a m) (g .rows), h .pivots m mb))
+-- one row more
+module _ (a w : List (List Float)) (m : ℕ) (b : m < 9) (ok : isPivot (pivotOf m w (row a m)) ≡ true) (whole : row w m ≡ rowOf m w (row a m)) (g : Made m a w) where
+  r : List Float
+  r = rowOf m (g .l) (row a m)
 
-          rows : (k : ℕ) → k < suc m → Dec (k ≡ m) → row (set (g .l) m r) k ≡ row w k
-          rows k kb (yes f) = rw f (getD-set-same (g .l) m r [] (omega (arith, g .nine)) ∙ row-agree m (g .l) w (row a m) (g .rows) ∙ sym (h .whole m mb))
-          rows k kb (no f) = kept (g .l) m r k f ∙ g .rows k (omega arith)
+  is : factorTo (suc m) a ≡ Lower (set (g .l) m r)
+  unfolding r
+  is = rw (← (add-one m)) (factorTo-next m a (g .l) (g .is) ∙ rw (pivot-agree m (g .l) w (row a m) (g .rows), ok))
 
-  -- nine columns are the factor
-  pub columns-end : n ≡ 9 → factorOf a ≡ Lower w
-  unfolding factorOf
-  columns-end e =
-      let g = made n (le-refl n) in
-      let q : g .l ≡ w = ext-getD [] (g .l) w (g .nine ∙ sym (h .nine)) (λ k kb. g .rows k (omega (arith, g .nine))) in
-      rw e at (g .is ∙ ap Lower q)
+  rows : (k : ℕ) → k < suc m → Dec (k ≡ m) → row (set (g .l) m r) k ≡ row w k
+  unfolding r
+  rows k kb (yes f) = rw f (getD-set-same (g .l) m (rowOf m (g .l) (row a m)) [] (omega (arith, g .nine)) ∙ row-agree m (g .l) w (row a m) (g .rows) ∙ sym whole)
+  rows k kb (no f) = kept (g .l) m (rowOf m (g .l) (row a m)) k f ∙ g .rows k (omega arith)
+
+  pub made-next : Made (suc m) a w
+  made-next = record { l = set (g .l) m r; is = is; nine = length-set (g .l) m r ∙ g .nine; rows = λ k kb. rows k kb (ℕ-discrete k m) }
+
+-- a row that is not the factor's set
+pub made-kept : (a w : List (List Float)) (n i : ℕ) (x : List Float) → n ≤ i → Made n a w → Made n a (set w i x)
+made-kept a w n i x b g = record { l = g .l; is = g .is; nine = g .nine; rows = λ k kb. g .rows k kb ∙ kept-above w i x n b k kb }
+
+module _ (a w : List (List Float)) (m n : ℕ) (h : Columns m n m a w) (b : n ≤ 9) where
+  pub made : (k : ℕ) → k ≤ n → Made k a w
+  made zero kb = made-none a w
+  made (suc k) kb = made-next a w k (omega arith) (h .pivots k kb) (h .whole k kb) (made k (omega arith))
 
   -- a column whose pivot is refused
   columns-refused : n < 9 → isPivot (pivotOf n w (row a n)) ≡ false → factorOf a ≡ Refused
@@ -217,5 +224,5 @@ module _ (a w : List (List Float)) (n : ℕ) (h : Columns n 9 a w) (b : n ≤ 9)
       let m : 9 - (n + 1) + (n + 1) ≡ 9 = omega arith in
       rw m at (refused-more (9 - (n + 1)) (n + 1) a stop)
 
-pub columns-stop : (a w : List (List Float)) (j : ℕ) → j < 9 → Columns j 9 a w → (p : Float) → p ≡ lessProducts (cell a j j) (cell w j) (cell w j) j → isPivot p ≡ false → factorOf a ≡ Refused
-columns-stop a w j b h p e f = columns-refused a w j h (omega arith) b (rw (columns-pivot a w j b h p e) at f)
+pub columns-stop : (a w : List (List Float)) (m j : ℕ) → m ≤ 9 → j < m → Columns m j m a w → (p : Float) → p ≡ lessProducts (cell a j j) (cell w j) (cell w j) j → isPivot p ≡ false → factorOf a ≡ Refused
+columns-stop a w m j mb b h p e f = columns-refused a w m j h (omega arith) (omega arith) (rw (columns-pivot a w m j mb b h p e) at f)

@@ -26,17 +26,17 @@ split P n k h f g = go (ℕ-discrete k n)
     go (no m) = f (omega arith)
 
 -- ---- the elements of a row of the factor below the diagonal
-abbrev Made : List Float → List Float → List Float → ℕ → Type 0
+abbrev pub Made : List Float → List Float → List Float → ℕ → Type 0
 Made d a r k = at r k ≡ lessProducts (at a k) (at r) (at d) k ⊘ at d k
 
-abbrev Element : List (List Float) → List Float → List Float → ℕ → Type 0
+abbrev pub Element : List (List Float) → List Float → List Float → ℕ → Type 0
 Element l a r k = Made (row l k) a r k
 
 -- what is under the root, and the root
-abbrev Pivot : List Float → List Float → ℕ → Type 0
+abbrev pub Pivot : List Float → List Float → ℕ → Type 0
 Pivot a r i = isPivot (lessProducts (at a i) (at r) (at r) i) ≡ true
 
-abbrev Rooted : List Float → List Float → ℕ → Type 0
+abbrev pub Rooted : List Float → List Float → ℕ → Type 0
 Rooted a r i = at r i ≡ rootOf (lessProducts (at a i) (at r) (at r) i)
 
 record Below (j : ℕ) (l : List (List Float)) (a r : List Float) : Type 0 where
@@ -71,13 +71,13 @@ below-element (suc j) l a b = step (below j l a) (below-element j l a (omega ari
             getD-set-same r j v nan (omega (arith, h .nine))
             ∙ ap (λ (z : Float). z ⊘ cell l j j) (less-ext (at a j) (at a j) (at r) (at (set r j v)) (cell l j) (cell l j) j refl (λ m mb. sym (other m mb)) (λ m mb. refl))
 
--- ---- the factor's rows
-record Rows (n : ℕ) (a l : List (List Float)) : Type 0 where
-  nine : length l ≡ 9
-  element : (i k : ℕ) → i < n → k < i → Element l (row a i) (row l i) k
-  pivot : (i : ℕ) → i < n → Pivot (row a i) (row l i) i
-  diagonal : (i : ℕ) → i < n → Rooted (row a i) (row l i) i
-  upper : (i k : ℕ) → i < n → i < k → k < 9 → cell l i k ≡ +0
+-- ---- the factor's first n rows
+pub record Rows (n : ℕ) (a l : List (List Float)) : Type 0 where
+  pub nine : length l ≡ 9
+  pub element : (i k : ℕ) → i < n → k < i → Element l (row a i) (row l i) k
+  pub pivot : (i : ℕ) → i < n → Pivot (row a i) (row l i) i
+  pub diagonal : (i : ℕ) → i < n → Rooted (row a i) (row l i) i
+  pub upper : (i k : ℕ) → i < n → i < k → k < 9 → cell l i k ≡ +0
 
 -- row n set
 module _ (a l : List (List Float)) (n : ℕ) (b : n < 9) (h : Rows n a l) (ok : isPivot (pivotOf n l (row a n)) ≡ true) where
@@ -142,7 +142,7 @@ next-rows : (a : List (List Float)) (n : ℕ) (m l : List (List Float)) (p : Boo
 next-rows a n m l true b h hp e = let q : set m n (rowOf n m (row a n)) ≡ l = cc in subst (Rows (suc n) a) q (rows-next a m n b h hp)
 next-rows a n m l false b h hp e = absurd (let z : _≡_ {A = ℕ} 0 1 = cc in omega arith)
 
-factorTo-rows : (n : ℕ) (a l : List (List Float)) → n ≤ 9 → factorTo n a ≡ Lower l → Rows n a l
+pub factorTo-rows : (n : ℕ) (a l : List (List Float)) → n ≤ 9 → factorTo n a ≡ Lower l → Rows n a l
 unfolding factorTo next
 factorTo-rows zero a l b e =
     let q : replicate 9 zeros ≡ l = cc in

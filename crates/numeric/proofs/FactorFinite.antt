@@ -1,6 +1,7 @@
 -- Acceptance implies that the whole factor is finite. A row's pivot is finite, and it is the row's element of the matrix less the squares of the row's elements
 -- below the diagonal: an infinity or a NaN among them would not leave it finite. The diagonal is the root of that pivot, and above it stand zeros. Assumes nothing.
 use Prim.Native.Nat.{ℕ, zero, suc, _+_, _-_, _*_, _/_, _%_, _^_, _<_}
+use native.Mathlib.Nat.{le-refl}
 use native.Mathlib.Omega.{arith}
 use native.Mathlib.Decide.{decLt}
 use mathlib.Core.Path.{_≡_, sym, subst}
@@ -14,7 +15,7 @@ use Rattle.exact.specs.Products.{lessProducts}
 use Rattle.exact.proofs.Products.{less-finite}
 use Rattle.numeric.specs.Root.{rootOf, rootUnits, rootParts, nearestRoot, isqrt}
 use Rattle.numeric.specs.Factor.{cell, isPivot, Lower, factorOf}
-use Rattle.numeric.proofs.FactorElements.{Elements, elements}
+use Rattle.numeric.proofs.FactorElements.{Rows, factorTo-rows}
 
 pivot-finite : (p : Float) → isPivot p ≡ true → T (finite p)
 unfolding isPivot
@@ -46,24 +47,26 @@ root-finite (fin s zero e) h = tt
 root-finite (fin true (suc m) e) h = subst T (sym h) tt
 root-finite (fin false (suc m) e) h = units-finite (suc m * up e * 2 ^ 1074 / down e)
 
-zero-finite : T (finite +0)
+pub zero-finite : T (finite +0)
 unfolding ofBits
 zero-finite = tt
 
--- THE THEOREM: all of an accepted factor's cells are finite
-pub factor-finite : (a l : List (List Float)) → factorOf a ≡ Lower l → (i j : ℕ) → i < 9 → j < 9 → T (finite (cell l i j))
-factor-finite a l e i j ib jb = go (decLt j i) (decLt i j)
+-- the first n rows
+pub rows-finite : (n : ℕ) (a l : List (List Float)) → Rows n a l → (i j : ℕ) → i < n → j < 9 → T (finite (cell l i j))
+rows-finite n a l h i j ib jb = go (decLt j i) (decLt i j)
   where
-    E : Elements a l
-    E = elements a l e
-
     P : Float
     P = lessProducts (cell a i i) (cell l i) (cell l i) i
 
     pivot : isPivot P ≡ true
-    pivot = E .pivot-is i ib
+    pivot = h .pivot i ib
 
     go : Dec (j < i) → Dec (i < j) → T (finite (cell l i j))
-    go (yes h) d = less-finite (cell a i i) (cell l i) (cell l i) i (pivot-finite P pivot) j h .0
-    go (no f) (yes h) = subst (λ (z : Float). T (finite z)) (sym (E .upper-is i j ib h jb)) zero-finite
-    go (no f) (no g) = let q : i ≡ j = omega arith in subst (λ (z : ℕ). T (finite (cell l i z))) q (subst (λ (z : Float). T (finite z)) (sym (E .diagonal-is i ib)) (root-finite P pivot))
+    go (yes g) d = less-finite (cell a i i) (cell l i) (cell l i) i (pivot-finite P pivot) j g .0
+    go (no f) (yes g) = subst (λ (z : Float). T (finite z)) (sym (h .upper i j ib g jb)) zero-finite
+    go (no f) (no g) = let q : i ≡ j = omega arith in subst (λ (z : ℕ). T (finite (cell l i z))) q (subst (λ (z : Float). T (finite z)) (sym (h .diagonal i ib)) (root-finite P pivot))
+
+-- THE THEOREM: all of an accepted factor's cells are finite
+pub factor-finite : (a l : List (List Float)) → factorOf a ≡ Lower l → (i j : ℕ) → i < 9 → j < 9 → T (finite (cell l i j))
+unfolding factorOf
+factor-finite a l e i j ib jb = rows-finite 9 a l (factorTo-rows 9 a l (le-refl 9) e) i j ib jb

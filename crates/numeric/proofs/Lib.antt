@@ -13,11 +13,14 @@ pub mod RealValues
 pub mod OrderMagnitude
 pub mod OrderLaws
 pub mod OrderValues
+pub mod Zeros
 pub mod Pivot
 pub mod Rooted
 pub mod FactorLaws
 pub mod FactorColumns
 pub mod FactorElements
 pub mod FactorFinite
+pub mod FactorUsed
+pub mod SolveUsed
 pub mod Answers
 pub mod SoundSystem
