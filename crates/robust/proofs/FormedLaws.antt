@@ -15,7 +15,7 @@ use Rattle.median.specs.declared.centre.CentreScale.{CentreScale}
 use Rattle.robust.specs.Nine.{nine}
 use Rattle.robust.specs.Round.{weight, wide, total, cellOf, sideOf, triangleOf, matrixOf, rightOf, solved, roundBy}
 use Rattle.robust.specs.Step.{counted}
-use Rattle.robust.specs.Normal.{Solving}
+use Rattle.robust.specs.Normal.{Formed, Solving}
 use Rattle.robust.specs.declared.row.Row.{Row}
 use Rattle.robust.specs.declared.row.Rows.{Rows}
 use Rattle.robust.proofs.Sums.{blank, sumTo, sumTo-zero, sumTo-next, sum-total}
@@ -51,6 +51,14 @@ module _ (c : CentreScale) (huber : Float) (rows : Rows) where
   pub sides : ℕ → ℕ → Float
   sides k p = sumTo (λ k. weight c huber (rowAt rows k) ⊗ at (wide (rowAt rows k)) p ⊗ bits (rowAt rows k .residual)) k
 
+  pub cells-sum : (k p q : ℕ) → cells k p q ≡ sumTo (λ k. weighted (rowAt rows k) p q) k
+  unfolding sums
+  cells-sum k p q = refl
+
+  pub sides-sum : (k p : ℕ) → sides k p ≡ sumTo (λ k. weight c huber (rowAt rows k) ⊗ at (wide (rowAt rows k)) p ⊗ bits (rowAt rows k .residual)) k
+  unfolding sides
+  sides-sum k p = refl
+
   pub cells-zero : (p q : ℕ) → cells 0 p q ≡ +0
   cells-zero = sums-zero weighted rows
 
@@ -80,23 +88,25 @@ module _ (c : CentreScale) (huber : Float) (rows : Rows) where
     unfolding rightOf
     right-is n = ap nine (fun-ext (λ i. ap (λ (z : Float). cond (ltb i n) z +0) (sides-all i)))
 
-    -- the round, by what factoring the matrix that was formed gives
-    module _ (n : ℕ) (a : List (List Float)) (b x : List Float) (ok : Bool) (a-is : a ≡ triangleOf n (cells (rows .count))) (b-is : b ≡ nine (λ i. cond (ltb i n) (sides (rows .count) i) +0))
-        (ok-is : ok ≡ factor.accepted (factorOf a)) where
-      round-is : roundBy (weight c huber) (counted rows) n ≡ solved (counted rows) a b (factorOf a)
-      unfolding roundBy
-      round-is = rw (a-is, b-is, matrix-is n, right-is n)
+    pub formed : (n : ℕ) (a : List (List Float)) (b : List Float) → a ≡ triangleOf n (cells (rows .count)) → b ≡ nine (λ i. cond (ltb i n) (sides (rows .count) i) +0) → Formed (weight c huber) (counted rows) n a b
+    formed n a b a-is b-is = record { matrix-is = a-is ∙ matrix-is n; right-is = b-is ∙ right-is n }
 
-      pub solving-yes : (l z : List (List Float)) (s : List Float) → l ≡ rowsAfter (factorOf a) z → ok ≡ true → s ≡ solutionOf l b → Solving (roundBy (weight c huber) (counted rows) n) true x s
-      solving-yes l z s l-is t e = subst (λ o. Solving o true x s) (sym round-is) (go (factorOf a) ok-is l-is)
-        where
-          go : (v : Factored) → ok ≡ factor.accepted v → l ≡ rowsAfter v z → Solving (solved (counted rows) a b v) true x s
-          go Refused p q = absurd (let z : _≡_ {A = ℕ} 0 1 = cc in omega arith)
-          go (Lower k) p q = record { ok-is = refl; step-is = e ∙ ap (λ (z : List (List Float)). solutionOf z b) q }
+-- ---- the round, by what factoring the matrix that was formed gives
+module _ (w : Row → Float) (rows : List Row) (n : ℕ) (a : List (List Float)) (b x : List Float) (ok : Bool) (f : Formed w rows n a b) (ok-is : ok ≡ factor.accepted (factorOf a)) where
+  round-is : roundBy w rows n ≡ solved rows a b (factorOf a)
+  unfolding roundBy
+  round-is = rw (f .matrix-is, f .right-is)
 
-      pub solving-no : ok ≡ false → Solving (roundBy (weight c huber) (counted rows) n) false x x
-      solving-no t = subst (λ o. Solving o false x x) (sym round-is) (go (factorOf a) ok-is)
-        where
-          go : (v : Factored) → ok ≡ factor.accepted v → Solving (solved (counted rows) a b v) false x x
-          go Refused p = record { ok-is = refl; step-is = refl }
-          go (Lower k) p = absurd (let z : _≡_ {A = ℕ} 0 1 = cc in omega arith)
+  pub solving-yes : (l z : List (List Float)) (s : List Float) → l ≡ rowsAfter (factorOf a) z → ok ≡ true → s ≡ solutionOf l b → Solving (roundBy w rows n) true x s
+  solving-yes l z s l-is t e = subst (λ o. Solving o true x s) (sym round-is) (go (factorOf a) ok-is l-is)
+    where
+      go : (v : Factored) → ok ≡ factor.accepted v → l ≡ rowsAfter v z → Solving (solved rows a b v) true x s
+      go Refused p q = absurd (let z : _≡_ {A = ℕ} 0 1 = cc in omega arith)
+      go (Lower k) p q = record { ok-is = refl; step-is = e ∙ ap (λ (z : List (List Float)). solutionOf z b) q }
+
+  pub solving-no : ok ≡ false → Solving (roundBy w rows n) false x x
+  solving-no t = subst (λ o. Solving o false x x) (sym round-is) (go (factorOf a) ok-is)
+    where
+      go : (v : Factored) → ok ≡ factor.accepted v → Solving (solved rows a b v) false x x
+      go Refused p = record { ok-is = refl; step-is = refl }
+      go (Lower k) p = absurd (let z : _≡_ {A = ℕ} 0 1 = cc in omega arith)

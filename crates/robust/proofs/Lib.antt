@@ -1,9 +1,11 @@
 -- What the proofs of more than one function use, and the laws.
+pub mod Zeros
 pub mod NineLaws
 pub mod RoundSound
 pub mod RowLaws
 pub mod Sums
 pub mod NormalLaws
 pub mod FormedLaws
+pub mod Places
 pub mod StepLaws
 pub mod RoundValues

@@ -1,5 +1,6 @@
 // One round of the robust least squares.
 ghost use mathlib.Core.Path.{_≡_};
+ghost use mathlib.Core.Bool.{true};
 ghost use mathlib.Core.List.{map};
 ghost use Prim.Native.Nat.{_≤_, _<_};
 ghost use lib.ListN.{take};
@@ -11,10 +12,12 @@ use crate::row::Rows;
 use crate::row::wide;
 use crate::weight::weight;
 use median::centre::Centre;
+use median::centre::CentreScale;
 use median::centre::centre_scale;
 use numeric::factor::factor_into;
 use numeric::factor::solve_lent;
 use numeric::order::float;
+use numeric::real::is_finite;
 use numeric::refusal::Refusal;
 
 // What the round called by itself answers; the step itself stands in the lent dx.
@@ -33,23 +36,14 @@ pub fn unused(n: usize, a: &mut [[f64; 9]; 9])
     }
 }
 
-// The round of the counted rows: its step in x, or false and x as it was where a pivot is refused. Only the lower triangle is formed.
-pub fn round_step(rows: Rows, n: usize, huber: f64, x: &mut [f64; 9]) -> bool
+// Forms the normal equations in a and b, the matrix by its lower triangle: over every place of every row.
+fn form(rows: Rows, n: usize, c: CentreScale, huber: f64, a: &mut [[f64; 9]; 9], b: &mut [f64; 9])
     requires { ⌜ (rows .count ≤ 64) × (n ≤ 9) ⌝ }
-    ensures { λ r. ⌜ code.Solving (spec.roundOf (counted rows) n huber) r (now (x .entry)) (now (x .exit)) ⌝ }
+    ensures { λ _. ⌜ code.Formed (spec.weight c huber) (counted rows) n (now (a .exit)) (now (b .exit)) ⌝ }
 {
+    unused(n, a);
+    *b = [0.0; 9];
     let count = rows.count;
-    let mut p = [0u64; 64];
-    for k in 0..count {
-        let r = rows.row[k];
-        p[k] = r.residual;
-    }
-    let Centre::Of(c) = centre_scale(&p[..count]) else {
-        return false;
-    };
-    let mut a = [[0.0; 9]; 9];
-    unused(n, &mut a);
-    let mut b = [0.0; 9];
     let mut e = [0.0; 9];
     for k in 0..count {
         let r = rows.row[k];
@@ -64,6 +58,109 @@ pub fn round_step(rows: Rows, n: usize, huber: f64, x: &mut [f64; 9]) -> bool
             }
         }
     }
+}
+
+// Forms the normal equations over the places of a row that are not 0: x, y, z and the clock. What is 0 adds nothing where every number is finite.
+// False, with a and b of no use, where a clock is below 3 or at n or beyond, or a number is not finite.
+fn form_by_places(
+    rows: Rows,
+    n: usize,
+    c: CentreScale,
+    huber: f64,
+    a: &mut [[f64; 9]; 9],
+    b: &mut [f64; 9],
+) -> bool
+    requires { ⌜ (rows .count ≤ 64) × (n ≤ 9) ⌝ }
+    ensures { λ r. ⌜ (r ≡ true → code.Formed (spec.weight c huber) (counted rows) n (now (a .exit)) (now (b .exit))) ⌝ }
+{
+    if n < 3 {
+        return false;
+    }
+    unused(n, a);
+    *b = [0.0; 9];
+    let count = rows.count;
+    let mut xx = 0.0;
+    let mut yx = 0.0;
+    let mut yy = 0.0;
+    let mut zx = 0.0;
+    let mut zy = 0.0;
+    let mut zz = 0.0;
+    let mut sx = 0.0;
+    let mut sy = 0.0;
+    let mut sz = 0.0;
+    for k in 0..count {
+        let r = rows.row[k];
+        let i = r.clock;
+        if i < 3 {
+            return false;
+        }
+        if i >= n {
+            return false;
+        }
+        let w = weight(c, huber, r);
+        let d = float(r.residual);
+        let x = r.unit.x;
+        let y = r.unit.y;
+        let z = r.unit.z;
+        let tx = w * x;
+        let ty = w * y;
+        let tz = w * z;
+        let t = w * 1.0;
+        xx = xx + tx * x;
+        yx = yx + ty * x;
+        yy = yy + ty * y;
+        zx = zx + tz * x;
+        zy = zy + tz * y;
+        zz = zz + tz * z;
+        sx = sx + tx * d;
+        sy = sy + ty * d;
+        sz = sz + tz * d;
+        a[i][0] = a[i][0] + t * x;
+        a[i][1] = a[i][1] + t * y;
+        a[i][2] = a[i][2] + t * z;
+        a[i][i] = a[i][i] + t * 1.0;
+        b[i] = b[i] + t * d;
+    }
+    a[0][0] = xx;
+    a[1][0] = yx;
+    a[1][1] = yy;
+    a[2][0] = zx;
+    a[2][1] = zy;
+    a[2][2] = zz;
+    b[0] = sx;
+    b[1] = sy;
+    b[2] = sz;
+    is_finite(xx) & is_finite(yy) & is_finite(zz) & is_finite(sx)
+}
+
+// Forms the normal equations over the places that are not 0, or over all where that will not do.
+fn normal(rows: Rows, n: usize, c: CentreScale, huber: f64, a: &mut [[f64; 9]; 9], b: &mut [f64; 9])
+    requires { ⌜ (rows .count ≤ 64) × (n ≤ 9) ⌝ }
+    ensures { λ _. ⌜ code.Formed (spec.weight c huber) (counted rows) n (now (a .exit)) (now (b .exit)) ⌝ }
+{
+    if form_by_places(rows, n, c, huber, a, b) {
+        return;
+    }
+    form(rows, n, c, huber, a, b);
+}
+
+// The round of the counted rows: its step in x, or false and x as it was where a pivot is refused.
+pub fn round_step(rows: Rows, n: usize, huber: f64, x: &mut [f64; 9]) -> bool
+    requires { ⌜ (rows .count ≤ 64) × (n ≤ 9) ⌝ }
+    ensures { λ r. ⌜ code.Solving (spec.roundOf (counted rows) n huber) r (now (x .entry)) (now (x .exit)) ⌝ }
+{
+    let count = rows.count;
+    let mut p = [0u64; 64];
+    for k in 0..count {
+        let r = rows.row[k];
+        p[k] = r.residual;
+    }
+    let Centre::Of(c) = centre_scale(&p[..count]) else {
+        return false;
+    };
+    let mut a = [[0.0; 9]; 9];
+    let mut b = [0.0; 9];
+    normal(rows, n, c, huber, &mut a, &mut b);
     let mut l = [[0.0; 9]; 9];
     if factor_into(&a, &mut l) {
         let s = solve_lent(&l, b);

@@ -1,0 +1,230 @@
+-- `robust::round::form` meets its contract. Assumes nothing.
+use Prim.Native.Nat.{_*_, _+_, _-_, _≤_, _<_}
+use mathlib.Core.Path.{_≡_, subst}
+use mathlib.Core.Bool.{cond}
+use lib.Dec.{ltb}
+use lib.ListN.{length}
+use Rattle.exact.specs.Float.{+0}
+use Rattle.walk.proofs.Walk.{length-mapped}
+use Rattle.robust.specs.Nine.{nine}
+use Rattle.robust.specs.Round.{triangleOf}
+use Rattle.robust.proofs.NormalLaws.{Summing, summing-start, summing-next, summing-open, summing-close, summing-more, summing-end, Siding, siding-start, siding-next, siding-more, siding-end}
+use Rattle.robust.proofs.FormedLaws.{cells, sides, cells-zero, sides-zero, cells-next, sides-next, formed}
+use borrow.Author.Needs.{needs}
+use native.Mathlib.Omega.{arith}
+use Rattle.robust.proofs.round.form.Statement.{statement}
+use Rattle.robust.proofs.round.form.Tie as tie
+
+abbrev Inv-loop3 : tie.InvT-loop3
+Inv-loop3 n c huber a₀ b rows count e k w y i t j₀ j-end a j = (i < n) × (j ≤ j-end) × Summing (cells c huber rows) n k (i * 10 + j) a
+
+abbrev μ-loop3 : tie.MeasureT-loop3
+μ-loop3 n c huber a₀ b rows count e k w y i t j₀ j-end a j = j-end - j
+
+abbrev Inv-loop2 : tie.InvT-loop2
+Inv-loop2 n c huber a₀ b₀ rows count e k w y i₀ a b i = (i ≤ n) × Summing (cells c huber rows) n k (i * 10) a × Siding (sides c huber rows) n k i b
+
+abbrev μ-loop2 : tie.MeasureT-loop2
+μ-loop2 n c huber a₀ b₀ rows count e k w y i₀ a b i = n - i
+
+abbrev Inv-loop : tie.InvT-loop
+Inv-loop n c huber a₀ b₀ rows count e₀ k₀ a b e k = (k ≤ count) × Summing (cells c huber rows) n k 0 a × Siding (sides c huber rows) n k 0 b
+
+abbrev μ-loop : tie.MeasureT-loop
+μ-loop n c huber a₀ b₀ rows count e₀ k₀ a b e k = count - k
+
+long : (c : tie.Start Inv-loop3 μ-loop3 Inv-loop2 μ-loop2 Inv-loop μ-loop) → length (c .args .t1 .row) ≡ 64
+long c = search length-mapped
+
+unused-requires : tie.Need-unused-requires Inv-loop3 μ-loop3 Inv-loop2 μ-loop2 Inv-loop μ-loop
+unused-requires c κs = search needs
+
+loop-holds : tie.Need-loop-holds Inv-loop3 μ-loop3 Inv-loop2 μ-loop2 Inv-loop μ-loop
+loop-holds c =
+    let s = c .before .before .before .args in
+    (omega arith, summing-start (cells (s .c) (s .huber) (s .t1)) (s .n) (omega arith) (cells-zero (s .c) (s .huber) (s .t1)) _ (c .before .unused .ensures), siding-start (sides (s .c) (s .huber) (s .t1)) (s .n) (omega arith) (sides-zero (s .c) (s .huber) (s .t1)))
+
+mul-r : tie.Need-mul-r Inv-loop3 μ-loop3 Inv-loop2 μ-loop2 Inv-loop μ-loop
+mul-r c = omega arith
+
+element-copy-out-r :
+    tie.Need-element-copy-out-r Inv-loop3 μ-loop3 Inv-loop2 μ-loop2 Inv-loop μ-loop
+element-copy-out-r c = omega arith
+
+weight-requires : tie.Need-weight-requires Inv-loop3 μ-loop3 Inv-loop2 μ-loop2 Inv-loop μ-loop
+weight-requires c κs = search needs
+
+float-requires : tie.Need-float-requires Inv-loop3 μ-loop3 Inv-loop2 μ-loop2 Inv-loop μ-loop
+float-requires c κs = search needs
+
+wide-requires : tie.Need-wide-requires Inv-loop3 μ-loop3 Inv-loop2 μ-loop2 Inv-loop μ-loop
+wide-requires c κs = search needs
+
+loop2-holds : tie.Need-loop2-holds Inv-loop3 μ-loop3 Inv-loop2 μ-loop2 Inv-loop μ-loop
+loop2-holds c = let h = c .before .before .before .before .before .before .loop in (omega arith, h .inv .1, h .inv .2)
+
+mul-t : tie.Need-mul-t Inv-loop3 μ-loop3 Inv-loop2 μ-loop2 Inv-loop μ-loop
+mul-t c = omega arith
+
+array-read-t : tie.Need-array-read-t Inv-loop3 μ-loop3 Inv-loop2 μ-loop2 Inv-loop μ-loop
+array-read-t c = omega arith
+
+mul-b : tie.Need-mul-b Inv-loop3 μ-loop3 Inv-loop2 μ-loop2 Inv-loop μ-loop
+mul-b c = omega arith
+
+element-copy-out-b :
+    tie.Need-element-copy-out-b Inv-loop3 μ-loop3 Inv-loop2 μ-loop2 Inv-loop μ-loop
+element-copy-out-b c = omega arith
+
+mul-b-2 : tie.Need-mul-b-2 Inv-loop3 μ-loop3 Inv-loop2 μ-loop2 Inv-loop μ-loop
+mul-b-2 c = omega arith
+
+element-write-b : tie.Need-element-write-b Inv-loop3 μ-loop3 Inv-loop2 μ-loop2 Inv-loop μ-loop
+element-write-b c = omega arith
+
+add-j-end : tie.Need-add-j-end Inv-loop3 μ-loop3 Inv-loop2 μ-loop2 Inv-loop μ-loop
+add-j-end c = omega arith
+
+loop3-holds : tie.Need-loop3-holds Inv-loop3 μ-loop3 Inv-loop2 μ-loop2 Inv-loop μ-loop
+loop3-holds c =
+    let s = c .before .before .before .before .before .before .before .before .before .before .before .before .before .args in
+    let h = c .before .before .before .before .before .before .before .before .before .loop in
+    let i = c .before .before .loop2 in
+    (omega arith, omega arith, summing-open (cells (s .c) (s .huber) (s .t1)) (s .n) (omega arith) (h .k) (i .i) (i .a) (i .inv .1))
+
+mul-a : tie.Need-mul-a Inv-loop3 μ-loop3 Inv-loop2 μ-loop2 Inv-loop μ-loop
+mul-a c = omega arith
+
+mul-a-2 : tie.Need-mul-a-2 Inv-loop3 μ-loop3 Inv-loop2 μ-loop2 Inv-loop μ-loop
+mul-a-2 c = omega arith
+
+index-1-a : tie.Need-index-1-a Inv-loop3 μ-loop3 Inv-loop2 μ-loop2 Inv-loop μ-loop
+index-1-a c = omega arith
+
+index-2-a : tie.Need-index-2-a Inv-loop3 μ-loop3 Inv-loop2 μ-loop2 Inv-loop μ-loop
+index-2-a c = omega arith
+
+mul-a-3 : tie.Need-mul-a-3 Inv-loop3 μ-loop3 Inv-loop2 μ-loop2 Inv-loop μ-loop
+mul-a-3 c = omega arith
+
+array-read-a : tie.Need-array-read-a Inv-loop3 μ-loop3 Inv-loop2 μ-loop2 Inv-loop μ-loop
+array-read-a c = omega arith
+
+mul-a-4 : tie.Need-mul-a-4 Inv-loop3 μ-loop3 Inv-loop2 μ-loop2 Inv-loop μ-loop
+mul-a-4 c = omega arith
+
+mul-a-5 : tie.Need-mul-a-5 Inv-loop3 μ-loop3 Inv-loop2 μ-loop2 Inv-loop μ-loop
+mul-a-5 c = omega arith
+
+index-1-a-2 : tie.Need-index-1-a-2 Inv-loop3 μ-loop3 Inv-loop2 μ-loop2 Inv-loop μ-loop
+index-1-a-2 c = omega arith
+
+index-2-a-2 : tie.Need-index-2-a-2 Inv-loop3 μ-loop3 Inv-loop2 μ-loop2 Inv-loop μ-loop
+index-2-a-2 c = omega arith
+
+add-j : tie.Need-add-j Inv-loop3 μ-loop3 Inv-loop2 μ-loop2 Inv-loop μ-loop
+add-j c = omega arith
+
+loop3-less : tie.Need-loop3-less Inv-loop3 μ-loop3 Inv-loop2 μ-loop2 Inv-loop μ-loop
+loop3-less c = omega arith
+
+loop3-again : tie.Need-loop3-again Inv-loop3 μ-loop3 Inv-loop2 μ-loop2 Inv-loop μ-loop
+loop3-again c =
+    let s = c .before .before .before .before .before .before .before .before .before .before .before .before .before .before .before .before .args in
+    let h = c .before .before .before .before .before .before .before .before .before .before .before .before .loop in
+    let w = c .before .before .before .before .before .before .before .before .before .weight in
+    let i = c .before .before .before .before .before .loop2 in
+    let j = c .before .before .loop3 in
+    let here = cells-next (s .c) (s .huber) (s .t1) (h .k) (w .result) _ (w .ensures) (c .before .before .before .before .before .before .wide .ensures) (i .i) (j .j) _ (j .inv .2 .todo (i .i) (j .j) (omega arith) (omega arith) (omega arith)) in
+    (omega arith, omega arith, summing-next (cells (s .c) (s .huber) (s .t1)) (s .n) (omega arith) (h .k) (i .i) (j .j) (j .a) _ (omega arith) (omega arith) here (j .inv .2))
+
+add-i : tie.Need-add-i Inv-loop3 μ-loop3 Inv-loop2 μ-loop2 Inv-loop μ-loop
+add-i c = omega arith
+
+loop2-less : tie.Need-loop2-less Inv-loop3 μ-loop3 Inv-loop2 μ-loop2 Inv-loop μ-loop
+loop2-less c = omega arith
+
+loop2-again : tie.Need-loop2-again Inv-loop3 μ-loop3 Inv-loop2 μ-loop2 Inv-loop μ-loop
+loop2-again c =
+    let s = c .before .before .before .before .before .before .before .before .before .before .before .before .before .before .before .args in
+    let h = c .before .before .before .before .before .before .before .before .before .before .before .loop in
+    let w = c .before .before .before .before .before .before .before .before .weight in
+    let y = c .before .before .before .before .before .before .before .float in
+    let i = c .before .before .before .before .loop2 in
+    let j = c .before .loop3 in
+    let last : j .j ≡ i .i + 1 = omega arith in
+    let row = subst (λ z. Summing (cells (s .c) (s .huber) (s .t1)) (s .n) (h .k) (i .i * 10 + z) (j .a)) last (j .inv .2) in
+    let here = sides-next (s .c) (s .huber) (s .t1) (h .k) (w .result) _ (w .ensures) (c .before .before .before .before .before .wide .ensures) (i .i) _ (y .result) (i .inv .2 .todo (i .i) (omega arith) (omega arith)) (y .ensures) in
+    (omega arith, summing-close (cells (s .c) (s .huber) (s .t1)) (s .n) (omega arith) (h .k) (i .i) (j .a) (omega arith) row, siding-next (sides (s .c) (s .huber) (s .t1)) (s .n) (omega arith) (h .k) (i .i) (i .b) _ (omega arith) here (i .inv .2))
+
+add-k : tie.Need-add-k Inv-loop3 μ-loop3 Inv-loop2 μ-loop2 Inv-loop μ-loop
+add-k c = omega arith
+
+loop-less : tie.Need-loop-less Inv-loop3 μ-loop3 Inv-loop2 μ-loop2 Inv-loop μ-loop
+loop-less c = omega arith
+
+loop-again : tie.Need-loop-again Inv-loop3 μ-loop3 Inv-loop2 μ-loop2 Inv-loop μ-loop
+loop-again c =
+    let s = c .before .before .before .before .before .before .before .before .before .before .before .before .args in
+    let h = c .before .before .before .before .before .before .before .before .loop in
+    let i = c .before .loop2 in
+    let last : i .i ≡ s .n = omega arith in
+    let whole = subst (λ z. Summing (cells (s .c) (s .huber) (s .t1)) (s .n) (h .k) (z * 10) (i .a)) last (i .inv .1) in
+    let side = subst (λ z. Siding (sides (s .c) (s .huber) (s .t1)) (s .n) (h .k) z (i .b)) last (i .inv .2) in
+    (omega arith, summing-more (cells (s .c) (s .huber) (s .t1)) (s .n) (omega arith) (h .k) (i .a) whole, siding-more (sides (s .c) (s .huber) (s .t1)) (s .n) (omega arith) (h .k) (i .b) side)
+
+returns : tie.Need-returns Inv-loop3 μ-loop3 Inv-loop2 μ-loop2 Inv-loop μ-loop
+returns c =
+    let s = c .before .before .before .before .before .args in
+    let h = c .before .loop in
+    let last : h .k ≡ s .t1 .count = omega arith in
+    formed (s .c) (s .huber) (s .t1) (long (c .before .before .before .before .before)) (omega arith) (s .n) (h .a) (h .b)
+    (subst (λ z. h .a ≡ triangleOf (s .n) (cells (s .c) (s .huber) (s .t1) z)) last (summing-end (cells (s .c) (s .huber) (s .t1)) (s .n) (omega arith) (h .k) (h .a) (h .inv .1)))
+    (subst (λ z. h .b ≡ nine (λ i. cond (ltb i (s .n)) (sides (s .c) (s .huber) (s .t1) z i) +0)) last (siding-end (sides (s .c) (s .huber) (s .t1)) (s .n) (omega arith) (h .k) (h .b) (h .inv .2)))
+
+pub form-spec : {M : Type 1} → statement M
+form-spec =
+    tie.close
+    (tie.spec
+    Inv-loop3
+    μ-loop3
+    Inv-loop2
+    μ-loop2
+    Inv-loop
+    μ-loop
+    unused-requires
+    loop-holds
+    mul-r
+    element-copy-out-r
+    weight-requires
+    float-requires
+    wide-requires
+    loop2-holds
+    mul-t
+    array-read-t
+    mul-b
+    element-copy-out-b
+    mul-b-2
+    element-write-b
+    add-j-end
+    loop3-holds
+    mul-a
+    mul-a-2
+    index-1-a
+    index-2-a
+    mul-a-3
+    array-read-a
+    mul-a-4
+    mul-a-5
+    index-1-a-2
+    index-2-a-2
+    add-j
+    loop3-less
+    loop3-again
+    add-i
+    loop2-less
+    loop2-again
+    add-k
+    loop-less
+    loop-again
+    returns)
