@@ -8,19 +8,19 @@ mod clocks;
 #[cfg(feature = "displacement")]
 mod displacement;
 #[cfg(feature = "corrections")]
-mod corrections;
-mod factor;
+pub mod corrections;
+pub mod factor;
 #[cfg(feature = "fix")]
 mod fix;
 mod order;
 mod root;
 #[cfg(feature = "robust")]
-mod round;
+pub mod round;
 #[cfg(feature = "robust")]
 mod sight;
 #[cfg(feature = "robust")]
 mod sigma;
-mod solve;
+pub mod solve;
 mod soundness;
 mod standins;
 #[cfg(feature = "track")]
