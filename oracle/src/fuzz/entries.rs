@@ -1,7 +1,7 @@
 //! One function for each entry point: decode, lend, call, compare.
 
 // A slot is a usize there and a u64 in `ffi`: on x86-64 they are one.
-#[allow(clashing_extern_declarations)]
+#[allow(clashing_extern_declarations, dead_code)]
 #[path = "../../../bindings/rust/src/sys.rs"]
 mod sys;
 
