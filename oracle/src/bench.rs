@@ -1,5 +1,6 @@
 //! Times of both sides in one run, taken in turn.
 
+use crate::instructions;
 use std::time::{Duration, Instant};
 
 /// How long one batch takes, about: shorter than a time slice, so that few are interrupted.
@@ -9,8 +10,11 @@ const BATCHES: usize = 301;
 
 /// Prints the head of the table.
 pub fn head() {
+    if instructions::counted() {
+        return;
+    }
     println!(
-        "{:<14} {:>5} {:>10} {:>10} {:>6}",
+        "{:<30} {:>5} {:>10} {:>10} {:>6}",
         "service", "size", "rattle_ns", "rust_ns", "ratio"
     );
 }
@@ -24,13 +28,56 @@ pub fn row(
     mut rattle: impl FnMut(),
     mut rust: impl FnMut(),
 ) {
+    if instructions::counted() {
+        instructions::tell("row", service, size, calls);
+        instructions::count(&mut rattle);
+        instructions::count(&mut rust);
+        return;
+    }
     let (ours, theirs) = (repeats(&mut rattle), repeats(&mut rust));
     let one = |n: u32, f: &mut dyn FnMut()| batch(n, f) / (calls as f64 * f64::from(n));
     let pairs: Vec<(f64, f64)> = (0..BATCHES)
         .map(|_| (one(ours, &mut rattle), one(theirs, &mut rust)))
         .collect();
+    print(service, size, &pairs);
+}
+
+/// A row for what is left of a cost without the part that grows with the size: twice the cost at
+/// half the size, less the cost at the size.
+pub fn row_less(
+    service: &str,
+    size: usize,
+    calls: usize,
+    mut half: impl FnMut(),
+    mut whole: impl FnMut(),
+    mut rust: impl FnMut(),
+) {
+    if instructions::counted() {
+        instructions::tell("less", service, size, calls);
+        instructions::count(&mut half);
+        instructions::count(&mut whole);
+        instructions::count(&mut rust);
+        return;
+    }
+    let n = [repeats(&mut half), repeats(&mut whole), repeats(&mut rust)];
+    let one = |n: u32, f: &mut dyn FnMut()| batch(n, f) / (calls as f64 * f64::from(n));
+    let times: Vec<[f64; 3]> = (0..BATCHES)
+        .map(|_| {
+            [
+                one(n[0], &mut half),
+                one(n[1], &mut whole),
+                one(n[2], &mut rust),
+            ]
+        })
+        .collect();
+    let of = |k: usize| middle(times.iter().map(|t| t[k]));
+    print(service, size, &[(2.0 * of(0) - of(1), of(2))]);
+}
+
+/// Prints the middle of each side, and of the ratios.
+fn print(service: &str, size: usize, pairs: &[(f64, f64)]) {
     println!(
-        "{service:<14} {size:>5} {:>10.2} {:>10.2} {:>6.2}",
+        "{service:<30} {size:>5} {:>10.2} {:>10.2} {:>6.2}",
         middle(pairs.iter().map(|p| p.0)),
         middle(pairs.iter().map(|p| p.1)),
         middle(pairs.iter().map(|p| p.0 / p.1))

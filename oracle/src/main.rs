@@ -11,6 +11,9 @@ mod big;
 mod edges;
 mod estimate;
 mod ffi;
+#[cfg(feature = "fuzz")]
+mod fuzz;
+mod instructions;
 #[cfg(feature = "displacement")]
 #[cfg_attr(not(feature = "line"), allow(dead_code))]
 mod line_form;
@@ -32,7 +35,7 @@ use tally::Tally;
 use vectors::Stream;
 
 const USAGE: &str = "oracle compare [--seed S] [--count N] [SERVICE..]
-oracle bench [SERVICE..]
+oracle bench [--instructions] [SERVICE..]
 oracle accuracy [--seed S] [--count N]
 oracle vectors [--seed S] FILE [TEXTS]";
 
@@ -40,6 +43,9 @@ oracle vectors [--seed S] FILE [TEXTS]";
 struct Arguments {
     seed: u64,
     count: Option<u64>,
+    /// Count instructions by callgrind; `counted` is the run under it.
+    instructions: bool,
+    counted: bool,
     words: Vec<String>,
 }
 
@@ -48,6 +54,8 @@ fn arguments(mut given: impl Iterator<Item = String>) -> Result<Arguments, Strin
     let mut out = Arguments {
         seed: 1,
         count: None,
+        instructions: false,
+        counted: false,
         words: Vec::new(),
     };
     while let Some(word) = given.next() {
@@ -59,6 +67,8 @@ fn arguments(mut given: impl Iterator<Item = String>) -> Result<Arguments, Strin
         match word.as_str() {
             "--seed" => out.seed = number()?,
             "--count" => out.count = Some(number()?),
+            "--instructions" => out.instructions = true,
+            "--counted" => out.counted = true,
             flag if flag.starts_with('-') => return Err(format!("{flag}: no such flag")),
             _ => out.words.push(word),
         }
@@ -94,6 +104,12 @@ fn compare(given: &Arguments) -> Result<bool, String> {
 /// Prints the table of times.
 fn bench(given: &Arguments) -> Result<bool, String> {
     let services = chosen(&given.words)?;
+    if given.instructions {
+        return instructions::table(&given.words);
+    }
+    if given.counted {
+        instructions::begin();
+    }
     bench::head();
     for service in services {
         if let Some(bench) = service.bench {
@@ -144,6 +160,10 @@ fn line_vectors(_: u64, file: &str) -> Result<(), String> {
 fn run() -> Result<bool, String> {
     let mut words = std::env::args().skip(1);
     let command = words.next().ok_or("no command")?;
+    #[cfg(feature = "fuzz")]
+    if command == "fuzz" {
+        return fuzz::run(&words.collect::<Vec<_>>());
+    }
     let mut given = arguments(words)?;
     match command.as_str() {
         "compare" => compare(&given),

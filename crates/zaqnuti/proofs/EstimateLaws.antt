@@ -1,6 +1,6 @@
 -- The displacement and the fix of a caller's columns, from the records and settings that the code makes of them. Assumes nothing.
 use mathlib.Core.Path.{_≡_, sym, ap, _∙_}
-use mathlib.Core.Bool.{Bool, true, false}
+use mathlib.Core.Bool.{Bool, true, false, cond, _&&_}
 use mathlib.Core.List.{List}
 use Prim.Native.Nat.{ℕ, min, _<_}
 use native.Mathlib.Decide.{decLt}
@@ -14,14 +14,20 @@ use Rattle.estimator.specs.declared.record.Observations.{Observations}
 use Rattle.estimator.specs.Displacement as displacement
 use Rattle.estimator.specs.Displacement.{displacementOf}
 use Rattle.estimator.specs.Fix as fix
-use Rattle.estimator.specs.Fix.{fixOf}
+use Rattle.estimator.specs.Fix.{fixOf, positionOf}
 use Rattle.estimator.specs.declared.displacement.Displacement.{Displacement}
 use Rattle.estimator.specs.declared.displacement.Displacement.the-variants as Displacement
 use Rattle.estimator.specs.declared.fix.Fix.{Fix}
 use Rattle.estimator.specs.declared.fix.Fix.the-variants as Fix
+use Rattle.estimator.specs.declared.displacement.Delta.{Delta}
+use Rattle.estimator.specs.declared.displacement.Settings.{Settings as DisplacementSettings}
+use Rattle.estimator.specs.declared.fix.Solution.{Solution}
+use Rattle.estimator.specs.declared.fix.Settings.{Settings as FixSettings}
+use Rattle.estimator.proofs.DisplacementSound.{displacement-accepted}
+use Rattle.estimator.proofs.FixSound.{fix-accepted}
 use Rattle.estimator.proofs.CountedLaws.{displacement-counted, displacement-many-rounds, fix-counted, fix-many-rounds}
 use Rattle.zaqnuti.specs.Columns.{places, CarrierColumns, carrierAt, carriersOf, epochOf, epochFits, ObservationColumns, observationAt, observationsOf, observationsFit}
-use Rattle.zaqnuti.specs.Estimates.{displacementSettings, columnDisplacementOf, displacementNumber, deltaAfter, countsAfter, DisplacementAnswers, fixSettings, columnFixOf, fixNumber, solutionAfter, usedAfter, FixAnswers}
+use Rattle.zaqnuti.specs.Estimates.{displacementSettings, displacementInput, columnDisplacementOf, displacementNumber, deltaAfter, countsAfter, DisplacementAnswers, fixSettings, fixInput, columnFixOf, fixNumber, solutionAfter, usedAfter, FixAnswers, positionNumber, positionAfter, PositionAnswers}
 use Rattle.zaqnuti.proofs.ColumnLaws.{held-count, held-all}
 
 -- ---- a displacement
@@ -29,7 +35,7 @@ use Rattle.zaqnuti.proofs.ColumnLaws.{held-count, held-all}
 module _ (p : CarrierColumns) (m : ℕ) (c : CarrierColumns) (n : ℕ) (dt : Float) (receiver : Vec3) (s : List Float) (rounds : ℕ) where
   -- what is handed over, with k rounds
   abbrev input : ℕ → displacement.Input
-  input k = record { previous = epochOf p m; current = epochOf c n; dt = dt; receiver = receiver; settings = displacementSettings s k }
+  input k = displacementInput p m c n dt receiver (displacementSettings s k)
 
   -- 51 rounds are refused as any more are
   rounds-capped : displacementOf (input (min rounds 51)) ≡ displacementOf (input rounds)
@@ -56,28 +62,42 @@ module _ (p : CarrierColumns) (m : ℕ) (c : CarrierColumns) (n : ℕ) (dt : Flo
         (displacement-counted previous (epochOf p m) current (epochOf c n) dt receiver (displacementSettings s (min rounds 51)) (held-count (carrierAt p) m h) (held-all (carrierAt p) m h) (held-count (carrierAt c) n k) (held-all (carrierAt c) n k)
         ∙ rounds-capped)
 
--- the contract's parts, from the answer d that was given
-pub displacement-answers : {d e : Displacement} {number : ℕ} {delta₀ delta : List Float} {counts₀ counts : List ℕ} → d ≡ e → number ≡ displacementNumber d → delta ≡ deltaAfter d delta₀ → counts ≡ countsAfter d counts₀
-    → DisplacementAnswers e number delta₀ delta counts₀ counts
-displacement-answers {delta₀ = delta₀} {counts₀ = counts₀} q a b c =
-    record {
-      number-is = a ∙ ap displacementNumber q;
-      delta-is = b ∙ ap (λ (z : Displacement). deltaAfter z delta₀) q;
-      counts-are = c ∙ ap (λ (z : Displacement). countsAfter z counts₀) q;
-    }
+not-moved : (v : Delta) → Displacement.Refused TooMany ≡ Displacement.Moved v → ⊥
+not-moved v e = let z : _≡_ {A = ℕ} 0 1 = cc in omega arith
+
+module _ (p : CarrierColumns) (m : ℕ) (c : CarrierColumns) (n : ℕ) (dt : Float) (receiver : Vec3) (settings : DisplacementSettings) where
+  -- what an accepted displacement of columns has
+  moved-accepted : (v : Delta) → columnDisplacementOf p m c n dt receiver settings ≡ Displacement.Moved v → displacement.Accepted (displacementInput p m c n dt receiver settings) v
+  unfolding columnDisplacementOf
+  moved-accepted v = go (epochFits p m && epochFits c n)
+    where
+      go : (b : Bool) → cond b (displacementOf (displacementInput p m c n dt receiver settings)) (Displacement.Refused TooMany) ≡ Displacement.Moved v → displacement.Accepted (displacementInput p m c n dt receiver settings) v
+      go true e = displacement-accepted (displacementInput p m c n dt receiver settings) v e
+      go false e = absurd (not-moved v e)
+
+  -- the contract's parts, from the answer d that was given
+  pub displacement-answers : {d : Displacement} {number : ℕ} {delta₀ delta : List Float} {counts₀ counts : List ℕ} → d ≡ columnDisplacementOf p m c n dt receiver settings → number ≡ displacementNumber d → delta ≡ deltaAfter d delta₀ → counts ≡ countsAfter d counts₀
+      → DisplacementAnswers (displacementInput p m c n dt receiver settings) (columnDisplacementOf p m c n dt receiver settings) number delta₀ delta counts₀ counts
+  displacement-answers {delta₀ = delta₀} {counts₀ = counts₀} q a b e =
+      record {
+        number-is = a ∙ ap displacementNumber q;
+        delta-is = b ∙ ap (λ (z : Displacement). deltaAfter z delta₀) q;
+        counts-are = e ∙ ap (λ (z : Displacement). countsAfter z counts₀) q;
+        accepted = moved-accepted;
+      }
 
 -- ---- a fix
 
 module _ (c : ObservationColumns) (n : ℕ) (guess : Vec3) (s : List Float) (rounds : ℕ) where
-  abbrev fixInput : ℕ → fix.Input
-  fixInput k = record { observations = observationsOf c n; guess = guess; settings = fixSettings s k }
+  abbrev given : ℕ → fix.Input
+  given k = fixInput c n guess (fixSettings s k)
 
-  fix-rounds-capped : fixOf (fixInput (min rounds 51)) ≡ fixOf (fixInput rounds)
+  fix-rounds-capped : fixOf (given (min rounds 51)) ≡ fixOf (given rounds)
   fix-rounds-capped = go (decLt 50 rounds)
     where
-      go : Dec (50 < rounds) → fixOf (fixInput (min rounds 51)) ≡ fixOf (fixInput rounds)
-      go (yes h) = fix-many-rounds (fixInput (min rounds 51)) (omega arith) ∙ sym (fix-many-rounds (fixInput rounds) h)
-      go (no h) = let e : min rounds 51 ≡ rounds = omega arith in ap (λ (k : ℕ). fixOf (fixInput k)) e
+      go : Dec (50 < rounds) → fixOf (given (min rounds 51)) ≡ fixOf (given rounds)
+      go (yes h) = fix-many-rounds (given (min rounds 51)) (omega arith) ∙ sym (fix-many-rounds (given rounds) h)
+      go (no h) = let e : min rounds 51 ≡ rounds = omega arith in ap (λ (k : ℕ). fixOf (given k)) e
 
   module _ {b : Bool} (is : b ≡ observationsFit c n) where
     pub fix-short : b ≡ false → Fix.Refused TooMany ≡ columnFixOf c n guess (fixSettings s rounds)
@@ -92,11 +112,34 @@ module _ (c : ObservationColumns) (n : ℕ) (guess : Vec3) (s : List Float) (rou
         (fix-counted o (observationsOf c n) guess (fixSettings s (min rounds 51)) (held-count (observationAt c) n h) (held-all (observationAt c) n h)
         ∙ fix-rounds-capped)
 
-pub fix-answers : {f g : Fix} {number : ℕ} {solution₀ solution : List Float} {used₀ used : ℕ} → f ≡ g → number ≡ fixNumber f → solution ≡ solutionAfter f solution₀ → used ≡ usedAfter f used₀
-    → FixAnswers g number solution₀ solution used₀ used
-fix-answers {solution₀ = solution₀} {used₀ = used₀} q a b c =
-    record {
-      number-is = a ∙ ap fixNumber q;
-      solution-is = b ∙ ap (λ (z : Fix). solutionAfter z solution₀) q;
-      used-is = c ∙ ap (λ (z : Fix). usedAfter z used₀) q;
-    }
+not-at : (v : Solution) → Fix.Refused TooMany ≡ Fix.At v → ⊥
+not-at v e = let z : _≡_ {A = ℕ} 0 1 = cc in omega arith
+
+module _ (c : ObservationColumns) (n : ℕ) (guess : Vec3) (settings : FixSettings) where
+  -- what an accepted fix of columns has
+  at-accepted : (v : Solution) → columnFixOf c n guess settings ≡ Fix.At v → fix.Accepted (fixInput c n guess settings) v
+  unfolding columnFixOf
+  at-accepted v = go (observationsFit c n)
+    where
+      go : (b : Bool) → cond b (fixOf (fixInput c n guess settings)) (Fix.Refused TooMany) ≡ Fix.At v → fix.Accepted (fixInput c n guess settings) v
+      go true e = fix-accepted (fixInput c n guess settings) v e
+      go false e = absurd (not-at v e)
+
+  pub fix-answers : {f : Fix} {number : ℕ} {solution₀ solution : List Float} {used₀ used : ℕ} → f ≡ columnFixOf c n guess settings → number ≡ fixNumber f → solution ≡ solutionAfter f solution₀ → used ≡ usedAfter f used₀
+      → FixAnswers (fixInput c n guess settings) (columnFixOf c n guess settings) number solution₀ solution used₀ used
+  fix-answers {solution₀ = solution₀} {used₀ = used₀} q a b e =
+      record {
+        number-is = a ∙ ap fixNumber q;
+        solution-is = b ∙ ap (λ (z : Fix). solutionAfter z solution₀) q;
+        used-is = e ∙ ap (λ (z : Fix). usedAfter z used₀) q;
+        accepted = at-accepted;
+      }
+
+  pub position-answers : {f : Fix} {number : ℕ} {position₀ position : List Float} → f ≡ columnFixOf c n guess settings → number ≡ positionNumber (positionOf f) → position ≡ positionAfter (positionOf f) position₀
+      → PositionAnswers (fixInput c n guess settings) (columnFixOf c n guess settings) number position₀ position
+  position-answers {position₀ = position₀} q a b =
+      record {
+        number-is = a ∙ ap (λ (z : Fix). positionNumber (positionOf z)) q;
+        position-is = b ∙ ap (λ (z : Fix). positionAfter (positionOf z) position₀) q;
+        accepted = at-accepted;
+      }

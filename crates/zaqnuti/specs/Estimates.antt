@@ -11,12 +11,18 @@ use Rattle.numeric.specs.declared.refusal.Refusal.the-variants.{TooMany}
 use Rattle.numeric.specs.declared.vec3.Vec3.{Vec3}
 use Rattle.estimator.specs.declared.displacement.Settings.{Settings as DisplacementSettings}
 use Rattle.estimator.specs.declared.fix.Settings.{Settings as FixSettings}
+use Rattle.estimator.specs.Displacement as displacement
 use Rattle.estimator.specs.Displacement.{displacementOf}
-use Rattle.estimator.specs.Fix.{fixOf}
+use Rattle.estimator.specs.Fix as fix
+use Rattle.estimator.specs.Fix.{fixOf, positionOf}
+use Rattle.estimator.specs.declared.displacement.Delta.{Delta}
+use Rattle.estimator.specs.declared.fix.Solution.{Solution}
 use Rattle.estimator.specs.declared.displacement.Displacement.{Displacement}
 use Rattle.estimator.specs.declared.displacement.Displacement.the-variants as Displacement
 use Rattle.estimator.specs.declared.fix.Fix.{Fix}
 use Rattle.estimator.specs.declared.fix.Fix.the-variants as Fix
+use Rattle.estimator.specs.declared.fix.Position.{Position}
+use Rattle.estimator.specs.declared.fix.Position.the-variants as Position
 use Rattle.zaqnuti.specs.Columns.{CarrierColumns, epochOf, epochFits, ObservationColumns, observationsOf, observationsFit}
 
 -- ---- a displacement
@@ -34,12 +40,14 @@ displacementSettings s rounds =
       agreement = +0;
     }
 
--- The displacement from the first m carriers of p to the first n of c. 2: one epoch has more than 64, or one of its columns is too short.
+-- what is handed over: the first m carriers of p, then the first n of c
+abbrev pub displacementInput : CarrierColumns → ℕ → CarrierColumns → ℕ → Float → Vec3 → DisplacementSettings → displacement.Input
+displacementInput p m c n dt receiver settings = record { previous = epochOf p m; current = epochOf c n; dt = dt; receiver = receiver; settings = settings }
+
+-- The displacement of that input. 2: one epoch has more than 64, or one of its columns is too short.
 unfoldable pub columnDisplacementOf : CarrierColumns → ℕ → CarrierColumns → ℕ → Float → Vec3 → DisplacementSettings → Displacement
 columnDisplacementOf p m c n dt receiver settings =
-    cond (epochFits p m && epochFits c n)
-    (displacementOf (record { previous = epochOf p m; current = epochOf c n; dt = dt; receiver = receiver; settings = settings }))
-    (Displacement.Refused TooMany)
+    cond (epochFits p m && epochFits c n) (displacementOf (displacementInput p m c n dt receiver settings)) (Displacement.Refused TooMany)
 
 abbrev pub displacementNumber : Displacement → ℕ
 displacementNumber (Displacement.Refused r) = numberOf r
@@ -54,11 +62,12 @@ abbrev pub countsAfter : Displacement → List ℕ → List ℕ
 countsAfter (Displacement.Refused r) before = before
 countsAfter (Displacement.Moved d) before = d .used ∷ d .screened ∷ []
 
--- the number and the lent results afterwards are those of the displacement
-pub record DisplacementAnswers (d : Displacement) (number : ℕ) (delta₀ delta : List Float) (counts₀ counts : List ℕ) : Type 0 where
+-- The number and the lent results afterwards are those of the displacement d of the input i. An accepted one has what an accepted displacement has, demand 3 of every round included.
+pub record DisplacementAnswers (i : displacement.Input) (d : Displacement) (number : ℕ) (delta₀ delta : List Float) (counts₀ counts : List ℕ) : Type 0 where
   pub number-is : number ≡ displacementNumber d
   pub delta-is : delta ≡ deltaAfter d delta₀
   pub counts-are : counts ≡ countsAfter d counts₀
+  pub accepted : (v : Delta) → d ≡ Displacement.Moved v → displacement.Accepted i v
 
 -- ---- a fix
 
@@ -67,10 +76,13 @@ abbrev pub fixSettings : List Float → ℕ → FixSettings
 fixSettings s rounds =
     record { «sigma_a» = getD s 0 nan; «sigma_b» = getD s 1 nan; huber = getD s 2 nan; mask = getD s 3 nan; rounds = rounds }
 
--- The fix of the first n observations. 2: there are more than 64, or a column is too short.
+-- what is handed over: the first n observations
+abbrev pub fixInput : ObservationColumns → ℕ → Vec3 → FixSettings → fix.Input
+fixInput c n guess settings = record { observations = observationsOf c n; guess = guess; settings = settings }
+
+-- The fix of that input. 2: there are more than 64, or a column is too short.
 unfoldable pub columnFixOf : ObservationColumns → ℕ → Vec3 → FixSettings → Fix
-columnFixOf c n guess settings =
-    cond (observationsFit c n) (fixOf (record { observations = observationsOf c n; guess = guess; settings = settings })) (Fix.Refused TooMany)
+columnFixOf c n guess settings = cond (observationsFit c n) (fixOf (fixInput c n guess settings)) (Fix.Refused TooMany)
 
 abbrev pub fixNumber : Fix → ℕ
 fixNumber (Fix.Refused r) = numberOf r
@@ -85,8 +97,26 @@ abbrev pub usedAfter : Fix → ℕ → ℕ
 usedAfter (Fix.Refused r) before = before
 usedAfter (Fix.At s) before = s .used
 
--- the number and the lent results afterwards are those of the fix
-pub record FixAnswers (f : Fix) (number : ℕ) (solution₀ solution : List Float) (used₀ used : ℕ) : Type 0 where
+-- The number and the lent results afterwards are those of the fix f of the input i. An accepted one has what an accepted fix has, demand 3 of every round included.
+pub record FixAnswers (i : fix.Input) (f : Fix) (number : ℕ) (solution₀ solution : List Float) (used₀ used : ℕ) : Type 0 where
   pub number-is : number ≡ fixNumber f
   pub solution-is : solution ≡ solutionAfter f solution₀
   pub used-is : used ≡ usedAfter f used₀
+  pub accepted : (v : Solution) → f ≡ Fix.At v → fix.Accepted i v
+
+-- ---- a fix by its position alone
+
+abbrev pub positionNumber : Position → ℕ
+positionNumber (Position.Refused r) = numberOf r
+positionNumber (Position.At p) = 0
+
+-- x, y and z; a refusal leaves them as they were
+abbrev pub positionAfter : Position → List Float → List Float
+positionAfter (Position.Refused r) before = before
+positionAfter (Position.At p) before = p .x ∷ p .y ∷ p .z ∷ []
+
+-- The number and the lent result afterwards are those of the position of the fix f of the input i, which has what an accepted fix has.
+pub record PositionAnswers (i : fix.Input) (f : Fix) (number : ℕ) (position₀ position : List Float) : Type 0 where
+  pub number-is : number ≡ positionNumber (positionOf f)
+  pub position-is : position ≡ positionAfter (positionOf f) position₀
+  pub accepted : (v : Solution) → f ≡ Fix.At v → fix.Accepted i v

@@ -4,6 +4,17 @@ ghost use Rattle.estimator.specs.Clocks as spec;
 ghost use Rattle.zaqnuti.specs.Numbers.{clocksFrom};
 use estimator::clocks::Clocks;
 
+// The state of no constellation given, in the lent slots and count.
+#[no_mangle]
+pub extern "C" fn zaqnuti_clocks_new(slot: &mut [usize; 8], count: &mut usize)
+    ensures { λ _. ⌜ clocksFrom (now (slot .exit)) (now (count .exit)) ≡ spec.none ⌝ }
+{
+    let k = Clocks::new();
+    let s = k.slot;
+    *slot = s;
+    *count = k.count;
+}
+
 // One constellation more, in the lent state.
 #[no_mangle]
 pub extern "C" fn zaqnuti_clocks_given(slot: &mut [usize; 8], count: &mut usize, constellation: u8)
@@ -28,4 +39,17 @@ pub extern "C" fn zaqnuti_clocks_slot(slot: &[usize; 8], constellation: u8) -> u
     let s = *slot;
     let k = Clocks { slot: s, count: 0 };
     k.slot(constellation)
+}
+
+// Three coordinates and a clock for each constellation given.
+#[no_mangle]
+pub extern "C" fn zaqnuti_clocks_unknowns(slot: &[usize; 8], count: usize) -> usize
+    ensures { λ r. ⌜ r ≡ spec.unknowns (clocksFrom (now (slot .entry)) count) ⌝ }
+{
+    let s = *slot;
+    let k = Clocks {
+        slot: s,
+        count: count,
+    };
+    k.unknowns()
 }

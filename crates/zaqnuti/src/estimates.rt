@@ -75,7 +75,10 @@ pub extern "C" fn zaqnuti_displacement(
     delta: &mut [f64; 3],
     counts: &mut [usize; 2],
 ) -> u8
-    ensures { λ r. ⌜ spec.DisplacementAnswers (spec.columnDisplacementOf (carrierColumns (now («previous_constellation» .entry)) (now («previous_svid» .entry)) (now («previous_band» .entry)) (now («previous_state» .entry)) (now («previous_floats» .entry))) «previous_count» (carrierColumns (now («current_constellation» .entry)) (now («current_svid» .entry)) (now («current_band» .entry)) (now («current_state» .entry)) (now («current_floats» .entry))) «current_count» dt (vectorAt (now (receiver .entry)) 0) (spec.displacementSettings (now (settings .entry)) rounds)) r (now (delta .entry)) (now (delta .exit)) (now (counts .entry)) (now (counts .exit)) ⌝ }
+    ensures { λ r. ⌜ spec.DisplacementAnswers
+        (spec.displacementInput (carrierColumns (now («previous_constellation» .entry)) (now («previous_svid» .entry)) (now («previous_band» .entry)) (now («previous_state» .entry)) (now («previous_floats» .entry))) «previous_count» (carrierColumns (now («current_constellation» .entry)) (now («current_svid» .entry)) (now («current_band» .entry)) (now («current_state» .entry)) (now («current_floats» .entry))) «current_count» dt (vectorAt (now (receiver .entry)) 0) (spec.displacementSettings (now (settings .entry)) rounds))
+        (spec.columnDisplacementOf (carrierColumns (now («previous_constellation» .entry)) (now («previous_svid» .entry)) (now («previous_band» .entry)) (now («previous_state» .entry)) (now («previous_floats» .entry))) «previous_count» (carrierColumns (now («current_constellation» .entry)) (now («current_svid» .entry)) (now («current_band» .entry)) (now («current_state» .entry)) (now («current_floats» .entry))) «current_count» dt (vectorAt (now (receiver .entry)) 0) (spec.displacementSettings (now (settings .entry)) rounds))
+        r (now (delta .entry)) (now (delta .exit)) (now (counts .entry)) (now (counts .exit)) ⌝ }
 {
     if !epoch_fits(
         previous_constellation,
@@ -127,6 +130,26 @@ pub extern "C" fn zaqnuti_displacement(
     }
 }
 
+// The fix of the first `count` observations of the columns.
+fn fix_from(
+    constellation: &[u8],
+    floats: &[f64],
+    count: usize,
+    guess: &[f64; 3],
+    settings: &[f64; 4],
+    rounds: usize,
+) -> Fix
+    ensures { λ r. ⌜ r ≡ spec.columnFixOf (observationColumns (now (constellation .entry)) (now (floats .entry))) count (vectorAt (now (guess .entry)) 0) (spec.fixSettings (now (settings .entry)) rounds) ⌝ }
+{
+    if !observations_fit(constellation, floats, count) {
+        return Fix::Refused(Refusal::TooMany);
+    }
+    let observations = observations_of(constellation, floats, count);
+    let at = vector(guess);
+    let s = fix_settings(settings, rounds);
+    solve_full(observations, at, s)
+}
+
 // The position from one epoch: 0, x, y, z, chi and pdop in solution and how many observations were used in used; or the refusal's number, which leaves both as they were.
 #[no_mangle]
 pub extern "C" fn zaqnuti_fix(
@@ -139,20 +162,44 @@ pub extern "C" fn zaqnuti_fix(
     solution: &mut [f64; 5],
     used: &mut usize,
 ) -> u8
-    ensures { λ r. ⌜ spec.FixAnswers (spec.columnFixOf (observationColumns (now (constellation .entry)) (now (floats .entry))) count (vectorAt (now (guess .entry)) 0) (spec.fixSettings (now (settings .entry)) rounds)) r (now (solution .entry)) (now (solution .exit)) (now (used .entry)) (now (used .exit)) ⌝ }
+    ensures { λ r. ⌜ spec.FixAnswers
+        (spec.fixInput (observationColumns (now (constellation .entry)) (now (floats .entry))) count (vectorAt (now (guess .entry)) 0) (spec.fixSettings (now (settings .entry)) rounds))
+        (spec.columnFixOf (observationColumns (now (constellation .entry)) (now (floats .entry))) count (vectorAt (now (guess .entry)) 0) (spec.fixSettings (now (settings .entry)) rounds))
+        r (now (solution .entry)) (now (solution .exit)) (now (used .entry)) (now (used .exit)) ⌝ }
 {
-    if !observations_fit(constellation, floats, count) {
-        return Refusal::TooMany.number();
-    }
-    let observations = observations_of(constellation, floats, count);
-    let at = vector(guess);
-    let s = fix_settings(settings, rounds);
-    let answer = solve_full(observations, at, s);
+    let answer = fix_from(constellation, floats, count, guess, settings, rounds);
     match answer {
         Fix::At(f) => {
             let p = f.position;
             *solution = [p.x, p.y, p.z, f.chi, f.pdop];
             *used = f.used;
+            0
+        }
+        Fix::Refused(r) => r.number(),
+    }
+}
+
+// The same fix by its position alone (`solve` of wls.rs): 0 and x, y, z in position; or the refusal's number, which leaves position as it was.
+#[no_mangle]
+pub extern "C" fn zaqnuti_position(
+    constellation: &[u8],
+    floats: &[f64],
+    count: usize,
+    guess: &[f64; 3],
+    settings: &[f64; 4],
+    rounds: usize,
+    position: &mut [f64; 3],
+) -> u8
+    ensures { λ r. ⌜ spec.PositionAnswers
+        (spec.fixInput (observationColumns (now (constellation .entry)) (now (floats .entry))) count (vectorAt (now (guess .entry)) 0) (spec.fixSettings (now (settings .entry)) rounds))
+        (spec.columnFixOf (observationColumns (now (constellation .entry)) (now (floats .entry))) count (vectorAt (now (guess .entry)) 0) (spec.fixSettings (now (settings .entry)) rounds))
+        r (now (position .entry)) (now (position .exit)) ⌝ }
+{
+    let answer = fix_from(constellation, floats, count, guess, settings, rounds);
+    match answer {
+        Fix::At(f) => {
+            let p = f.position;
+            *position = [p.x, p.y, p.z];
             0
         }
         Fix::Refused(r) => r.number(),

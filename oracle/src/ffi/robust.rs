@@ -27,6 +27,8 @@ impl Rows {
 }
 
 extern "C" {
+    fn zaqnuti_clocks_new(slot: *mut [u64; 8], count: *mut u64);
+    fn zaqnuti_clocks_unknowns(slot: *const [u64; 8], count: usize) -> usize;
     fn zaqnuti_clocks_given(slot: *mut [u64; 8], count: *mut u64, constellation: u8);
     fn zaqnuti_clocks_slot(slot: *const [u64; 8], constellation: u8) -> u64;
     fn zaqnuti_centre(residuals: *const u64, n: usize, out: *mut [f64; 2]) -> u8;
@@ -46,6 +48,18 @@ extern "C" {
         huber: f64,
         dx: *mut Column,
     ) -> u8;
+}
+
+/// The state of no constellation given, in place.
+pub fn clocks_new(slot: &mut [u64; 8], count: &mut u64) {
+    // SAFETY: both point to what their types say, apart and ours alone.
+    unsafe { zaqnuti_clocks_new(slot, count) }
+}
+
+/// Three coordinates and the clocks.
+pub fn clocks_unknowns(slot: &[u64; 8], count: u64) -> u64 {
+    // SAFETY: it points to eight numbers.
+    unsafe { zaqnuti_clocks_unknowns(slot, count as usize) as u64 }
 }
 
 /// One constellation more, in place.

@@ -92,16 +92,24 @@ fn compare(tally: &mut Tally, random: &mut Random, count: u64) {
             theirs(before, &given)
         };
         full += u64::from(before == NONE && expected.1 > 6);
-        let after = ours(before, &given);
+        // Our beginning overwrites whatever the state held.
+        let mut begun = state(random);
+        ffi::clocks_new(&mut begun.0, &mut begun.1);
+        let after = ours(if before == NONE { begun } else { before }, &given);
+        let unknowns = ffi::clocks_unknowns(&after.0, after.1);
         let asked = constellation(random);
         let slot = ffi::clocks_slot(&after.0, asked);
         let clocks = Clocks {
             slot: expected.0.map(|s| s as usize),
             count: expected.1 as usize,
         };
-        let same = after == expected && slot == clocks.slot(asked) as u64;
+        // The Rust's sum wraps in a release build; a debug build would stop at a count near the top.
+        let same = begun == NONE
+            && after == expected
+            && slot == clocks.slot(asked) as u64
+            && unknowns == expected.1.wrapping_add(3);
         tally.judge(same, || {
-            format!("{given:?} to {before:?}: ours {after:?}, Rust's {expected:?}; slot of {asked} ours {slot}")
+            format!("{given:?} to {before:?}: ours {after:?}, Rust's {expected:?}; slot of {asked} ours {slot}, unknowns {unknowns}")
         });
     }
     tally.note(format!(

@@ -1,6 +1,6 @@
 //! Corrections: sessions of base epochs and queries against the published `build` and `at`, the whole table after each epoch.
 
-mod lent;
+pub mod lent;
 
 use self::lent::{floats, in_range, Columns, Epoch, Table};
 use super::Service;
@@ -21,7 +21,7 @@ pub const SERVICE: Service = Service {
 };
 
 /// What the Rust builds of the epochs.
-fn reference(epochs: &[Epoch], base: [f64; 3], rover: [f64; 3], set: &Settings) -> Corrections {
+pub fn reference(epochs: &[Epoch], base: [f64; 3], rover: [f64; 3], set: &Settings) -> Corrections {
     let station = Base {
         name: String::new(),
         position: base,
@@ -38,7 +38,7 @@ fn reference(epochs: &[Epoch], base: [f64; 3], rover: [f64; 3], set: &Settings) 
 }
 
 /// Numbers 2 to 4 of an epoch and the table, 0 where none applies.
-fn refusal(t: &Table, e: &Epoch, base: &[f64; 3], rover: &[f64; 3], set: &Settings) -> u8 {
+pub fn refusal(t: &Table, e: &Epoch, base: &[f64; 3], rover: &[f64; 3], set: &Settings) -> u8 {
     let states: &[SatelliteState] = if e.present { &e.states } else { &[] };
     if t.n > t.capacity() || e.ranges.len() > 64 || states.len() > 64 {
         return 2;
@@ -464,29 +464,44 @@ fn time(random: &mut Random) {
         Columns::of(e).add(&mut full, &base, &rover, &set);
     }
     let c = reference(&epochs, base, rover, &set);
-    println!("a table of {} samples", full.n);
     let asked: Vec<((u8, u16, u8), f64)> = (0..64)
         .map(|_| {
             (
                 (1, random.below(16) as u16, 1),
-                870.0 + random.unit() * 800.0,
+                435.0 + random.unit() * 400.0,
             )
         })
         .collect();
+    let mut half = Table::lent([2048; 5]);
+    for e in &epochs[..epochs.len() / 2] {
+        Columns::of(e).add(&mut half, &base, &rover, &set);
+    }
+    let ask = |table: &Table| {
+        for (key, t) in &asked {
+            black_box(table.query(table.n, 90.0, *key, *t));
+        }
+    };
+    let theirs = || {
+        for (key, t) in &asked {
+            black_box(c.at(key.0, key.1, key.2, *t));
+        }
+    };
+    let n = asked.len();
     bench::row(
         "query with the table's test",
         full.n,
-        asked.len(),
-        || {
-            for (key, t) in &asked {
-                black_box(full.query(full.n, 90.0, *key, *t));
-            }
-        },
-        || {
-            for (key, t) in &asked {
-                black_box(c.at(key.0, key.1, key.2, *t));
-            }
-        },
+        n,
+        || ask(&full),
+        theirs,
+    );
+    // The test costs the same for each sample, so this is left of it.
+    bench::row_less(
+        "query without the test",
+        full.n,
+        n,
+        || ask(&half),
+        || ask(&full),
+        theirs,
     );
 }
 

@@ -6,12 +6,12 @@ mod centre;
 #[cfg(feature = "robust")]
 mod clocks;
 #[cfg(feature = "corrections")]
-mod corrections;
+pub mod corrections;
 #[cfg(feature = "displacement")]
 mod displacement;
 #[cfg(any(feature = "displacement", feature = "fix"))]
 mod estimator;
-mod factor;
+pub mod factor;
 #[cfg(feature = "fix")]
 mod fix;
 #[cfg(feature = "line")]
@@ -19,12 +19,12 @@ pub mod line;
 mod order;
 mod root;
 #[cfg(feature = "robust")]
-mod round;
+pub mod round;
 #[cfg(feature = "robust")]
 mod sight;
 #[cfg(feature = "robust")]
 mod sigma;
-mod solve;
+pub mod solve;
 mod soundness;
 mod standins;
 #[cfg(feature = "track")]

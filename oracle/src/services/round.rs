@@ -25,10 +25,10 @@ pub const SERVICE: Service = Service {
 const MOST: usize = 64;
 
 /// A call's input.
-struct Input {
-    rows: Rows,
-    unknowns: usize,
-    huber: f64,
+pub struct Input {
+    pub rows: Rows,
+    pub unknowns: usize,
+    pub huber: f64,
 }
 
 /// The rows of a sky: unit vectors, clocks, residuals with outliers, sigmas.
@@ -184,7 +184,7 @@ fn rust_rows(rows: &Rows) -> Vec<Row> {
 }
 
 /// The Rust's step, and the numbers that document 01 adds: there the Rust may panic and is not asked.
-fn reference(input: &Input) -> Result<Column, u8> {
+pub fn reference(input: &Input) -> Result<Column, u8> {
     let rows = &input.rows;
     if rows.count > MOST || !rows.whole() {
         return Err(2);

@@ -20,7 +20,7 @@ pub const SERVICE: Service = Service {
 };
 
 /// The Rust's solution for any lower triangle, whether or not a factor.
-fn reference(l: &Square, b: &Column) -> Column {
+pub fn reference(l: &Square, b: &Column) -> Column {
     let factor = Cholesky {
         lower: Matrix::from_rows(*l),
     };

@@ -37,7 +37,7 @@ number-requires c κs = search needs
 returns : tie.Need-returns
 returns c =
     let s = c .before .before .before .before .before .before .before .before .before .before .before in
-    displacement-answers
+    displacement-answers _ _ _ _ _ _ _
     (previous-short (previous s) (s .args .previous-count) (current s) (s .args .current-count) (s .args .dt) (vectorAt (s .args .receiver .now) 0) (s .args .settings .now) (s .args .rounds) (c .before .before .epoch-fits .ensures) (not-true _ (c .before .if1 .taken)))
     (c .number .ensures)
     refl
@@ -52,7 +52,7 @@ number-requires-2 c κs = search needs
 returns-2 : tie.Need-returns-2
 returns-2 c =
     let s = c .before .before .before .before .before .before .before .before .before .before .before .before .before in
-    displacement-answers
+    displacement-answers _ _ _ _ _ _ _
     (current-short (previous s) (s .args .previous-count) (current s) (s .args .current-count) (s .args .dt) (vectorAt (s .args .receiver .now) 0) (s .args .settings .now) (s .args .rounds) (c .before .before .before .before .epoch-fits .ensures) (not-false _ (c .before .before .before .if1 .left)) (c .before .before .epoch-fits2 .ensures) (not-true _ (c .before .if2 .taken)))
     (c .number2 .ensures)
     refl
@@ -83,10 +83,10 @@ number-requires-3 : tie.Need-number-requires-3
 number-requires-3 c κs = search needs
 
 returns-3 : tie.Need-returns-3
-returns-3 c = displacement-answers (sym (c .before .before .before .before .answer .given .1) ∙ made (c .before .before .before .before .before .before)) refl refl refl
+returns-3 c = displacement-answers _ _ _ _ _ _ _ (sym (c .before .before .before .before .answer .given .1) ∙ made (c .before .before .before .before .before .before)) refl refl refl
 
 returns-4 : tie.Need-returns-4
-returns-4 c = displacement-answers (sym (c .before .before .answer2 .given .1) ∙ made (c .before .before .before .before)) (c .number3 .ensures) refl refl
+returns-4 c = displacement-answers _ _ _ _ _ _ _ (sym (c .before .before .answer2 .given .1) ∙ made (c .before .before .before .before)) (c .number3 .ensures) refl refl
 
 pub zaqnuti-displacement-spec : {M : Type 1} → statement M
 zaqnuti-displacement-spec =

@@ -1,0 +1,237 @@
+//! Corrections from a base station: one base epoch added at a time, and queries.
+
+use crate::refusal::answered;
+use crate::{column, columns, sys, Refusal, SAMPLES};
+
+/// A satellite's state at one epoch.
+#[derive(Clone, Copy, Debug, PartialEq)]
+pub struct SatelliteState {
+    /// Constellation.
+    pub constellation: u8,
+    /// Satellite id within its constellation.
+    pub svid: u16,
+    /// Band code.
+    pub band: u8,
+    /// Position at the rover's transmission time, ECEF metres.
+    pub position: [f64; 3],
+    /// Velocity, ECEF m/s.
+    pub velocity: [f64; 3],
+    /// Satellite clock bias, metres, as already applied to the rover.
+    pub clock: f64,
+    /// Modelled ionosphere plus troposphere along the rover's line of sight, metres.
+    pub modelled: f64,
+}
+
+/// One pseudorange of the base station.
+#[derive(Clone, Copy, Debug, PartialEq)]
+pub struct BaseRange {
+    /// Constellation.
+    pub constellation: u8,
+    /// Satellite id within its constellation.
+    pub svid: u16,
+    /// Band code.
+    pub band: u8,
+    /// Pseudorange, metres.
+    pub pseudorange: f64,
+}
+
+/// One epoch of the base station.
+#[derive(Clone, Debug, PartialEq)]
+pub struct BaseEpoch {
+    /// Time of week, seconds.
+    pub tow: f64,
+    /// What the base measured then.
+    pub ranges: Vec<BaseRange>,
+}
+
+/// A base station.
+#[derive(Clone, Debug, PartialEq)]
+pub struct Base {
+    /// Its position, ECEF metres.
+    pub position: [f64; 3],
+    /// Its epochs.
+    pub epochs: Vec<BaseEpoch>,
+}
+
+/// How to build and apply corrections.
+#[derive(Clone, Copy, Debug, PartialEq)]
+pub struct Settings {
+    /// A longer gap, in seconds, is not bridged.
+    pub max_gap: f64,
+    /// A larger correction, in metres, is dropped.
+    pub max_correction: f64,
+    /// Constellations to correct.
+    pub constellations: [bool; 8],
+}
+
+impl Default for Settings {
+    fn default() -> Self {
+        let mut constellations = [false; 8];
+        constellations[1] = true; // GPS
+        constellations[6] = true; // Galileo
+        Self {
+            max_gap: 90.0,
+            max_correction: 100.0,
+            constellations,
+        }
+    }
+}
+
+/// Correction time series, in metres, to be **subtracted** from a rover pseudorange.
+#[derive(Clone, Debug)]
+pub struct Corrections {
+    constellation: Vec<u8>,
+    svid: Vec<u16>,
+    band: Vec<u8>,
+    time: Vec<f64>,
+    correction: Vec<f64>,
+    samples: usize,
+    set: Settings,
+}
+
+impl Corrections {
+    /// No corrections yet, with room for 2,048 samples.
+    pub fn new(set: &Settings) -> Self {
+        Self::with_capacity(SAMPLES, set)
+    }
+
+    /// No corrections yet, with room for so many samples.
+    pub fn with_capacity(samples: usize, set: &Settings) -> Self {
+        let room = samples.min(SAMPLES);
+        Self {
+            constellation: vec![0; room],
+            svid: vec![0; room],
+            band: vec![0; room],
+            time: vec![0.0; room],
+            correction: vec![0.0; room],
+            samples: 0,
+            set: *set,
+        }
+    }
+
+    /// The corrections of one base epoch more; `None` for the states adds nothing.
+    pub fn add(
+        &mut self,
+        epoch: &BaseEpoch,
+        states: Option<&[SatelliteState]>,
+        base: [f64; 3],
+        rover: [f64; 3],
+    ) -> Result<(), Refusal> {
+        let r = &epoch.ranges;
+        let (rc, rv) = (column(r, |r| r.constellation), column(r, |r| r.svid));
+        let (rb, rp) = (column(r, |r| r.band), column(r, |r| r.pseudorange));
+        let s = states.unwrap_or(&[]);
+        let (sc, sv) = (column(s, |s| s.constellation), column(s, |s| s.svid));
+        let sb = column(s, |s| s.band);
+        let sf = columns(s, |s| {
+            let ([x, y, z], [u, v, w]) = (s.position, s.velocity);
+            [x, y, z, u, v, w, s.clock, s.modelled]
+        });
+        let sf = sf.as_flattened();
+        // SAFETY: each column has its length beside it, and the table is ours alone.
+        let number = unsafe {
+            sys::zaqnuti_add_epoch(
+                self.constellation.as_mut_ptr(),
+                self.constellation.len(),
+                self.svid.as_mut_ptr(),
+                self.svid.len(),
+                self.band.as_mut_ptr(),
+                self.band.len(),
+                self.time.as_mut_ptr(),
+                self.time.len(),
+                self.correction.as_mut_ptr(),
+                self.correction.len(),
+                &mut self.samples,
+                epoch.tow,
+                r.len(),
+                rc.as_ptr(),
+                rc.len(),
+                rv.as_ptr(),
+                rv.len(),
+                rb.as_ptr(),
+                rb.len(),
+                rp.as_ptr(),
+                rp.len(),
+                states.is_some(),
+                s.len(),
+                sc.as_ptr(),
+                sc.len(),
+                sv.as_ptr(),
+                sv.len(),
+                sb.as_ptr(),
+                sb.len(),
+                sf.as_ptr(),
+                sf.len(),
+                &base,
+                &rover,
+                self.set.max_gap,
+                self.set.max_correction,
+                &self.set.constellations,
+            )
+        };
+        answered(number)
+    }
+
+    /// The correction of one signal at one time, linearly interpolated.
+    ///
+    /// [`Refusal::NoCorrection`] outside the tracked span or across too long a gap.
+    pub fn at(&self, constellation: u8, svid: u16, band: u8, tow: f64) -> Result<f64, Refusal> {
+        let mut metres = 0.0;
+        // SAFETY: each column has its length beside it, and the last is ours alone.
+        let number = unsafe {
+            sys::zaqnuti_query(
+                self.constellation.as_ptr(),
+                self.constellation.len(),
+                self.svid.as_ptr(),
+                self.svid.len(),
+                self.band.as_ptr(),
+                self.band.len(),
+                self.time.as_ptr(),
+                self.time.len(),
+                self.correction.as_ptr(),
+                self.correction.len(),
+                self.samples,
+                self.set.max_gap,
+                constellation,
+                svid,
+                band,
+                tow,
+                &mut metres,
+            )
+        };
+        answered(number)?;
+        Ok(metres)
+    }
+
+    /// How many correction samples in total.
+    pub fn samples(&self) -> usize {
+        self.samples
+    }
+
+    /// How many satellite signals carry a correction.
+    pub fn satellites(&self) -> usize {
+        let key = |i: usize| (self.constellation[i], self.svid[i], self.band[i]);
+        (0..self.samples)
+            .filter(|&i| i == 0 || key(i) != key(i - 1))
+            .count()
+    }
+}
+
+/// The corrections of all epochs of a base station, from the states that the rover knows at each
+/// time of week; an epoch without states is skipped.
+pub fn build<F>(
+    base: &Base,
+    rover: [f64; 3],
+    mut states: F,
+    set: &Settings,
+) -> Result<Corrections, Refusal>
+where
+    F: FnMut(f64) -> Option<Vec<SatelliteState>>,
+{
+    let mut out = Corrections::new(set);
+    for epoch in &base.epochs {
+        let known = states(epoch.tow);
+        out.add(epoch, known.as_deref(), base.position, rover)?;
+    }
+    Ok(out)
+}

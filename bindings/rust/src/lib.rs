@@ -1,0 +1,84 @@
+//! Zaqnuti from Rust: the static library `libzaqnuti.a` under the names and types of drifters-gnss.
+//!
+//! | module | holds |
+//! |---|---|
+//! | [`wls`] | the position from one epoch of pseudoranges |
+//! | [`tdcp`] | the displacement between two epochs of carrier phases |
+//! | [`differential`] | corrections from a base station |
+//! | [`smooth`](mod@smooth) | the track that fits anchors and links |
+//! | [`robust`], [`math`] | the pieces, each a call of its own |
+//! | [`sys`] | the entry points themselves, as `include/zaqnuti.h` has them |
+//!
+//! Where the Rust gives `None`, a call here gives the [`Refusal`] with its number. Every number is
+//! decided by the library, too many records and too short a buffer included: the functions here
+//! only lay out columns.
+//!
+//! ```
+//! use zaqnuti::{tdcp, Ecef, Refusal};
+//!
+//! let none = tdcp::delta_position(&[], &[], 1.0, Ecef::default(), &tdcp::Settings::default());
+//! assert_eq!(none.unwrap_err(), Refusal::TooFewPairs);
+//! assert_eq!(Refusal::TooFewPairs.number(), 7);
+//! ```
+#![warn(missing_docs)]
+#![deny(unsafe_op_in_unsafe_fn)]
+
+pub mod differential;
+pub mod math;
+mod refusal;
+pub mod robust;
+pub mod smooth;
+pub mod sys;
+pub mod tdcp;
+pub mod wls;
+
+pub use math::Vec3;
+pub use refusal::Refusal;
+
+/// The most records of an epoch, states beside it, rows or residuals.
+pub const RECORDS: usize = 64;
+/// The most samples of a table of corrections.
+pub const SAMPLES: usize = 2048;
+/// The most epochs, anchors or links of a track.
+pub const EPOCHS: usize = 1024;
+
+/// A place, earth-centred and earth-fixed, metres.
+#[derive(Clone, Copy, Debug, Default, PartialEq)]
+pub struct Ecef {
+    /// Along the equator at longitude 0.
+    pub x: f64,
+    /// Along the equator at longitude 90 degrees east.
+    pub y: f64,
+    /// Along the axis of the earth.
+    pub z: f64,
+}
+
+impl Ecef {
+    /// The place of three coordinates.
+    pub const fn new(x: f64, y: f64, z: f64) -> Self {
+        Self { x, y, z }
+    }
+
+    /// Its coordinates.
+    pub const fn coordinates(self) -> [f64; 3] {
+        [self.x, self.y, self.z]
+    }
+}
+
+/// A column of the first 64 records; a longer epoch is refused by its count.
+fn column<R, T: Copy + Default>(records: &[R], of: impl Fn(&R) -> T) -> [T; RECORDS] {
+    let mut out = [T::default(); RECORDS];
+    for (place, record) in out.iter_mut().zip(records) {
+        *place = of(record);
+    }
+    out
+}
+
+/// As `column`, of N values for each record.
+fn columns<R, const N: usize>(records: &[R], of: impl Fn(&R) -> [f64; N]) -> [[f64; N]; RECORDS] {
+    let mut out = [[0.0; N]; RECORDS];
+    for (place, record) in out.iter_mut().zip(records) {
+        *place = of(record);
+    }
+    out
+}

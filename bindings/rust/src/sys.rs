@@ -1,0 +1,212 @@
+//! The entry points of the static library. `include/zaqnuti.h` says of each what it takes, gives, refuses and leaves.
+//!
+//! A column is a pointer and a length in elements. What a call writes overlaps nothing else that is handed to it.
+
+extern "C" {
+    /// The receiver's position from one epoch, with what the fit says of itself.
+    pub fn zaqnuti_fix(
+        constellation: *const u8,
+        constellation_length: usize,
+        floats: *const f64,
+        floats_length: usize,
+        count: usize,
+        guess: *const [f64; 3],
+        settings: *const [f64; 4],
+        rounds: usize,
+        solution: *mut [f64; 5],
+        used: *mut usize,
+    ) -> u8;
+    /// The receiver's position alone.
+    pub fn zaqnuti_position(
+        constellation: *const u8,
+        constellation_length: usize,
+        floats: *const f64,
+        floats_length: usize,
+        count: usize,
+        guess: *const [f64; 3],
+        settings: *const [f64; 4],
+        rounds: usize,
+        position: *mut [f64; 3],
+    ) -> u8;
+    /// The displacement between two carrier epochs.
+    pub fn zaqnuti_displacement(
+        previous_constellation: *const u8,
+        previous_constellation_length: usize,
+        previous_svid: *const u16,
+        previous_svid_length: usize,
+        previous_band: *const u32,
+        previous_band_length: usize,
+        previous_state: *const i32,
+        previous_state_length: usize,
+        previous_floats: *const f64,
+        previous_floats_length: usize,
+        previous_count: usize,
+        current_constellation: *const u8,
+        current_constellation_length: usize,
+        current_svid: *const u16,
+        current_svid_length: usize,
+        current_band: *const u32,
+        current_band_length: usize,
+        current_state: *const i32,
+        current_state_length: usize,
+        current_floats: *const f64,
+        current_floats_length: usize,
+        current_count: usize,
+        dt: f64,
+        receiver: *const [f64; 3],
+        settings: *const [f64; 5],
+        rounds: usize,
+        delta: *mut [f64; 3],
+        counts: *mut [usize; 2],
+    ) -> u8;
+    /// The displacement of a text in the line form.
+    pub fn zaqnuti_line(
+        text: *const u8,
+        text_length: usize,
+        line: *mut u8,
+        line_length: usize,
+    ) -> usize;
+    /// One base epoch added to a table of corrections.
+    pub fn zaqnuti_add_epoch(
+        cs: *mut u8,
+        cs_length: usize,
+        vs: *mut u16,
+        vs_length: usize,
+        bs: *mut u8,
+        bs_length: usize,
+        ts: *mut f64,
+        ts_length: usize,
+        xs: *mut f64,
+        xs_length: usize,
+        n: *mut usize,
+        time: f64,
+        k: usize,
+        rc: *const u8,
+        rc_length: usize,
+        rv: *const u16,
+        rv_length: usize,
+        rb: *const u8,
+        rb_length: usize,
+        rp: *const f64,
+        rp_length: usize,
+        present: bool,
+        m: usize,
+        sc: *const u8,
+        sc_length: usize,
+        sv: *const u16,
+        sv_length: usize,
+        sb: *const u8,
+        sb_length: usize,
+        sf: *const f64,
+        sf_length: usize,
+        base: *const [f64; 3],
+        rover: *const [f64; 3],
+        gap: f64,
+        max: f64,
+        on: *const [bool; 8],
+    ) -> u8;
+    /// A correction from a table.
+    pub fn zaqnuti_query(
+        cs: *const u8,
+        cs_length: usize,
+        vs: *const u16,
+        vs_length: usize,
+        bs: *const u8,
+        bs_length: usize,
+        ts: *const f64,
+        ts_length: usize,
+        xs: *const f64,
+        xs_length: usize,
+        n: usize,
+        gap: f64,
+        c: u8,
+        v: u16,
+        b: u8,
+        t: f64,
+        metres: *mut f64,
+    ) -> u8;
+    /// The smoothed track.
+    pub fn zaqnuti_smooth(
+        n: usize,
+        anchors: usize,
+        links: usize,
+        ai: *const usize,
+        ai_length: usize,
+        av: *const f64,
+        av_length: usize,
+        ag: *const f64,
+        ag_length: usize,
+        li: *const usize,
+        li_length: usize,
+        lv: *const f64,
+        lv_length: usize,
+        lg: *const f64,
+        lg_length: usize,
+        huber: f64,
+        iterations: usize,
+        result: *mut f64,
+        result_length: usize,
+        work: *mut f64,
+        work_length: usize,
+    ) -> u8;
+    /// One round of the robust least squares.
+    pub fn zaqnuti_round(
+        units: *const f64,
+        units_length: usize,
+        clocks: *const usize,
+        clocks_length: usize,
+        residuals: *const u64,
+        residuals_length: usize,
+        sigmas: *const f64,
+        sigmas_length: usize,
+        rows: usize,
+        unknowns: usize,
+        huber: f64,
+        dx: *mut [f64; 9],
+    ) -> u8;
+    /// Centre and scale of residuals, given by their bits.
+    pub fn zaqnuti_centre(residuals: *const u64, residuals_length: usize, out: *mut [f64; 2])
+        -> u8;
+    /// The one-sigma of an elevation in degrees.
+    pub fn zaqnuti_elevation_sigma(elevation: f64, a: f64, b: f64) -> f64;
+    /// The unit vector from the satellite to the receiver, and the range.
+    pub fn zaqnuti_geometry(
+        satellite: *const [f64; 3],
+        receiver: *const [f64; 3],
+        out: *mut [f64; 4],
+    );
+    /// The Cholesky factor of nine rows of nine.
+    pub fn zaqnuti_factor(a: *const [[f64; 9]; 9], l: *mut [[f64; 9]; 9]) -> u8;
+    /// The solution of `l lᵀ x = b`.
+    pub fn zaqnuti_solve(l: *const [[f64; 9]; 9], b: *const [f64; 9], x: *mut [f64; 9]);
+    /// The clocks of no constellation given.
+    pub fn zaqnuti_clocks_new(slot: *mut [usize; 8], count: *mut usize);
+    /// One constellation more.
+    pub fn zaqnuti_clocks_given(slot: *mut [usize; 8], count: *mut usize, constellation: u8);
+    /// The slot of a constellation.
+    pub fn zaqnuti_clocks_slot(slot: *const [usize; 8], constellation: u8) -> usize;
+    /// Three coordinates and the clocks.
+    pub fn zaqnuti_clocks_unknowns(slot: *const [usize; 8], count: usize) -> usize;
+    /// The square root, correctly rounded.
+    pub fn zaqnuti_sqrt(x: f64) -> f64;
+    /// Whether a comes before b or is b, in IEEE 754's totalOrder.
+    pub fn zaqnuti_before(a: u64, b: u64) -> bool;
+    /// The bits of x, 7FF8000000000000 of every NaN.
+    pub fn zaqnuti_pattern(x: f64) -> u64;
+    /// x times x.
+    pub fn zaqnuti_square(x: f64) -> f64;
+    /// The root of a·a + b·b.
+    pub fn zaqnuti_hypot(a: f64, b: f64) -> f64;
+    /// The sine of a travel angle.
+    pub fn zaqnuti_travel_sine(t: f64) -> f64;
+    /// The cosine of a travel angle.
+    pub fn zaqnuti_travel_cosine(t: f64) -> f64;
+    /// Degrees as radians.
+    pub fn zaqnuti_radians(x: f64) -> f64;
+    /// The sine of an elevation in radians.
+    pub fn zaqnuti_elevation_sine(t: f64) -> f64;
+    /// x with its sign bit clear.
+    pub fn zaqnuti_abs(x: f64) -> f64;
+    /// The larger of a and b.
+    pub fn zaqnuti_max(a: f64, b: f64) -> f64;
+}

@@ -1,0 +1,141 @@
+//! Robust weighted least-squares position from raw pseudoranges.
+
+use crate::refusal::answered;
+use crate::{column, columns, sys, Ecef, Refusal};
+
+/// One satellite's pseudorange at one epoch, already corrected.
+#[derive(Clone, Copy, Debug, PartialEq)]
+pub struct Observation {
+    /// Constellation id.
+    pub constellation: u8,
+    /// Frequency band, which the fix does not look at.
+    pub band: u8,
+    /// Satellite id within its constellation, which the fix does not look at.
+    pub svid: u16,
+    /// Modelled delay already subtracted from `pseudorange`, metres, which the fix does not look at.
+    pub modelled: f64,
+    /// Pseudorange with every correction applied, metres.
+    pub pseudorange: f64,
+    /// Satellite position at transmission, ECEF metres.
+    pub satellite: [f64; 3],
+    /// Elevation above the horizon, degrees.
+    pub elevation: f64,
+}
+
+/// Weighting and robustness settings.
+#[derive(Clone, Copy, Debug, PartialEq)]
+pub struct Settings {
+    /// Constant term of `σ = a + b/sin(el)`, metres.
+    pub sigma_a: f64,
+    /// Elevation term of `σ = a + b/sin(el)`, metres.
+    pub sigma_b: f64,
+    /// Huber threshold, in robust sigmas.
+    pub huber: f64,
+    /// Satellites below this elevation are discarded, degrees.
+    pub mask: f64,
+    /// The most rounds, 1 to 50.
+    pub iterations: usize,
+}
+
+impl Default for Settings {
+    fn default() -> Self {
+        Self {
+            sigma_a: 0.3,
+            sigma_b: 16.0,
+            huber: 1.0,
+            mask: 10.0,
+            iterations: 25,
+        }
+    }
+}
+
+/// A solved epoch, and what the fit says of itself.
+#[derive(Clone, Copy, Debug, PartialEq)]
+pub struct Solution {
+    /// Receiver position, ECEF metres, finite.
+    pub position: Ecef,
+    /// Observations at or above the mask.
+    pub used: usize,
+    /// Root of the reduced chi-squared of the last residuals; it may not be finite.
+    pub chi: f64,
+    /// Position dilution of precision; it may not be finite.
+    pub pdop: f64,
+}
+
+/// The columns of an epoch.
+struct Columns {
+    constellation: [u8; crate::RECORDS],
+    floats: [[f64; 5]; crate::RECORDS],
+    settings: [f64; 4],
+}
+
+impl Columns {
+    fn of(observations: &[Observation], set: &Settings) -> Self {
+        Self {
+            constellation: column(observations, |o| o.constellation),
+            floats: columns(observations, |o| {
+                let [x, y, z] = o.satellite;
+                [o.pseudorange, x, y, z, o.elevation]
+            }),
+            settings: [set.sigma_a, set.sigma_b, set.huber, set.mask],
+        }
+    }
+}
+
+/// The receiver's position from one epoch, with what the fit says of itself.
+pub fn solve_full(
+    observations: &[Observation],
+    guess: Ecef,
+    set: &Settings,
+) -> Result<Solution, Refusal> {
+    let c = Columns::of(observations, set);
+    let floats = c.floats.as_flattened();
+    let (mut solution, mut used) = ([0.0; 5], 0);
+    // SAFETY: each column has its length beside it, and the last two are ours alone.
+    let number = unsafe {
+        sys::zaqnuti_fix(
+            c.constellation.as_ptr(),
+            c.constellation.len(),
+            floats.as_ptr(),
+            floats.len(),
+            observations.len(),
+            &guess.coordinates(),
+            &c.settings,
+            set.iterations,
+            &mut solution,
+            &mut used,
+        )
+    };
+    answered(number)?;
+    let [x, y, z, chi, pdop] = solution;
+    Ok(Solution {
+        position: Ecef::new(x, y, z),
+        used,
+        chi,
+        pdop,
+    })
+}
+
+/// Position only, for callers that do not need the diagnostics.
+pub fn solve(observations: &[Observation], guess: Ecef, set: &Settings) -> Result<Ecef, Refusal> {
+    let c = Columns::of(observations, set);
+    let floats = c.floats.as_flattened();
+    let mut position = [0.0; 3];
+    // SAFETY: each column has its length beside it, and the last is ours alone.
+    let number = unsafe {
+        sys::zaqnuti_position(
+            c.constellation.as_ptr(),
+            c.constellation.len(),
+            floats.as_ptr(),
+            floats.len(),
+            observations.len(),
+            &guess.coordinates(),
+            &c.settings,
+            set.iterations,
+            &mut position,
+        )
+    };
+    answered(number)?;
+    let [x, y, z] = position;
+    Ok(Ecef::new(x, y, z))
+}

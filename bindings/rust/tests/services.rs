@@ -1,0 +1,337 @@
+//! The services under the reference's names: known answers, and each number that a caller can meet.
+
+mod common;
+
+use common::{carriers, observations, AT};
+use zaqnuti::differential::{build, Base, BaseEpoch, BaseRange, Corrections, SatelliteState};
+use zaqnuti::math::{self, Cholesky};
+use zaqnuti::robust::{centre_scale, elevation_sigma, geometry, step, Clocks, Row};
+use zaqnuti::smooth::{smooth, Anchor, Link};
+use zaqnuti::{differential, smooth as track, tdcp, wls, Ecef, Refusal, Vec3};
+
+fn near(a: f64, b: f64, within: f64) -> bool {
+    (a - b).abs() <= within
+}
+
+#[test]
+fn refusals_have_document_01s_numbers() {
+    for (i, refusal) in Refusal::ALL.into_iter().enumerate() {
+        assert_eq!(usize::from(refusal.number()), i + 1);
+        assert_eq!(Refusal::of(refusal.number()), Some(refusal));
+        assert!(refusal.to_string().ends_with(&format!("({})", i + 1)));
+    }
+    assert_eq!(Refusal::of(0), None);
+    assert_eq!(Refusal::of(13), None);
+}
+
+#[test]
+fn a_fix() {
+    let set = wls::Settings::default();
+    let guess = Ecef::new(-2.70e6, -4.26e6, 3.88e6);
+    let sky = observations(20);
+    let found = wls::solve_full(&sky, guess, &set).unwrap();
+    assert!(near(found.position.x, AT.x, 1e-3));
+    assert!(near(found.position.y, AT.y, 1e-3));
+    assert!(near(found.position.z, AT.z, 1e-3));
+    assert_eq!(found.used, 20);
+    assert!(found.chi < 1e-3 && found.pdop > 0.0);
+    assert_eq!(wls::solve(&sky, guess, &set), Ok(found.position));
+}
+
+#[test]
+fn a_fix_refuses() {
+    let guess = AT;
+    let why = |sky: &[wls::Observation], change: fn(&mut wls::Settings)| {
+        let mut set = wls::Settings::default();
+        change(&mut set);
+        let whole = wls::solve_full(sky, guess, &set).unwrap_err();
+        assert_eq!(wls::solve(sky, guess, &set), Err(whole));
+        whole
+    };
+    assert!(wls::solve(&observations(64), guess, &wls::Settings::default()).is_ok());
+    assert_eq!(why(&observations(65), |_| {}), Refusal::TooMany);
+    assert_eq!(
+        why(&observations(1000), |s| s.iterations = 0),
+        Refusal::TooMany
+    );
+    assert_eq!(
+        why(&observations(64), |s| s.iterations = 0),
+        Refusal::SettingOutOfRange
+    );
+    assert_eq!(
+        why(&observations(64), |s| s.iterations = usize::MAX),
+        Refusal::SettingOutOfRange
+    );
+    assert_eq!(
+        why(&observations(64), |s| s.huber = f64::NAN),
+        Refusal::SettingOutOfRange
+    );
+    let mut sky = observations(20);
+    sky[7].elevation = 90.5;
+    assert_eq!(why(&sky, |_| {}), Refusal::RecordOutOfRange);
+    assert_eq!(why(&observations(9), |_| {}), Refusal::TooFewRows);
+    assert_eq!(why(&[], |_| {}), Refusal::TooFewRows);
+    let mut sky = observations(40);
+    sky[6].constellation = 0;
+    assert_eq!(why(&sky, |_| {}), Refusal::TooManySlots);
+    let mut sky = observations(12);
+    let first = sky[0].satellite;
+    sky.iter_mut().for_each(|o| {
+        o.satellite = first;
+        o.constellation = 1;
+    });
+    assert_eq!(why(&sky, |_| {}), Refusal::FitFailed);
+}
+
+#[test]
+fn a_displacement() {
+    let set = tdcp::Settings {
+        screen: 1e3,
+        ..tdcp::Settings::default()
+    };
+    let moved = Ecef::new(AT.x + 3.0, AT.y - 2.0, AT.z + 0.5);
+    let (before, mut after) = (carriers(20, AT), carriers(20, moved));
+    after[3].adr += 1e5;
+    let d = tdcp::delta_position(&before, &after, 1.0, AT, &set).unwrap();
+    assert!(
+        near(d.delta.x, 3.0, 1e-3) && near(d.delta.y, -2.0, 1e-3) && near(d.delta.z, 0.5, 1e-3)
+    );
+    assert_eq!((d.used, d.screened), (19, 1));
+    let none = tdcp::Settings {
+        iterations: 0,
+        agreement: f64::NAN,
+        ..set
+    };
+    let d = tdcp::delta_position(&before, &after, 1.0, AT, &none).unwrap();
+    assert_eq!(d.delta, Vec3::default());
+}
+
+#[test]
+fn a_displacement_refuses() {
+    let set = tdcp::Settings::default();
+    let why = |p: &[tdcp::Carrier], c: &[tdcp::Carrier], dt, set: &tdcp::Settings| {
+        tdcp::delta_position(p, c, dt, AT, set).unwrap_err()
+    };
+    let (few, all, many) = (carriers(5, AT), carriers(64, AT), carriers(65, AT));
+    assert_eq!(why(&many, &all, 1.0, &set), Refusal::TooMany);
+    assert_eq!(why(&all, &many, 1.0, &set), Refusal::TooMany);
+    let bad = tdcp::Settings {
+        mask: f64::INFINITY,
+        ..set
+    };
+    assert_eq!(why(&all, &all, 0.0, &bad), Refusal::SettingOutOfRange);
+    let mut odd = all.clone();
+    odd[9].rate = f64::NAN;
+    assert_eq!(why(&odd, &all, 0.0, &set), Refusal::RecordOutOfRange);
+    assert_eq!(why(&all, &all, 0.0, &set), Refusal::BadInterval);
+    assert_eq!(why(&all, &all, 604_800.5, &set), Refusal::BadInterval);
+    assert_eq!(why(&few, &all, 1.0, &set), Refusal::TooFewPairs);
+    assert_eq!(why(&carriers(9, AT), &all, 1.0, &set), Refusal::TooFewRows);
+    let mut seven = all.clone();
+    seven[6].constellation = 0;
+    assert_eq!(why(&seven, &seven, 1.0, &set), Refusal::TooManySlots);
+}
+
+/// A base epoch whose range to satellite 0 is `error` metres too long, and its states.
+fn epoch(tow: f64, error: f64, n: usize) -> (BaseEpoch, Vec<SatelliteState>) {
+    let (mut ranges, mut states) = (Vec::new(), Vec::new());
+    for (i, o) in observations(n).iter().enumerate() {
+        let (constellation, svid, band) = (1, o.svid, 1);
+        ranges.push(BaseRange {
+            constellation,
+            svid,
+            band,
+            pseudorange: geometry(o.satellite, AT).1 + 250.0 + if i == 0 { error } else { 0.0 },
+        });
+        states.push(SatelliteState {
+            constellation,
+            svid,
+            band,
+            position: o.satellite,
+            velocity: [0.0; 3],
+            clock: 0.0,
+            modelled: 0.0,
+        });
+    }
+    (BaseEpoch { tow, ranges }, states)
+}
+
+#[test]
+fn corrections() {
+    let set = differential::Settings::default();
+    let place = AT.coordinates();
+    let (first, states) = epoch(0.0, 2.0, 8);
+    let (second, _) = epoch(30.0, 4.0, 8);
+    let base = Base {
+        position: place,
+        epochs: vec![first, second],
+    };
+    let c = build(&base, place, |_| Some(states.clone()), &set).unwrap();
+    assert_eq!((c.samples(), c.satellites()), (16, 8));
+    assert!(near(c.at(1, 0, 1, 15.0).unwrap(), 3.0, 1e-6));
+    assert!(near(c.at(1, 0, 1, 0.0).unwrap(), 2.0, 1e-6));
+    assert_eq!(c.at(1, 0, 1, 31.0), Err(Refusal::NoCorrection));
+    assert_eq!(c.at(1, 0, 1, f64::NAN), Err(Refusal::NoCorrection));
+    assert_eq!(c.at(1, 0, 1, 2e9), Err(Refusal::RecordOutOfRange));
+    let none = build(&base, place, |_| None, &set).unwrap();
+    assert_eq!(none.samples(), 0);
+}
+
+#[test]
+fn corrections_refuse() {
+    let set = differential::Settings::default();
+    let place = AT.coordinates();
+    let mut c = Corrections::with_capacity(12, &set);
+    let (e, states) = epoch(0.0, 0.0, 8);
+    assert_eq!(c.add(&e, Some(&states), place, place), Ok(()));
+    assert_eq!(
+        c.add(&e, Some(&states), place, place),
+        Err(Refusal::TableFull)
+    );
+    assert_eq!(c.add(&e, None, place, place), Ok(()));
+    assert_eq!(c.samples(), 8);
+    let (long, many) = epoch(0.0, 0.0, 65);
+    assert_eq!(
+        c.add(&long, Some(&states), place, place),
+        Err(Refusal::TooMany)
+    );
+    assert_eq!(c.add(&e, Some(&many), place, place), Err(Refusal::TooMany));
+    let mut late = e.clone();
+    late.tow = f64::INFINITY;
+    assert_eq!(
+        c.add(&late, None, place, place),
+        Err(Refusal::RecordOutOfRange)
+    );
+    let odd = differential::Settings {
+        max_correction: f64::NAN,
+        ..set
+    };
+    let mut c = Corrections::new(&odd);
+    assert_eq!(
+        c.add(&e, None, place, place),
+        Err(Refusal::SettingOutOfRange)
+    );
+}
+
+#[test]
+fn a_track() {
+    let set = track::Settings::default();
+    let at = |index, x| Anchor {
+        index,
+        position: Vec3::new(x, 0.0, 0.0),
+        sigma: Vec3::new(5.0, 5.0, 8.0),
+    };
+    let by = |index, x| Link {
+        index,
+        delta: Vec3::new(x, 0.0, 0.0),
+        sigma: Vec3::new(0.01, 0.01, 0.02),
+    };
+    let points = smooth(
+        3,
+        &[at(0, 0.0), at(2, 2.0)],
+        &[by(1, 1.0), by(0, 1.0)],
+        &set,
+    )
+    .unwrap();
+    assert_eq!(points.len(), 3);
+    assert!(near(points[1].x, 1.0, 1e-9));
+    let why = |n, anchors: &[Anchor], links: &[Link], set: &track::Settings| {
+        smooth(n, anchors, links, set).unwrap_err()
+    };
+    assert_eq!(why(usize::MAX, &[at(0, 0.0)], &[], &set), Refusal::TooMany);
+    assert_eq!(why(1, &[at(0, 0.0); 1025], &[], &set), Refusal::TooMany);
+    assert!(smooth(1, &[at(0, 0.0); 1024], &[], &set).is_ok());
+    let bad = track::Settings {
+        iterations: 51,
+        ..set
+    };
+    assert_eq!(why(1, &[], &[], &bad), Refusal::SettingOutOfRange);
+    assert_eq!(why(1, &[at(9, 2e9)], &[], &set), Refusal::RecordOutOfRange);
+    assert_eq!(why(0, &[at(0, 0.0)], &[], &set), Refusal::BadTrack);
+    assert_eq!(why(1, &[], &[], &set), Refusal::BadTrack);
+    assert_eq!(
+        why(2, &[at(0, 0.0)], &[by(usize::MAX, 1.0)], &set),
+        Refusal::BadTrack
+    );
+    assert_eq!(why(2, &[at(0, 0.0)], &[], &set), Refusal::FitFailed);
+}
+
+#[test]
+fn the_pieces() {
+    assert_eq!(centre_scale(&[]), Ok((0.0, 1.0)));
+    assert_eq!(
+        centre_scale(&[3.0, 1.0, 2.0, 4.0]),
+        Ok((3.0, 1.4826 + 1e-6))
+    );
+    assert!(centre_scale(&[1.0; 64]).is_ok());
+    assert_eq!(centre_scale(&[1.0; 65]), Err(Refusal::TooMany));
+    assert_eq!(centre_scale(&[1.0; 1000]), Err(Refusal::TooMany));
+
+    let clocks = Clocks::assign([6, 1, 6, 9, 7].into_iter());
+    assert_eq!([6, 1, 9, 7].map(|c| clocks.slot(c)), [3, 4, 5, 5]);
+    assert_eq!((clocks.count(), clocks.unknowns()), (3, 6));
+    assert_eq!(Clocks::default().slot(1), usize::MAX);
+
+    let mut identity = [[0.0; 9]; 9];
+    (0..9).for_each(|i| identity[i][i] = 1.0);
+    let factor = Cholesky::new(&identity).unwrap();
+    assert_eq!(factor.lower(), &identity);
+    assert_eq!(factor.solve(&[2.0; 9]), [2.0; 9]);
+    assert_eq!(Cholesky::new(&[[0.0; 9]; 9]), Err(Refusal::FitFailed));
+
+    let row = |i: usize| Row {
+        unit: std::array::from_fn(|k| (i * (k + 2) % (5 + 2 * k)) as f64 / 9.0),
+        clock: 3,
+        residual: i as f64,
+        sigma: 1.0,
+    };
+    let rows: Vec<Row> = (0..65).map(row).collect();
+    assert!(step(&rows[..64], 4, 1.5)
+        .unwrap()
+        .iter()
+        .all(|x| x.is_finite()));
+    assert_eq!(step(&rows, 4, 1.5), Err(Refusal::TooMany));
+    assert_eq!(step(&rows[..8], 10, 1.5), Err(Refusal::RecordOutOfRange));
+    assert_eq!(
+        step(
+            &[Row {
+                clock: 9,
+                ..rows[0]
+            }],
+            4,
+            1.5
+        ),
+        Err(Refusal::RecordOutOfRange)
+    );
+    assert_eq!(step(&[], 4, 1.5), Err(Refusal::FitFailed));
+
+    assert!(near(elevation_sigma(90.0, 1.0, 2.0), 3.0, 1e-9));
+    assert_eq!(math::sqrt(2.0).to_bits(), 0x3FF6A09E667F3BCD);
+    assert_eq!(math::sqrt(4.0), 2.0);
+    assert!(math::before((-0.0f64).to_bits(), 0.0f64.to_bits()));
+    assert_eq!(math::pattern(-f64::NAN), 0x7FF8000000000000);
+    assert_eq!(
+        (math::square(3.0), math::hypot(3.0, 4.0), math::abs(-2.0)),
+        (9.0, 5.0, 2.0)
+    );
+    assert_eq!(math::max(f64::NAN, 1.0), 1.0);
+    assert!(math::travel_sine(0.01).is_nan() && math::travel_cosine(0.0) == 1.0);
+    assert!(near(math::elevation_sine(math::radians(30.0)), 0.5, 1e-12));
+}
+
+/// Calls run side by side give what they give alone.
+#[test]
+fn threads() {
+    let set = wls::Settings::default();
+    let sky = observations(64);
+    let alone = wls::solve_full(&sky, AT, &set).unwrap();
+    std::thread::scope(|scope| {
+        for _ in 0..4 {
+            scope.spawn(|| {
+                for _ in 0..200 {
+                    assert_eq!(wls::solve_full(&sky, AT, &set), Ok(alone));
+                }
+            });
+        }
+    });
+}

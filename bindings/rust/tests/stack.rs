@@ -1,0 +1,575 @@
+//! The stack that each entry point uses: the stack below is filled with a mark, the call is made
+//! with full epochs and with each kind of refusal, and the lowest word that has lost the mark is
+//! looked for. No call may use more than `include/zaqnuti.h` says.
+//!
+//! `cargo test --test stack -- --nocapture` prints the table.
+#![cfg(target_arch = "x86_64")]
+
+mod common;
+
+use common::{carriers, observations, AT};
+use std::arch::asm;
+use std::collections::BTreeMap;
+use std::path::Path;
+use zaqnuti::sys;
+use zaqnuti::tdcp::Carrier;
+use zaqnuti::Ecef;
+
+/// How far down the stack is filled, above what any call uses.
+const DEPTH: usize = 1 << 20;
+/// What is left alone below the stack pointer: the red zone.
+const NEAR: usize = 128;
+const MARK: u64 = 0xA5C3_96E1_5A3C_691E;
+
+/// The stack pointer.
+#[inline(always)]
+fn top() -> usize {
+    let out: usize;
+    // SAFETY: it reads a register.
+    unsafe { asm!("mov {}, rsp", out(reg) out, options(nomem, nostack)) };
+    out
+}
+
+/// The bytes below the caller's frame that the call writes; `call` gives the stack pointer of the frame that calls.
+#[inline(never)]
+fn used(call: &mut dyn FnMut() -> usize) -> usize {
+    let here = top();
+    let words = (DEPTH - NEAR) / 8;
+    let low = here - DEPTH;
+    // SAFETY: the thread has this much stack, and below the red zone nothing of it is in use.
+    unsafe {
+        asm!("rep stosq", inout("rdi") low => _, inout("rcx") words => _, in("rax") MARK, options(nostack));
+    }
+    let frame = call();
+    let left: usize;
+    // SAFETY: as above; it reads up to the first word that has lost the mark.
+    unsafe {
+        asm!("repe scasq", inout("rdi") low => _, inout("rcx") words => left, in("rax") MARK, options(nostack, readonly));
+    }
+    let lowest = low + 8 * (words - left - 1);
+    frame.saturating_sub(lowest)
+}
+
+/// Runs each measurement in a thread that has the stack for it.
+fn measured(mut call: impl FnMut() -> usize + Send) -> usize {
+    std::thread::scope(|scope| {
+        let thread = std::thread::Builder::new().stack_size(4 * DEPTH);
+        let run = thread.spawn_scoped(scope, move || {
+            // The first call loads what is loaded on demand.
+            used(&mut call);
+            used(&mut call)
+        });
+        run.unwrap().join().unwrap()
+    })
+}
+
+fn fix(count: usize, rounds: usize, spoil: bool) -> usize {
+    let mut sky = observations(64);
+    if spoil {
+        let first = sky[0].satellite;
+        sky.iter_mut().for_each(|o| o.satellite = first);
+    }
+    // Pseudoranges that no place fits keep the rounds going.
+    sky.iter_mut()
+        .enumerate()
+        .for_each(|(i, o)| o.pseudorange += 1e5 * (i % 11) as f64);
+    let constellation: Vec<u8> = sky.iter().map(|o| o.constellation).collect();
+    let floats: Vec<f64> = sky
+        .iter()
+        .flat_map(|o| {
+            [
+                o.pseudorange,
+                o.satellite[0],
+                o.satellite[1],
+                o.satellite[2],
+                o.elevation,
+            ]
+        })
+        .collect();
+    let (mut solution, mut seen) = ([0.0; 5], 0);
+    measured(move || {
+        let frame = top();
+        // SAFETY: each column has its length beside it, and the last two are ours alone.
+        unsafe {
+            sys::zaqnuti_fix(
+                constellation.as_ptr(),
+                constellation.len(),
+                floats.as_ptr(),
+                floats.len(),
+                count,
+                &AT.coordinates(),
+                &[0.3, 16.0, 1e-3, 10.0],
+                rounds,
+                &mut solution,
+                &mut seen,
+            );
+        }
+        frame
+    })
+}
+
+fn position(count: usize, rounds: usize) -> usize {
+    let sky = observations(64);
+    let constellation: Vec<u8> = sky.iter().map(|o| o.constellation).collect();
+    let floats: Vec<f64> = sky
+        .iter()
+        .flat_map(|o| {
+            [
+                o.pseudorange + 100.0 * f64::from(o.svid),
+                o.satellite[0],
+                o.satellite[1],
+                o.satellite[2],
+                o.elevation,
+            ]
+        })
+        .collect();
+    let mut place = [0.0; 3];
+    measured(move || {
+        let frame = top();
+        // SAFETY: each column has its length beside it, and the last is ours alone.
+        unsafe {
+            sys::zaqnuti_position(
+                constellation.as_ptr(),
+                constellation.len(),
+                floats.as_ptr(),
+                floats.len(),
+                count,
+                &AT.coordinates(),
+                &[0.3, 16.0, 1e-3, 10.0],
+                rounds,
+                &mut place,
+            );
+        }
+        frame
+    })
+}
+
+fn displacement(count: usize, rounds: usize, screen: f64) -> usize {
+    let floats = |c: &[Carrier]| -> Vec<f64> {
+        c.iter()
+            .flat_map(|c| {
+                [
+                    c.adr,
+                    c.satellite[0],
+                    c.satellite[1],
+                    c.satellite[2],
+                    c.elevation,
+                    c.rate,
+                ]
+            })
+            .collect()
+    };
+    let (before, mut after) = (
+        carriers(64, AT),
+        carriers(64, Ecef::new(AT.x + 9.0, AT.y, AT.z)),
+    );
+    after
+        .iter_mut()
+        .enumerate()
+        .for_each(|(i, c)| c.adr += 3.0 * (i % 7) as f64);
+    let (pf, cf) = (floats(&before), floats(&after));
+    let constellation: Vec<u8> = before.iter().map(|c| c.constellation).collect();
+    let svid: Vec<u16> = before.iter().map(|c| c.svid).collect();
+    let (band, state) = (vec![1575u32; 64], vec![1i32; 64]);
+    let (mut delta, mut counts) = ([0.0; 3], [0; 2]);
+    measured(move || {
+        let frame = top();
+        // SAFETY: each column has its length beside it, and the last two are ours alone.
+        unsafe {
+            sys::zaqnuti_displacement(
+                constellation.as_ptr(),
+                64,
+                svid.as_ptr(),
+                64,
+                band.as_ptr(),
+                64,
+                state.as_ptr(),
+                64,
+                pf.as_ptr(),
+                pf.len(),
+                count,
+                constellation.as_ptr(),
+                64,
+                svid.as_ptr(),
+                64,
+                band.as_ptr(),
+                64,
+                state.as_ptr(),
+                64,
+                cf.as_ptr(),
+                cf.len(),
+                count,
+                1.0,
+                &AT.coordinates(),
+                &[screen, 0.008, 0.002, 1e-3, 10.0],
+                rounds,
+                &mut delta,
+                &mut counts,
+            );
+        }
+        frame
+    })
+}
+
+/// An epoch of 64 ranges to a table of so much room, of which `full` samples are there.
+fn add_epoch(k: usize, room: usize, full: usize) -> usize {
+    let sky = observations(64);
+    let (c, b) = (vec![1u8; 64], vec![1u8; 64]);
+    let v: Vec<u16> = (0..64).rev().collect();
+    let p: Vec<f64> = sky.iter().map(|o| o.pseudorange).collect();
+    let f: Vec<f64> = sky
+        .iter()
+        .flat_map(|o| {
+            [
+                o.satellite[0],
+                o.satellite[1],
+                o.satellite[2],
+                900.0,
+                -2000.0,
+                1500.0,
+                10.0,
+                5.0,
+            ]
+        })
+        .collect();
+    measured(move || {
+        let (mut cs, mut vs, mut bs) = (vec![1u8; room], vec![0u16; room], vec![1u8; room]);
+        let (mut ts, mut xs) = (vec![0.0; room], vec![0.0; room]);
+        let mut n = full;
+        let place = AT.coordinates();
+        let frame = top();
+        // SAFETY: each column has its length beside it, and the table is ours alone.
+        unsafe {
+            sys::zaqnuti_add_epoch(
+                cs.as_mut_ptr(),
+                room,
+                vs.as_mut_ptr(),
+                room,
+                bs.as_mut_ptr(),
+                room,
+                ts.as_mut_ptr(),
+                room,
+                xs.as_mut_ptr(),
+                room,
+                &mut n,
+                30.0,
+                k,
+                c.as_ptr(),
+                64,
+                v.as_ptr(),
+                64,
+                b.as_ptr(),
+                64,
+                p.as_ptr(),
+                64,
+                true,
+                64,
+                c.as_ptr(),
+                64,
+                v.as_ptr(),
+                64,
+                b.as_ptr(),
+                64,
+                f.as_ptr(),
+                f.len(),
+                &place,
+                &place,
+                90.0,
+                1e9,
+                &[true; 8],
+            );
+        }
+        frame
+    })
+}
+
+fn query(n: usize, time: f64) -> usize {
+    let (cs, vs, bs) = (vec![1u8; 2048], vec![1u16; 2048], vec![1u8; 2048]);
+    let ts: Vec<f64> = (0..2048).map(f64::from).collect();
+    let xs = vec![1.0; 2048];
+    let mut metres = 0.0;
+    measured(move || {
+        let frame = top();
+        // SAFETY: each column has its length beside it, and the last is ours alone.
+        unsafe {
+            sys::zaqnuti_query(
+                cs.as_ptr(),
+                2048,
+                vs.as_ptr(),
+                2048,
+                bs.as_ptr(),
+                2048,
+                ts.as_ptr(),
+                2048,
+                xs.as_ptr(),
+                2048,
+                n,
+                90.0,
+                1,
+                1,
+                1,
+                time,
+                &mut metres,
+            );
+        }
+        frame
+    })
+}
+
+fn smooth(n: usize, links: usize, iterations: usize) -> usize {
+    let index: Vec<usize> = (0..1024).collect();
+    let value: Vec<f64> = (0..3072).map(|i| f64::from(i % 97)).collect();
+    let sigma = vec![0.5; 3072];
+    let (mut result, mut work) = (vec![0.0; 3072], vec![0.0; 11 * 1024]);
+    measured(move || {
+        let frame = top();
+        // SAFETY: each column has its length beside it, and the last two are ours alone.
+        unsafe {
+            sys::zaqnuti_smooth(
+                n,
+                n,
+                links,
+                index.as_ptr(),
+                1024,
+                value.as_ptr(),
+                3072,
+                sigma.as_ptr(),
+                3072,
+                index.as_ptr(),
+                1024,
+                value.as_ptr(),
+                3072,
+                sigma.as_ptr(),
+                3072,
+                2.0,
+                iterations,
+                result.as_mut_ptr(),
+                3072,
+                work.as_mut_ptr(),
+                11 * 1024,
+            );
+        }
+        frame
+    })
+}
+
+fn round(rows: usize, unknowns: usize) -> usize {
+    let units: Vec<f64> = (0..192).map(|i| f64::from(i * 29 % 31) / 31.0).collect();
+    let clocks: Vec<usize> = (0..64).map(|i| 3 + i % 6).collect();
+    let residuals: Vec<u64> = (0..64).map(|i| f64::from(i * 37 % 64).to_bits()).collect();
+    let sigmas = vec![1.0; 64];
+    let mut dx = [0.0; 9];
+    measured(move || {
+        let frame = top();
+        // SAFETY: each column has its length beside it, and the last is ours alone.
+        unsafe {
+            sys::zaqnuti_round(
+                units.as_ptr(),
+                192,
+                clocks.as_ptr(),
+                64,
+                residuals.as_ptr(),
+                64,
+                sigmas.as_ptr(),
+                64,
+                rows,
+                unknowns,
+                1.5,
+                &mut dx,
+            );
+        }
+        frame
+    })
+}
+
+fn centre(n: usize) -> usize {
+    let residuals: Vec<u64> = (0..65).map(|i| f64::from(i * 37 % 64).to_bits()).collect();
+    let mut out = [0.0; 2];
+    measured(move || {
+        let frame = top();
+        // SAFETY: the first has as many patterns as are said, and the last is ours alone.
+        unsafe { sys::zaqnuti_centre(residuals.as_ptr(), n, &mut out) };
+        frame
+    })
+}
+
+fn factor(diagonal: f64) -> usize {
+    let mut a = [[0.5; 9]; 9];
+    (0..9).for_each(|i| a[i][i] = diagonal);
+    let mut l = [[0.0; 9]; 9];
+    measured(move || {
+        let frame = top();
+        // SAFETY: both point to 81 floats, and the second is ours alone.
+        unsafe { sys::zaqnuti_factor(&a, &mut l) };
+        frame
+    })
+}
+
+fn solve() -> usize {
+    let l = [[2.0; 9]; 9];
+    let mut x = [0.0; 9];
+    measured(move || {
+        let frame = top();
+        // SAFETY: each points to as many floats as its type says, and the last is ours alone.
+        unsafe { sys::zaqnuti_solve(&l, &[1.0; 9], &mut x) };
+        frame
+    })
+}
+
+fn geometry() -> usize {
+    let mut out = [0.0; 4];
+    measured(move || {
+        let frame = top();
+        // SAFETY: each points to as many floats as its type says, and the last is ours alone.
+        unsafe { sys::zaqnuti_geometry(&[2e7, 1e7, 1e7], &AT.coordinates(), &mut out) };
+        frame
+    })
+}
+
+fn clocks() -> usize {
+    let (mut slot, mut count) = ([0; 8], 0);
+    measured(move || {
+        let frame = top();
+        // SAFETY: both are ours alone.
+        unsafe {
+            sys::zaqnuti_clocks_new(&mut slot, &mut count);
+            sys::zaqnuti_clocks_given(&mut slot, &mut count, 3);
+            sys::zaqnuti_clocks_slot(&slot, 3);
+            sys::zaqnuti_clocks_unknowns(&slot, count);
+        }
+        frame
+    })
+}
+
+fn numbers(x: f64) -> usize {
+    measured(move || {
+        let frame = top();
+        // SAFETY: they take numbers alone.
+        unsafe {
+            sys::zaqnuti_sqrt(x);
+            sys::zaqnuti_before(x.to_bits(), 1);
+            sys::zaqnuti_pattern(x);
+            sys::zaqnuti_square(x);
+            sys::zaqnuti_hypot(x, 3.0);
+            sys::zaqnuti_travel_sine(x);
+            sys::zaqnuti_travel_cosine(x);
+            sys::zaqnuti_radians(x);
+            sys::zaqnuti_elevation_sine(x);
+            sys::zaqnuti_elevation_sigma(x, 1.0, 2.0);
+            sys::zaqnuti_abs(x);
+            sys::zaqnuti_max(x, 2.0);
+        }
+        frame
+    })
+}
+
+fn most(of: impl IntoIterator<Item = usize>) -> usize {
+    of.into_iter().max().unwrap()
+}
+
+/// The table of the header: a line `name ... bytes` for each.
+fn stated() -> BTreeMap<String, usize> {
+    let header = Path::new(env!("CARGO_MANIFEST_DIR")).join("../../include/zaqnuti.h");
+    let text = std::fs::read_to_string(header).unwrap();
+    let (_, table) = text.split_once("Stack.").unwrap();
+    let (table, _) = table.split_once("*/").unwrap();
+    let line = |l: &str| {
+        let mut words = l.trim_start_matches([' ', '*']).split_whitespace();
+        let name = words.next()?.to_string();
+        let bytes = words.next()?.replace(',', "").parse().ok()?;
+        words.next().is_none().then_some((name, bytes))
+    };
+    table.lines().filter_map(line).collect()
+}
+
+#[test]
+fn no_more_than_the_header_says() {
+    let table = [
+        (
+            "fix",
+            most([
+                fix(64, 50, false),
+                fix(64, 50, true),
+                fix(65, 50, false),
+                fix(9, 25, false),
+                fix(64, 0, false),
+            ]),
+        ),
+        ("position", most([position(64, 50), position(65, 50)])),
+        (
+            "displacement",
+            most([
+                displacement(64, 50, 1e9),
+                displacement(64, 50, 4.0),
+                displacement(64, 0, 1e9),
+                displacement(65, 4, 1.0),
+                displacement(5, 4, 1.0),
+            ]),
+        ),
+        (
+            "add_epoch",
+            most([
+                add_epoch(64, 2048, 0),
+                add_epoch(64, 2048, 1024),
+                add_epoch(64, 100, 90),
+                add_epoch(65, 2048, 0),
+                add_epoch(64, 64, 0),
+            ]),
+        ),
+        (
+            "query",
+            most([
+                query(2048, 1000.5),
+                query(2048, 7.0),
+                query(2049, 1.0),
+                query(0, 1.0),
+                query(1000, 5e3),
+            ]),
+        ),
+        (
+            "smooth",
+            most([
+                smooth(1024, 1023, 50),
+                smooth(1024, 0, 1),
+                smooth(1025, 0, 1),
+                smooth(2, 1, 6),
+            ]),
+        ),
+        (
+            "round",
+            most([
+                round(64, 9),
+                round(65, 9),
+                round(64, 10),
+                round(0, 9),
+                round(12, 4),
+            ]),
+        ),
+        (
+            "centre",
+            most([centre(64), centre(65), centre(0), centre(1)]),
+        ),
+        ("geometry", geometry()),
+        (
+            "factor",
+            most([factor(20.0), factor(f64::NAN), factor(0.0)]),
+        ),
+        ("solve", solve()),
+        ("clocks", clocks()),
+        (
+            "numbers",
+            most([2.0, 0.3, 1e-310, -1.0, f64::NAN, f64::INFINITY, 1e300].map(numbers)),
+        ),
+    ];
+    let stated = stated();
+    for (name, bytes) in table {
+        println!("{name:<14} {bytes:>7}");
+    }
+    for (name, bytes) in table {
+        let most = *stated.get(name).unwrap_or(&0);
+        assert!(
+            bytes <= most,
+            "{name} used {bytes} bytes of stack, the header says {most}"
+        );
+    }
+}

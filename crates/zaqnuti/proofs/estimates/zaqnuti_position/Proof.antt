@@ -1,0 +1,27 @@
+-- `zaqnuti::estimates::zaqnuti_position` meets its contract. Assumes nothing.
+use mathlib.Core.Path.{refl, sym, _∙_}
+use Rattle.zaqnuti.proofs.EstimateLaws.{position-answers}
+use borrow.Author.Needs.{needs}
+use Rattle.zaqnuti.proofs.estimates.zaqnuti_position.Statement.{statement}
+use Rattle.zaqnuti.proofs.estimates.zaqnuti_position.Tie as tie
+
+fix-from-requires : tie.Need-fix-from-requires
+fix-from-requires c κs = search needs
+
+enum-known-answer : tie.Need-enum-known-answer
+enum-known-answer c = search needs
+
+enum-known-answer-2 : tie.Need-enum-known-answer-2
+enum-known-answer-2 c = search needs
+
+number-requires : tie.Need-number-requires
+number-requires c κs = search needs
+
+returns : tie.Need-returns
+returns c = position-answers _ _ _ _ (sym (c .before .before .before .answer .given .1) ∙ c .before .before .before .before .before .fix-from .ensures) refl refl
+
+returns-2 : tie.Need-returns-2
+returns-2 c = position-answers _ _ _ _ (sym (c .before .before .answer2 .given .1) ∙ c .before .before .before .before .fix-from .ensures) (c .number .ensures) refl
+
+pub zaqnuti-position-spec : {M : Type 1} → statement M
+zaqnuti-position-spec = tie.close (tie.spec fix-from-requires enum-known-answer enum-known-answer-2 number-requires returns returns-2)

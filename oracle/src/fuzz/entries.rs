@@ -1,0 +1,88 @@
+//! One function for each entry point: decode, lend, call, compare.
+
+// A slot is a usize there and a u64 in `ffi`: on x86-64 they are one.
+#[allow(clashing_extern_declarations, dead_code)]
+#[path = "../../../bindings/rust/src/sys.rs"]
+mod sys;
+
+mod corrections;
+mod displacement;
+mod fix;
+mod pieces;
+mod track;
+
+use super::Bytes;
+use crate::random::pattern;
+
+/// The name of an entry point, and its call.
+type Entry = (&'static str, fn(&mut Bytes));
+
+/// Every entry point; clocks and numbers together.
+pub const ENTRIES: &[Entry] = &[
+    ("fix", fix::fix),
+    ("displacement", displacement::displacement),
+    ("add_epoch", corrections::add_epoch),
+    ("query", corrections::query),
+    ("smooth", track::smooth),
+    ("round", pieces::a_round),
+    ("centre", pieces::centre),
+    ("geometry", pieces::geometry),
+    ("factor", pieces::a_factor),
+    ("solve", pieces::a_solve),
+    ("clocks", pieces::clocks),
+    ("numbers", pieces::numbers),
+];
+
+/// A column of a record each, sometimes shorter or longer than they need.
+fn column<R, T: Copy + Default>(b: &mut Bytes, records: &[R], of: impl Fn(&R) -> T) -> Vec<T> {
+    let mut out: Vec<T> = records.iter().map(of).collect();
+    turn_length(b, &mut out);
+    out
+}
+
+/// As `column`, of some floats for each record.
+fn floats<R, const N: usize>(
+    b: &mut Bytes,
+    records: &[R],
+    of: impl Fn(&R) -> [f64; N],
+) -> Vec<f64> {
+    let mut out: Vec<f64> = records.iter().flat_map(of).collect();
+    turn_length(b, &mut out);
+    out
+}
+
+fn turn_length<T: Copy + Default>(b: &mut Bytes, column: &mut Vec<T>) {
+    match b.byte() {
+        250 => drop(column.pop()),
+        251 => column.truncate(column.len() / 2),
+        252 => column.clear(),
+        253..=255 => column.extend([T::default(); 3]),
+        _ => {}
+    }
+}
+
+/// How many of the records are counted: mostly all.
+fn count(b: &mut Bytes, records: usize) -> usize {
+    match b.byte() {
+        0..=229 => records,
+        230..=239 => b.below(records + 1),
+        240..=247 => records + 1 + b.below(3),
+        _ => b.u64() as usize,
+    }
+}
+
+/// Signals of which many are alike.
+fn signal(b: &mut Bytes) -> (u8, u16) {
+    match b.byte() {
+        k @ 0..=199 => (k % 9, u16::from(k) / 9),
+        _ => (b.byte(), b.u16()),
+    }
+}
+
+fn bits(floats: &[f64]) -> Vec<u64> {
+    floats.iter().map(|x| x.to_bits()).collect()
+}
+
+fn patterns(floats: &[f64]) -> Vec<u64> {
+    floats.iter().map(|&x| pattern(x)).collect()
+}

@@ -1,0 +1,347 @@
+//! A base epoch and a query.
+
+use super::{column, count, floats, signal, sys};
+use crate::fuzz::lent::{Lender, Lent};
+use crate::fuzz::Bytes;
+use crate::services::corrections::{self, lent as base};
+use drifters_gnss::differential::{self, Corrections, SatelliteState};
+use drifters_gnss::rinex::BaseRange;
+
+type Sample = (u8, u16, u8, f64, f64);
+
+/// In the table's order.
+fn order(a: &Sample, b: &Sample) -> std::cmp::Ordering {
+    (a.0, a.1, a.2)
+        .cmp(&(b.0, b.1, b.2))
+        .then(a.3.total_cmp(&b.3))
+}
+
+/// A table of few samples, sorted or not, in columns that may be longer or shorter.
+fn table(b: &mut Bytes) -> base::Table {
+    let n = b.below(40);
+    let sorted = b.byte() > 20;
+    b.plain_above(40);
+    let mut samples: Vec<Sample> = (0..n)
+        .map(|_| {
+            let (c, v) = signal(b);
+            let band = b.byte() & 1;
+            let time = if b.byte() < 200 {
+                f64::from(b.byte())
+            } else {
+                b.float()
+            };
+            (c, v & 3, band, time, b.float())
+        })
+        .collect();
+    if sorted {
+        samples.sort_by(order);
+    }
+    let room = n + b.below(80);
+    let mut t = base::Table::lent(std::array::from_fn(|_| room + b.below(3)));
+    for (i, s) in samples.iter().enumerate() {
+        (t.cs[i], t.vs[i], t.bs[i], t.ts[i], t.xs[i]) = *s;
+    }
+    t.n = match b.byte() {
+        255 => b.u64() as usize,
+        254 => t.capacity() + 1,
+        250..=253 => b.below(n + 1),
+        _ => n,
+    };
+    t
+}
+
+fn samples(t: &base::Table) -> Vec<Sample> {
+    (0..t.n)
+        .map(|i| (t.cs[i], t.vs[i], t.bs[i], t.ts[i], t.xs[i]))
+        .collect()
+}
+
+/// The table's columns, lent.
+struct Columns {
+    cs: Lent<u8>,
+    vs: Lent<u16>,
+    bs: Lent<u8>,
+    ts: Lent<f64>,
+    xs: Lent<f64>,
+}
+
+impl Columns {
+    fn lend(lender: &mut Lender, t: &base::Table) -> Self {
+        Self {
+            cs: lender.lend(&t.cs),
+            vs: lender.lend(&t.vs),
+            bs: lender.lend(&t.bs),
+            ts: lender.lend(&t.ts),
+            xs: lender.lend(&t.xs),
+        }
+    }
+
+    /// They must hold what the table has, to the last bit.
+    fn hold(&self, t: &base::Table) {
+        self.cs.holds(&t.cs);
+        self.vs.holds(&t.vs);
+        self.bs.holds(&t.bs);
+        self.ts.holds(&t.ts);
+        self.xs.holds(&t.xs);
+    }
+}
+
+pub fn add_epoch(b: &mut Bytes) {
+    let t = table(b);
+    let usual = b.byte() > 60;
+    let place = |b: &mut Bytes| -> [f64; 3] {
+        if usual {
+            [-2.7e6, -4.3e6 + f64::from(b.byte()), 3.85e6]
+        } else {
+            b.three()
+        }
+    };
+    let (from, to) = (place(b), place(b));
+    let state = |b: &mut Bytes| {
+        let (constellation, svid) = signal(b);
+        SatelliteState {
+            constellation,
+            svid: svid & 3,
+            band: b.byte() & 1,
+            position: b.three().map(|x| if usual { 1e7 + x } else { x }),
+            velocity: b.three(),
+            clock: b.float(),
+            modelled: b.float(),
+        }
+    };
+    let m = b.below(20);
+    let mut states: Vec<SatelliteState> = (0..m).map(|_| state(b)).collect();
+    let range = |b: &mut Bytes| {
+        let picked = (m > 0 && b.byte() < 220).then(|| states[b.below(m)]);
+        let (constellation, svid) = picked.map_or_else(|| signal(b), |s| (s.constellation, s.svid));
+        BaseRange {
+            constellation,
+            svid,
+            band: picked.map_or_else(|| b.byte() & 1, |s| s.band),
+            pseudorange: if usual { 2e7 + b.float() } else { b.float() },
+        }
+    };
+    let k = b.below(20);
+    let mut ranges: Vec<BaseRange> = (0..k).map(|_| range(b)).collect();
+    match b.byte() {
+        255 if k > 0 => ranges = (0..65).map(|i| ranges[i % k].clone()).collect(),
+        254 if m > 0 => states = (0..65).map(|i| states[i % m]).collect(),
+        _ => {}
+    }
+    let set = differential::Settings {
+        max_gap: b.float(),
+        max_correction: if b.flag() { 1e9 } else { b.float() },
+        constellations: std::array::from_fn(|_| b.byte() < 230),
+    };
+    let mut epoch = base::Epoch {
+        time: if b.flag() {
+            f64::from(b.byte())
+        } else {
+            b.float()
+        },
+        ranges,
+        present: b.byte() < 230,
+        states,
+    };
+    let rc = column(b, &epoch.ranges, |r| r.constellation);
+    let rv = column(b, &epoch.ranges, |r| r.svid);
+    let rb = column(b, &epoch.ranges, |r| r.band);
+    let rp = column(b, &epoch.ranges, |r| r.pseudorange);
+    let sc = column(b, &epoch.states, |s| s.constellation);
+    let sv = column(b, &epoch.states, |s| s.svid);
+    let sb = column(b, &epoch.states, |s| s.band);
+    let sf = floats(b, &epoch.states, base::floats);
+    let (k, m) = (count(b, epoch.ranges.len()), count(b, epoch.states.len()));
+    let wanted = if epoch.present { m } else { 0 };
+    let short = [rc.len(), rv.len(), rb.len(), rp.len()]
+        .iter()
+        .any(|&n| n < k)
+        || [sc.len(), sv.len(), sb.len(), sf.len() / 8]
+            .iter()
+            .any(|&n| n < wanted);
+    let fits = k <= 64 && wanted <= 64 && !short;
+    if fits && (k > epoch.ranges.len() || wanted > epoch.states.len()) {
+        return;
+    }
+    if fits {
+        epoch.ranges.truncate(k);
+        epoch.states.truncate(wanted);
+    }
+    let mut number = if fits {
+        corrections::refusal(&t, &epoch, &from, &to, &set)
+    } else {
+        2
+    };
+    let mut after = t.clone();
+    if number == 0 {
+        let one = corrections::reference(std::slice::from_ref(&epoch), from, to, &set);
+        let mut all = samples(&t);
+        for ((c, v, band), series) in &one.series {
+            all.extend(series.iter().map(|(time, x)| (*c, *v, *band, *time, *x)));
+        }
+        all.sort_by(order);
+        if all.len() > t.capacity() {
+            number = 11;
+        } else {
+            for (i, s) in all.iter().enumerate() {
+                (
+                    after.cs[i],
+                    after.vs[i],
+                    after.bs[i],
+                    after.ts[i],
+                    after.xs[i],
+                ) = *s;
+            }
+            after.n = all.len();
+        }
+    }
+    let mut lender = Lender::new();
+    let cols = Columns::lend(&mut lender, &t);
+    let n = lender.lend(&[t.n]);
+    let (rc, rv, rb, rp) = (
+        lender.lend(&rc),
+        lender.lend(&rv),
+        lender.lend(&rb),
+        lender.lend(&rp),
+    );
+    let (sc, sv, sb, sf) = (
+        lender.lend(&sc),
+        lender.lend(&sv),
+        lender.lend(&sb),
+        lender.lend(&sf),
+    );
+    let (at, to_at) = (lender.lend(&from), lender.lend(&to));
+    let on = lender.lend(&set.constellations);
+    // SAFETY: each pointer leads to what its length or its type says.
+    let ours = unsafe {
+        sys::zaqnuti_add_epoch(
+            cols.cs.at(),
+            cols.cs.len(),
+            cols.vs.at(),
+            cols.vs.len(),
+            cols.bs.at(),
+            cols.bs.len(),
+            cols.ts.at(),
+            cols.ts.len(),
+            cols.xs.at(),
+            cols.xs.len(),
+            n.at(),
+            epoch.time,
+            k,
+            rc.at(),
+            rc.len(),
+            rv.at(),
+            rv.len(),
+            rb.at(),
+            rb.len(),
+            rp.at(),
+            rp.len(),
+            epoch.present,
+            m,
+            sc.at(),
+            sc.len(),
+            sv.at(),
+            sv.len(),
+            sb.at(),
+            sb.len(),
+            sf.at(),
+            sf.len(),
+            at.at().cast(),
+            to_at.at().cast(),
+            set.max_gap,
+            set.max_correction,
+            on.at().cast(),
+        )
+    };
+    assert_eq!(ours, number);
+    cols.hold(&after);
+    n.holds(&[after.n]);
+    rc.kept();
+    rv.kept();
+    rb.kept();
+    rp.kept();
+    sc.kept();
+    sv.kept();
+    sb.kept();
+    sf.kept();
+    at.kept();
+    to_at.kept();
+    on.kept();
+}
+
+pub fn query(b: &mut Bytes) {
+    let t = table(b);
+    let known = t.cs.len().min(t.n);
+    let picked = (known > 0 && b.byte() < 230).then(|| b.below(known));
+    let (c, v, band) = match picked {
+        Some(i) if i < t.capacity() => (t.cs[i], t.vs[i], t.bs[i]),
+        _ => (b.byte(), b.u16(), b.byte()),
+    };
+    let time = match b.byte() {
+        0..=99 => f64::from(b.byte()),
+        100..=149 => f64::from(b.byte()) + b.float() * 1e-6,
+        150..=199 => f64::from(b.u16()) / 256.0,
+        _ => b.float(),
+    };
+    let gap = if b.flag() {
+        f64::from(b.byte())
+    } else {
+        b.float()
+    };
+    let number;
+    let mut metres = None;
+    if t.n > t.capacity() {
+        number = 2;
+    } else if !base::in_range(gap) {
+        number = 3;
+    } else if !t.sound() || (time.is_finite() && !base::in_range(time)) {
+        number = 4;
+    } else {
+        let mut series = std::collections::BTreeMap::<_, Vec<(f64, f64)>>::new();
+        for (c, v, b, time, x) in samples(&t) {
+            series.entry((c, v, b)).or_default().push((time, x));
+        }
+        metres = Corrections {
+            series,
+            max_gap: gap,
+        }
+        .at(c, v, band, time);
+        number = if metres.is_some() { 0 } else { 12 };
+        // A query's time that is not finite meets 12.
+        assert!(time.is_finite() || number == 12);
+    }
+    let mut lender = Lender::new();
+    let cols = Columns::lend(&mut lender, &t);
+    let out = lender.lend(&[f64::from_bits(b.u64())]);
+    // SAFETY: each pointer leads to what its length or its type says.
+    let ours = unsafe {
+        sys::zaqnuti_query(
+            cols.cs.at(),
+            cols.cs.len(),
+            cols.vs.at(),
+            cols.vs.len(),
+            cols.bs.at(),
+            cols.bs.len(),
+            cols.ts.at(),
+            cols.ts.len(),
+            cols.xs.at(),
+            cols.xs.len(),
+            t.n,
+            gap,
+            c,
+            v,
+            band,
+            time,
+            out.at(),
+        )
+    };
+    assert_eq!(ours, number);
+    cols.hold(&t);
+    match metres {
+        Some(x) => {
+            assert!(x.is_finite());
+            out.holds(&[x]);
+        }
+        None => out.kept(),
+    }
+}
