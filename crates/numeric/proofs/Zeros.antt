@@ -27,11 +27,11 @@ unfolding ofBits
 +0-is-zero = tt
 
 -- ---- 0 rounds to 0
-none-at : (s : Bool) → round binary64 s 0 1 ≡ fin s 0 (pos 0)
+pub none-at : (s : Bool) → round binary64 s 0 1 ≡ fin s 0 (pos 0)
 unfolding round size span climb units odd
 none-at s = refl
 
-round-none : (s : Bool) (c : ℕ) → 0 < c → round binary64 s 0 c ≡ fin s 0 (pos 0)
+pub round-none : (s : Bool) (c : ℕ) → 0 < c → round binary64 s 0 c ≡ fin s 0 (pos 0)
 round-none s c C = round-same binary64 s 0 c 0 1 C (zero-lt-suc 0) (sym (zero-mul c)) ∙ none-at s
 
 -- ---- a zero times a finite number is a zero

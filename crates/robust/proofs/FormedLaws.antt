@@ -1,14 +1,15 @@
 -- The sums that the code of a round has after k rows, and the round that they make. Assumes nothing.
 use mathlib.Core.Path.{_≡_, refl, sym, ap, _∙_, fun-ext, subst}
-use Prim.Native.Nat.{ℕ, _+_, _≤_}
+use Prim.Native.Nat.{ℕ, _+_, _≤_, _<_}
 use native.Mathlib.Omega.{arith}
-use mathlib.Core.Bool.{Bool, true, false, cond}
+use mathlib.Core.Bool.{Bool, true, false, cond, _&&_}
 use mathlib.Core.List.{List}
-use lib.Dec.{ltb}
+use lib.Dec.{ltb, leb, eqb}
+use borrow.Author.Tests.{le-ltb, le-leb, eq-eqb, ne-eqb}
 use lib.ListN.{length, getD}
-use lib.Ieee.{Float}
-use Rattle.exact.specs.Float.{_⊕_, _⊗_, +0, bits}
-use Rattle.numeric.specs.Factor.{at, Factored, Refused, Lower, factorOf, solutionOf}
+use lib.Ieee.{Float, nan}
+use Rattle.exact.specs.Float.{_⊕_, _⊗_, +0, 1·0, bits}
+use Rattle.numeric.specs.Factor.{at, Factored, Refused, Lower, factorOf, solutionOf, Unused, UnusedPlaces}
 use Rattle.numeric.specs.Answer.{rowsAfter}
 use Rattle.numeric.specs.Answer as factor
 use Rattle.median.specs.declared.centre.CentreScale.{CentreScale}
@@ -18,6 +19,7 @@ use Rattle.robust.specs.Step.{counted}
 use Rattle.robust.specs.Normal.{Formed, Solving}
 use Rattle.robust.specs.declared.row.Row.{Row}
 use Rattle.robust.specs.declared.row.Rows.{Rows}
+use Rattle.robust.proofs.NineLaws.{nine-at, cell-at}
 use Rattle.robust.proofs.Sums.{blank, sumTo, sumTo-zero, sumTo-next, sum-total}
 
 abbrev pub rowAt : Rows → ℕ → Row
@@ -110,3 +112,21 @@ module _ (w : Row → Float) (rows : List Row) (n : ℕ) (a : List (List Float))
       go : (v : Factored) → ok ≡ factor.accepted v → Solving (solved rows a b v) false x x
       go Refused p = record { ok-is = refl; step-is = refl }
       go (Lower k) p = absurd (let z : _≡_ {A = ℕ} 0 1 = cc in omega arith)
+
+-- ---- the unknowns from n on are unused, and so are those from m on, where m is at least n
+module _ (w : Row → Float) (rows : List Row) (n m : ℕ) (h : n ≤ m) where
+  pub matrix-unused : Unused m (matrixOf w rows n)
+  unfolding matrixOf triangleOf
+  matrix-unused =
+      record {
+        diagonal-is = λ i l b. let k : n ≤ i = omega arith in cell-at cells i i b b ∙ rw (le-ltb i n k, le-leb n i k, eq-eqb i i refl);
+        below-is = λ i j l b d. let k : n ≤ i = omega arith in let e : j < 9 = omega arith in cell-at cells i j b e ∙ rw (le-ltb i n k, le-leb n i k, ne-eqb i j (λ q. omega arith));
+      }
+    where
+      cells : ℕ → ℕ → Float
+      cells i j = cond (ltb i n && leb j i) (cellOf w rows i j) (cond (leb n i && eqb i j) 1·0 +0)
+
+  pub right-unused : UnusedPlaces m (rightOf w rows n)
+  unfolding rightOf
+  right-unused = record { zero-at = λ i l b. let k : n ≤ i = omega arith in nine-at (λ i. cond (ltb i n) (sideOf w rows i) +0) nan i b ∙ rw (le-ltb i n k) }
+

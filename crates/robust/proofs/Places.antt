@@ -25,7 +25,8 @@ use Rattle.robust.specs.Normal.{unused, Formed}
 use Rattle.robust.specs.Step.{counted}
 use Rattle.robust.specs.declared.row.Row.{Row}
 use Rattle.robust.specs.declared.row.Rows.{Rows}
-use Rattle.robust.proofs.Zeros.{isZero, isMinusZero, times-zero, zero-times, times-one, plus-zero, plus-not-minus}
+use Rattle.numeric.proofs.Zeros.{isZero, zero-times}
+use Rattle.robust.proofs.Zeros.{isMinusZero, times-zero, times-one, plus-zero, plus-not-minus}
 use Rattle.robust.proofs.NineLaws.{nine-is, cell-at, Square, square-nine, square-is, store, square-store, cell-same, cell-other}
 use Rattle.robust.proofs.Sums.{sumTo}
 use Rattle.robust.proofs.FormedLaws.{rowAt, cells, sides, cells-zero, sides-zero, cells-next, sides-next, cells-sum, sides-sum, formed}

@@ -17,13 +17,7 @@ use Rattle.exact.proofs.Ops.{scale-pos, val, exact, round-at, over-left, over-r
 use Rattle.exact.proofs.Rounding.{close-whole}
 use Rattle.numeric.proofs.Reading.{value-unique}
 use Rattle.numeric.proofs.RoundExact.{round-own}
-
--- a zero of either sign
-abbrev pub isZero : Float → Bool
-isZero nan = false
-isZero (inf s) = false
-isZero (fin s zero e) = true
-isZero (fin s (suc m) e) = false
+use Rattle.numeric.proofs.Zeros.{isZero, none-at, round-none}
 
 -- -0
 abbrev pub isMinusZero : Float → Bool
@@ -32,14 +26,6 @@ isMinusZero (inf s) = false
 isMinusZero (fin false m e) = false
 isMinusZero (fin true zero e) = true
 isMinusZero (fin true (suc m) e) = false
-
--- ---- 0 rounds to 0
-none-at : (s : Bool) → round binary64 s 0 1 ≡ fin s 0 (pos 0)
-unfolding round size span climb units odd
-none-at s = refl
-
-round-none : (s : Bool) (c : ℕ) → 0 < c → round binary64 s 0 c ≡ fin s 0 (pos 0)
-round-none s c C = round-same binary64 s 0 c 0 1 C (zero-lt-suc 0) (sym (zero-mul c)) ∙ none-at s
 
 -- ---- a finite number times a zero is a zero
 pub times-zero : (x y : Float) → T (finite x) → T (isZero y) → T (isZero (x ⊗ y))
@@ -51,17 +37,6 @@ times-zero (fin s m e) (inf t) f z = absurd z
 times-zero (fin s m e) (fin t (suc n) d) f z = absurd z
 times-zero (fin s m e) (fin t zero d) f z =
     let a : m * up e * (0 * up d) ≡ 0 = ap (λ (k : ℕ). m * up e * k) (zero-mul (up d)) ∙ mul-zero (m * up e) in
-    subst (λ (r : Float). T (isZero r)) (sym (ap (λ (k : ℕ). round binary64 (unlike s t) k (down e * down d)) a ∙ round-none (unlike s t) (down e * down d) (mul-pos (down-pos e) (down-pos d)))) tt
-
-pub zero-times : (x y : Float) → T (isZero x) → T (finite y) → T (isZero (x ⊗ y))
-unfolding mul
-zero-times nan y z f = absurd z
-zero-times (inf s) y z f = absurd z
-zero-times (fin s (suc m) e) y z f = absurd z
-zero-times (fin s zero e) nan z f = absurd f
-zero-times (fin s zero e) (inf t) z f = absurd f
-zero-times (fin s zero e) (fin t n d) z f =
-    let a : 0 * up e * (n * up d) ≡ 0 = ap (λ (k : ℕ). k * (n * up d)) (zero-mul (up e)) ∙ zero-mul (n * up d) in
     subst (λ (r : Float). T (isZero r)) (sym (ap (λ (k : ℕ). round binary64 (unlike s t) k (down e * down d)) a ∙ round-none (unlike s t) (down e * down d) (mul-pos (down-pos e) (down-pos d)))) tt
 
 -- ---- a binary64 rounds to itself

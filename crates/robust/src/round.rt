@@ -14,8 +14,8 @@ use crate::weight::weight;
 use median::centre::Centre;
 use median::centre::CentreScale;
 use median::centre::centre_scale;
-use numeric::factor::factor_into;
-use numeric::factor::solve_lent;
+use numeric::factor::factor_used;
+use numeric::factor::solve_used;
 use numeric::order::float;
 use numeric::real::is_finite;
 use numeric::refusal::Refusal;
@@ -144,6 +144,17 @@ fn normal(rows: Rows, n: usize, c: CentreScale, huber: f64, a: &mut [[f64; 9]; 9
     form(rows, n, c, huber, a, b);
 }
 
+// How many unknowns a system is factored by: those that are used, and one where none is.
+fn used_of(n: usize) -> usize
+    requires { ⌜ n ≤ 9 ⌝ }
+    ensures { λ r. ⌜ (0 < r) × (r ≤ 9) × (n ≤ r) ⌝ }
+{
+    if n == 0 {
+        return 1;
+    }
+    n
+}
+
 // The round of the counted rows: its step in x, or false and x as it was where a pivot is refused.
 pub fn round_step(rows: Rows, n: usize, huber: f64, x: &mut [f64; 9]) -> bool
     requires { ⌜ (rows .count ≤ 64) × (n ≤ 9) ⌝ }
@@ -161,9 +172,10 @@ pub fn round_step(rows: Rows, n: usize, huber: f64, x: &mut [f64; 9]) -> bool
     let mut a = [[0.0; 9]; 9];
     let mut b = [0.0; 9];
     normal(rows, n, c, huber, &mut a, &mut b);
+    let m = used_of(n);
     let mut l = [[0.0; 9]; 9];
-    if factor_into(&a, &mut l) {
-        let s = solve_lent(&l, b);
+    if factor_used(m, &a, &mut l) {
+        let s = solve_used(m, &l, b);
         *x = s;
         true
     } else {

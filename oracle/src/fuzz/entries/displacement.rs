@@ -5,7 +5,7 @@ use crate::estimate::Displacement;
 use crate::fuzz::lent::{Lender, Lent};
 use crate::fuzz::Bytes;
 use crate::random::Random;
-use crate::sky;
+use crate::sky::{self, Input};
 use drifters_gnss::tdcp::{self, Carrier};
 
 fn carrier(b: &mut Bytes) -> Carrier {
@@ -55,10 +55,10 @@ fn displacement_input(b: &mut Bytes) -> Displacement {
     }
     let mut random = Random::new(u64::from(b.u16()), "fuzz");
     let mut input = match kind % 4 {
-        1 => sky::displacement::input(&mut random),
+        1 => sky::input(&mut random),
         _ => {
             let n = 5 + b.below(60);
-            sky::displacement::clean(&mut random, n)
+            Displacement::clean(&mut random, n)
         }
     };
     for _ in 0..24 {

@@ -5,7 +5,7 @@ use crate::estimate::Fix;
 use crate::fuzz::lent::Lender;
 use crate::fuzz::Bytes;
 use crate::random::Random;
-use crate::sky;
+use crate::sky::{self, Input};
 use drifters_gnss::wls::{self, Observation};
 
 fn observation(b: &mut Bytes) -> Observation {
@@ -40,10 +40,10 @@ fn fix_input(b: &mut Bytes) -> Fix {
     }
     let mut random = Random::new(u64::from(b.u16()), "fuzz");
     let mut input = match kind % 4 {
-        1 => sky::fix::input(&mut random),
+        1 => sky::input(&mut random),
         _ => {
             let n = 5 + b.below(60);
-            sky::fix::clean(&mut random, n)
+            Fix::clean(&mut random, n)
         }
     };
     for _ in 0..24 {

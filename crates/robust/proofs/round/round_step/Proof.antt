@@ -12,7 +12,7 @@ use Rattle.robust.specs.Normal.{residualsOf, Solving}
 use Rattle.robust.specs.Step.{counted}
 use Rattle.robust.specs.declared.row.Row.{Row}
 use Rattle.robust.proofs.Sums.{blank, mapped-next}
-use Rattle.robust.proofs.FormedLaws.{solving-yes, solving-no}
+use Rattle.robust.proofs.FormedLaws.{solving-yes, solving-no, matrix-unused, right-unused}
 use Rattle.robust.proofs.StepLaws.{never-refused, round-solving}
 use borrow.Author.Needs.{needs}
 use native.Mathlib.Omega.{arith}
@@ -88,25 +88,36 @@ returns c =
 normal-requires : tie.Need-normal-requires Inv-loop μ-loop
 normal-requires c κs = search needs
 
-factor-into-requires : tie.Need-factor-into-requires Inv-loop μ-loop
-factor-into-requires c κs = search needs
+used-of-requires : tie.Need-used-of-requires Inv-loop μ-loop
+used-of-requires c κs = search needs
 
-solve-lent-requires : tie.Need-solve-lent-requires Inv-loop μ-loop
-solve-lent-requires c κs = search needs
+factor-used-requires : tie.Need-factor-used-requires Inv-loop μ-loop
+factor-used-requires c κs =
+    let u = c .before .used-of .ensures in
+    let f = c .before .before .normal .ensures in
+    (u .0, u .1, rw (f .matrix-is) (matrix-unused _ _ _ _ (u .2)))
+
+solve-used-requires : tie.Need-solve-used-requires Inv-loop μ-loop
+solve-used-requires c κs =
+    let u = c .before .before .before .before .used-of .ensures in
+    let f = c .before .before .before .before .before .normal .ensures in
+    (u .0, u .1, c .before .before .factor-used .ensures .2 (c .before .if1 .taken), rw (f .right-is) (right-unused _ _ _ _ (u .2)))
 
 returns-2 : tie.Need-returns-2 Inv-loop μ-loop
 returns-2 c =
-    let s = c .before .before .before .before .before .before .before .before .before .before .before .before .before .before .before .before .args in
-    let g = c .before .before .before .before .before .before .before .before .before .before .c .given .0 .0 in
-    let f = c .before .before .before .factor-into in
-    solve (c .before .before .before .before .before .before) (solving-yes (weight g (s .huber)) (counted (s .t1)) (s .n) _ _ _ (f .result) (c .before .before .before .before .before .before .normal .ensures) (f .ensures .0) _ _ (c .solve-lent .result) (f .ensures .1) (c .before .before .if1 .taken) (c .solve-lent .ensures))
+    let s = c .before .before .before .before .before .before .before .before .before .before .before .before .before .before .before .before .before .args in
+    let g = c .before .before .before .before .before .before .before .before .before .before .before .c .given .0 .0 in
+    let f = c .before .before .before .factor-used in
+    let t = c .before .before .before .before .before .before .before in
+    solve t (solving-yes (weight g (s .huber)) (counted (s .t1)) (s .n) _ _ _ (f .result) (t .normal .ensures) (f .ensures .0) _ _ (c .solve-used .result) (f .ensures .1) (c .before .before .if1 .taken) (c .solve-used .ensures))
 
 returns-3 : tie.Need-returns-3 Inv-loop μ-loop
 returns-3 c =
-    let s = c .before .before .before .before .before .before .before .before .before .before .before .before .before .before .args in
-    let g = c .before .before .before .before .before .before .before .before .c .given .0 .0 in
-    let f = c .before .factor-into in
-    solve (c .before .before .before .before) (solving-no (weight g (s .huber)) (counted (s .t1)) (s .n) _ _ _ (f .result) (c .before .before .before .before .normal .ensures) (f .ensures .0) (c .if1 .left))
+    let s = c .before .before .before .before .before .before .before .before .before .before .before .before .before .before .before .args in
+    let g = c .before .before .before .before .before .before .before .before .before .c .given .0 .0 in
+    let f = c .before .factor-used in
+    let t = c .before .before .before .before .before in
+    solve t (solving-no (weight g (s .huber)) (counted (s .t1)) (s .n) _ _ _ (f .result) (t .normal .ensures) (f .ensures .0) (c .if1 .left))
 
 pub round-step-spec : {M : Type 1} → statement M
 round-step-spec =
@@ -129,7 +140,8 @@ round-step-spec =
     enum-told
     returns
     normal-requires
-    factor-into-requires
-    solve-lent-requires
+    used-of-requires
+    factor-used-requires
+    solve-used-requires
     returns-2
     returns-3)
