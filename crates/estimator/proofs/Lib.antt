@@ -8,7 +8,6 @@ pub mod FixSound
 pub mod DisplacementCall
 pub mod QualityLaws
 pub mod FixCall
-pub mod ClocksLaws
 pub mod RecordLaws
 pub mod PairLaws
 pub mod KeepLaws

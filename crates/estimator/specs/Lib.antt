@@ -1,4 +1,3 @@
-pub mod Clocks
 pub mod Record
 pub mod Rules
 pub mod Valid

@@ -5,7 +5,7 @@ ghost use lib.ListN.{take};
 ghost use Prim.Native.Nat.{ℕ, _≤_};
 ghost use Rattle.estimator.specs.Rounds.{Ended};
 ghost use Rattle.estimator.specs.Displacement as spec;
-use crate::clocks::Clocks;
+use robust::clocks::Clocks;
 use crate::pair::Pair;
 use crate::pair::Pairs;
 use crate::pair::pairs_of;

@@ -5,7 +5,7 @@ ghost use lib.ListN.{take};
 ghost use Prim.Native.Nat.{ℕ, _≤_};
 ghost use Rattle.robust.specs.Step.{counted};
 ghost use Rattle.estimator.specs.Fix as spec;
-use crate::clocks::Clocks;
+use robust::clocks::Clocks;
 use crate::mask::above_mask;
 use crate::mask::clocks_of;
 use crate::quality::chi_of;

@@ -1,5 +1,4 @@
 // The fix and the displacement: records and their tests, clocks, pairs and their screen, and the rounds of the robust least squares.
-pub mod clocks;
 pub mod displacement;
 pub mod fix;
 mod mask;

@@ -1,10 +1,10 @@
 // The observations at or above the mask, and their clocks.
 ghost use mathlib.Core.Path.{_≡_};
 ghost use Prim.Native.Nat.{_≤_};
-ghost use Rattle.estimator.specs.Clocks.{clocksOf};
+ghost use Rattle.robust.specs.Clocks.{clocksOf};
 ghost use Rattle.estimator.specs.Record.{countedObservations, Holds};
 ghost use Rattle.estimator.specs.Mask as spec;
-use crate::clocks::Clocks;
+use robust::clocks::Clocks;
 use crate::record::Observations;
 
 // The observations at or above the mask, in their order.

@@ -2,10 +2,10 @@
 ghost use mathlib.Core.Path.{_≡_};
 ghost use lib.ListN.{take};
 ghost use Prim.Native.Nat.{_≤_};
-ghost use Rattle.estimator.specs.Clocks.{clocksOf};
+ghost use Rattle.robust.specs.Clocks.{clocksOf};
 ghost use Rattle.estimator.specs.Record.{Holds};
 ghost use Rattle.estimator.specs.Screen as spec;
-use crate::clocks::Clocks;
+use robust::clocks::Clocks;
 use crate::pair::Pairs;
 use median::median::median;
 use numeric::order::float;

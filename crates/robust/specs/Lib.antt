@@ -1,3 +1,4 @@
+pub mod Clocks
 pub mod Nine
 pub mod Round
 pub mod Step

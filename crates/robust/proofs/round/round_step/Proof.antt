@@ -93,14 +93,14 @@ used-of-requires c κs = search needs
 
 factor-used-requires : tie.Need-factor-used-requires Inv-loop μ-loop
 factor-used-requires c κs =
-    let u = c .before .used-of .ensures in
-    let f = c .before .before .normal .ensures in
+    let u = c .before .before .used-of .ensures in
+    let f = c .before .before .before .normal .ensures in
     (u .0, u .1, rw (f .matrix-is) (matrix-unused _ _ _ _ (u .2)))
 
 solve-used-requires : tie.Need-solve-used-requires Inv-loop μ-loop
 solve-used-requires c κs =
-    let u = c .before .before .before .before .used-of .ensures in
-    let f = c .before .before .before .before .before .normal .ensures in
+    let u = c .before .before .before .before .before .used-of .ensures in
+    let f = c .before .before .before .before .before .before .normal .ensures in
     (u .0, u .1, c .before .before .factor-used .ensures .2 (c .before .if1 .taken), rw (f .right-is) (right-unused _ _ _ _ (u .2)))
 
 returns-2 : tie.Need-returns-2 Inv-loop μ-loop

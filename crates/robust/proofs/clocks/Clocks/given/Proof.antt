@@ -1,9 +1,9 @@
--- `estimator::clocks::Clocks::given` meets its contract. Assumes nothing.
+-- `robust::clocks::Clocks::given` meets its contract. Assumes nothing.
 use borrow.Author.Tests.{lt-ltb, le-ltb, eq-eqb, ne-eqb}
-use Rattle.estimator.specs.Clocks.{given}
+use Rattle.robust.specs.Clocks.{given}
 use borrow.Author.Needs.{needs}
-use Rattle.estimator.proofs.clocks.Clocks.given.Statement.{statement}
-use Rattle.estimator.proofs.clocks.Clocks.given.Tie as tie
+use Rattle.robust.proofs.clocks.Clocks.given.Statement.{statement}
+use Rattle.robust.proofs.clocks.Clocks.given.Tie as tie
 
 returns : tie.Need-returns
 unfolding given
