@@ -58,7 +58,9 @@ fn text(b: &mut Bytes) -> Vec<u8> {
 }
 
 pub fn line(b: &mut Bytes) {
-    let mut memory = vec![b.byte(); b.below(LINE + 22)];
+    // 0 to 80 bytes, and 80 where no byte is left.
+    let room = LINE + 21 - b.below(LINE + 22);
+    let mut memory = vec![b.byte(); room];
     let text = text(b);
     let expected = line_form::line(&line_form::answer(&text));
     let mut lender = Lender::new();
