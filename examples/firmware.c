@@ -1,8 +1,8 @@
 /*
- * One of each service as firmware would call it: a fix, a displacement, two
- * epochs of corrections with a query, and a track. The sky is made up, so the
- * answers are known: the program prints them and exits with 1 where one is
- * not as expected.
+ * One of each service as firmware would call it: a fix, a displacement, a
+ * text in the line form, two epochs of corrections with a query, and a track.
+ * The sky is made up, so the answers are known: the program prints them and
+ * exits with 1 where one is not as expected.
  *
  *     rt staticlib zaqnuti
  *     cc -std=c99 -Iinclude examples/firmware.c target/staticlib/libzaqnuti.a -o firmware
@@ -180,6 +180,30 @@ static void displacement(void)
     expect_number("results kept", (unsigned)counts[0], SATELLITES - 1);
 }
 
+/* A text in the line form without a carrier, which is refused by its line. */
+static void line_form(void)
+{
+    static const char text[] =
+        "S,3FF0000000000000,0000000000000000,0000000000000000,0000000000000000,"
+        "3FE0000000000000,3FF0000000000000,0000000000000000,3FF8000000000000,"
+        "4024000000000000,4\n";
+    static const char wanted[] = "R,7\n";
+    const size_t text_length = sizeof text - 1;
+    const size_t wanted_length = sizeof wanted - 1;
+    uint8_t line[ZAQNUTI_LINE];
+    size_t length;
+
+    printf("line form\n");
+    length = zaqnuti_line((const uint8_t *)text, text_length, line, sizeof line);
+    expect_number("bytes of the line", (unsigned)length, (unsigned)wanted_length);
+    expect_number("it is R,7", length == wanted_length && memcmp(line, wanted, wanted_length) == 0, 1);
+    /* A buffer that is one byte short keeps its bytes. */
+    memset(line, 0, sizeof line);
+    length = zaqnuti_line((const uint8_t *)text, text_length, line, wanted_length - 1);
+    expect_number("one byte short", (unsigned)length, 0);
+    expect_number("buffer kept", line[0], 0);
+}
+
 /* The table of corrections that the firmware keeps between calls. */
 struct table {
     uint8_t constellation[ZAQNUTI_SAMPLES];
@@ -273,6 +297,7 @@ int main(void)
 {
     fix();
     displacement();
+    line_form();
     corrections();
     track();
     printf("%d not as expected\n", failures);

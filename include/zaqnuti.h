@@ -50,6 +50,7 @@
  *     fix             25,600
  *     position        25,600
  *     displacement    34,560
+ *     line            46,848
  *     add_epoch       18,176
  *     query              256
  *     smooth             768

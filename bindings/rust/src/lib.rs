@@ -4,6 +4,7 @@
 //! |---|---|
 //! | [`wls`] | the position from one epoch of pseudoranges |
 //! | [`tdcp`] | the displacement between two epochs of carrier phases |
+//! | [`line`](mod@line) | the displacement of a text in the line form |
 //! | [`differential`] | corrections from a base station |
 //! | [`smooth`](mod@smooth) | the track that fits anchors and links |
 //! | [`robust`], [`math`] | the pieces, each a call of its own |
@@ -24,6 +25,7 @@
 #![deny(unsafe_op_in_unsafe_fn)]
 
 pub mod differential;
+pub mod line;
 pub mod math;
 mod refusal;
 pub mod robust;
@@ -41,6 +43,10 @@ pub const RECORDS: usize = 64;
 pub const SAMPLES: usize = 2048;
 /// The most epochs, anchors or links of a track.
 pub const EPOCHS: usize = 1024;
+/// The most bytes of a text in the line form.
+pub const TEXT: usize = 32_768;
+/// The bytes that are always enough for its answer.
+pub const LINE: usize = 59;
 
 /// A place, earth-centred and earth-fixed, metres.
 #[derive(Clone, Copy, Debug, Default, PartialEq)]

@@ -4,9 +4,6 @@ use std::collections::BTreeMap;
 use std::fs;
 use std::path::{Path, PathBuf};
 
-/// Functions that may be declared before the library has them.
-const AHEAD: [&str; 1] = ["zaqnuti_line"];
-
 /// For each function the parameters' types and the result's, in one notation: `*T` and `*const T` for pointers, `T` for numbers.
 type Signatures = BTreeMap<String, (Vec<String>, String)>;
 
@@ -170,21 +167,14 @@ fn parameter_of_c(item: &str) -> String {
     element.to_string()
 }
 
-/// Without what may not be there yet, and is not.
-fn present(mut declared: Signatures, rattle: &Signatures) -> Signatures {
-    declared.retain(|name, _| rattle.contains_key(name) || !AHEAD.contains(&name.as_str()));
-    declared
-}
-
 #[test]
 fn header_and_rattle_agree() {
     let rattle = rattle();
     assert!(rattle.len() >= 26, "the sources were read");
-    assert_eq!(present(header(), &rattle), rattle);
+    assert_eq!(header(), rattle);
 }
 
 #[test]
 fn sys_and_rattle_agree() {
-    let rattle = rattle();
-    assert_eq!(present(sys(), &rattle), rattle);
+    assert_eq!(sys(), rattle());
 }

@@ -2,12 +2,12 @@
 
 mod common;
 
-use common::{carriers, observations, AT};
+use common::{carriers, observations, text, AT};
 use zaqnuti::differential::{build, Base, BaseEpoch, BaseRange, Corrections, SatelliteState};
 use zaqnuti::math::{self, Cholesky};
 use zaqnuti::robust::{centre_scale, elevation_sigma, geometry, step, Clocks, Row};
 use zaqnuti::smooth::{smooth, Anchor, Link};
-use zaqnuti::{differential, smooth as track, tdcp, wls, Ecef, Refusal, Vec3};
+use zaqnuti::{differential, line, smooth as track, tdcp, wls, Ecef, Refusal, Vec3, TEXT};
 
 fn near(a: f64, b: f64, within: f64) -> bool {
     (a - b).abs() <= within
@@ -130,6 +130,44 @@ fn a_displacement_refuses() {
     let mut seven = all.clone();
     seven[6].constellation = 0;
     assert_eq!(why(&seven, &seven, 1.0, &set), Refusal::TooManySlots);
+}
+
+/// Document 01's example, without its LF.
+const EXAMPLE: &str = "S,3FF0000000000000,0000000000000000,0000000000000000,0000000000000000,3FE0000000000000,3FF0000000000000,0000000000000000,3FF8000000000000,4024000000000000,4";
+
+#[test]
+fn a_text() {
+    let set = tdcp::Settings::default();
+    let moved = Ecef::new(AT.x + 0.1, AT.y - 0.2, AT.z + 0.05);
+    let (before, after) = (carriers(20, AT), carriers(20, moved));
+    let d = tdcp::delta_position(&before, &after, 1.0, AT, &set).unwrap();
+    let [x, y, z] = [d.delta.x, d.delta.y, d.delta.z].map(f64::to_bits);
+    let expected = format!("A,{},{},{x:016X},{y:016X},{z:016X}\n", d.used, d.screened);
+    let found = line::answer(&text(&before, &after, &set));
+    assert_eq!(found.as_bytes(), expected.as_bytes());
+
+    let drive = include_bytes!("../../../examples/drive/01.txt");
+    let found = line::answer(drive);
+    let found = std::str::from_utf8(found.as_bytes()).unwrap();
+    let moved = found.strip_prefix("A,13,0,").unwrap().trim_end().split(',');
+    let metres = moved.map(|f| f64::from_bits(u64::from_str_radix(f, 16).unwrap()));
+    let truth = include_str!("../../../examples/drive/truth");
+    let truth = truth.lines().next().unwrap().strip_prefix("01 ").unwrap();
+    let truth = truth.split(' ').map(|f| f.parse::<f64>().unwrap());
+    assert!(metres.zip(truth).filter(|&(a, b)| near(a, b, 0.05)).count() == 3);
+}
+
+#[test]
+fn a_text_refused() {
+    let why = |text: &[u8]| line::answer(text).as_bytes().to_vec();
+    let example = format!("{EXAMPLE}\n");
+    assert_eq!(why(example.as_bytes()), b"R,7\n");
+    assert_eq!(why(EXAMPLE.as_bytes()), b"R,1\n");
+    assert_eq!(why(b""), b"R,1\n");
+    assert_eq!(why(&[b'\n'; TEXT + 1]), b"R,1\n");
+    let set = tdcp::Settings::default();
+    let (all, many) = (carriers(64, AT), carriers(65, AT));
+    assert_eq!(why(&text(&all, &many, &set)), b"R,2\n");
 }
 
 /// A base epoch whose range to satellite 0 is `error` metres too long, and its states.

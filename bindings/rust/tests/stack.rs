@@ -7,13 +7,13 @@
 
 mod common;
 
-use common::{carriers, observations, AT};
+use common::{carriers, observations, text, AT};
 use std::arch::asm;
 use std::collections::BTreeMap;
 use std::path::Path;
 use zaqnuti::sys;
-use zaqnuti::tdcp::Carrier;
-use zaqnuti::Ecef;
+use zaqnuti::tdcp::{Carrier, Settings};
+use zaqnuti::{Ecef, LINE, TEXT};
 
 /// How far down the stack is filled, above what any call uses.
 const DEPTH: usize = 1 << 20;
@@ -144,6 +144,17 @@ fn position(count: usize, rounds: usize) -> usize {
     })
 }
 
+/// Two full epochs whose carriers no displacement fits, which keeps the rounds going.
+fn epochs() -> (Vec<Carrier>, Vec<Carrier>) {
+    let moved = Ecef::new(AT.x + 9.0, AT.y, AT.z);
+    let mut after = carriers(64, moved);
+    after
+        .iter_mut()
+        .enumerate()
+        .for_each(|(i, c)| c.adr += 3.0 * (i % 7) as f64);
+    (carriers(64, AT), after)
+}
+
 fn displacement(count: usize, rounds: usize, screen: f64) -> usize {
     let floats = |c: &[Carrier]| -> Vec<f64> {
         c.iter()
@@ -159,14 +170,7 @@ fn displacement(count: usize, rounds: usize, screen: f64) -> usize {
             })
             .collect()
     };
-    let (before, mut after) = (
-        carriers(64, AT),
-        carriers(64, Ecef::new(AT.x + 9.0, AT.y, AT.z)),
-    );
-    after
-        .iter_mut()
-        .enumerate()
-        .for_each(|(i, c)| c.adr += 3.0 * (i % 7) as f64);
+    let (before, after) = epochs();
     let (pf, cf) = (floats(&before), floats(&after));
     let constellation: Vec<u8> = before.iter().map(|c| c.constellation).collect();
     let svid: Vec<u16> = before.iter().map(|c| c.svid).collect();
@@ -207,6 +211,27 @@ fn displacement(count: usize, rounds: usize, screen: f64) -> usize {
                 &mut counts,
             );
         }
+        frame
+    })
+}
+
+/// The text of both epochs, of which the last byte is replaced, and a buffer of so many bytes for the line.
+fn line(rounds: usize, last: &[u8], room: usize) -> usize {
+    let (before, after) = epochs();
+    let set = Settings {
+        screen: 1e9,
+        huber: 1e-3,
+        iterations: rounds,
+        ..Settings::default()
+    };
+    let mut text = text(&before, &after, &set);
+    text.pop();
+    text.extend(last);
+    let mut line = vec![0; room];
+    measured(move || {
+        let frame = top();
+        // SAFETY: each pointer has its length beside it, and the line is ours alone.
+        unsafe { sys::zaqnuti_line(text.as_ptr(), text.len(), line.as_mut_ptr(), room) };
         frame
     })
 }
@@ -504,6 +529,18 @@ fn no_more_than_the_header_says() {
                 displacement(64, 0, 1e9),
                 displacement(65, 4, 1.0),
                 displacement(5, 4, 1.0),
+            ]),
+        ),
+        (
+            "line",
+            most([
+                line(50, b"\n", LINE),
+                line(50, b"\n", LINE - 20),
+                line(0, b"\n", LINE),
+                line(51, b"\n", LINE),
+                line(50, b"", LINE),
+                line(50, b"\nP,1\n", 0),
+                line(50, &[b'\n'; TEXT], LINE),
             ]),
         ),
         (

@@ -8,6 +8,7 @@ mod sys;
 mod corrections;
 mod displacement;
 mod fix;
+mod line;
 mod pieces;
 mod track;
 
@@ -21,6 +22,7 @@ type Entry = (&'static str, fn(&mut Bytes));
 pub const ENTRIES: &[Entry] = &[
     ("fix", fix::fix),
     ("displacement", displacement::displacement),
+    ("line", line::line),
     ("add_epoch", corrections::add_epoch),
     ("query", corrections::query),
     ("smooth", track::smooth),

@@ -1,7 +1,7 @@
 //! The line form, against a plain reader of texts with `delta_position` behind it.
 
 mod stored;
-mod texts;
+pub mod texts;
 
 pub use stored::cases;
 

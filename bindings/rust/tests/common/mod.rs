@@ -2,7 +2,7 @@
 #![allow(dead_code)]
 
 use zaqnuti::robust::geometry;
-use zaqnuti::tdcp::Carrier;
+use zaqnuti::tdcp::{Carrier, Settings};
 use zaqnuti::wls::Observation;
 use zaqnuti::Ecef;
 
@@ -59,4 +59,24 @@ pub fn carriers(n: usize, at: Ecef) -> Vec<Carrier> {
         }
     };
     (0..n).map(one).collect()
+}
+
+/// The text of a displacement over one second from `AT`, in the line form.
+pub fn text(previous: &[Carrier], current: &[Carrier], set: &Settings) -> Vec<u8> {
+    let hex = |floats: &[f64]| {
+        let fields = floats.iter().map(|x| format!("{:016X}", x.to_bits()));
+        fields.collect::<Vec<_>>().join(",")
+    };
+    let carrier = |letter: &str, c: &Carrier| {
+        let [x, y, z] = c.satellite;
+        let (adr, floats) = (hex(&[c.adr]), hex(&[x, y, z, c.elevation, c.rate]));
+        let signal = format!("{},{},{}", c.constellation, c.svid, c.band);
+        format!("{letter},{signal},{adr},{},{floats}\n", c.state)
+    };
+    let settings = [set.screen, set.sigma_a, set.sigma_b, set.huber, set.mask];
+    let [place, settings] = [hex(&AT.coordinates()), hex(&settings)];
+    let mut out = format!("S,{},{place},{settings},{}\n", hex(&[1.0]), set.iterations);
+    out.extend(previous.iter().map(|c| carrier("P", c)));
+    out.extend(current.iter().map(|c| carrier("C", c)));
+    out.into_bytes()
 }

@@ -22,7 +22,7 @@ fn carrier(b: &mut Bytes) -> Carrier {
     }
 }
 
-fn displacement_input(b: &mut Bytes) -> Displacement {
+pub fn displacement_input(b: &mut Bytes) -> Displacement {
     let kind = b.byte();
     if kind % 4 == 0 {
         b.set_plain(kind & 4 == 0);

@@ -60,7 +60,7 @@ pub const WHOLES: [&str; 46] = [
 ];
 
 /// Bytes of the form, and those that are most easily mistaken for one of it.
-const BYTES_NEAR: &[u8] =
+pub const BYTES_NEAR: &[u8] =
     b"0123456789ABCDEFabcdefSPCspcGgXx+-,,\n\n\r\t .;\"\0\x7F\x80\xFF\xEF\xBB\xBF";
 
 /// The shortest line of a carrier, with its LF.

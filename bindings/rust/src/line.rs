@@ -1,0 +1,32 @@
+//! The displacement of a text in the line form, answered by a line.
+
+use crate::{sys, LINE};
+
+/// The line of an answer, with its LF: `A,used,screened,dx,dy,dz` or `R,number`.
+#[derive(Clone, Copy, Debug, PartialEq, Eq)]
+pub struct Line {
+    bytes: [u8; LINE],
+    length: usize,
+}
+
+impl Line {
+    /// Its bytes, all of them ASCII.
+    pub fn as_bytes(&self) -> &[u8] {
+        &self.bytes[..self.length]
+    }
+}
+
+/// The line that answers a text of `S`, `P` and `C` lines.
+///
+/// A text above [`TEXT`](crate::TEXT) bytes, or one that breaks the form, is answered by `R,1`.
+///
+/// ```
+/// assert_eq!(zaqnuti::line::answer(b"S,1\n").as_bytes(), b"R,1\n");
+/// ```
+pub fn answer(text: &[u8]) -> Line {
+    let mut bytes = [0; LINE];
+    // SAFETY: each pointer has its length beside it, and the line is ours alone.
+    let length =
+        unsafe { sys::zaqnuti_line(text.as_ptr(), text.len(), bytes.as_mut_ptr(), bytes.len()) };
+    Line { bytes, length }
+}
