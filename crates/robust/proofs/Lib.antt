@@ -7,6 +7,8 @@ pub mod RowLaws
 pub mod Sums
 pub mod NormalLaws
 pub mod FormedLaws
+pub mod SomeSums
 pub mod Places
+pub mod AllPlaces
 pub mod StepLaws
 pub mod RoundValues

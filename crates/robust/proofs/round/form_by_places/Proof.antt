@@ -6,7 +6,8 @@ use lib.Dec.{T}
 use lib.ListN.{length}
 use lib.Ieee.Fits.{and-l, and-r}
 use Rattle.walk.proofs.Walk.{length-mapped}
-use Rattle.robust.proofs.Places.{Placed, placed-start, placed-next, formed-by-places}
+use Rattle.robust.proofs.Places.{Placed, placed-start, placed-next}
+use Rattle.robust.proofs.AllPlaces.{formed-by-places}
 use borrow.Author.Needs.{needs}
 use native.Mathlib.Omega.{arith}
 use Rattle.robust.proofs.round.form_by_places.Statement.{statement}

@@ -1,0 +1,232 @@
+-- Why the places that are not 0 are all that count: where every number is finite, what is left out adds nothing. Assumes nothing.
+use mathlib.Core.Path.{_≡_, sym, ap, _∙_, subst}
+use Prim.Native.Nat.{ℕ, zero, suc, _≤_, _<_}
+use native.Mathlib.Decide.{ℕ-discrete, decLt}
+use native.Mathlib.Omega.{arith}
+use mathlib.Core.Bool.{true, false, cond, _&&_}
+use mathlib.Core.List.{List}
+use lib.Dec.{T, ltb, leb, eqb}
+use borrow.Author.Tests.{lt-ltb, le-ltb, le-leb, lt-leb, eq-eqb, ne-eqb}
+use lib.ListN.{length, set, length-set}
+use lib.Seq.{getD-set-same, getD-set-other}
+use lib.Ieee.{Float, nan, binary64, ofBits, fits}
+use lib.Ieee.Fits.{mul-fits, div-fits}
+use lib.Ieee.Scale.{finite}
+use Rattle.exact.specs.Float.{_⊗_, +0, 1·0, bits}
+use Rattle.exact.proofs.Ops.{mul-finite}
+use Rattle.numeric.specs.Factor.{at, row, cell}
+use Rattle.median.specs.declared.centre.CentreScale.{CentreScale}
+use Rattle.robust.specs.Nine.{nine}
+use Rattle.robust.specs.Round.{weight, wide, triangleOf}
+use Rattle.robust.specs.Normal.{Formed}
+use Rattle.robust.specs.Step.{counted}
+use Rattle.robust.specs.declared.row.Rows.{Rows}
+use Rattle.numeric.proofs.Zeros.{isZero, zero-times}
+use Rattle.robust.proofs.Zeros.{times-zero, times-one}
+use Rattle.robust.proofs.NineLaws.{nine-is, Square, square-is, store, square-store, cell-same, cell-other}
+use Rattle.robust.proofs.FormedLaws.{rowAt, cells, sides, cells-sum, sides-sum, formed}
+use Rattle.robust.proofs.SomeSums.{someTo, some-none, some-all, sum-finite}
+use Rattle.robust.proofs.Places.{wide-clock, wide-none, clock, weighted, sided, idle, reached, placedCell, Placed}
+
+-- ---- the six stores after the loop
+abbrev put : (ℕ → ℕ → Float) → ℕ → ℕ → Float → ℕ → ℕ → Float
+put T i j v p q = cond (eqb p i && eqb q j) v (T p q)
+
+pub record Known (T : ℕ → ℕ → Float) (a : List (List Float)) : Type 0 where
+  pub square : Square a
+  pub is : (p q : ℕ) → p < 9 → q < 9 → cell a p q ≡ T p q
+
+known-store : {T : ℕ → ℕ → Float} {a : List (List Float)} (i j : ℕ) (v : Float) → i < 9 → j < 9 → Known T a → Known (put T i j v) (store a i j v)
+known-store {T} {a} i j v ib jb h = record { square = square-store a (h .square) i j v ib; is = λ p q pb qb. go p q pb qb (ℕ-discrete p i) (ℕ-discrete q j) }
+  where
+    go : (p q : ℕ) → p < 9 → q < 9 → Dec (p ≡ i) → Dec (q ≡ j) → cell (store a i j v) p q ≡ put T i j v p q
+    go p q pb qb (no n) d = rw (ne-eqb p i n) (cell-other a (h .square) i j v ib p q (λ x y. n x) ∙ h .is p q pb qb)
+    go p q pb qb (yes e) (no n) = rw (eq-eqb p i e, ne-eqb q j n) (cell-other a (h .square) i j v ib p q (λ x y. n y) ∙ h .is p q pb qb)
+    go p q pb qb (yes e) (yes f) = rw (eq-eqb p i e, eq-eqb q j f) (subst (λ (z : ℕ). cell (store a i j v) z q ≡ v) (sym e) (subst (λ (z : ℕ). cell (store a i j v) i z ≡ v) (sym f) (cell-same a (h .square) i j v ib jb)))
+
+-- ---- all that there is
+module _ (c : CentreScale) (huber : Float) (rows : Rows) (n : ℕ) (few : n ≤ 9) (three : 3 ≤ n) (m : ℕ)
+    {xx yx yy zx zy zz sx sy sz : Float} {a : List (List Float)} {b : List Float} (h : Placed c huber rows n m xx yx yy zx zy zz sx sy sz a b)
+    (fx : T (finite xx)) (fy : T (finite yy)) (fz : T (finite zz)) (fs : T (finite sx)) where
+  abbrev w : ℕ → Float
+  w k = weight c huber (rowAt rows k)
+
+  abbrev e : ℕ → ℕ → Float
+  e k p = at (wide (rowAt rows k)) p
+
+  term-x : (k : ℕ) → k < m → T (finite (weighted c huber rows n 0 0 k))
+  term-x k kb = sum-finite (weighted c huber rows n 0 0) m (subst (λ (z : Float). T (finite z)) (h .xx-is ∙ cells-sum c huber rows m 0 0) fx) k kb
+
+  term-y : (k : ℕ) → k < m → T (finite (weighted c huber rows n 1 1 k))
+  term-y k kb = sum-finite (weighted c huber rows n 1 1) m (subst (λ (z : Float). T (finite z)) (h .yy-is ∙ cells-sum c huber rows m 1 1) fy) k kb
+
+  term-z : (k : ℕ) → k < m → T (finite (weighted c huber rows n 2 2 k))
+  term-z k kb = sum-finite (weighted c huber rows n 2 2) m (subst (λ (z : Float). T (finite z)) (h .zz-is ∙ cells-sum c huber rows m 2 2) fz) k kb
+
+  residual-finite : (k : ℕ) → k < m → T (finite (bits (rowAt rows k .residual)))
+  residual-finite k kb = mul-finite (w k ⊗ e k 0) (bits (rowAt rows k .residual)) (sum-finite (sided c huber rows n 0) m (subst (λ (z : Float). T (finite z)) (h .sx-is ∙ sides-sum c huber rows m 0) fs) k kb) .1
+
+  weight-finite : (k : ℕ) → k < m → T (finite (w k))
+  weight-finite k kb = mul-finite (w k) (e k 0) (mul-finite (w k ⊗ e k 0) (e k 0) (term-x k kb) .0) .0
+
+  one-finite : T (finite 1·0)
+  unfolding ofBits
+  one-finite = tt
+
+  zero-finite : T (finite +0)
+  unfolding ofBits
+  zero-finite = tt
+
+  zero-zero : T (isZero +0)
+  unfolding ofBits
+  zero-zero = tt
+
+  entry-finite : (k : ℕ) → k < m → (q : ℕ) → q < 9 → T (finite (e k q))
+  entry-finite k kb zero qb = mul-finite (w k ⊗ e k 0) (e k 0) (term-x k kb) .1
+  entry-finite k kb (suc zero) qb = mul-finite (w k ⊗ e k 1) (e k 1) (term-y k kb) .1
+  entry-finite k kb (suc (suc zero)) qb = mul-finite (w k ⊗ e k 2) (e k 2) (term-z k kb) .1
+  entry-finite k kb (suc (suc (suc q))) qb = go (ℕ-discrete (suc (suc (suc q))) (rowAt rows k .clock))
+    where
+      go : Dec (suc (suc (suc q)) ≡ rowAt rows k .clock) → T (finite (e k (suc (suc (suc q)))))
+      go (yes i) = subst (λ (z : ℕ). T (finite (e k z))) (sym i) (subst (λ (z : Float). T (finite z)) (wide-clock (rowAt rows k) (omega (arith, h .clocks k kb .1))) one-finite)
+      go (no i) = subst (λ (z : Float). T (finite z)) (wide-none (rowAt rows k) (suc (suc (suc q))) (omega arith) qb i) zero-finite
+
+  weight-fits : (k : ℕ) → T (fits binary64 (w k))
+  unfolding weight
+  weight-fits k = div-fits binary64 _ _
+
+  -- at the clock a row weighs what its weight is
+  clock-finite : (k : ℕ) → k < m → T (finite (w k ⊗ e k (rowAt rows k .clock)))
+  clock-finite k kb =
+      subst (λ (z : Float). T (finite (w k ⊗ z))) (wide-clock (rowAt rows k) (omega (arith, h .clocks k kb .1)))
+      (subst (λ (z : Float). T (finite z)) (sym (times-one (w k) (weight-fits k))) (weight-finite k kb))
+
+  -- beside the clock it weighs nothing
+  beside : (k : ℕ) → k < m → (p : ℕ) → 3 ≤ p → p < 9 → (p ≡ rowAt rows k .clock → ⊥) → T (isZero (w k ⊗ e k p))
+  beside k kb p low pb i = times-zero (w k) (e k p) (weight-finite k kb) (subst (λ (z : Float). T (isZero z)) (wide-none (rowAt rows k) p low pb i) zero-zero)
+
+  cell-zero : (p q : ℕ) → 3 ≤ p → p < n → q ≤ p → (k : ℕ) → k < m → reached c huber rows n p q k ≡ false → T (isZero (weighted c huber rows n p q k))
+  cell-zero p q low pb qb k kb off = go (ℕ-discrete p (rowAt rows k .clock)) (decLt q 3) (ℕ-discrete q (rowAt rows k .clock))
+    where
+      never : true ≡ false → T (isZero (weighted c huber rows n p q k))
+      never z = absurd (let o : _≡_ {A = ℕ} 0 1 = cc in omega arith)
+
+      go : Dec (p ≡ rowAt rows k .clock) → Dec (q < 3) → Dec (q ≡ rowAt rows k .clock) → T (isZero (weighted c huber rows n p q k))
+      go (no i) dq di = zero-times (w k ⊗ e k p) (e k q) (beside k kb p low (omega arith) i) (entry-finite k kb q (omega arith))
+      go (yes i) (yes l) di = never (rw (eq-eqb p (rowAt rows k .clock) i, lt-ltb q 3 l) at off)
+      go (yes i) (no l) (yes j) = never (rw (eq-eqb p (rowAt rows k .clock) i, le-ltb q 3 (omega arith), eq-eqb q (rowAt rows k .clock) j) at off)
+      go (yes i) (no l) (no j) =
+          times-zero (w k ⊗ e k p) (e k q) (subst (λ (z : ℕ). T (finite (w k ⊗ e k z))) (sym i) (clock-finite k kb))
+          (subst (λ (z : Float). T (isZero z)) (wide-none (rowAt rows k) q (omega arith) (omega arith) j) zero-zero)
+
+  side-zero : (p : ℕ) → 3 ≤ p → p < n → (k : ℕ) → k < m → eqb p (rowAt rows k .clock) ≡ false → T (isZero (sided c huber rows n p k))
+  side-zero p low pb k kb off = go (ℕ-discrete p (rowAt rows k .clock))
+    where
+      go : Dec (p ≡ rowAt rows k .clock) → T (isZero (sided c huber rows n p k))
+      go (no i) = zero-times (w k ⊗ e k p) (bits (rowAt rows k .residual)) (beside k kb p low (omega arith) i) (residual-finite k kb)
+      go (yes i) = absurd (let o : true ≡ false = rw (eq-eqb p (rowAt rows k .clock) i) at off in let z : _≡_ {A = ℕ} 0 1 = cc in omega arith)
+
+  -- the cells of a clock's row are the sums, and no others are added to
+  cell-sum : (p q : ℕ) → 3 ≤ p → p < n → q ≤ p → placedCell c huber rows n m p q ≡ cells c huber rows m p q
+  cell-sum p q low pb qb =
+      ap (λ (z : Float). someTo z (reached c huber rows n p q) (weighted c huber rows n p q) m) (rw (lt-leb n p pb))
+      ∙ some-all (reached c huber rows n p q) (weighted c huber rows n p q) m (λ k. mul-fits binary64 _ _) (cell-zero p q low pb qb)
+      ∙ sym (cells-sum c huber rows m p q)
+
+  cell-idle : (p q : ℕ) → ((k : ℕ) → k < m → reached c huber rows n p q k ≡ false) → placedCell c huber rows n m p q ≡ idle c huber rows n p q
+  cell-idle p q off = some-none (idle c huber rows n p q) (reached c huber rows n p q) (weighted c huber rows n p q) m off
+
+  abbrev cellIn : ℕ → ℕ → Float
+  cellIn p q = cond (ltb p n && leb q p) (cells c huber rows m p q) (idle c huber rows n p q)
+
+  below : (p q : ℕ) (v : Float) → p < n → q ≤ p → v ≡ cells c huber rows m p q → v ≡ cellIn p q
+  below p q v pb qb i = i ∙ rw (lt-ltb p n pb, le-leb q p qb)
+
+  -- above the diagonal nothing is added
+  above : (p q : ℕ) → p < n → p < q → placedCell c huber rows n m p q ≡ cellIn p q
+  above p q pb qb = cell-idle p q (λ k kb. off k kb (ℕ-discrete p (rowAt rows k .clock))) ∙ rw (lt-ltb p n pb, lt-leb q p qb)
+    where
+      off : (k : ℕ) → k < m → Dec (p ≡ rowAt rows k .clock) → reached c huber rows n p q k ≡ false
+      off k kb (no i) = rw (ne-eqb p (rowAt rows k .clock) i)
+      off k kb (yes i) =
+          let low : 3 ≤ rowAt rows k .clock = h .clocks k kb .0 in
+          rw (eq-eqb p (rowAt rows k .clock) i, le-ltb q 3 (omega arith), ne-eqb q (rowAt rows k .clock) (omega arith))
+
+  abbrev stored : List (List Float)
+  stored = store (store (store (store (store (store a 0 0 xx) 1 0 yx) 1 1 yy) 2 0 zx) 2 1 zy) 2 2 zz
+
+  abbrev known : ℕ → ℕ → Float
+  known = put (put (put (put (put (put (placedCell c huber rows n m) 0 0 xx) 1 0 yx) 1 1 yy) 2 0 zx) 2 1 zy) 2 2 zz
+
+  stored-known : Known known stored
+  stored-known =
+      known-store 2 2 zz (omega arith) (omega arith) (known-store 2 1 zy (omega arith) (omega arith) (known-store 2 0 zx (omega arith) (omega arith)
+      (known-store 1 1 yy (omega arith) (omega arith) (known-store 1 0 yx (omega arith) (omega arith) (known-store 0 0 xx (omega arith) (omega arith)
+      (record { square = h .square; is = h .cells-are }))))))
+
+  first : (p q : ℕ) → p < 3 → known p q ≡ cellIn p q
+  first zero zero l = below 0 0 xx (omega arith) (omega arith) (h .xx-is)
+  first zero (suc q) l = rw (ne-eqb (suc q) 0 (omega arith)) (above 0 (suc q) (omega arith) (omega arith))
+  first (suc zero) zero l = below 1 0 yx (omega arith) (omega arith) (h .yx-is)
+  first (suc zero) (suc zero) l = below 1 1 yy (omega arith) (omega arith) (h .yy-is)
+  first (suc zero) (suc (suc q)) l = rw (ne-eqb (suc (suc q)) 0 (omega arith), ne-eqb (suc (suc q)) 1 (omega arith)) (above 1 (suc (suc q)) (omega arith) (omega arith))
+  first (suc (suc zero)) zero l = below 2 0 zx (omega arith) (omega arith) (h .zx-is)
+  first (suc (suc zero)) (suc zero) l = below 2 1 zy (omega arith) (omega arith) (h .zy-is)
+  first (suc (suc zero)) (suc (suc zero)) l = below 2 2 zz (omega arith) (omega arith) (h .zz-is)
+  first (suc (suc zero)) (suc (suc (suc q))) l =
+      rw (ne-eqb (suc (suc (suc q))) 0 (omega arith), ne-eqb (suc (suc (suc q))) 1 (omega arith), ne-eqb (suc (suc (suc q))) 2 (omega arith)) (above 2 (suc (suc (suc q))) (omega arith) (omega arith))
+  first (suc (suc (suc p))) q l = absurd (omega arith)
+
+  later : (p q : ℕ) → 3 ≤ p → Dec (p < n) → Dec (p < q) → known p q ≡ cellIn p q
+  later p q l d g = rw (ne-eqb p 0 (omega arith), ne-eqb p 1 (omega arith), ne-eqb p 2 (omega arith)) (go d g)
+    where
+      go : Dec (p < n) → Dec (p < q) → placedCell c huber rows n m p q ≡ cellIn p q
+      go (yes u) (yes g) = above p q u g
+      go (yes u) (no g) = let i : q ≤ p = omega arith in below p q _ u i (cell-sum p q l u i)
+      go (no u) g = let i : n ≤ p = omega arith in cell-idle p q (λ k kb. rw (ne-eqb p (rowAt rows k .clock) (omega (arith, h .clocks k kb .1)))) ∙ rw (le-ltb p n i)
+
+  matrix-stored : stored ≡ triangleOf n (cells c huber rows m)
+  unfolding triangleOf
+  matrix-stored = square-is cellIn stored (stored-known .square) (λ p q pb qb. stored-known .is p q pb qb ∙ go p q (decLt p 3))
+    where
+      go : (p q : ℕ) → Dec (p < 3) → known p q ≡ cellIn p q
+      go p q (yes l) = first p q l
+      go p q (no l) = later p q (omega arith) (decLt p n) (decLt p q)
+
+  abbrev sideStored : List Float
+  sideStored = set (set (set b 0 sx) 1 sy) 2 sz
+
+  long-1 : length (set b 0 sx) ≡ 9
+  long-1 = length-set b 0 sx ∙ h .long
+
+  long-2 : length (set (set b 0 sx) 1 sy) ≡ 9
+  long-2 = length-set (set b 0 sx) 1 sy ∙ long-1
+
+  right-stored : sideStored ≡ nine (λ i. cond (ltb i n) (sides c huber rows m i) +0)
+  right-stored = nine-is (λ i. cond (ltb i n) (sides c huber rows m i) +0) nan sideStored (length-set (set (set b 0 sx) 1 sy) 2 sz ∙ long-2) (λ p pb. go p pb (decLt p n))
+    where
+      within : (p : ℕ) (v : Float) → p < n → v ≡ sides c huber rows m p → v ≡ cond (ltb p n) (sides c huber rows m p) +0
+      within p v pb i = i ∙ rw (lt-ltb p n pb)
+
+      beyond : (p : ℕ) → 3 ≤ p → at sideStored p ≡ at b p
+      beyond p l = getD-set-other (set (set b 0 sx) 1 sy) 2 p sz nan (omega arith) ∙ getD-set-other (set b 0 sx) 1 p sy nan (omega arith) ∙ getD-set-other b 0 p sx nan (omega arith)
+
+      go : (p : ℕ) → p < 9 → Dec (p < n) → at sideStored p ≡ cond (ltb p n) (sides c huber rows m p) +0
+      go zero pb d = getD-set-other (set (set b 0 sx) 1 sy) 2 0 sz nan (omega arith) ∙ getD-set-other (set b 0 sx) 1 0 sy nan (omega arith) ∙ getD-set-same b 0 sx nan (omega (arith, h .long)) ∙ within 0 sx (omega arith) (h .sx-is)
+      go (suc zero) pb d = getD-set-other (set (set b 0 sx) 1 sy) 2 1 sz nan (omega arith) ∙ getD-set-same (set b 0 sx) 1 sy nan (omega (arith, long-1)) ∙ within 1 sy (omega arith) (h .sy-is)
+      go (suc (suc zero)) pb d = getD-set-same (set (set b 0 sx) 1 sy) 2 sz nan (omega (arith, long-2)) ∙ within 2 sz (omega arith) (h .sz-is)
+      go (suc (suc (suc p))) pb (yes u) =
+          beyond (suc (suc (suc p))) (omega arith) ∙ h .sides-are (suc (suc (suc p))) pb
+          ∙ some-all (λ k. eqb (suc (suc (suc p))) (rowAt rows k .clock)) (sided c huber rows n (suc (suc (suc p)))) m (λ k. mul-fits binary64 _ _) (side-zero (suc (suc (suc p))) (omega arith) u)
+          ∙ sym (sides-sum c huber rows m (suc (suc (suc p)))) ∙ rw (lt-ltb (suc (suc (suc p))) n u)
+      go (suc (suc (suc p))) pb (no u) =
+          let i : n ≤ suc (suc (suc p)) = omega arith in
+          beyond (suc (suc (suc p))) (omega arith) ∙ h .sides-are (suc (suc (suc p))) pb
+          ∙ some-none +0 (λ k. eqb (suc (suc (suc p))) (rowAt rows k .clock)) (sided c huber rows n (suc (suc (suc p)))) m (λ k kb. ne-eqb (suc (suc (suc p))) (rowAt rows k .clock) (omega (arith, h .clocks k kb .1)))
+          ∙ rw (le-ltb (suc (suc (suc p))) n i)
+
+  pub formed-by-places : length (rows .row) ≡ 64 → rows .count ≤ 64 → m ≡ rows .count → Formed (weight c huber) (counted rows) n stored sideStored
+  formed-by-places long small last =
+      formed c huber rows long small n stored sideStored
+      (subst (λ (z : ℕ). stored ≡ triangleOf n (cells c huber rows z)) last matrix-stored)
+      (subst (λ (z : ℕ). sideStored ≡ nine (λ i. cond (ltb i n) (sides c huber rows z i) +0)) last right-stored)
