@@ -4,8 +4,8 @@ ghost use Prim.Native.Nat.{_≤_};
 ghost use Rattle.robust.specs.Clocks.{clocksOf};
 ghost use Rattle.estimator.specs.Record.{countedObservations, Holds};
 ghost use Rattle.estimator.specs.Mask as spec;
-use robust::clocks::Clocks;
 use crate::record::Observations;
+use robust::clocks::Clocks;
 
 // The observations at or above the mask, in their order.
 pub(crate) fn above_mask(o: Observations, mask: f64) -> Observations

@@ -9,7 +9,7 @@ use mathlib.Core.Logic.{_≢_}
 use mathlib.Core.Bool.{true, false}
 use mathlib.Core.List.{List, []}
 use lib.ListN.{set, replicate, length, length-set, getD-replicate}
-use lib.Seq.{getD-set-same, getD-set-other}
+use lib.Seq.{getD-set-same, getD-set-other, ext-getD}
 use lib.Ieee.{Float, nan}
 use Rattle.exact.specs.Float.{_⊖_, _⊗_, _⊘_}
 use Rattle.exact.specs.Products.{lessProducts}
@@ -206,6 +206,11 @@ module _ (a w : List (List Float)) (m : ℕ) (b : m < 9) (ok : isPivot (pivotOf 
   pub made-next : Made (suc m) a w
   made-next = record { l = set (g .l) m r; is = is; nine = length-set (g .l) m r ∙ g .nine; rows = λ k kb. rows k kb (ℕ-discrete k m) }
 
+-- all nine rows
+pub made-all : (a w : List (List Float)) → length w ≡ 9 → Made 9 a w → factorOf a ≡ Lower w
+unfolding factorOf
+made-all a w n g = g .is ∙ ap Lower (ext-getD [] (g .l) w (g .nine ∙ sym n) (λ k kb. g .rows k (omega (arith, g .nine))))
+
 -- a row that is not the factor's set
 pub made-kept : (a w : List (List Float)) (n i : ℕ) (x : List Float) → n ≤ i → Made n a w → Made n a (set w i x)
 made-kept a w n i x b g = record { l = g .l; is = g .is; nine = g .nine; rows = λ k kb. g .rows k kb ∙ kept-above w i x n b k kb }
@@ -223,6 +228,10 @@ module _ (a w : List (List Float)) (m n : ℕ) (h : Columns m n m a w) (b : n �
       let stop : factorTo (n + 1) a ≡ Refused = factorTo-next n a (g .l) (g .is) ∙ rw (pivot-agree n (g .l) w (row a n) (g .rows), f) in
       let m : 9 - (n + 1) + (n + 1) ≡ 9 = omega arith in
       rw m at (refused-more (9 - (n + 1)) (n + 1) a stop)
+
+-- nine columns are the factor
+pub columns-end : (a w : List (List Float)) → Columns 9 9 9 a w → factorOf a ≡ Lower w
+columns-end a w h = made-all a w (h .nine) (made a w 9 9 h (le-refl 9) 9 (le-refl 9))
 
 pub columns-stop : (a w : List (List Float)) (m j : ℕ) → m ≤ 9 → j < m → Columns m j m a w → (p : Float) → p ≡ lessProducts (cell a j j) (cell w j) (cell w j) j → isPivot p ≡ false → factorOf a ≡ Refused
 columns-stop a w m j mb b h p e f = columns-refused a w m j h (omega arith) (omega arith) (rw (columns-pivot a w m j mb b h p e) at f)

@@ -19,13 +19,9 @@ use Rattle.numeric.specs.Root.{rootOf}
 use Rattle.numeric.specs.Factor.{at, row, cell, zeros, isPivot, below, withElement, pivotOf, rowOf, Lower, factorOf, Unused}
 use Rattle.numeric.proofs.Zeros.{zero-over, less-zeros, less-nothing, one-fits, one-finite, zero-over-one}
 use Rattle.numeric.proofs.Theorems.{rootOf-root}
-use Rattle.numeric.proofs.FactorColumns.{Columns, Made, made, made-next, made-kept, kept}
+use Rattle.numeric.proofs.FactorColumns.{Columns, Made, made, made-next, made-kept, made-all, kept}
 use Rattle.numeric.proofs.FactorElements.{Rows, factorTo-rows}
 use Rattle.numeric.proofs.FactorFinite.{rows-finite, zero-finite}
-
--- no unknown is unused
-pub unused-none : (m : List (List Float)) → Unused 9 m
-unused-none m = record { diagonal-is = λ i b c. absurd (omega arith); below-is = λ i j b c d. absurd (omega arith) }
 
 -- row i of the identity
 abbrev pub unit : ℕ → List Float
@@ -173,10 +169,7 @@ module _ (n : ℕ) (a w : List (List Float)) (b : n ≤ 9) (u : Unused n a) (f :
           made-next a w i ic (ap isPivot (pivot-unused i ic w (row a i) s d z) ∙ one-pivot) (h .done i k ic ∙ sym (row-unused i ic w (row a i) s d z)) (g k)
 
   pub closing-end : factorOf a ≡ Lower w
-  unfolding factorOf
-  closing-end =
-      let g = more 9 b (le-refl 9) in
-      g .is ∙ ap Lower (ext-getD [] (g .l) w (g .nine ∙ sym (h .nine)) (λ k kb. g .rows k (omega (arith, g .nine))))
+  closing-end = made-all a w (h .nine) (more 9 b (le-refl 9))
 
   pub closing-unused : Unused n w
   closing-unused =

@@ -21,9 +21,6 @@ use Rattle.numeric.proofs.FactorLaws.{forwardTo-next, backTo-zero, back
 use Rattle.numeric.proofs.FactorFinite.{zero-finite}
 use Rattle.numeric.proofs.Zeros.{less-zeros, less-nothing, zero-over-one}
 
-pub places-none : (b : List Float) → UnusedPlaces 9 b
-places-none b = record { zero-at = λ i ib ic. absurd (omega arith) }
-
 -- a used place set
 pub places-kept : (n i : ℕ) (x : List Float) (v : Float) → i < n → UnusedPlaces n x → UnusedPlaces n (set x i v)
 places-kept n i x v b h = record { zero-at = λ k kb kc. getD-set-other x i k v nan (omega arith) ∙ h .zero-at k kb kc }

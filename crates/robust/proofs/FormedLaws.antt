@@ -129,4 +129,3 @@ module _ (w : Row → Float) (rows : List Row) (n m : ℕ) (h : n ≤ m) where
   pub right-unused : UnusedPlaces m (rightOf w rows n)
   unfolding rightOf
   right-unused = record { zero-at = λ i l b. let k : n ≤ i = omega arith in nine-at (λ i. cond (ltb i n) (sideOf w rows i) +0) nan i b ∙ rw (le-ltb i n k) }
-
