@@ -47,18 +47,18 @@
  * recurses. Each page is touched in order, so that a stack that is too small
  * ends at its guard page.
  *
- *     fix             25,600
- *     position        25,600
- *     displacement    34,560
- *     line            46,848
- *     add_epoch       18,176
+ *     fix             40,960
+ *     position        40,960
+ *     displacement    49,152
+ *     line            57,344
+ *     add_epoch       20,480
  *     query              256
  *     smooth             768
- *     round            9,984
+ *     round           16,384
  *     centre           1,280
- *     geometry           256
- *     factor           1,024
- *     solve              512
+ *     geometry           512
+ *     factor           2,048
+ *     solve            1,024
  *     clocks             256
  *     numbers            256
  */
