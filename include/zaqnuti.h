@@ -47,18 +47,18 @@
  * recurses. Each page is touched in order, so that a stack that is too small
  * ends at its guard page.
  *
- *     fix             40,960
- *     position        40,960
- *     displacement    49,152
- *     line            57,344
- *     add_epoch       20,480
+ *     fix             30,976
+ *     position        30,976
+ *     displacement    41,472
+ *     line            41,728
+ *     add_epoch       17,408
  *     query              256
  *     smooth             768
- *     round           16,384
- *     centre           1,280
- *     geometry           512
- *     factor           2,048
- *     solve            1,024
+ *     round           12,544
+ *     centre             768
+ *     geometry           256
+ *     factor           1,024
+ *     solve              512
  *     clocks             256
  *     numbers            256
  */
