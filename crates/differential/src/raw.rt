@@ -9,10 +9,10 @@ use crate::record::Range;
 use crate::record::Settings;
 use crate::record::State;
 use crate::record::States;
-use numeric::root::sqrt;
 use numeric::sight::travel_angle;
 use numeric::sight::turned;
 use numeric::vec3::Vec3;
+use root::sqrt::sqrt;
 
 // A raw correction of a signal, in metres.
 pub struct Raw {

@@ -7,7 +7,7 @@ use borrow.Author.Tests.{lt-ltb}
 use lib.Dec.{ltb}
 use lib.ListN.{length}
 use lib.Ieee.{Float}
-use Rattle.numeric.specs.Factor.{factorOf}
+use Rattle.cholesky.specs.Factor.{factorOf}
 use Rattle.numeric.specs.declared.vec3.Vec3.{Vec3}
 use Rattle.numeric.specs.declared.refusal.Refusal.the-variants.{TooMany, SettingOutOfRange, FitFailed}
 use Rattle.robust.specs.Clocks.{clocksOf}

@@ -10,7 +10,7 @@ use Rattle.robust.specs.declared.row.Row.{Row}
 use Rattle.robust.specs.declared.clocks.Clocks.{Clocks}
 use Rattle.estimator.specs.declared.pair.Pair.{Pair}
 use Rattle.estimator.specs.declared.displacement.Settings.{Settings}
-use Rattle.numeric.specs.Factor.{zeros}
+use Rattle.cholesky.specs.Factor.{zeros}
 use Rattle.estimator.specs.Displacement.{rowAt, roundAt, limit, fitOver}
 use Rattle.estimator.proofs.RoundsLaws.{Left, left-start}
 

@@ -7,8 +7,8 @@ use mathlib.Core.List.{List, []}
 use lib.ListN.{length, take}
 use lib.Ieee.{Float}
 use lib.Ieee.Scale.{finite}
-use Rattle.numeric.specs.Factor.{at, Factored, Refused as NoFactor, Lower, factorOf}
-use Rattle.numeric.specs.Answer as factor
+use Rattle.cholesky.specs.Factor.{at, Factored, Refused as NoFactor, Lower, factorOf}
+use Rattle.cholesky.specs.Answer as factor
 use Rattle.numeric.specs.declared.refusal.Refusal.{Refusal}
 use Rattle.numeric.specs.declared.refusal.Refusal.the-variants.{FitFailed}
 use Rattle.robust.specs.Step.{counted}

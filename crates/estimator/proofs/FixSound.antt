@@ -7,7 +7,7 @@ use lib.Dec.{T}
 use lib.ListN.{length, length-map}
 use lib.Ieee.{Float}
 use lib.Ieee.Scale.{finite}
-use Rattle.numeric.specs.Factor.{at, Factored, Refused as NoFactor, Lower, factorOf}
+use Rattle.cholesky.specs.Factor.{at, Factored, Refused as NoFactor, Lower, factorOf}
 use Rattle.numeric.specs.declared.vec3.Vec3.{Vec3}
 use Rattle.robust.specs.declared.row.Row.{Row}
 use Rattle.numeric.specs.declared.refusal.Refusal.{Refusal}

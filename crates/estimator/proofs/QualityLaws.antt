@@ -11,9 +11,9 @@ use lib.ListN.{length, set, length-set, getD-replicate}
 use lib.Seq.{getD-set-same, getD-set-other, length-take-le}
 use lib.Ieee.{Float, nan, ofInt, ofBits}
 use Rattle.exact.specs.Float.{_⊕_, _⊗_, _⊘_, +0, 1·0, bits, whole}
-use Rattle.numeric.specs.Factor.{at, zeros, solutionOf}
+use Rattle.cholesky.specs.Factor.{at, zeros, solutionOf}
 use Rattle.numeric.specs.Real.{square}
-use Rattle.numeric.specs.Root.{rootOf}
+use Rattle.root.specs.Root.{rootOf}
 use Rattle.robust.specs.Nine.{nine}
 use Rattle.robust.specs.Round.{wide, triangleOf}
 use Rattle.robust.specs.Step.{counted}

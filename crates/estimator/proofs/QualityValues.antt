@@ -6,9 +6,9 @@ use lib.ListN.{set, replicate}
 use lib.Ieee.{Float, add, sub, mul, div, ofInt, ofBits}
 use Rattle.exact.specs.Products.{lessProducts}
 use Rattle.exact.specs.Float.{+0, 1·0, bits, whole, decimal}
-use Rattle.numeric.specs.Root.{rootOf}
+use Rattle.root.specs.Root.{rootOf}
 use Rattle.numeric.specs.Real.{square}
-use Rattle.numeric.specs.Factor.{zeros, withForward, forwardTo, withBack, backTo, solutionOf}
+use Rattle.cholesky.specs.Factor.{zeros, withForward, forwardTo, withBack, backTo, solutionOf}
 use Rattle.robust.specs.Nine.{from, nine}
 use Rattle.robust.specs.Round.{wide, total, triangleOf}
 use Rattle.robust.specs.declared.row.Row.{Row}

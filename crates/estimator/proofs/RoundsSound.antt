@@ -12,7 +12,7 @@ use lib.Ieee.Fits.{and-l, and-r}
 use lib.Ieee.Scale.{finite}
 use Rattle.exact.specs.Float.{_⊕_}
 use Rattle.exact.proofs.Ops.{add-finite}
-use Rattle.numeric.specs.Factor.{at}
+use Rattle.cholesky.specs.Factor.{at}
 use Rattle.numeric.specs.declared.refusal.Refusal.{Refusal}
 use Rattle.robust.specs.Nine.{nine}
 use Rattle.robust.specs.Round.{Round, Outcome, Refused, Solved, Sound}

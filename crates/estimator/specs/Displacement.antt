@@ -7,7 +7,7 @@ use lib.Dec.{T}
 use lib.Ieee.{Float}
 use lib.Ieee.Scale.{finite}
 use Rattle.exact.specs.Float.{_⊕_, _⊖_, _⊗_, decimal}
-use Rattle.numeric.specs.Factor.{at, zeros}
+use Rattle.cholesky.specs.Factor.{at, zeros}
 use Rattle.numeric.specs.Order.{patternOf}
 use Rattle.numeric.specs.declared.vec3.Vec3.{Vec3}
 use Rattle.numeric.specs.declared.refusal.Refusal.the-variants.{FitFailed}

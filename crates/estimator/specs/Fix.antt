@@ -9,8 +9,8 @@ use lib.Dec.{T}
 use lib.Ieee.{Float}
 use lib.Ieee.Scale.{finite}
 use Rattle.exact.specs.Float.{_⊕_, _⊖_, _⊗_, _⊘_, +0, 1·0, bits, whole, decimal}
-use Rattle.numeric.specs.Root.{rootOf}
-use Rattle.numeric.specs.Factor.{at, Factored, Refused as NoFactor, Lower, factorOf, solutionOf}
+use Rattle.root.specs.Root.{rootOf}
+use Rattle.cholesky.specs.Factor.{at, Factored, Refused as NoFactor, Lower, factorOf, solutionOf}
 use Rattle.numeric.specs.Order.{patternOf}
 use Rattle.numeric.specs.Real.{square}
 use Rattle.numeric.specs.Sight.{geometry}

@@ -18,7 +18,7 @@ use crate::rounds::state_at;
 use crate::valid::Check;
 use crate::valid::check_fix;
 use crate::valid::check_rows;
-use numeric::factor::factor_into;
+use cholesky::factor::factor_into;
 use numeric::order::pattern;
 use numeric::real::is_finite;
 use numeric::refusal::Refusal;

@@ -9,11 +9,11 @@ use crate::record::Carrier;
 use crate::record::Epoch;
 use crate::record::is_same;
 use crate::record::is_usable;
-use numeric::root::sqrt;
 use numeric::sight::Sight;
 use numeric::sight::travel_angle;
 use numeric::sight::turned;
 use numeric::vec3::Vec3;
+use root::sqrt::sqrt;
 
 // What a current carrier and its previous one give: `observed` is the phase change less the geometric one, which is the measurement,
 // and `detector` the phase change less what the rates predict, by which a slip is found.

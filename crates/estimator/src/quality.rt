@@ -3,13 +3,13 @@ ghost use mathlib.Core.Path.{_≡_};
 ghost use Prim.Native.Nat.{_≤_};
 ghost use Rattle.robust.specs.Step.{counted};
 ghost use Rattle.estimator.specs.Fix as spec;
-use numeric::factor::solve_lent;
+use cholesky::factor::solve_lent;
 use numeric::order::float;
 use numeric::real::square;
-use numeric::root::sqrt;
 use robust::round::unused;
 use robust::row::Rows;
 use robust::row::wide;
+use root::sqrt::sqrt;
 
 // The degrees of freedom of so many rows and n unknowns, at least 1.
 fn freedom_of(count: usize, n: usize) -> f64

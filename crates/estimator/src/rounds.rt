@@ -1,7 +1,7 @@
 // What the rounds of a fix and of a displacement share.
 ghost use mathlib.Core.Path.{_≡_};
 ghost use Prim.Native.Nat.{ℕ, _≤_};
-ghost use Rattle.numeric.specs.Factor.{at};
+ghost use Rattle.cholesky.specs.Factor.{at};
 ghost use Rattle.estimator.specs.Rounds as spec;
 use numeric::real::hypot;
 

@@ -1,26 +1,7 @@
 -- What the proofs of more than one function use, and the theorems.
-pub mod Squares
-pub mod Reading
-pub mod RootLaws
-pub mod Parts
-pub mod NormalRoot
-pub mod Special
-pub mod Theorems
-pub mod Facts
-pub mod RoundExact
 pub mod RealLaws
 pub mod RealValues
 pub mod OrderMagnitude
 pub mod OrderLaws
 pub mod OrderValues
 pub mod Zeros
-pub mod Pivot
-pub mod Rooted
-pub mod FactorLaws
-pub mod FactorColumns
-pub mod FactorElements
-pub mod FactorFinite
-pub mod FactorUsed
-pub mod SolveUsed
-pub mod Answers
-pub mod SoundSystem

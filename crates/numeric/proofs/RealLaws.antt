@@ -14,7 +14,7 @@ use lib.Ieee.Compare.{differs-from-itself, nan-differs}
 use lib.Ieee.Scale.{finite}
 use Rattle.exact.specs.Float.{_⊕_, _⊖_, +0}
 use Rattle.exact.proofs.Ops.{add-finite}
-use Rattle.numeric.proofs.RoundExact.{round-own}
+use Rattle.root.proofs.RoundExact.{round-own}
 use Rattle.numeric.specs.Real.{abs, max, inRange}
 
 -- a test that fails does not pass

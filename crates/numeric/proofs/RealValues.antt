@@ -5,7 +5,7 @@ use mathlib.Core.List.{[], _∷_}
 use lib.IntN.{negsuc}
 use lib.Ieee.{Float, nan, inf, fin, neg, add, sub, mul, div, lt, le, isNan, ofInt, ofBits}
 use Rattle.exact.specs.Float.{_⊘_, +0, 1·0, bits, whole}
-use Rattle.numeric.specs.Root.{rootOf}
+use Rattle.root.specs.Root.{rootOf}
 use Rattle.numeric.specs.Real.{square, hypot, travelLimit, travelSine, travelCosine, pi, radians, factorial, _!, -1·0, elevationSine, abs, max, inRange}
 use Rattle.numeric.specs.Vec3.{add as vec-plus, sub as vec-minus, norm}
 use Rattle.numeric.specs.Sight.{earthRate, travelAngle, turned, gap, geometry}

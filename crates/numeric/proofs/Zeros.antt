@@ -13,7 +13,7 @@ use lib.Ieee.Exact.{HasValue}
 use lib.Ieee.Scale.{finite, round-same}
 use Rattle.exact.specs.Float.{_⊖_, _⊗_, _⊘_, +0, 1·0}
 use Rattle.exact.specs.Products.{lessProducts}
-use Rattle.numeric.proofs.RoundExact.{round-own}
+use Rattle.root.proofs.RoundExact.{round-own}
 
 -- a zero of either sign
 abbrev pub isZero : Float → Bool

@@ -1,9 +1,5 @@
 pub mod Refusal
-pub mod Root
 pub mod Real
 pub mod Vec3
 pub mod Sight
 pub mod Order
-pub mod Factor
-pub mod Answer
-pub mod Sound

@@ -6,7 +6,7 @@ use mathlib.Core.List.{[], _∷_, foldl}
 use lib.Ieee.{Float, nan, inf, fin, neg, lt, le, isNan}
 use lib.Ieee.Scale.{finite}
 use Rattle.exact.specs.Float.{_⊕_, _⊖_, _⊗_, _⊘_, 1·0, bits, whole}
-use Rattle.numeric.specs.Root.{rootOf}
+use Rattle.root.specs.Root.{rootOf}
 
 -- `powi(2)`: the number times itself
 unfoldable pub square : Float → Float

@@ -1,7 +1,7 @@
 -- Vectors of three floats, as vec3.rs has them. Definitions only.
 use lib.Ieee.{Float}
 use Rattle.exact.specs.Float.{_⊕_, _⊖_, _⊗_}
-use Rattle.numeric.specs.Root.{rootOf}
+use Rattle.root.specs.Root.{rootOf}
 use Rattle.numeric.specs.declared.vec3.Vec3.{Vec3}
 
 -- a + b, component by component

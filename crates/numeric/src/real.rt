@@ -2,7 +2,7 @@
 ghost use mathlib.Core.Path.{_≡_};
 ghost use lib.Ieee.Scale.{finite};
 ghost use Rattle.numeric.specs.Real as spec;
-use crate::root::sqrt;
+use root::sqrt::sqrt;
 
 // `powi(2)`.
 pub fn square(x: f64) -> f64

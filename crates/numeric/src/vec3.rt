@@ -1,8 +1,8 @@
 // Vectors of three floats.
 ghost use mathlib.Core.Path.{_≡_};
 ghost use Rattle.numeric.specs.Vec3 as spec;
-use crate::root::sqrt;
-use crate::root::sqrt_beside;
+use root::sqrt::sqrt;
+use root::sqrt::sqrt_beside;
 
 pub struct Vec3 {
     pub x: f64,

@@ -14,7 +14,7 @@ use lib.Ieee.Fits.{mul-fits, div-fits}
 use lib.Ieee.Scale.{finite}
 use Rattle.exact.specs.Float.{_⊗_, +0, 1·0, bits}
 use Rattle.exact.proofs.Ops.{mul-finite}
-use Rattle.numeric.specs.Factor.{at, row, cell}
+use Rattle.cholesky.specs.Factor.{at, row, cell}
 use Rattle.median.specs.declared.centre.CentreScale.{CentreScale}
 use Rattle.robust.specs.Nine.{nine}
 use Rattle.robust.specs.Round.{weight, wide, triangleOf}

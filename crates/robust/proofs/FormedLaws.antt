@@ -9,9 +9,9 @@ use borrow.Author.Tests.{le-ltb, le-leb, eq-eqb, ne-eqb}
 use lib.ListN.{length, getD}
 use lib.Ieee.{Float, nan}
 use Rattle.exact.specs.Float.{_⊕_, _⊗_, +0, 1·0, bits}
-use Rattle.numeric.specs.Factor.{at, Factored, Refused, Lower, factorOf, solutionOf, Unused, UnusedPlaces}
-use Rattle.numeric.specs.Answer.{rowsAfter}
-use Rattle.numeric.specs.Answer as factor
+use Rattle.cholesky.specs.Factor.{at, Factored, Refused, Lower, factorOf, solutionOf, Unused, UnusedPlaces}
+use Rattle.cholesky.specs.Answer.{rowsAfter}
+use Rattle.cholesky.specs.Answer as factor
 use Rattle.median.specs.declared.centre.CentreScale.{CentreScale}
 use Rattle.robust.specs.Nine.{nine}
 use Rattle.robust.specs.Round.{weight, wide, total, cellOf, sideOf, triangleOf, matrixOf, rightOf, solved, roundBy}

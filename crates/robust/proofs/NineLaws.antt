@@ -8,7 +8,7 @@ use mathlib.Core.List.{List, []}
 use lib.ListN.{getD, length, set, length-set}
 use lib.Seq.{getD-set-same, getD-set-other, ext-getD}
 use lib.Ieee.{Float, nan}
-use Rattle.numeric.specs.Factor.{at, row, cell}
+use Rattle.cholesky.specs.Factor.{at, row, cell}
 use Rattle.robust.specs.Nine.{from, nine}
 
 module _ {A : Type 0} where

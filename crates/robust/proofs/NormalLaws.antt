@@ -12,7 +12,7 @@ use lib.ListN.{length, set, replicate, length-set, getD-replicate}
 use lib.Seq.{getD-set-same, getD-set-other}
 use lib.Ieee.{Float, nan}
 use Rattle.exact.specs.Float.{+0, 1·0}
-use Rattle.numeric.specs.Factor.{at, row, cell}
+use Rattle.cholesky.specs.Factor.{at, row, cell}
 use Rattle.robust.specs.Nine.{nine}
 use Rattle.robust.specs.Round.{triangleOf}
 use Rattle.robust.specs.Normal.{unused}

@@ -12,7 +12,7 @@ use lib.ListN.{length, getD, set, length-set, replicate, getD-replicate}
 use lib.Seq.{getD-set-same, getD-set-other}
 use lib.Ieee.{Float, nan}
 use Rattle.exact.specs.Float.{_⊕_, _⊗_, +0, 1·0, bits}
-use Rattle.numeric.specs.Factor.{at, row, cell}
+use Rattle.cholesky.specs.Factor.{at, row, cell}
 use Rattle.median.specs.declared.centre.CentreScale.{CentreScale}
 use Rattle.robust.specs.Round.{weight, wide}
 use Rattle.robust.specs.Normal.{unused}

@@ -11,9 +11,9 @@ use lib.Ieee.Fits.{add-fits, cond-fits}
 use lib.Ieee.Bits.{ofBits-fits}
 use lib.Ieee.Scale.{finite}
 use Rattle.exact.specs.Float.{_⊕_, +0, 1·0}
-use Rattle.numeric.specs.Factor.{at, Factored, Refused, Lower, factorOf}
-use Rattle.numeric.specs.Sound.{Held}
-use Rattle.numeric.proofs.SoundSystem.{sound}
+use Rattle.cholesky.specs.Factor.{at, Factored, Refused, Lower, factorOf}
+use Rattle.cholesky.specs.Sound.{Held}
+use Rattle.cholesky.proofs.SoundSystem.{sound}
 use Rattle.median.specs.Centre.{centreAndScaleOf}
 use Rattle.robust.specs.Round.{weight, total, cellOf, sideOf, triangleOf, matrixOf, rightOf, Round, Solved, made, solved, roundBy, roundOf, Sound}
 use Rattle.robust.specs.declared.row.Row.{Row}

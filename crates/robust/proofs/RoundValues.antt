@@ -6,10 +6,10 @@ use lib.ListN.{replicate}
 use lib.Ieee.{nan, add, sub, mul, div, lt, le, eq, isNan, ofInt, ofBits, toBits}
 use Rattle.exact.specs.Products.{lessProducts}
 use Rattle.exact.specs.Float.{_⊘_, +0, 1·0, bits, whole, decimal}
-use Rattle.numeric.specs.Root.{rootOf}
+use Rattle.root.specs.Root.{rootOf}
 use Rattle.numeric.specs.Real.{abs, max}
 use Rattle.numeric.specs.Order.{sign, totalOrder, patternOf}
-use Rattle.numeric.specs.Factor.{zeros, isPivot, withElement, below, pivotOf, rowOf, next, factorTo, factorOf, withForward, forwardTo, withBack, backTo, solutionOf}
+use Rattle.cholesky.specs.Factor.{zeros, isPivot, withElement, below, pivotOf, rowOf, next, factorTo, factorOf, withForward, forwardTo, withBack, backTo, solutionOf}
 use Rattle.numeric.specs.declared.refusal.Refusal.the-variants.{TooMany, RecordOutOfRange}
 use Rattle.median.specs.Sorted.{insertBy, sortedBy, medianOf}
 use Rattle.median.specs.Centre.{centreOf, deviationOf, scaleOf, centreAndScaleOf}

@@ -11,7 +11,7 @@ use lib.ListN.{length, set, length-set}
 use lib.Seq.{getD-set-same, getD-set-other}
 use lib.Ieee.{Float, nan, div, ofInt, ofBits}
 use Rattle.exact.specs.Float.{+0, bits, whole, decimal}
-use Rattle.numeric.specs.Factor.{at}
+use Rattle.cholesky.specs.Factor.{at}
 use Rattle.robust.specs.Step.{firstOf}
 use Rattle.robust.proofs.NineLaws.{nine-is}
 

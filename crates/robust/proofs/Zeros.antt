@@ -15,8 +15,8 @@ use Rattle.exact.specs.Value.{scale, magnitude}
 use Rattle.exact.proofs.Num.{Num, num}
 use Rattle.exact.proofs.Ops.{scale-pos, val, exact, round-at, over-left, over-right}
 use Rattle.exact.proofs.Rounding.{close-whole}
-use Rattle.numeric.proofs.Reading.{value-unique}
-use Rattle.numeric.proofs.RoundExact.{round-own}
+use Rattle.root.proofs.Reading.{value-unique}
+use Rattle.root.proofs.RoundExact.{round-own}
 use Rattle.numeric.proofs.Zeros.{isZero, none-at, round-none}
 
 -- -0

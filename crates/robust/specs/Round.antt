@@ -8,8 +8,8 @@ use lib.ListN.{set, replicate}
 use lib.Ieee.{Float, le}
 use Rattle.exact.specs.Float.{_⊕_, _⊖_, _⊗_, _⊘_, +0, 1·0, bits, decimal}
 use Rattle.numeric.specs.Real.{abs, max}
-use Rattle.numeric.specs.Factor.{at, Factored, Refused as NoFactor, Lower, factorOf, solutionOf}
-use Rattle.numeric.specs.Sound as system
+use Rattle.cholesky.specs.Factor.{at, Factored, Refused as NoFactor, Lower, factorOf, solutionOf}
+use Rattle.cholesky.specs.Sound as system
 use Rattle.median.specs.Centre.{centreAndScaleOf}
 use Rattle.median.specs.declared.centre.CentreScale.{CentreScale}
 use Rattle.robust.specs.Nine.{nine}

@@ -7,7 +7,7 @@ use lib.ListN.{take}
 use lib.Ieee.{Float}
 use Rattle.walk.specs.Walk.{every}
 use Rattle.exact.specs.Float.{+0}
-use Rattle.numeric.specs.Factor.{at}
+use Rattle.cholesky.specs.Factor.{at}
 use Rattle.numeric.specs.declared.refusal.Refusal.{Refusal}
 use Rattle.numeric.specs.declared.refusal.Refusal.the-variants.{TooMany, RecordOutOfRange, FitFailed}
 use Rattle.robust.specs.Nine.{nine}

@@ -13,8 +13,8 @@ use lib.Ieee.Fits.{down-pos}
 use lib.Ieee.Exact.{HasValue}
 use borrow.Author.Tests.{ltb-true, eqb-true, lt-ltb, le-ltb, eq-eqb}
 use Rattle.exact.specs.Float.{+0}
-use Rattle.numeric.specs.Root.{Nearest, IsPositiveRoot, rootOf}
-use Rattle.numeric.proofs.Theorems.{rootOf-root}
+use Rattle.root.specs.Root.{Nearest, IsPositiveRoot, rootOf}
+use Rattle.root.proofs.Theorems.{rootOf-root}
 
 never : {A : Type 0} → false ≡ true → A
 never e = absurd (let z : _≡_ {A = ℕ} 0 1 = cc in omega arith)

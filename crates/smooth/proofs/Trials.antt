@@ -3,7 +3,7 @@ use mathlib.Core.Path.{_≡_, refl}
 use mathlib.Core.List.{[], _∷_}
 use lib.Ieee.{add, sub, mul, div, lt, le, isNan, ofBits, ofInt}
 use Rattle.exact.specs.Float.{1·0, whole, decimal}
-use Rattle.numeric.specs.Root.{rootOf}
+use Rattle.root.specs.Root.{rootOf}
 use Rattle.numeric.specs.Real.{square, abs, max, inRange}
 use Rattle.numeric.specs.declared.refusal.Refusal.the-variants.{BadTrack, SettingOutOfRange}
 use Rattle.tridiagonal.specs.Columns.{eachBelow}

@@ -11,7 +11,7 @@ use lib.ListN.{length, getD, set}
 use lib.Ieee.{Float, nan, inf, fin, binary64, fits, lt, le, div, ofBits, ofInt}
 use lib.Ieee.Fits.{mul-fits}
 use Rattle.exact.specs.Float.{_⊕_, _⊖_, _⊗_, _⊘_, +0, 1·0, decimal, bits}
-use Rattle.numeric.specs.Root.{rootOf}
+use Rattle.root.specs.Root.{rootOf}
 use Rattle.numeric.specs.Real.{square, max}
 use Rattle.tridiagonal.proofs.EachBelow.{left-true, right-true}
 use Rattle.tridiagonal.proofs.Cells.{place, hit, miss, kept-none}

@@ -7,7 +7,7 @@ use lib.Dec.{T}
 use lib.ListN.{getD}
 use lib.Ieee.{Float, nan, binary64, fits, lt, le}
 use Rattle.exact.specs.Float.{_⊕_, +0}
-use Rattle.numeric.specs.Root.{rootOf}
+use Rattle.root.specs.Root.{rootOf}
 use Rattle.tridiagonal.specs.Columns.{col, Kept}
 use Rattle.trajectory.specs.Input.{Trajectory, workNeed}
 use Rattle.trajectory.specs.Pass.{passes, fitOf}

@@ -5,7 +5,7 @@ use mathlib.Core.List.{List, [], _∷_, _++_}
 use Prim.Native.Nat.{ℕ, zero, suc, _-_}
 use lib.Ieee.{Float, le}
 use Rattle.exact.specs.Float.{_⊕_, _⊖_, _⊘_, 1·0, decimal}
-use Rattle.numeric.specs.Root.{rootOf}
+use Rattle.root.specs.Root.{rootOf}
 use Rattle.numeric.specs.Real.{square, max}
 use Rattle.trajectory.specs.Input.{Measured, Trajectory, indexAt, valueAt, sigmaAt}
 use Rattle.trajectory.specs.Equations.{Scales, nextAt}

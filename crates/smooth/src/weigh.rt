@@ -3,14 +3,14 @@ ghost use mathlib.Core.Path.{_≡_};
 ghost use Prim.Native.Nat.{_+_, _-_, _*_, _<_, _≤_};
 ghost use lib.ListN.{length};
 ghost use Rattle.exact.specs.Float.{_⊕_, _⊘_};
-ghost use Rattle.numeric.specs.Root.{rootOf};
+ghost use Rattle.root.specs.Root.{rootOf};
 ghost use Rattle.numeric.specs.Real.{square};
 ghost use Rattle.trajectory.specs.Input.{measured};
 ghost use Rattle.trajectory.specs.Steps.{Lent};
 ghost use Rattle.smooth.specs.Track.{huberOf, anchorScale, linkScale};
 ghost use Rattle.smooth.specs.Steps.{Limit, Weighed, fitIn};
 use numeric::real::max;
-use numeric::root::sqrt;
+use root::sqrt::sqrt;
 
 // The scale of a residual at z sigmas.
 fn huber(h: f64, z: f64) -> f64

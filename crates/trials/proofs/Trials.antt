@@ -5,8 +5,8 @@ use mathlib.Core.Bool.{false}
 use lib.Ieee.{add, sub, mul, div, lt, le, eq, isNan, ofInt, ofBits, toBits}
 use Rattle.exact.specs.Float.{+0}
 use Rattle.exact.specs.Products.{lessProducts}
-use Rattle.numeric.specs.Root.{rootOf}
-use Rattle.numeric.specs.Factor.{isPivot, withElement, below, pivotOf, rowOf, Refused, next, factorTo, factorOf}
+use Rattle.root.specs.Root.{rootOf}
+use Rattle.cholesky.specs.Factor.{isPivot, withElement, below, pivotOf, rowOf, Refused, next, factorTo, factorOf}
 use Rattle.numeric.specs.Order.{sign, totalOrder, keyOf, patternOf}
 use Rattle.numeric.specs.Real.{abs, inRange}
 use Rattle.walk.specs.Walk.{every}
@@ -17,7 +17,7 @@ use Rattle.estimator.specs.Record.{unsigned, bitSet, usable}
 use Rattle.table.specs.Table.{timeKey, rises, ranged, sound}
 use Rattle.table.specs.Query.{near, firstOf, lastOf, line, bridged, between, answerAt, queryOf}
 use Rattle.smooth.proofs.Trials.{one-point, not-held}
-use Rattle.numeric.proofs.FactorLaws.{factorTo-zero, factorTo-next, refused-more}
+use Rattle.cholesky.proofs.FactorLaws.{factorTo-zero, factorTo-next, refused-more}
 use Rattle.trials.specs.Marked.{All, marked, m1, m2, m3, m4, m5, m6, m7, m8, m9, m10, m11}
 
 root-four : m1

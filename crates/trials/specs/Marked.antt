@@ -8,8 +8,8 @@ use lib.IntN.{ℤ, pos, negsuc}
 use lib.Ieee.{Float}
 use lib.Ieee.Scale.{finite}
 use Rattle.exact.specs.Float.{+0, 1·0, bits, whole}
-use Rattle.numeric.specs.Root.{rootOf}
-use Rattle.numeric.specs.Factor.{cell, Refused, Lower, factorOf}
+use Rattle.root.specs.Root.{rootOf}
+use Rattle.cholesky.specs.Factor.{cell, Refused, Lower, factorOf}
 use Rattle.numeric.specs.Order.{patternOf}
 use Rattle.numeric.specs.declared.refusal.Refusal.the-variants.{NoCorrection}
 use Rattle.median.specs.Sorted.{medianOf}

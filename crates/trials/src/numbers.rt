@@ -2,11 +2,11 @@
 ghost use mathlib.Core.Path.{_≡_};
 ghost use mathlib.Core.Bool.{true, false};
 ghost use Rattle.trials.specs.Marked as marked;
-use numeric::factor::Factoring;
-use numeric::factor::factor;
+use cholesky::factor::Factoring;
+use cholesky::factor::factor;
 use numeric::order::float;
 use numeric::order::pattern;
-use numeric::root::sqrt;
+use root::sqrt::sqrt;
 
 // Root of 4 is 2.
 pub fn root_of_four() -> bool

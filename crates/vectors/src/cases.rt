@@ -1,8 +1,8 @@
 // One case of each kind: whether the library gives what the Rust gave, all NaNs as one.
 use crate::read::next_float;
 use crate::read::number;
-use numeric::factor::factor_into;
-use numeric::factor::solve_lent;
+use cholesky::factor::factor_into;
+use cholesky::factor::solve_lent;
 use numeric::order::before;
 use numeric::order::pattern;
 use numeric::real::abs;
@@ -13,7 +13,7 @@ use numeric::real::radians;
 use numeric::real::square;
 use numeric::real::travel_cosine;
 use numeric::real::travel_sine;
-use numeric::root::sqrt;
+use root::sqrt::sqrt;
 
 // A pattern and the pattern of its root.
 pub fn root() -> bool {

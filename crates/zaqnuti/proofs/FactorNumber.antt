@@ -5,8 +5,8 @@ use mathlib.Core.Path.{_≡_, refl}
 use mathlib.Core.Bool.{true, false}
 use Rattle.numeric.specs.declared.refusal.Refusal.the-variants.{FitFailed}
 use Rattle.numeric.specs.Refusal.{numberOf}
-use Rattle.numeric.specs.Factor.{Factored, Refused, Lower}
-use Rattle.numeric.specs.Answer.{accepted}
+use Rattle.cholesky.specs.Factor.{Factored, Refused, Lower}
+use Rattle.cholesky.specs.Answer.{accepted}
 use Rattle.zaqnuti.specs.Numbers.{factorNumber}
 
 pub number-done : (w : Factored) → true ≡ accepted w → 0 ≡ factorNumber w

@@ -6,7 +6,7 @@ use mathlib.Core.List.{List, [], _∷_}
 use lib.Ieee.{Float}
 use Rattle.numeric.specs.Refusal.{numberOf}
 use Rattle.numeric.specs.declared.refusal.Refusal.the-variants.{TooMany, FitFailed}
-use Rattle.numeric.specs.Factor.{Factored, Refused, Lower}
+use Rattle.cholesky.specs.Factor.{Factored, Refused, Lower}
 use Rattle.numeric.specs.declared.sight.Sight.{Sight}
 use Rattle.median.specs.declared.centre.Centre.{Centre}
 use Rattle.median.specs.declared.centre.Centre.the-variants as Centre

@@ -1,10 +1,10 @@
 // Entry points of the Cholesky factor and its solve.
 ghost use mathlib.Core.Path.{_≡_};
-ghost use Rattle.numeric.specs.Factor.{factorOf, solutionOf};
-ghost use Rattle.numeric.specs.Answer.{rowsAfter};
+ghost use Rattle.cholesky.specs.Factor.{factorOf, solutionOf};
+ghost use Rattle.cholesky.specs.Answer.{rowsAfter};
 ghost use Rattle.zaqnuti.specs.Numbers.{factorNumber};
-use numeric::factor::factor_into;
-use numeric::factor::solve_lent;
+use cholesky::factor::factor_into;
+use cholesky::factor::solve_lent;
 use numeric::refusal::Refusal;
 
 // The factor of a in l and 0, or 10, which leaves l as it was.

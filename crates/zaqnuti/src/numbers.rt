@@ -1,6 +1,6 @@
 // Entry points of the root, the stand-ins and the float order.
 ghost use mathlib.Core.Path.{_≡_};
-ghost use Rattle.numeric.specs.Root.{rootOf};
+ghost use Rattle.root.specs.Root.{rootOf};
 ghost use Rattle.numeric.specs.Order.{totalOrder, patternOf};
 ghost use Rattle.numeric.specs.Real as spec;
 use numeric::order::before;
@@ -13,7 +13,7 @@ use numeric::real::radians;
 use numeric::real::square;
 use numeric::real::travel_cosine;
 use numeric::real::travel_sine;
-use numeric::root::sqrt;
+use root::sqrt::sqrt;
 
 // The square root of x, correctly rounded.
 #[no_mangle]

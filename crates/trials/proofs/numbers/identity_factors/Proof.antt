@@ -1,9 +1,9 @@
 use mathlib.Core.Path.{sym, ap, _∙_}
 use mathlib.Core.Bool.{Bool, true, false}
-use Rattle.numeric.specs.Factor.{Factored, factorOf}
-use Rattle.numeric.specs.Answer.{factoringOf}
-use Rattle.numeric.specs.declared.factor.Factoring.{Factoring}
-use Rattle.numeric.specs.declared.factor.Factoring.the-variants.{Refused, Done}
+use Rattle.cholesky.specs.Factor.{Factored, factorOf}
+use Rattle.cholesky.specs.Answer.{factoringOf}
+use Rattle.cholesky.specs.declared.factor.Factoring.{Factoring}
+use Rattle.cholesky.specs.declared.factor.Factoring.the-variants.{Refused, Done}
 use Rattle.trials.proofs.Trials.{identity-factors}
 use borrow.Author.Needs.{needs}
 use Rattle.trials.proofs.numbers.identity_factors.Statement.{statement}

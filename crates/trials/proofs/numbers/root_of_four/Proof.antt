@@ -1,7 +1,7 @@
 use mathlib.Core.Path.{_≡_, refl, ap, _∙_}
 use mathlib.Core.Bool.{true}
 use lib.Ieee.{Float, binary64, ofBits, eq}
-use Rattle.numeric.specs.Root.{rootOf}
+use Rattle.root.specs.Root.{rootOf}
 use borrow.Author.Needs.{needs}
 use Rattle.trials.proofs.numbers.root_of_four.Statement.{statement}
 use Rattle.trials.proofs.numbers.root_of_four.Tie as tie

@@ -1,7 +1,7 @@
 use mathlib.Core.Path.{_≡_, refl, ap, _∙_}
 use Prim.Native.Nat.{ℕ}
 use lib.Ieee.{binary64, ofBits, isNan, toBits}
-use Rattle.numeric.specs.Root.{rootOf}
+use Rattle.root.specs.Root.{rootOf}
 use Rattle.numeric.specs.Order.{patternOf}
 use borrow.Author.Needs.{needs}
 use Rattle.trials.proofs.numbers.root_of_least.Statement.{statement}

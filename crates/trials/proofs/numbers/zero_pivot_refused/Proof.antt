@@ -5,10 +5,10 @@ use Rattle.exact.specs.Float.{+0}
 use Prim.Native.Nat.{ℕ}
 use Rattle.numeric.specs.Refusal.{numberOf}
 use mathlib.Core.Bool.{Bool, true, false}
-use Rattle.numeric.specs.Factor.{cell, Factored, factorOf}
-use Rattle.numeric.specs.Answer.{factoringOf, rowsAfter}
-use Rattle.numeric.specs.declared.factor.Factoring.{Factoring}
-use Rattle.numeric.specs.declared.factor.Factoring.the-variants.{Refused, Done}
+use Rattle.cholesky.specs.Factor.{cell, Factored, factorOf}
+use Rattle.cholesky.specs.Answer.{factoringOf, rowsAfter}
+use Rattle.cholesky.specs.declared.factor.Factoring.{Factoring}
+use Rattle.cholesky.specs.declared.factor.Factoring.the-variants.{Refused, Done}
 use Rattle.trials.proofs.Trials.{zero-pivot}
 use borrow.Author.Needs.{needs}
 use Rattle.trials.proofs.numbers.zero_pivot_refused.Statement.{statement}

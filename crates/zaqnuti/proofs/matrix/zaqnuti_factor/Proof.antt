@@ -1,7 +1,7 @@
 -- `zaqnuti::matrix::zaqnuti_factor` meets its contract. Assumes nothing.
 use mathlib.Core.Path.{sym, _∙_}
 use borrow.Author.Needs.{needs}
-use Rattle.numeric.specs.Factor.{factorOf}
+use Rattle.cholesky.specs.Factor.{factorOf}
 use Rattle.zaqnuti.proofs.FactorNumber.{number-done, number-refused}
 use Rattle.zaqnuti.proofs.matrix.zaqnuti_factor.Statement.{statement}
 use Rattle.zaqnuti.proofs.matrix.zaqnuti_factor.Tie as tie

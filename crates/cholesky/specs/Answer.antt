@@ -1,0 +1,27 @@
+-- What the calls on a matrix answer, from what factoring it gives. Definitions only.
+use mathlib.Core.Bool.{Bool, true, false}
+use mathlib.Core.List.{List}
+use lib.Ieee.{Float}
+use Rattle.cholesky.specs.declared.factor.Factoring.{Factoring}
+use Rattle.cholesky.specs.declared.factor.Factoring.the-variants as Factoring
+use Rattle.numeric.specs.declared.refusal.Refusal.the-variants.{FitFailed}
+use Rattle.cholesky.specs.Factor.{zeros, Factored, Refused, Lower, solutionOf}
+
+abbrev pub accepted : Factored → Bool
+accepted Refused = false
+accepted (Lower l) = true
+
+-- a refused pivot is number 10
+abbrev pub factoringOf : Factored → Factoring
+factoringOf Refused = Factoring.Refused FitFailed
+factoringOf (Lower l) = Factoring.Done
+
+-- what the lent rows m hold afterwards: the factor, or what they held
+abbrev pub rowsAfter : Factored → List (List Float) → List (List Float)
+rowsAfter Refused m = m
+rowsAfter (Lower l) m = l
+
+-- the solution, zeros where the matrix is refused
+abbrev pub solvedBy : Factored → List Float → List Float
+solvedBy Refused b = zeros
+solvedBy (Lower l) b = solutionOf l b

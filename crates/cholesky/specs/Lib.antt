@@ -1,0 +1,3 @@
+pub mod Factor
+pub mod Answer
+pub mod Sound

@@ -1,0 +1,10 @@
+-- What the proofs of more than one function use, and the theorems.
+pub mod Squares
+pub mod Reading
+pub mod RootLaws
+pub mod Parts
+pub mod NormalRoot
+pub mod Special
+pub mod Theorems
+pub mod Facts
+pub mod RoundExact

@@ -1,0 +1,22 @@
+-- The root of a positive normal number from its bits, once its digits are found. Assumes nothing.
+use mathlib.Core.Path.{_≡_, refl, sym, ap, _∙_, subst}
+use Prim.Native.Nat.{ℕ, _+_, _*_, _/_, _%_, _^_, _≤_, _<_}
+use native.Mathlib.Omega.{arith}
+use lib.Ieee.{binary64, ofBits}
+use Rattle.root.specs.Root.{Nearest, rootOf}
+use Rattle.root.proofs.Parts.{normal-parts}
+use Rattle.root.proofs.RootLaws.{Wide, wide, result}
+
+-- what the root is taken of
+pub room : (b : ℕ) → Wide (b % 2 ^ 52 + 2 ^ 52) ((b / 2 ^ 52 + 51) % 2)
+room b = wide (b % 2 ^ 52 + 2 ^ 52) ((b / 2 ^ 52 + 51) % 2) (omega arith) (omega arith) (omega arith)
+
+-- the exponent of the root
+exponent : (b q : ℕ) → ((b / 2 ^ 52 + 51) / 2 + 485) * 2 ^ 52 + q ≡ ((b + 2 ^ 52) / 2 ^ 53 + 510) * 2 ^ 52 + q
+exponent b q = omega arith
+
+pub found : (b q w : ℕ) → 2 ^ 52 ≤ b → b < 0x7ff0_0000_0000_0000 → w ≡ (b % 2 ^ 52 + 2 ^ 52) * (1 + (b / 2 ^ 52 + 51) % 2) → Nearest (w * 2 ^ 52) q
+    → ofBits binary64 (((b + 2 ^ 52) / 2 ^ 53 + 510) * 2 ^ 52 + q) ≡ rootOf (ofBits binary64 b)
+found b q w l h e n =
+    ap (ofBits binary64) (sym (exponent b q))
+    ∙ result (ofBits binary64 b) (b % 2 ^ 52 + 2 ^ 52) (b / 2 ^ 52 + 51) q (normal-parts b (b % 2 ^ 52 + 2 ^ 52) l h refl) (subst (λ (z : ℕ). Nearest (z * 2 ^ 52) q) e n) .is

@@ -1,0 +1,2 @@
+// The square root of an f64, correctly rounded.
+pub mod sqrt;

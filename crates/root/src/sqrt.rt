@@ -1,0 +1,358 @@
+// The square root of an f64, correctly rounded, with integers of 64 bits.
+ghost use mathlib.Core.Path.{_≡_};
+ghost use Prim.Native.Nat.{_+_, _-_, _*_, _/_, _%_, _^_, _<_, _≤_};
+ghost use mathlib.Core.Bool.{true, false};
+ghost use lib.Ieee as Ieee;
+ghost use lib.Ieee.{binary64};
+ghost use lib.Ieee.Exact.{HasValue};
+ghost use Rattle.root.specs.Root.{Nearest, rootOf, IsParts};
+use root_table::place_of;
+use root_table::wide_place_of;
+
+// x = m * 2 ^ y / 2 ^ 1126, with m of 53 binary digits.
+struct Parts {
+    m: u64,
+    y: u64,
+}
+
+// The digits and the exponent of the positive finite float whose bits are b.
+fn split(b: u64) -> Parts
+    requires { ⌜ (0 < b) × (b < 0x7ff0_0000_0000_0000) ⌝ }
+    ensures { λ r. ⌜ IsParts (Ieee.ofBits binary64 b) (r .m) (r .y) ⌝ }
+{
+    if b < 0x0010_0000_0000_0000 {
+        let z = u64::leading_zeros(b);
+        Parts {
+            m: b << (z - 11),
+            y: (63 - z) as u64,
+        }
+    } else {
+        Parts {
+            m: b % 0x0010_0000_0000_0000 + 0x0010_0000_0000_0000,
+            y: b / 0x0010_0000_0000_0000 + 51,
+        }
+    }
+}
+
+// The whole number nearest to the root of w * 2 ^ 52, digit by digit. At the loop's head s is the root's digits so far and
+// rem what is left over them.
+fn slow(w: u64) -> u64
+    requires { ⌜ (2 ^ 52 ≤ w) × (w < 2 ^ 54) ⌝ }
+    ensures { λ r. ⌜ Nearest (w * 2 ^ 52) r ⌝ }
+{
+    let mut s: u64 = 0;
+    let mut rem: u64 = 0;
+    let mut rest: u64 = w;
+    let mut i: u64 = 0;
+    while i < 53 {
+        rem = rem * 4 + rest / 0x0010_0000_0000_0000;
+        rest = rest % 0x0010_0000_0000_0000 * 4;
+        if rem > s * 4 {
+            rem = rem - s * 4 - 1;
+            s = s * 2 + 1;
+        } else {
+            s = s * 2;
+        }
+        i += 1;
+    }
+    if rem > s { s + 1 } else { s }
+}
+
+// A guess of √f, for f = m * (1 + p) / 2 ^ 52, which is from 1 up and below 4. g comes near √f and k near 1 / (2 * √f), within 7
+// parts in 10 ^ 7. h is g, cut to so few digits that f - h * h is exact. Nothing is proved of how near the guess is: `near`
+// tests it.
+fn guess(m: u64, p: u64) -> f64
+    requires { ⌜ (2 ^ 52 ≤ m) × (m < 2 ^ 53) × (p < 2) ⌝ }
+{
+    let b = (1022 + p) * 0x0010_0000_0000_0000 + m;
+    let f = f64::from_bits(b);
+    let y = f64::from_bits(0x5fe3_ffff_2000_0000 - b / 2);
+    let g0 = f * y;
+    let t0 = 1.68191391 - g0 * (0.703952009 * y);
+    let g1 = g0 * t0;
+    let k1 = 0.5 * y * t0;
+    let t1 = 1.5 - g1 * k1;
+    let g = g1 * t1;
+    let k = k1 * t1;
+    let h = g + 134217728.0 - 134217728.0;
+    let r = f - h * h;
+    h + r / (2.0 * h + r * k)
+}
+
+// Whether q is seen to be the whole number nearest to the root of w * 2 ^ 52: true only where it is, and false where it is but q * q lies
+// within 2 ^ 27 of a border. q * q is a * a * 2 ^ 52 + u * 2 ^ 26 and less than 2 ^ 26 more.
+fn near(w: u64, q: u64) -> bool
+    requires { ⌜ (w < 2 ^ 54) × (0 < q) × (q ≤ 2 ^ 53) ⌝ }
+    ensures { λ r. ⌜ (r ≡ true → Nearest (w * 2 ^ 52) q) ⌝ }
+{
+    let a = q / 0x0400_0000;
+    let b = q % 0x0400_0000;
+    let square = a * a;
+    if w < square {
+        return false;
+    }
+    let rest = w - square;
+    if rest >= 0x0000_0001_0000_0000 {
+        return false;
+    }
+    let l = rest * 0x0400_0000;
+    let u = a * b * 2 + b * b / 0x0400_0000;
+    if u + a < l {
+        return false;
+    }
+    u < l + a
+}
+
+// The whole number nearest to the root of w * 2 ^ 52: g or a neighbour of it, where the test says so.
+fn settled(w: u64, g: u64) -> u64
+    requires { ⌜ (2 ^ 52 ≤ w) × (w < 2 ^ 54) × (2 ^ 52 ≤ g) × (g < 2 ^ 53) ⌝ }
+    ensures { λ r. ⌜ Nearest (w * 2 ^ 52) r ⌝ }
+{
+    if near(w, g) {
+        return g;
+    }
+    if near(w, g + 1) {
+        return g + 1;
+    }
+    if near(w, g - 1) {
+        return g - 1;
+    }
+    slow(w)
+}
+
+// The whole number nearest to the root of m * (1 + p) * 2 ^ 52.
+fn nearest(m: u64, p: u64) -> u64
+    requires { ⌜ (2 ^ 52 ≤ m) × (m < 2 ^ 53) × (p < 2) ⌝ }
+    ensures { λ r. ⌜ Nearest (m * (1 + p) * 2 ^ 52) r ⌝ }
+{
+    let w = m * (1 + p);
+    let s = guess(m, p);
+    if s < 2.0 {
+        return settled(
+            w,
+            f64::to_bits(s) % 0x0010_0000_0000_0000 + 0x0010_0000_0000_0000,
+        );
+    }
+    slow(w)
+}
+
+// The root of the positive finite float whose bits are b.
+fn positive(b: u64) -> f64
+    requires { ⌜ (0 < b) × (b < 0x7ff0_0000_0000_0000) ⌝ }
+    ensures { λ r. ⌜ r ≡ rootOf (Ieee.ofBits binary64 b) ⌝ }
+{
+    let p = split(b);
+    let m = p.m;
+    let y = p.y;
+    let q = nearest(m, y % 2);
+    f64::from_bits((y / 2 + 485) * 0x0010_0000_0000_0000 + q)
+}
+
+// The square root of x, whatever float x is.
+fn of_any(x: f64) -> f64
+    ensures { λ r. ⌜ r ≡ rootOf x ⌝ }
+{
+    if x != x {
+        return x;
+    }
+    let b = f64::to_bits(x);
+    if b >= 0x7ff0_0000_0000_0000 {
+        if b == 0x7ff0_0000_0000_0000 {
+            return x;
+        }
+        if b == 0x8000_0000_0000_0000 {
+            return x;
+        }
+        return 0.0 / 0.0;
+    }
+    if b == 0 {
+        return x;
+    }
+    positive(b)
+}
+
+// A guess of the root of the float from 1 up and below 4 whose digits are those of b, and whose exponent is odd where that of b is, by the table's place for the
+// middle c of the range of its digits. With d its distance from c, t = d / (2 * √c) and z = d / (4 * c) the root is
+// √c + t * (1 - z + 2 * z ^ 2 - 5 * z ^ 3 + 14 * z ^ 4 - ..). The last four factors are those of the polynomial nearest to the whole sum for
+// |z| up to 2 ^ -8. Nothing is proved of how near the guess is: `near` tests it.
+fn from_table(b: u64) -> f64 {
+    let p = place_of(b / 0x0000_8000_0000_0000 % 64);
+    let d = f64::from_bits(b % 0x0000_8000_0000_0000 + 0x3ff0_0000_0000_0000) - 1.015625;
+    let z = d * p.quarter;
+    let t = d * p.half;
+    let zz = z * z;
+    let tzz = t * zz;
+    let first = t - t * z + p.rest + tzz * (2.0 - 4.99999994229 * z);
+    let second = tzz * zz * (13.9999995 - 42.0102 * z + 132.0476 * zz);
+    p.root + (first + second)
+}
+
+// The digits of the root of the positive normal number whose bits are b are those of the root of w * 2 ^ 52. w is the number's digits, doubled where its
+// exponent is even.
+fn radicand(b: u64) -> u64
+    ensures { λ r. ⌜ r ≡ (b % 2 ^ 52 + 2 ^ 52) * (1 + (b / 2 ^ 52 + 51) % 2) ⌝ }
+{
+    let v = b % 0x0020_0000_0000_0000;
+    if v >= 0x0010_0000_0000_0000 {
+        v
+    } else {
+        v * 2 + 0x0020_0000_0000_0000
+    }
+}
+
+// The root of the positive normal number whose bits are b. Its digits q are those of the guess, and its exponent is k + 1.
+fn normal(b: u64) -> f64
+    requires { ⌜ (2 ^ 52 ≤ b) × (b < 0x7ff0_0000_0000_0000) ⌝ }
+    ensures { λ r. ⌜ r ≡ rootOf (Ieee.ofBits binary64 b) ⌝ }
+{
+    let g = from_table(b);
+    if g != g {
+        return positive(b);
+    }
+    let q = f64::to_bits(g) % 0x0010_0000_0000_0000 + 0x0010_0000_0000_0000;
+    let w = radicand(b);
+    if near(w, q) {
+        let k = (b + 0x0010_0000_0000_0000) / 0x0020_0000_0000_0000 + 510;
+        return f64::from_bits(k * 0x0010_0000_0000_0000 + q);
+    }
+    positive(b)
+}
+
+// Whether s is seen to be the root of x: true only where it is and x is a positive normal number.
+fn is_root(x: f64, s: f64) -> bool
+    ensures { λ r. ⌜ (r ≡ true → s ≡ rootOf x) ⌝ }
+{
+    if x != x {
+        return false;
+    }
+    if s != s {
+        return false;
+    }
+    let b = f64::to_bits(x);
+    if b < 0x0010_0000_0000_0000 {
+        return false;
+    }
+    if b >= 0x7ff0_0000_0000_0000 {
+        return false;
+    }
+    let n = f64::to_bits(s);
+    let k = (b + 0x0010_0000_0000_0000) / 0x0020_0000_0000_0000 + 510;
+    let base = k * 0x0010_0000_0000_0000;
+    if n <= base {
+        return false;
+    }
+    let q = n - base;
+    if q > 0x0020_0000_0000_0000 {
+        return false;
+    }
+    let w = radicand(b);
+    near(w, q)
+}
+
+// The square root of x, correctly rounded.
+pub fn sqrt(x: f64) -> f64
+    ensures { λ r. ⌜ r ≡ rootOf x ⌝ }
+{
+    if x != x {
+        return x;
+    }
+    let b = f64::to_bits(x);
+    if b < 0x0010_0000_0000_0000 {
+        return of_any(x);
+    }
+    if b >= 0x7ff0_0000_0000_0000 {
+        return of_any(x);
+    }
+    normal(b)
+}
+
+// The square root of x, correctly rounded, quicker where r is the root of a float within 2 ^ -18 of x. h is r, cut to so few digits that d is exact. With
+// t = d / (2 * h) and z = d / (4 * h * h) the guess is h + t * (1 - z + 2 * z ^ 2), the first terms of the sum in `from_table`.
+pub fn sqrt_beside(x: f64, r: f64) -> f64
+    ensures { λ s. ⌜ s ≡ rootOf x ⌝ }
+{
+    let c = 134217729.0 * r;
+    let h = c - (c - r);
+    let k = 0.5 / h;
+    let d = x - h * h;
+    let t = d * k;
+    let z = d * (k * k);
+    let tz = t * z;
+    let s = h + (t - tz + tz * (z + z));
+    if is_root(x, s) {
+        return s;
+    }
+    sqrt(x)
+}
+
+// A guess of the roots of the floats x next to `at`, by the tangent there: high + (low + (x - at) * slope). high is a root's first digits, low is
+// small beside it, and slope is near 1 / (2 * √at). Nothing is proved of how near a guess is: `is_root` tests it.
+pub struct Tangent {
+    pub at: f64,
+    pub high: f64,
+    pub low: f64,
+    pub slope: f64,
+}
+
+// A tangent whose guess is 0, which `is_root` never takes.
+pub fn no_tangent() -> Tangent {
+    Tangent {
+        at: 0.0,
+        high: 0.0,
+        low: 0.0,
+        slope: 0.0,
+    }
+}
+
+// The tangent at the positive float whose bits are b, as in `from_table`, by wider ranges and more of the sum.
+fn from_wide_table(b: u64) -> Tangent
+    requires { ⌜ b < 0x7ff0_0000_0000_0000 ⌝ }
+{
+    let f = b % 0x0020_0000_0000_0000;
+    let i = f / 0x0001_0000_0000_0000;
+    let e = b / 0x0020_0000_0000_0000;
+    let p = wide_place_of(i);
+    let c = f64::from_bits(i * 0x0001_0000_0000_0000 + 0x3fe0_8000_0000_0000);
+    let d = f64::from_bits(f + 0x3fe0_0000_0000_0000) - c;
+    let scale = f64::from_bits((e + 512) * 0x0010_0000_0000_0000);
+    let inverse = f64::from_bits((1534 - e) * 0x0010_0000_0000_0000);
+    let z = d * p.quarter;
+    let t = d * scale * p.half;
+    let zz = z * z;
+    let tzz = t * zz;
+    let first = t * (1.0 - z) + p.rest * scale + tzz * (2.0 - 5.0 * z);
+    let second = tzz * zz * (14.0 - 42.0 * z + zz * (132.0 - 429.0 * z) + zz * zz * 1430.0);
+    let at = f64::from_bits(b);
+    Tangent {
+        at: at,
+        high: p.root * scale,
+        low: first + second,
+        slope: p.half * inverse * (1.0 - 2.0 * z + 6.0 * zz),
+    }
+}
+
+// The tangent at x, where x is positive and well within the range of the exponents.
+pub fn tangent_at(x: f64) -> Tangent {
+    if x != x {
+        return no_tangent();
+    }
+    let b = f64::to_bits(x);
+    if b < 0x1000_0000_0000_0000 {
+        return no_tangent();
+    }
+    if b >= 0x6000_0000_0000_0000 {
+        return no_tangent();
+    }
+    from_wide_table(b)
+}
+
+// The square root of x, correctly rounded, quicker where g is the tangent at a float within 2 ^ -40 of x.
+pub fn sqrt_near(x: f64, g: Tangent) -> f64
+    ensures { λ r. ⌜ r ≡ rootOf x ⌝ }
+{
+    let s = g.high + (g.low + (x - g.at) * g.slope);
+    if is_root(x, s) {
+        return s;
+    }
+    sqrt(x)
+}
