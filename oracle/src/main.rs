@@ -2,22 +2,14 @@
 
 mod bench;
 mod big;
-#[cfg(all(
-    test,
-    feature = "displacement",
-    feature = "fix",
-    feature = "corrections"
-))]
+#[cfg(test)]
 mod edges;
 mod estimate;
 mod ffi;
 #[cfg(feature = "fuzz")]
 mod fuzz;
 mod instructions;
-#[cfg(feature = "displacement")]
-#[cfg_attr(not(feature = "line"), allow(dead_code))]
 mod line_form;
-#[cfg(any(feature = "robust", feature = "displacement", feature = "fix"))]
 mod numbers;
 mod random;
 mod rules;
@@ -145,16 +137,10 @@ fn vectors(given: &Arguments) -> Result<bool, String> {
 }
 
 /// Writes the stored texts of the line form.
-#[cfg(feature = "line")]
 fn line_vectors(seed: u64, file: &str) -> Result<(), String> {
     let (count, bytes) = services::line::cases(&mut Random::new(seed, "line"));
     println!("line: {count} texts");
     std::fs::write(file, bytes).map_err(|e| format!("{file}: {e}"))
-}
-
-#[cfg(not(feature = "line"))]
-fn line_vectors(_: u64, file: &str) -> Result<(), String> {
-    Err(format!("{file}: built without the line form"))
 }
 
 fn run() -> Result<bool, String> {

@@ -5,7 +5,6 @@ mod fix;
 mod turns;
 
 pub use turns::input;
-#[cfg(any(feature = "displacement", feature = "fix"))]
 pub use turns::Input;
 
 use crate::random::{exp2, Random};
@@ -76,7 +75,6 @@ impl Place {
     }
 
     /// A satellite in view and its elevation.
-    #[cfg(feature = "robust")]
     pub fn satellite(&self, random: &mut Random) -> ([f64; 3], f64) {
         let d = self.above(random);
         self.towards(random, d)
@@ -97,7 +95,6 @@ pub struct Plan {
 
 impl Plan {
     /// A usual sky of so many satellites, each of which counts.
-    #[cfg(any(feature = "displacement", feature = "fix"))]
     fn clean(random: &mut Random, count: usize) -> Self {
         Self {
             count,

@@ -54,6 +54,7 @@ impl Cholesky {
 macro_rules! numbers {
     ($($(#[$about:meta])* $name:ident = $entry:ident($($x:ident: $t:ty),*) -> $r:ty;)*) => {
         $($(#[$about])*
+        #[inline]
         pub fn $name($($x: $t),*) -> $r {
             // SAFETY: it takes numbers alone and asks nothing of its caller.
             unsafe { sys::$entry($($x),*) }

@@ -2,6 +2,7 @@
 
 use super::columns::{call, Columns};
 use drifters_gnss::tdcp::Carrier;
+use zaqnuti::sys::zaqnuti_displacement;
 
 /// An epoch of carriers as the library takes it: its columns, of which each may be longer or shorter
 /// than the count needs.
@@ -34,39 +35,6 @@ impl Carriers {
     }
 }
 
-extern "C" {
-    fn zaqnuti_displacement(
-        previous_constellation: *const u8,
-        previous_constellation_len: usize,
-        previous_svid: *const u16,
-        previous_svid_len: usize,
-        previous_band: *const u32,
-        previous_band_len: usize,
-        previous_state: *const i32,
-        previous_state_len: usize,
-        previous_floats: *const f64,
-        previous_floats_len: usize,
-        previous_count: usize,
-        current_constellation: *const u8,
-        current_constellation_len: usize,
-        current_svid: *const u16,
-        current_svid_len: usize,
-        current_band: *const u32,
-        current_band_len: usize,
-        current_state: *const i32,
-        current_state_len: usize,
-        current_floats: *const f64,
-        current_floats_len: usize,
-        current_count: usize,
-        dt: f64,
-        receiver: *const [f64; 3],
-        settings: *const [f64; 5],
-        rounds: usize,
-        delta: *mut [f64; 3],
-        counts: *mut [u64; 2],
-    ) -> u8;
-}
-
 /// Displacement and counts in the last two and 0, or the number and both untouched.
 #[inline]
 #[allow(clippy::too_many_arguments)]
@@ -78,7 +46,7 @@ pub fn displacement(
     settings: &[f64; 5],
     rounds: usize,
     delta: &mut [f64; 3],
-    counts: &mut [u64; 2],
+    counts: &mut [usize; 2],
 ) -> u8 {
     // SAFETY: each column has its length beside it, the arrays are as long as their types say, and
     // the last two are ours alone.

@@ -1,7 +1,8 @@
-//! The entry point of the fix.
+//! The entry points of the fix and of its position alone.
 
 use super::columns::{call, Columns};
 use drifters_gnss::wls::Observation;
+use zaqnuti::sys::{zaqnuti_fix, zaqnuti_position};
 
 /// The observations of an epoch as the library takes them.
 pub fn observations(records: &[Observation]) -> Columns<5> {
@@ -9,21 +10,6 @@ pub fn observations(records: &[Observation]) -> Columns<5> {
         let [x, y, z] = o.satellite;
         (o.constellation, [o.pseudorange, x, y, z, o.elevation])
     }))
-}
-
-extern "C" {
-    fn zaqnuti_fix(
-        constellation: *const u8,
-        constellation_len: usize,
-        floats: *const f64,
-        floats_len: usize,
-        count: usize,
-        guess: *const [f64; 3],
-        settings: *const [f64; 4],
-        rounds: usize,
-        solution: *mut [f64; 5],
-        used: *mut u64,
-    ) -> u8;
 }
 
 /// Solution and count in the last two and 0, or the number and both untouched.
@@ -34,7 +20,7 @@ pub fn fix(
     settings: &[f64; 4],
     rounds: usize,
     solution: &mut [f64; 5],
-    used: &mut u64,
+    used: &mut usize,
 ) -> u8 {
     // SAFETY: each column has its length beside it, the arrays are as long as their types say, and
     // the last two are ours alone.
@@ -42,5 +28,21 @@ pub fn fix(
         call!(zaqnuti_fix();
             [epoch.constellation], [epoch.floats], epoch.count,
             guess, settings, rounds, solution, used,)
+    }
+}
+
+/// The position in the last and 0, or the number and it untouched.
+pub fn position(
+    epoch: &Columns<5>,
+    guess: &[f64; 3],
+    settings: &[f64; 4],
+    rounds: usize,
+    position: &mut [f64; 3],
+) -> u8 {
+    // SAFETY: as for the fix.
+    unsafe {
+        call!(zaqnuti_position();
+            [epoch.constellation], [epoch.floats], epoch.count,
+            guess, settings, rounds, position,)
     }
 }

@@ -1,8 +1,6 @@
 //! The entry point of the line form.
 
-extern "C" {
-    fn zaqnuti_line(text: *const u8, text_len: usize, line: *mut u8, line_len: usize) -> usize;
-}
+use zaqnuti::sys::zaqnuti_line;
 
 /// The answer's line at the start of the buffer and its length, or 0 and the buffer untouched where
 /// that is shorter than the line.

@@ -1,13 +1,17 @@
 //! The entry points of clocks, centre, elevation sigma, sight line and the round called by itself.
 
 use super::Column;
+use zaqnuti::sys::{
+    zaqnuti_centre, zaqnuti_clocks_given, zaqnuti_clocks_new, zaqnuti_clocks_slot,
+    zaqnuti_clocks_unknowns, zaqnuti_elevation_sigma, zaqnuti_geometry, zaqnuti_round,
+};
 
 /// The rows of a round as the library takes them: columns, of which each may be longer or shorter
 /// than the count needs; three floats of unit vector for each row.
 #[derive(Default)]
 pub struct Rows {
     pub units: Vec<f64>,
-    pub clocks: Vec<u64>,
+    pub clocks: Vec<usize>,
     pub residuals: Vec<u64>,
     pub sigmas: Vec<f64>,
     pub count: usize,
@@ -26,50 +30,26 @@ impl Rows {
     }
 }
 
-extern "C" {
-    fn zaqnuti_clocks_new(slot: *mut [u64; 8], count: *mut u64);
-    fn zaqnuti_clocks_unknowns(slot: *const [u64; 8], count: usize) -> usize;
-    fn zaqnuti_clocks_given(slot: *mut [u64; 8], count: *mut u64, constellation: u8);
-    fn zaqnuti_clocks_slot(slot: *const [u64; 8], constellation: u8) -> u64;
-    fn zaqnuti_centre(residuals: *const u64, n: usize, out: *mut [f64; 2]) -> u8;
-    fn zaqnuti_elevation_sigma(elevation: f64, a: f64, b: f64) -> f64;
-    fn zaqnuti_geometry(satellite: *const [f64; 3], receiver: *const [f64; 3], out: *mut [f64; 4]);
-    fn zaqnuti_round(
-        units: *const f64,
-        units_len: usize,
-        clocks: *const u64,
-        clocks_len: usize,
-        residuals: *const u64,
-        residuals_len: usize,
-        sigmas: *const f64,
-        sigmas_len: usize,
-        rows: usize,
-        unknowns: usize,
-        huber: f64,
-        dx: *mut Column,
-    ) -> u8;
-}
-
 /// The state of no constellation given, in place.
-pub fn clocks_new(slot: &mut [u64; 8], count: &mut u64) {
+pub fn clocks_new(slot: &mut [usize; 8], count: &mut usize) {
     // SAFETY: both point to what their types say, apart and ours alone.
     unsafe { zaqnuti_clocks_new(slot, count) }
 }
 
 /// Three coordinates and the clocks.
-pub fn clocks_unknowns(slot: &[u64; 8], count: u64) -> u64 {
+pub fn clocks_unknowns(slot: &[usize; 8], count: usize) -> usize {
     // SAFETY: it points to eight numbers.
-    unsafe { zaqnuti_clocks_unknowns(slot, count as usize) as u64 }
+    unsafe { zaqnuti_clocks_unknowns(slot, count) }
 }
 
 /// One constellation more, in place.
-pub fn clocks_given(slot: &mut [u64; 8], count: &mut u64, constellation: u8) {
+pub fn clocks_given(slot: &mut [usize; 8], count: &mut usize, constellation: u8) {
     // SAFETY: both point to what their types say, apart and ours alone.
     unsafe { zaqnuti_clocks_given(slot, count, constellation) }
 }
 
 /// The slot of a constellation.
-pub fn clocks_slot(slot: &[u64; 8], constellation: u8) -> u64 {
+pub fn clocks_slot(slot: &[usize; 8], constellation: u8) -> usize {
     // SAFETY: it points to eight numbers.
     unsafe { zaqnuti_clocks_slot(slot, constellation) }
 }

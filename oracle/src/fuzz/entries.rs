@@ -1,10 +1,5 @@
 //! One function for each entry point: decode, lend, call, compare.
 
-// A slot is a usize there and a u64 in `ffi`: on x86-64 they are one.
-#[allow(clashing_extern_declarations, dead_code)]
-#[path = "../../../bindings/rust/src/sys.rs"]
-mod sys;
-
 mod corrections;
 mod displacement;
 mod fix;
@@ -14,6 +9,7 @@ mod track;
 
 use super::Bytes;
 use crate::random::pattern;
+use zaqnuti::sys;
 
 /// The name of an entry point, and its call.
 type Entry = (&'static str, fn(&mut Bytes));

@@ -15,10 +15,10 @@ pub const SERVICE: Service = Service {
 };
 
 /// A state: the slots of eight constellations, and how many are given.
-type State = ([u64; 8], u64);
+type State = ([usize; 8], usize);
 
 /// The state before any constellation.
-const NONE: State = ([u64::MAX; 8], 0);
+const NONE: State = ([usize::MAX; 8], 0);
 
 /// A constellation: mostly one of the first eight, else any.
 fn constellation(random: &mut Random) -> u8 {
@@ -43,14 +43,14 @@ fn list(random: &mut Random) -> Vec<u8> {
 /// Any state: a count up to 7, above it, or as large as can be, and slots free, usual or arbitrary.
 fn state(random: &mut Random) -> State {
     let slot = std::array::from_fn(|_| match random.below(4) {
-        0 | 1 => u64::MAX,
-        2 => 3 + random.below(9),
-        _ => random.bits() >> random.below(64),
+        0 | 1 => usize::MAX,
+        2 => 3 + random.place(9),
+        _ => (random.bits() >> random.below(64)) as usize,
     });
     let count = match random.below(8) {
-        0 => random.pick(&[8, 9, u64::MAX - 3, u64::MAX - 2, u64::MAX]),
-        1 => random.bits() >> random.below(64),
-        _ => random.below(9),
+        0 => random.pick(&[8, 9, usize::MAX - 3, usize::MAX - 2, usize::MAX]),
+        1 => (random.bits() >> random.below(64)) as usize,
+        _ => random.place(9),
     };
     (slot, count)
 }
@@ -65,12 +65,8 @@ fn ours((mut slot, mut count): State, list: &[u8]) -> State {
 
 /// The Rust's state after some constellations.
 fn theirs((slot, count): State, list: &[u8]) -> State {
-    let clocks = Clocks {
-        slot: slot.map(|s| s as usize),
-        count: count as usize,
-    };
-    let after = clocks.assign_more(list.iter().copied());
-    (after.slot.map(|s| s as u64), after.count as u64)
+    let after = Clocks { slot, count }.assign_more(list.iter().copied());
+    (after.slot, after.count)
 }
 
 fn compare(tally: &mut Tally, random: &mut Random, count: u64) {
@@ -87,7 +83,7 @@ fn compare(tally: &mut Tally, random: &mut Random, count: u64) {
             before
         } else if before == NONE {
             let all = Clocks::assign(given.iter().copied());
-            (all.slot.map(|s| s as u64), all.count as u64)
+            (all.slot, all.count)
         } else {
             theirs(before, &given)
         };
@@ -100,13 +96,13 @@ fn compare(tally: &mut Tally, random: &mut Random, count: u64) {
         let asked = constellation(random);
         let slot = ffi::clocks_slot(&after.0, asked);
         let clocks = Clocks {
-            slot: expected.0.map(|s| s as usize),
-            count: expected.1 as usize,
+            slot: expected.0,
+            count: expected.1,
         };
         // The Rust's sum wraps in a release build; a debug build would stop at a count near the top.
         let same = begun == NONE
             && after == expected
-            && slot == clocks.slot(asked) as u64
+            && slot == clocks.slot(asked)
             && unknowns == expected.1.wrapping_add(3);
         tally.judge(same, || {
             format!("{given:?} to {before:?}: ours {after:?}, Rust's {expected:?}; slot of {asked} ours {slot}, unknowns {unknowns}")

@@ -59,7 +59,7 @@ impl estimator::Call<3, 2> for Call {
 
     fn theirs(input: &Displacement) -> Result<Answer<3, 2>, u8> {
         let d = input.answer()?;
-        let counts = [d.used as u64, d.screened as u64];
+        let counts = [d.used, d.screened];
         Ok(([d.delta.x, d.delta.y, d.delta.z], counts))
     }
 

@@ -9,7 +9,7 @@ use crate::tally::{hex, Tally};
 use std::hint::black_box;
 
 /// An answer: F floats and C counts.
-pub type Answer<const F: usize, const C: usize> = ([f64; F], [u64; C]);
+pub type Answer<const F: usize, const C: usize> = ([f64; F], [usize; C]);
 
 /// A call as the library takes it.
 pub trait Call<const F: usize, const C: usize>: Sized {
@@ -18,6 +18,10 @@ pub trait Call<const F: usize, const C: usize>: Sized {
     fn of(input: &Self::Input) -> Self;
     /// Calls the library: the answer in what is lent and 0, or the number of the refusal.
     fn ours(&self, lent: &mut Answer<F, C>) -> u8;
+    /// Whether the library's other entry point on the same columns says the same.
+    fn agrees(&self, _number: u8, _ours: &Answer<F, C>) -> bool {
+        true
+    }
     /// The Rust's answer within the rules, or the number of the refusal.
     fn theirs(input: &Self::Input) -> Result<Answer<F, C>, u8>;
     /// The Rust alone.
@@ -62,7 +66,7 @@ pub fn compare<const F: usize, const C: usize, K: Call<F, C>>(
             call.turn_lengths(random);
         }
         let floats = std::array::from_fn(|_| random.float());
-        let lent: Answer<F, C> = (floats, std::array::from_fn(|_| random.bits()));
+        let lent: Answer<F, C> = (floats, std::array::from_fn(|_| random.bits() as usize));
         let mut ours = lent;
         let number = call.ours(&mut ours);
         let expected = if call.whole() {
@@ -82,7 +86,8 @@ pub fn compare<const F: usize, const C: usize, K: Call<F, C>>(
             }
             Err(_) => (lent, ours.0.map(f64::to_bits) == lent.0.map(f64::to_bits)),
         };
-        let same = same && number == their_number && ours.1 == theirs.1;
+        let same =
+            same && number == their_number && ours.1 == theirs.1 && call.agrees(number, &ours);
         tally.judge(same, || {
             format!(
                 "ours {number}, {:?}, {}, Rust's {their_number}, {:?}, {}, of {}",

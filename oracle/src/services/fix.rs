@@ -1,4 +1,4 @@
-//! The fix, against `solve_full` within document 01's rules.
+//! The fix, against `solve_full` within document 01's rules, and the position alone, against the fix.
 
 use super::estimator::{self, turn_columns, Answer, Call as _};
 use super::Service;
@@ -51,10 +51,28 @@ impl estimator::Call<5, 1> for Call {
         )
     }
 
+    /// The position alone has the same number, and the same place or its three floats untouched.
+    fn agrees(&self, number: u8, (solution, _): &Answer<5, 1>) -> bool {
+        const UNTOUCHED: [f64; 3] = [0.25, -0.0, f64::MAX];
+        let mut place = UNTOUCHED;
+        let alone = ffi::position(
+            &self.observations,
+            &self.guess,
+            &self.settings,
+            self.rounds,
+            &mut place,
+        );
+        let expected = match number {
+            0 => [solution[0], solution[1], solution[2]],
+            _ => UNTOUCHED,
+        };
+        alone == number && place.map(f64::to_bits) == expected.map(f64::to_bits)
+    }
+
     fn theirs(input: &Fix) -> Result<Answer<5, 1>, u8> {
         let s = input.answer()?;
         let p = s.position;
-        Ok(([p.x, p.y, p.z, s.chi, s.pdop], [s.used as u64]))
+        Ok(([p.x, p.y, p.z, s.chi, s.pdop], [s.used]))
     }
 
     #[inline]

@@ -1,33 +1,22 @@
 //! The services, one file and one line of the table each.
 
 mod accuracy;
-#[cfg(feature = "robust")]
 mod centre;
-#[cfg(feature = "robust")]
 mod clocks;
-#[cfg(feature = "corrections")]
 pub mod corrections;
-#[cfg(feature = "displacement")]
 mod displacement;
-#[cfg(any(feature = "displacement", feature = "fix"))]
 mod estimator;
 pub mod factor;
-#[cfg(feature = "fix")]
 mod fix;
-#[cfg(feature = "line")]
 pub mod line;
 mod order;
 mod root;
-#[cfg(feature = "robust")]
 pub mod round;
-#[cfg(feature = "robust")]
 mod sight;
-#[cfg(feature = "robust")]
 mod sigma;
 pub mod solve;
 mod soundness;
 mod standins;
-#[cfg(feature = "track")]
 pub mod track;
 
 use crate::random::Random;
@@ -56,25 +45,15 @@ pub const SERVICES: &[Service] = &[
     factor::SERVICE,
     solve::SERVICE,
     accuracy::SERVICE,
-    #[cfg(feature = "robust")]
     clocks::SERVICE,
-    #[cfg(feature = "robust")]
     centre::SERVICE,
-    #[cfg(feature = "robust")]
     sigma::SERVICE,
-    #[cfg(feature = "robust")]
     sight::SERVICE,
-    #[cfg(feature = "robust")]
     round::SERVICE,
-    #[cfg(feature = "displacement")]
     displacement::SERVICE,
-    #[cfg(feature = "fix")]
     fix::SERVICE,
     soundness::SERVICE,
-    #[cfg(feature = "track")]
     track::SERVICE,
-    #[cfg(feature = "corrections")]
     corrections::SERVICE,
-    #[cfg(feature = "line")]
     line::SERVICE,
 ];

@@ -48,7 +48,7 @@ fn usual(random: &mut Random, count: usize) -> Input {
         rows.units.extend(sky::near(random, axis, spread));
         // Each clock has a row before any has two.
         let clock = if k < clocks { k } else { random.place(clocks) };
-        rows.clocks.push(3 + clock as u64);
+        rows.clocks.push(3 + clock);
         let far = if random.below(10) == 0 { 40.0 } else { 1.0 };
         rows.residuals
             .push((offset + 5.0 * far * random.unit()).to_bits());
@@ -64,8 +64,8 @@ fn usual(random: &mut Random, count: usize) -> Input {
 /// Other clock indices and unknowns, up to those that are refused.
 fn turn_places(random: &mut Random, input: &mut Input) {
     let clock = |random: &mut Random| match random.below(16) {
-        0 => random.pick(&[9, u64::MAX, u64::MAX - 1, 1 << 32]),
-        _ => random.below(9),
+        0 => random.pick(&[9, usize::MAX, usize::MAX - 1, 1 << 32]),
+        _ => random.place(9),
     };
     if random.below(2) == 0 {
         input.unknowns = match random.below(16) {
@@ -141,7 +141,7 @@ fn turn_lengths(random: &mut Random, input: &mut Input) {
         _ => {
             // Beyond the count nothing may be read.
             rows.units.extend([f64::NAN; 5]);
-            rows.clocks.extend([u64::MAX; 2]);
+            rows.clocks.extend([usize::MAX; 2]);
             rows.residuals.extend([u64::MAX; 3]);
             rows.sigmas.extend([f64::NAN; 4]);
         }
@@ -290,7 +290,7 @@ fn vectors(random: &mut Random) -> Vectors {
         case.push(input.huber.to_bits());
         for k in 0..rows.count.min(MOST) {
             case.extend(raw(&rows.units[3 * k..3 * k + 3]));
-            case.extend([rows.clocks[k], rows.residuals[k]]);
+            case.extend([rows.clocks[k] as u64, rows.residuals[k]]);
             case.extend(raw(&rows.sigmas[k..k + 1]));
         }
         case.push(u64::from(number));

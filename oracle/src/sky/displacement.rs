@@ -185,7 +185,6 @@ impl Input for Displacement {
         drive(random, plan)
     }
 
-    #[cfg(any(feature = "displacement", feature = "fix"))]
     fn clean(random: &mut Random, count: usize) -> Self {
         let plan = Plan::clean(random, count);
         Self {

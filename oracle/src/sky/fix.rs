@@ -61,7 +61,6 @@ impl Input for Fix {
         standing(random, plan)
     }
 
-    #[cfg(any(feature = "displacement", feature = "fix"))]
     fn clean(random: &mut Random, count: usize) -> Self {
         let plan = Plan::clean(random, count);
         loop {

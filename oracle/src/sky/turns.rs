@@ -54,7 +54,6 @@ pub trait Input: Sized {
     /// From a true place or displacement under a sky, with noise and outliers.
     fn under(random: &mut Random, plan: &Plan) -> Self;
     /// Under a sky of so many satellites, each of which counts, with the default settings and no mask.
-    #[cfg(any(feature = "displacement", feature = "fix"))]
     fn clean(random: &mut Random, count: usize) -> Self;
     /// The floats of each record, those last whose elevation is held to the mask.
     fn records(&mut self) -> Vec<Floats<'_>>;

@@ -18,9 +18,9 @@ pub fn a_round(b: &mut Bytes) {
     for k in 0..n {
         rows.units.extend(b.three());
         rows.clocks.push(match b.byte() {
-            0..=249 => 3 + (k % clocks) as u64,
-            250..=253 => b.below(11) as u64,
-            _ => b.u64(),
+            0..=249 => 3 + k % clocks,
+            250..=253 => b.below(11),
+            _ => b.u64() as usize,
         });
         rows.residuals.push(b.float().to_bits());
         rows.sigmas.push(if b.flag() { 1.0 } else { b.float() });

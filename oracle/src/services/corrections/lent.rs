@@ -3,66 +3,7 @@
 use drifters_gnss::differential::{SatelliteState, Settings};
 use drifters_gnss::rinex::BaseRange;
 use std::collections::BTreeMap;
-
-extern "C" {
-    fn zaqnuti_query(
-        cs: *const u8,
-        csn: usize,
-        vs: *const u16,
-        vsn: usize,
-        bs: *const u8,
-        bsn: usize,
-        ts: *const f64,
-        tsn: usize,
-        xs: *const f64,
-        xsn: usize,
-        n: usize,
-        gap: f64,
-        c: u8,
-        v: u16,
-        b: u8,
-        t: f64,
-        metres: *mut f64,
-    ) -> u8;
-    fn zaqnuti_add_epoch(
-        cs: *mut u8,
-        csn: usize,
-        vs: *mut u16,
-        vsn: usize,
-        bs: *mut u8,
-        bsn: usize,
-        ts: *mut f64,
-        tsn: usize,
-        xs: *mut f64,
-        xsn: usize,
-        n: *mut usize,
-        time: f64,
-        k: usize,
-        rc: *const u8,
-        rcn: usize,
-        rv: *const u16,
-        rvn: usize,
-        rb: *const u8,
-        rbn: usize,
-        rp: *const f64,
-        rpn: usize,
-        present: bool,
-        m: usize,
-        sc: *const u8,
-        scn: usize,
-        sv: *const u16,
-        svn: usize,
-        sb: *const u8,
-        sbn: usize,
-        sf: *const f64,
-        sfn: usize,
-        base: *const [f64; 3],
-        rover: *const [f64; 3],
-        gap: f64,
-        max: f64,
-        on: *const [bool; 8],
-    ) -> u8;
-}
+use zaqnuti::sys::{zaqnuti_add_epoch, zaqnuti_query};
 
 /// The lent columns and the count.
 #[derive(Clone)]
