@@ -10,7 +10,7 @@ use lib.Ieee.{Float}
 use Rattle.cholesky.specs.Factor.{factorOf}
 use Rattle.numeric.specs.declared.vec3.Vec3.{Vec3}
 use Rattle.numeric.specs.declared.refusal.Refusal.the-variants.{TooMany, SettingOutOfRange, FitFailed}
-use Rattle.robust.specs.Clocks.{clocksOf}
+use Rattle.clocks.specs.Clocks.{clocksOf}
 use Rattle.estimator.specs.Record.{counted, countedObservations}
 use Rattle.estimator.specs.Rules.{Rule, ruled}
 use Rattle.estimator.specs.Valid.{settingsPass, displacementInput, fixSettingsPass, fixInput}

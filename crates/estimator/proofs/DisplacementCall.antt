@@ -11,12 +11,12 @@ use Rattle.cholesky.specs.Factor.{at}
 use Rattle.numeric.specs.declared.refusal.Refusal.{Refusal}
 use Rattle.numeric.specs.declared.refusal.Refusal.the-variants.{FitFailed}
 use Rattle.estimator.specs.Record.{Holds}
-use Rattle.robust.specs.Clocks.{clocksOf}
+use Rattle.clocks.specs.Clocks.{clocksOf}
 use Rattle.estimator.specs.Screen.{keptOf, constellations}
 use Rattle.estimator.specs.Valid.{displacementInput, displacementCounts}
 use Rattle.estimator.specs.Rounds.{End, Failed, Reached, Fit, concluded, Ended}
 use Rattle.estimator.specs.Displacement.{Input, fitOver, pairs, kept, fitOf, vector, movedTo, concludedAt, displacementOf}
-use Rattle.robust.specs.declared.clocks.Clocks.{Clocks}
+use Rattle.clocks.specs.declared.clocks.Clocks.{Clocks}
 use Rattle.estimator.specs.declared.pair.Pair.{Pair}
 use Rattle.estimator.specs.declared.pair.Pairs.{Pairs}
 use Rattle.estimator.specs.declared.displacement.Displacement.{Displacement}

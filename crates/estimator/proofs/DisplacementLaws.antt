@@ -7,7 +7,7 @@ use lib.Ieee.{Float, nan}
 use Rattle.robust.specs.Round.{roundOf}
 use Rattle.robust.specs.Normal.{Solving}
 use Rattle.robust.specs.declared.row.Row.{Row}
-use Rattle.robust.specs.declared.clocks.Clocks.{Clocks}
+use Rattle.clocks.specs.declared.clocks.Clocks.{Clocks}
 use Rattle.estimator.specs.declared.pair.Pair.{Pair}
 use Rattle.estimator.specs.declared.displacement.Settings.{Settings}
 use Rattle.cholesky.specs.Factor.{zeros}

@@ -12,10 +12,10 @@ use Rattle.numeric.specs.declared.refusal.Refusal.{Refusal}
 use Rattle.numeric.specs.declared.refusal.Refusal.the-variants.{FitFailed}
 use Rattle.robust.specs.Round.{Round, Solved, Sound}
 use Rattle.robust.proofs.RoundSound.{round-sound}
-use Rattle.robust.specs.Clocks.{clocksOf}
+use Rattle.clocks.specs.Clocks.{clocksOf}
 use Rattle.estimator.specs.Front.{displacementRules}
 use Rattle.estimator.specs.Screen.{constellations}
-use Rattle.robust.specs.declared.clocks.Clocks.{Clocks}
+use Rattle.clocks.specs.declared.clocks.Clocks.{Clocks}
 use Rattle.estimator.specs.declared.pair.Pair.{Pair}
 use Rattle.estimator.specs.declared.displacement.Settings.{Settings}
 use Rattle.estimator.specs.Rounds.{concluded, Each}

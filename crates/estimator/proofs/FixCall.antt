@@ -15,12 +15,12 @@ use Rattle.robust.specs.Step.{counted}
 use Rattle.robust.specs.declared.row.Row.{Row}
 use Rattle.robust.specs.declared.row.Rows.{Rows}
 use Rattle.estimator.specs.Record.{Holds, countedObservations}
-use Rattle.robust.specs.Clocks.{clocksOf}
+use Rattle.clocks.specs.Clocks.{clocksOf}
 use Rattle.estimator.specs.Mask.{constellations}
 use Rattle.estimator.specs.Valid.{fixInput, fixCounts}
 use Rattle.estimator.specs.Rounds.{End, Failed, Reached, Fit, lastRows, concluded, accepted}
 use Rattle.estimator.specs.Fix.{Input, position, fitOver, kept, clocks, fitOf, roundsOf, chiOf, plainMatrix, pdopOf, judged, positionAt, concludedAt, fixOf, Reaches}
-use Rattle.robust.specs.declared.clocks.Clocks.{Clocks}
+use Rattle.clocks.specs.declared.clocks.Clocks.{Clocks}
 use Rattle.estimator.specs.declared.record.Observation.{Observation}
 use Rattle.estimator.specs.declared.record.Observations.{Observations}
 use Rattle.estimator.specs.declared.fix.Fix.{Fix}

@@ -10,7 +10,7 @@ use Rattle.robust.specs.Normal.{Solving}
 use Rattle.robust.specs.Step.{counted}
 use Rattle.robust.specs.declared.row.Row.{Row}
 use Rattle.robust.proofs.RoundSound.{round-rows}
-use Rattle.robust.specs.declared.clocks.Clocks.{Clocks}
+use Rattle.clocks.specs.declared.clocks.Clocks.{Clocks}
 use Rattle.estimator.specs.declared.record.Observation.{Observation}
 use Rattle.estimator.specs.declared.fix.Settings.{Settings}
 use Rattle.estimator.specs.Rounds.{Failed, Reached, Fit, fitFrom, lastRows, accepted}

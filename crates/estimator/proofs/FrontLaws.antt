@@ -9,12 +9,12 @@ use Rattle.numeric.specs.declared.vec3.Vec3.{Vec3}
 use Rattle.numeric.specs.declared.refusal.Refusal.{Refusal}
 use Rattle.estimator.specs.Rules.{Rule, ruled}
 use Rattle.estimator.specs.Record.{Holds, countedObservations}
-use Rattle.robust.specs.Clocks.{clocksOf}
+use Rattle.clocks.specs.Clocks.{clocksOf}
 use Rattle.estimator.specs.Screen.{centre, within, keptOf, constellations}
 use Rattle.estimator.specs.Mask.{constellations as observedConstellations}
 use Rattle.estimator.specs.Valid.{displacementInput, displacementCounts, fixInput, fixCounts}
 use Rattle.estimator.specs.Front.{allPairs, keptPairs, displacementRules, fixRows, fixRules}
-use Rattle.robust.specs.declared.clocks.Clocks.{Clocks}
+use Rattle.clocks.specs.declared.clocks.Clocks.{Clocks}
 use Rattle.estimator.specs.declared.record.Epoch.{Epoch}
 use Rattle.estimator.specs.declared.record.Observation.{Observation}
 use Rattle.estimator.specs.declared.record.Observations.{Observations}

@@ -21,11 +21,11 @@ use Rattle.robust.specs.Round.{wide, total, triangleOf, Round, Outcome, roundOf
 use Rattle.robust.specs.Sigma.{elevationSigma}
 use Rattle.robust.specs.Step.{counted}
 use Rattle.robust.specs.declared.row.Row.{Row}
-use Rattle.robust.specs.Clocks.{slot, clocksOf}
+use Rattle.clocks.specs.Clocks.{slot, clocksOf}
 use Rattle.estimator.specs.Rules.{ruled}
 use Rattle.estimator.specs.Mask.{constellations}
 use Rattle.estimator.specs.Front.{fixRows, fixRules}
-use Rattle.robust.specs.declared.clocks.Clocks.{Clocks}
+use Rattle.clocks.specs.declared.clocks.Clocks.{Clocks}
 use Rattle.estimator.specs.declared.record.Observation.{Observation}
 use Rattle.estimator.specs.declared.record.Observations.{Observations}
 use Rattle.estimator.specs.declared.fix.Settings.{Settings}

@@ -6,7 +6,7 @@ use lib.Ieee.{Float}
 use Rattle.numeric.specs.declared.vec3.Vec3.{Vec3}
 use Rattle.estimator.specs.Rules.{Rule}
 use Rattle.estimator.specs.Record.{counted, countedObservations}
-use Rattle.robust.specs.Clocks.{clocksOf}
+use Rattle.clocks.specs.Clocks.{clocksOf}
 use Rattle.estimator.specs.Pair.{pairsOf}
 use Rattle.estimator.specs.Screen.{keptOf, constellations}
 use Rattle.estimator.specs.Mask.{aboveMask}

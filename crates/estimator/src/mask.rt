@@ -1,11 +1,11 @@
 // The observations at or above the mask, and their clocks.
 ghost use mathlib.Core.Path.{_≡_};
 ghost use Prim.Native.Nat.{_≤_};
-ghost use Rattle.robust.specs.Clocks.{clocksOf};
+ghost use Rattle.clocks.specs.Clocks.{clocksOf};
 ghost use Rattle.estimator.specs.Record.{countedObservations, Holds};
 ghost use Rattle.estimator.specs.Mask as spec;
 use crate::record::Observations;
-use robust::clocks::Clocks;
+use clocks::clocks::Clocks;
 
 // The observations at or above the mask, in their order.
 pub(crate) fn above_mask(o: Observations, mask: f64) -> Observations

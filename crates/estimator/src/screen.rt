@@ -2,15 +2,15 @@
 ghost use mathlib.Core.Path.{_≡_};
 ghost use lib.ListN.{take};
 ghost use Prim.Native.Nat.{_≤_};
-ghost use Rattle.robust.specs.Clocks.{clocksOf};
+ghost use Rattle.clocks.specs.Clocks.{clocksOf};
 ghost use Rattle.estimator.specs.Record.{Holds};
 ghost use Rattle.estimator.specs.Screen as spec;
 use crate::pair::Pairs;
+use clocks::clocks::Clocks;
 use median::median::median;
 use numeric::order::float;
 use numeric::order::pattern;
 use numeric::real::abs;
-use robust::clocks::Clocks;
 
 // The pairs whose detector lies strictly within `screen` of the detectors' centre, moved to the front in their order.
 pub(crate) fn kept_of(mut p: Pairs, screen: f64) -> Pairs

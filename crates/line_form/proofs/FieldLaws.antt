@@ -15,7 +15,7 @@ use borrow.Author.Tests.{lt-ltb, le-ltb, leb-true, leb-false, le-leb, lt-leb, eq
 use lib.ListN.{length, getD, take, drop}
 use lib.Seq.{take-length}
 use Rattle.walk.specs.Walk.{every}
-use Rattle.line_form.specs.Field.{isDigit, decimal, plain, isNumber, number, isState, state, isHexDigit, hexValue, hex, isFloat, pattern}
+use Rattle.line_form.specs.Field.{isDigit, decimalValue, plain, isNumber, number, isState, state, isHexDigit, hexValue, hex, isFloat, patternIn}
 use Rattle.line_form.specs.Line.{letter}
 use Rattle.line_form.specs.Reads.{ReadsNumber, ReadsState, ReadsPattern}
 use Rattle.line_form.specs.declared.field.Number.{Number}
@@ -43,12 +43,12 @@ plain-more (b ∷ (c ∷ s)) p q = refl
 
 -- ---- decimal digits
 
-decimal-at : (n : ℕ) (s : List ℕ) (i : ℕ) → i < length s → decimal n (drop i s) ≡ decimal (n * 10 + (getD s i 0 - 48)) (drop (i + 1) s)
-unfolding decimal
-decimal-at n s i l = ap (decimal n) (left-at s i l)
+decimal-at : (n : ℕ) (s : List ℕ) (i : ℕ) → i < length s → decimalValue n (drop i s) ≡ decimalValue (n * 10 + (getD s i 0 - 48)) (drop (i + 1) s)
+unfolding decimalValue
+decimal-at n s i l = ap (decimalValue n) (left-at s i l)
 
-decimal-le : (n : ℕ) (s : List ℕ) → n ≤ decimal n s
-unfolding decimal
+decimal-le : (n : ℕ) (s : List ℕ) → n ≤ decimalValue n s
+unfolding decimalValue
 decimal-le n [] = omega arith
 decimal-le n (b ∷ s) = omega (arith, decimal-le (n * 10 + (b - 48)) s)
 
@@ -73,7 +73,7 @@ said f n = record { formed = f; value = n }
 module _ (limit : ℕ) (z : 0 < limit) (s : List ℕ) where
   broken : isNumber limit s ≡ false → ReadsNumber limit s (said false 0)
   unfolding number
-  broken e = record { formed = sym e; value = sym (ap (λ (t : Bool). cond t (decimal 0 s) 0) e); below = z }
+  broken e = record { formed = sym e; value = sym (ap (λ (t : Bool). cond t (decimalValue 0 s) 0) e); below = z }
 
   pub number-front : plain s ≡ false → ReadsNumber limit s (said false 0)
   unfolding isNumber
@@ -83,31 +83,31 @@ module _ (limit : ℕ) (z : 0 < limit) (s : List ℕ) where
   unfolding isNumber
   number-digits e = broken (go (plain s))
     where
-      go : (t : Bool) → (t && every isDigit s && ltb (decimal 0 s) limit) ≡ false
+      go : (t : Bool) → (t && every isDigit s && ltb (decimalValue 0 s) limit) ≡ false
       go true = simp e
       go false = refl
 
-  number-large : limit ≤ decimal 0 s → ReadsNumber limit s (said false 0)
+  number-large : limit ≤ decimalValue 0 s → ReadsNumber limit s (said false 0)
   unfolding isNumber
   number-large h = broken (go (plain s) (every isDigit s))
     where
-      go : (t u : Bool) → (t && u && ltb (decimal 0 s) limit) ≡ false
+      go : (t u : Bool) → (t && u && ltb (decimalValue 0 s) limit) ≡ false
       go true true = simp (le-ltb _ _ h)
       go true false = refl
       go false u = refl
 
-  number-is : (n : ℕ) → n ≡ decimal 0 s → plain s ≡ true → every isDigit s ≡ true → n < limit → ReadsNumber limit s (said true n)
+  number-is : (n : ℕ) → n ≡ decimalValue 0 s → plain s ≡ true → every isDigit s ≡ true → n < limit → ReadsNumber limit s (said true n)
   unfolding isNumber number
   number-is n v p e l =
-      let f : isNumber limit s ≡ true = simp (p, e, lt-ltb (decimal 0 s) limit (omega arith)) in
-      record { formed = sym f; value = v ∙ sym (ap (λ (t : Bool). cond t (decimal 0 s) 0) f); below = l }
+      let f : isNumber limit s ≡ true = simp (p, e, lt-ltb (decimalValue 0 s) limit (omega arith)) in
+      record { formed = sym f; value = v ∙ sym (ap (λ (t : Bool). cond t (decimalValue 0 s) 0) f); below = l }
 
 -- the invariant of the loop over a number's digits
 pub record Reading (limit : ℕ) (s : List ℕ) (n i : ℕ) : Type 0 where
   pub within : i ≤ length s
   pub below : n < limit
   pub digits : every isDigit (drop i s) ≡ every isDigit s
-  pub value : decimal n (drop i s) ≡ decimal 0 s
+  pub value : decimalValue n (drop i s) ≡ decimalValue 0 s
 
 module _ (limit : ℕ) (s : List ℕ) (n i : ℕ) (inv : Reading limit s n i) where
   module _ (l : i < length s) where
@@ -128,16 +128,16 @@ module _ (limit : ℕ) (s : List ℕ) (n i : ℕ) (inv : Reading limit s n i) wh
         }
 
   pub reading-end : length s ≤ i → plain s ≡ true → ReadsNumber limit s (said true n)
-  unfolding every decimal
+  unfolding every decimalValue
   reading-end l p =
       let e = left-end s i l in
-      let v : n ≡ decimal 0 s = rw e at (inv .value) in
+      let v : n ≡ decimalValue 0 s = rw e at (inv .value) in
       number-is limit (omega (arith, inv .below)) s n v p (sym (rw e at (inv .digits))) (inv .below)
 
 -- ---- hexadecimal digits
 
 patternless : (s : List ℕ) → isFloat s ≡ false → ReadsPattern s (said false 0)
-unfolding pattern
+unfolding patternIn
 patternless s e = record { formed = sym e; value = sym (ap (λ (t : Bool). cond t (hex 0 s) 0) e) }
 
 pub pattern-long : (s : List ℕ) → (length s ≡ 16 → ⊥) → ReadsPattern s (said false 0)
@@ -156,8 +156,8 @@ pub is-float : (s : List ℕ) → length s ≡ 16 → every isHexDigit s ≡ tru
 unfolding isFloat
 is-float s l e = simp (eq-eqb _ _ l, e)
 
-pub pattern-is : (s : List ℕ) → isFloat s ≡ true → pattern s ≡ hex 0 s
-unfolding pattern
+pub pattern-is : (s : List ℕ) → isFloat s ≡ true → patternIn s ≡ hex 0 s
+unfolding patternIn
 pattern-is s e = ap (λ (t : Bool). cond t (hex 0 s) 0) e
 
 hex-at : (n : ℕ) (s : List ℕ) (i : ℕ) → i < length s → hex n (drop i s) ≡ hex (n * 16 + hexValue (getD s i 0)) (drop (i + 1) s)

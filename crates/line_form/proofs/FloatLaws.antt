@@ -10,8 +10,8 @@ use borrow.Author.Tests.{lt-ltb, le-ltb, ltb-true, ltb-false, leb-true, leb-fals
 use lib.ListN.{length}
 use lib.Seq.{append-snoc}
 use Rattle.walk.specs.Walk.{every}
-use Rattle.line_form.specs.Field.{isHexDigit, hexValue, hex, isFloat, pattern}
-use Rattle.line_form.specs.Print.{glyph, digits, hexText}
+use Rattle.line_form.specs.Field.{isHexDigit, hexValue, hex, isFloat, patternIn}
+use Rattle.line_form.specs.Print.{glyph, digitsText, hexText}
 use Rattle.line_form.proofs.PrintLaws.{length-digits}
 use Rattle.line_form.proofs.FieldLaws.{digit-known, is-float, pattern-is}
 
@@ -65,29 +65,29 @@ every-append test (x ∷ s) b e h =
     let p = and-both (test x) (every test s) e in
     ap (λ (t : Bool). t && every test (s ++ (b ∷ []))) (p .0) ∙ every-append test s b (p .1) h
 
-digits-value : (k p : ℕ) → p < 16 ^ k → hex 0 (digits 16 k p) ≡ p
-unfolding digits hex
+digits-value : (k p : ℕ) → p < 16 ^ k → hex 0 (digitsText 16 k p) ≡ p
+unfolding digitsText hex
 digits-value zero p l = omega arith
 digits-value (suc k) p l =
     let m : p / 16 < 16 ^ k = omega arith in
     let r : p % 16 < 16 = omega arith in
-    hex-append 0 (digits 16 k (p / 16)) (glyph (p % 16)) ∙ (let e = digits-value k (p / 16) m in let v = glyph-value (p % 16) r in omega (arith, e, v))
+    hex-append 0 (digitsText 16 k (p / 16)) (glyph (p % 16)) ∙ (let e = digits-value k (p / 16) m in let v = glyph-value (p % 16) r in omega (arith, e, v))
 
-digits-digits : (k p : ℕ) → every isHexDigit (digits 16 k p) ≡ true
-unfolding digits every
+digits-digits : (k p : ℕ) → every isHexDigit (digitsText 16 k p) ≡ true
+unfolding digitsText every
 digits-digits zero p = refl
-digits-digits (suc k) p = every-append isHexDigit (digits 16 k (p / 16)) (glyph (p % 16)) (digits-digits k (p / 16)) (glyph-digit (p % 16) (omega arith))
+digits-digits (suc k) p = every-append isHexDigit (digitsText 16 k (p / 16)) (glyph (p % 16)) (digits-digits k (p / 16)) (glyph-digit (p % 16) (omega arith))
 
 pub printed-float : (p : ℕ) → isFloat (hexText p) ≡ true
 printed-float p = is-float (hexText p) (length-digits 16 16 p) (digits-digits 16 p)
 
 -- what is printed is read again
-pub read-printed : (p : ℕ) → p < 2 ^ 64 → pattern (hexText p) ≡ p
+pub read-printed : (p : ℕ) → p < 2 ^ 64 → patternIn (hexText p) ≡ p
 read-printed p l = pattern-is (hexText p) (printed-float p) ∙ digits-value 16 p l
 
-digits-read : (j n : ℕ) (s : List ℕ) → every isHexDigit s ≡ true → digits 16 (j + length s) (hex n s) ≡ digits 16 j n ++ s
-unfolding digits hex every
-digits-read j n [] e = ap (λ (i : ℕ). digits 16 i n) (add-zero j) ∙ sym (append-nil (digits 16 j n))
+digits-read : (j n : ℕ) (s : List ℕ) → every isHexDigit s ≡ true → digitsText 16 (j + length s) (hex n s) ≡ digitsText 16 j n ++ s
+unfolding digitsText hex every
+digits-read j n [] e = ap (λ (i : ℕ). digitsText 16 i n) (add-zero j) ∙ sym (append-nil (digitsText 16 j n))
 digits-read j n (x ∷ s) e =
     let p = and-both (isHexDigit x) (every isHexDigit s) e in
     let small = digit-known x (p .0) .small in
@@ -95,17 +95,17 @@ digits-read j n (x ∷ s) e =
     let i : j + suc (length s) ≡ suc j + length s = omega arith in
     let d : m / 16 ≡ n = omega (arith, small) in
     let q : m % 16 ≡ hexValue x = omega (arith, small) in
-    ap (λ (k : ℕ). digits 16 k (hex m s)) i
+    ap (λ (k : ℕ). digitsText 16 k (hex m s)) i
     ∙ digits-read (suc j) m s (p .1)
-    ∙ ap (λ (k : ℕ). (digits 16 j k ++ (glyph (m % 16) ∷ [])) ++ s) d
-    ∙ ap (λ (k : ℕ). (digits 16 j n ++ (glyph k ∷ [])) ++ s) q
-    ∙ ap (λ (b : ℕ). (digits 16 j n ++ (b ∷ [])) ++ s) (value-glyph x (p .0))
-    ∙ append-snoc (digits 16 j n) x s
+    ∙ ap (λ (k : ℕ). (digitsText 16 j k ++ (glyph (m % 16) ∷ [])) ++ s) d
+    ∙ ap (λ (k : ℕ). (digitsText 16 j n ++ (glyph k ∷ [])) ++ s) q
+    ∙ ap (λ (b : ℕ). (digitsText 16 j n ++ (b ∷ [])) ++ s) (value-glyph x (p .0))
+    ∙ append-snoc (digitsText 16 j n) x s
 
 -- what was read is printed as it stood
-pub printed-read : (s : List ℕ) → isFloat s ≡ true → hexText (pattern s) ≡ s
-unfolding isFloat digits
+pub printed-read : (s : List ℕ) → isFloat s ≡ true → hexText (patternIn s) ≡ s
+unfolding isFloat digitsText
 printed-read s e =
     let b = and-both (eqb (length s) 16) (every isHexDigit s) e in
     let n : 16 ≡ 0 + length s = omega (arith, eqb-true (length s) 16 (b .0)) in
-    ap hexText (pattern-is s e) ∙ ap (λ (k : ℕ). digits 16 k (hex 0 s)) n ∙ digits-read 0 0 s (b .1)
+    ap hexText (pattern-is s e) ∙ ap (λ (k : ℕ). digitsText 16 k (hex 0 s)) n ∙ digits-read 0 0 s (b .1)

@@ -10,7 +10,7 @@ use lib.Dec.{T, eqb}
 use borrow.Author.Tests.{eq-eqb, ne-eqb}
 use lib.ListN.{length, getD, take, drop, set, length-drop, length-set}
 use lib.Seq.{getD-set-same, getD-set-other, getD-drop, drop-drop}
-use Rattle.line_form.specs.Split.{split, before, field}
+use Rattle.line_form.specs.Split.{split, countBefore, field}
 use Rattle.line_form.specs.Line.{eleven}
 use Rattle.line_form.specs.Fields.{Part, FieldsOf}
 use Rattle.line_form.proofs.SplitLaws.{split-some, part-last, part-next, part-head, found-le}
@@ -38,7 +38,7 @@ part-kept line from j i v h p =
       bytes = ap (λ (x : ℕ). take (x - 1 - getD (set from i v) j 0) (drop (getD (set from i v) j 0) line)) b ∙ ap (λ (x : ℕ). take (getD from (j + 1) 0 - 1 - x) (drop x line)) a ∙ p .bytes;
     }
 
-module _ (line from : List ℕ) (at k r : ℕ) (inv : Parting line from at k) (is : r ≡ at + before 44 (drop at line)) where
+module _ (line from : List ℕ) (at k r : ℕ) (inv : Parting line from at k) (is : r ≡ at + countBefore 44 (drop at line)) where
   le : r ≤ length line
   le = found-le 44 line at r (inv .within) is
 

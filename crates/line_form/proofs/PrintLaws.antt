@@ -8,13 +8,13 @@ use native.Mathlib.Omega.{arith}
 use borrow.Author.Tests.{lt-ltb, le-ltb}
 use lib.ListN.{length, take, drop, set, length-append, length-drop, length-set, take-append-drop}
 use lib.Seq.{take-at, drop-at, drop-drop, take-set-le, set-split, append-snoc, length-take-le}
-use Rattle.line_form.specs.Print.{glyph, digits, places, decimalText}
+use Rattle.line_form.specs.Print.{glyph, digitsText, places, decimalText}
 use Rattle.line_form.specs.Written.{written, Put}
 
-pub length-digits : (b k n : ℕ) → length (digits b k n) ≡ k
-unfolding digits
+pub length-digits : (b k n : ℕ) → length (digitsText b k n) ≡ k
+unfolding digitsText
 length-digits b zero n = refl
-length-digits b (suc k) n = length-append (digits b k (n / b)) (glyph (n % b) ∷ []) ∙ (let e = length-digits b k (n / b) in omega (arith, e))
+length-digits b (suc k) n = length-append (digitsText b k (n / b)) (glyph (n % b) ∷ []) ∙ (let e = length-digits b k (n / b) in omega (arith, e))
 
 drop-set : (d : List ℕ) (n g : ℕ) → n < length d → drop n (set d n g) ≡ g ∷ drop (suc n) d
 drop-set d n g l = ap (drop n) (set-split d n g l) ∙ drop-at (take n d) (g ∷ drop (suc n) d) n (length-take-le n d (le-of-lt l))
@@ -76,7 +76,7 @@ put-put {d} {a} {b} {xs} {ys} {at} {r} {q} p p′ =
 pub record Spelling (d : List ℕ) (at k b n : ℕ) (a : List ℕ) (i rest : ℕ) : Type 0 where
   pub few : i ≤ k
   pub long : length a ≡ length d
-  pub same : written a at (digits b i rest) ≡ written d at (digits b k n)
+  pub same : written a at (digitsText b i rest) ≡ written d at (digitsText b k n)
 
 module _ (d : List ℕ) (at k b n : ℕ) where
   pub spelling-start : Spelling d at k b n d k n
@@ -84,7 +84,7 @@ module _ (d : List ℕ) (at k b n : ℕ) where
 
   module _ (a : List ℕ) (i rest : ℕ) (inv : Spelling d at k b n a i rest) where
     pub spelling-more : 0 < i → at + k ≤ length d → (v : ℕ) → v ≡ glyph (rest % b) → Spelling d at k b n (set a (at + (i - 1)) v) (i - 1) (rest / b)
-    unfolding digits
+    unfolding digitsText
     spelling-more l h v e =
         let j = i - 1 in
         let s : suc j ≡ i = omega arith in
@@ -93,17 +93,17 @@ module _ (d : List ℕ) (at k b n : ℕ) where
           few = omega (arith, inv .few);
           long = length-set a (at + j) v ∙ inv .long;
           same =
-              written-set a at (digits b j (rest / b)) v j (length-digits b j (rest / b)) f
-              ∙ ap (λ (x : ℕ). written a at (digits b j (rest / b) ++ (x ∷ []))) e
-              ∙ ap (λ (x : ℕ). written a at (digits b x rest)) s
+              written-set a at (digitsText b j (rest / b)) v j (length-digits b j (rest / b)) f
+              ∙ ap (λ (x : ℕ). written a at (digitsText b j (rest / b) ++ (x ∷ []))) e
+              ∙ ap (λ (x : ℕ). written a at (digitsText b x rest)) s
               ∙ inv .same;
         }
 
-    pub spelling-end : i ≤ 0 → a ≡ written d at (digits b k n)
-    unfolding digits
+    pub spelling-end : i ≤ 0 → a ≡ written d at (digitsText b k n)
+    unfolding digitsText
     spelling-end l =
         let z : 0 ≡ i = omega arith in
-        sym (written-none a at) ∙ ap (λ (x : ℕ). written a at (digits b x rest)) z ∙ inv .same
+        sym (written-none a at) ∙ ap (λ (x : ℕ). written a at (digitsText b x rest)) z ∙ inv .same
 
 -- ---- how many digits
 pub record Placing (n j rest : ℕ) : Type 0 where
@@ -143,16 +143,16 @@ module _ (n j rest : ℕ) (inv : Placing n j rest) where
           }
 
 -- digits, and a byte after them
-pub put-spell : (d a : List ℕ) (at k j b n g r : ℕ) → a ≡ written d at (digits b k n) → k ≡ j → r ≡ at + k + 1 → r ≤ length d
-    → Put d (set a (at + k) g) at (digits b j n ++ (g ∷ [])) r
+pub put-spell : (d a : List ℕ) (at k j b n g r : ℕ) → a ≡ written d at (digitsText b k n) → k ≡ j → r ≡ at + k + 1 → r ≤ length d
+    → Put d (set a (at + k) g) at (digitsText b j n ++ (g ∷ [])) r
 put-spell d a at k j b n g r e q f l =
-    let ds = digits b k n in
+    let ds = digitsText b k n in
     let m : at + length ds ≡ at + k = ap (λ (i : ℕ). at + i) (length-digits b k n) in
     let h : at + length ds ≤ length d = omega arith in
     let long : length a ≡ length d = ap length e ∙ length-written d at ds h in
     let p : Put d a at ds (at + k) = record { bytes = e; next = sym m; room = omega arith } in
     let s : Put d (set a (at + k) g) at (ds ++ (g ∷ [])) (at + k + 1) = put-put p (put-set a (at + k) g (omega arith)) in
-    subst₂ (λ (i x : ℕ). Put d (set a (at + k) g) at (digits b i n ++ (g ∷ [])) x) q (sym f) s
+    subst₂ (λ (i x : ℕ). Put d (set a (at + k) g) at (digitsText b i n ++ (g ∷ [])) x) q (sym f) s
 
 -- the number of a refusal, by what the code has of it
 pub put-refused : {d a : List ℕ} {n : ℕ} (m k : ℕ) → m ≡ k → Put d a 0 ((82 ∷ 44 ∷ []) ++ (decimalText m ++ (10 ∷ []))) n → Put d a 0 ((82 ∷ 44 ∷ []) ++ (decimalText k ++ (10 ∷ []))) n

@@ -17,7 +17,7 @@ use Rattle.estimator.specs.declared.record.Carrier.{Carrier}
 use Rattle.estimator.specs.declared.record.Epoch.{Epoch}
 use Rattle.estimator.specs.declared.displacement.Displacement.{Displacement}
 use Rattle.estimator.specs.declared.displacement.Displacement.the-variants.{Refused, Moved}
-use Rattle.line_form.specs.Split.{split, before}
+use Rattle.line_form.specs.Split.{split, countBefore}
 use Rattle.line_form.specs.Line.{isSettings, given, firstOf, lineOf}
 use Rattle.line_form.specs.Text.{whole, recordsForm, linesForm, isText, none, added, previousAfter, currentAfter, previousFrom, currentFrom, inputIn, inputOf, displacementIn}
 use Rattle.line_form.specs.Written.{Printable}
@@ -90,7 +90,7 @@ module _ (s : List ℕ) (f at : ℕ) (p c : Epoch) (inv : Going s f at p c) wher
     unfolding fold split lineOf
     going-present = sym (inv .present) ∙ ap (λ (t : List ℕ). currentFrom c (split 10 t)) (left-end s at l)
 
-  module _ (r : ℕ) (is : r ≡ at + before 10 (drop at s)) where
+  module _ (r : ℕ) (is : r ≡ at + countBefore 10 (drop at s)) where
     -- a last line without LF
     pub going-cut : at < length s → r ≡ length s → recordsForm (split 10 (drop f s)) ≡ false
     unfolding recordsForm
@@ -184,7 +184,7 @@ printable i (Moved d) p =
     let a = p .accepted d refl in
     (number (d .delta .x) (a .x-finite), number (d .delta .y) (a .y-finite), number (d .delta .z) (a .z-finite))
 
-module _ (s : List ℕ) (h : length s ≤ 32768) (r : ℕ) (is : r ≡ 0 + before 10 (drop 0 s)) where
+module _ (s : List ℕ) (h : length s ≤ 32768) (r : ℕ) (is : r ≡ 0 + countBefore 10 (drop 0 s)) where
   inside : isText s ≡ linesForm (split 10 s)
   unfolding isText
   inside = simp (le-ltb _ _ h)

@@ -19,73 +19,73 @@ use Rattle.numeric.specs.declared.refusal.Refusal.the-variants.{BrokenForm, Too
 use Rattle.estimator.specs.declared.record.Carrier.{Carrier}
 use Rattle.estimator.specs.declared.displacement.Displacement.the-variants.{Refused, Moved}
 use Rattle.line_form.specs.Split.{split}
-use Rattle.line_form.specs.Field.{decimal, plain, isNumber, number, isState, state, hex, isFloat, pattern}
+use Rattle.line_form.specs.Field.{decimalValue, plain, isNumber, number, isState, state, hex, isFloat, patternIn}
 use Rattle.line_form.specs.Line.{isPlace, place, settingsForm, isSettings, given, carrierForm, carrier, lineOf}
 use Rattle.line_form.specs.Text.{recordsForm, isText, none, inputOf, displacementIn}
 use Rattle.line_form.specs.Answer.{answerOf}
-use Rattle.line_form.specs.Print.{digits, places, answerText}
+use Rattle.line_form.specs.Print.{digitsText, places, answerText}
 use Rattle.line_form.specs.declared.line.Line.the-variants.{Previous}
 
 -- ---- fields
 
 -- 255 fits 8 bits
 widest : number (2 ^ 8) (50 ∷ 53 ∷ 53 ∷ []) ≡ 255
-unfolding number isNumber plain every decimal
+unfolding number isNumber plain every decimalValue
 widest = refl
 
 -- 256 does not
 too-wide : isNumber (2 ^ 8) (50 ∷ 53 ∷ 54 ∷ []) ≡ false
-unfolding number isNumber plain every decimal
+unfolding number isNumber plain every decimalValue
 too-wide = refl
 
 -- 0 is a number
 zero : isNumber (2 ^ 8) (48 ∷ []) ≡ true
-unfolding number isNumber plain every decimal
+unfolding number isNumber plain every decimalValue
 zero = refl
 
 -- 00 is none
 leading-zero : isNumber (2 ^ 8) (48 ∷ 48 ∷ []) ≡ false
-unfolding number isNumber plain every decimal
+unfolding number isNumber plain every decimalValue
 leading-zero = refl
 
 -- nor is +1
 plus-sign : isNumber (2 ^ 8) (43 ∷ 49 ∷ []) ≡ false
-unfolding number isNumber plain every decimal
+unfolding number isNumber plain every decimalValue
 plus-sign = refl
 
 -- nor is an empty field
 no-number : isNumber (2 ^ 8) [] ≡ false
-unfolding number isNumber plain every decimal
+unfolding number isNumber plain every decimalValue
 no-number = refl
 
 -- -2147483648
 least-state : state (45 ∷ 50 ∷ 49 ∷ 52 ∷ 55 ∷ 52 ∷ 56 ∷ 51 ∷ 54 ∷ 52 ∷ 56 ∷ []) ≡ negsuc 2147483647
-unfolding state isState number isNumber plain every decimal
+unfolding state isState number isNumber plain every decimalValue
 least-state = refl
 
 -- -0 is no number
 minus-zero : isState (45 ∷ 48 ∷ []) ≡ false
-unfolding state isState number isNumber plain every decimal
+unfolding state isState number isNumber plain every decimalValue
 minus-zero = refl
 
 -- nor is -01
 minus-leading-zero : isState (45 ∷ 48 ∷ 49 ∷ []) ≡ false
-unfolding state isState number isNumber plain every decimal
+unfolding state isState number isNumber plain every decimalValue
 minus-leading-zero = refl
 
 -- nor is -2147483649
 below-least : isState (45 ∷ 50 ∷ 49 ∷ 52 ∷ 55 ∷ 52 ∷ 56 ∷ 51 ∷ 54 ∷ 52 ∷ 57 ∷ []) ≡ false
-unfolding state isState number isNumber plain every decimal
+unfolding state isState number isNumber plain every decimalValue
 below-least = refl
 
 -- nor is 2147483648
 above-greatest : isState (50 ∷ 49 ∷ 52 ∷ 55 ∷ 52 ∷ 56 ∷ 51 ∷ 54 ∷ 52 ∷ 56 ∷ []) ≡ false
-unfolding state isState number isNumber plain every decimal
+unfolding state isState number isNumber plain every decimalValue
 above-greatest = refl
 
 -- 3FF8000000000000
-upper-case : pattern (51 ∷ 70 ∷ 70 ∷ 56 ∷ 48 ∷ 48 ∷ 48 ∷ 48 ∷ 48 ∷ 48 ∷ 48 ∷ 48 ∷ 48 ∷ 48 ∷ 48 ∷ 48 ∷ []) ≡ 0x3FF8_0000_0000_0000
-unfolding isFloat every pattern hex
+upper-case : patternIn (51 ∷ 70 ∷ 70 ∷ 56 ∷ 48 ∷ 48 ∷ 48 ∷ 48 ∷ 48 ∷ 48 ∷ 48 ∷ 48 ∷ 48 ∷ 48 ∷ 48 ∷ 48 ∷ []) ≡ 0x3FF8_0000_0000_0000
+unfolding isFloat every patternIn hex
 upper-case = refl
 
 -- 3ff8000000000000
@@ -121,42 +121,42 @@ first =
 
 -- the example is of the form
 the-example : isText example ≡ true
-unfolding isText recordsForm split isSettings settingsForm lineOf carrierForm carrier isPlace place number isNumber plain every decimal state isState pattern isFloat hex example
+unfolding isText recordsForm split isSettings settingsForm lineOf carrierForm carrier isPlace place number isNumber plain every decimalValue state isState patternIn isFloat hex example
 the-example = refl
 
 -- so is a carrier after it
 with-carrier : isText (example ++ first) ≡ true
-unfolding isText recordsForm split isSettings settingsForm lineOf carrierForm carrier isPlace place number isNumber plain every decimal state isState pattern isFloat hex example first
+unfolding isText recordsForm split isSettings settingsForm lineOf carrierForm carrier isPlace place number isNumber plain every decimalValue state isState patternIn isFloat hex example first
 with-carrier = refl
 
 -- the settings come first
 not-first : isText (first ++ example) ≡ false
-unfolding isText recordsForm split isSettings settingsForm lineOf carrierForm carrier isPlace place number isNumber plain every decimal state isState pattern isFloat hex example first
+unfolding isText recordsForm split isSettings settingsForm lineOf carrierForm carrier isPlace place number isNumber plain every decimalValue state isState patternIn isFloat hex example first
 not-first = refl
 
 -- and once
 twice : isText (example ++ example) ≡ false
-unfolding isText recordsForm split isSettings settingsForm lineOf carrierForm carrier isPlace place number isNumber plain every decimal state isState pattern isFloat hex example
+unfolding isText recordsForm split isSettings settingsForm lineOf carrierForm carrier isPlace place number isNumber plain every decimalValue state isState patternIn isFloat hex example
 twice = refl
 
 -- no text is not of the form
 no-text : isText [] ≡ false
-unfolding isText recordsForm split isSettings settingsForm lineOf carrierForm carrier isPlace place number isNumber plain every decimal state isState pattern isFloat hex example
+unfolding isText recordsForm split isSettings settingsForm lineOf carrierForm carrier isPlace place number isNumber plain every decimalValue state isState patternIn isFloat hex example
 no-text = refl
 
 -- nor is an empty line
 blank-line : isText (example ++ (10 ∷ [])) ≡ false
-unfolding isText recordsForm split isSettings settingsForm lineOf carrierForm carrier isPlace place number isNumber plain every decimal state isState pattern isFloat hex example
+unfolding isText recordsForm split isSettings settingsForm lineOf carrierForm carrier isPlace place number isNumber plain every decimalValue state isState patternIn isFloat hex example
 blank-line = refl
 
 -- nor is a last line without LF
 no-last-line-feed : isText (example ++ (80 ∷ 44 ∷ [])) ≡ false
-unfolding isText recordsForm split isSettings settingsForm lineOf carrierForm carrier isPlace place number isNumber plain every decimal state isState pattern isFloat hex example first
+unfolding isText recordsForm split isSettings settingsForm lineOf carrierForm carrier isPlace place number isNumber plain every decimalValue state isState patternIn isFloat hex example first
 no-last-line-feed = refl
 
 -- 1 comes before every other number
 broken : displacementIn [] ≡ Refused BrokenForm
-unfolding displacementIn isText recordsForm split isSettings settingsForm lineOf carrierForm carrier isPlace place number isNumber plain every decimal state isState pattern isFloat hex example
+unfolding displacementIn isText recordsForm split isSettings settingsForm lineOf carrierForm carrier isPlace place number isNumber plain every decimalValue state isState patternIn isFloat hex example
 broken = refl
 
 one : Carrier
@@ -178,23 +178,23 @@ the-carrier : lineOf (80 ∷ 44 ∷ 54 ∷ 44 ∷ 49 ∷ 50 ∷ 44 ∷ 49 ∷ 53
     48 ∷ 48 ∷ 48 ∷ 48 ∷ 48 ∷ 48 ∷ 48 ∷ 48 ∷ 48 ∷ 48 ∷ 48 ∷ 49 ∷ 44 ∷ 55 ∷ 70 ∷ 69 ∷ 70 ∷ 70 ∷ 70 ∷ 70 ∷ 70 ∷ 70 ∷ 70 ∷ 70 ∷ 70 ∷ 70 ∷ 70 ∷ 70 ∷ 70 ∷ 44 ∷
     52 ∷ 48 ∷ 50 ∷ 52 ∷ 48 ∷ 48 ∷ 48 ∷ 48 ∷ 48 ∷ 48 ∷ 48 ∷ 48 ∷ 48 ∷ 48 ∷ 48 ∷ 48 ∷ 44 ∷ 56 ∷ 48 ∷ 48 ∷ 48 ∷ 48 ∷ 48 ∷ 48 ∷ 48 ∷ 48 ∷ 48 ∷ 48 ∷ 48 ∷ 48 ∷
     48 ∷ 48 ∷ 48 ∷ []) ≡ Previous one
-unfolding isText recordsForm split isSettings settingsForm lineOf carrierForm carrier isPlace place number isNumber plain every decimal state isState pattern isFloat hex example one ofBits
+unfolding isText recordsForm split isSettings settingsForm lineOf carrierForm carrier isPlace place number isNumber plain every decimalValue state isState patternIn isFloat hex example one ofBits
 the-carrier = refl
 
 -- document 01: the example alone gives R,7
 the-answer : answerOf example ≡ 82 ∷ 44 ∷ 55 ∷ 10 ∷ []
-unfolding answerOf displacementIn inputOf given none fold isText recordsForm split isSettings settingsForm lineOf isPlace place number isNumber plain every decimal pattern isFloat hex example displacementOf ruled displacementRules displacementInput displacementCounts settingsPass badInterval placeable abs inRange pairsOf collect digits places ofInt ofBits neg le lt isNan
+unfolding answerOf displacementIn inputOf given none fold isText recordsForm split isSettings settingsForm lineOf isPlace place number isNumber plain every decimalValue patternIn isFloat hex example displacementOf ruled displacementRules displacementInput displacementCounts settingsPass badInterval placeable abs inRange pairsOf collect digitsText places ofInt ofBits neg le lt isNan
 the-answer = refl
 
 -- ---- answers
 
 -- R,7 and R,12
 seven : answerText (Refused TooFewPairs) ≡ 82 ∷ 44 ∷ 55 ∷ 10 ∷ []
-unfolding digits places
+unfolding digitsText places
 seven = refl
 
 twelve : answerText (Refused NoCorrection) ≡ 82 ∷ 44 ∷ 49 ∷ 50 ∷ 10 ∷ []
-unfolding digits places
+unfolding digitsText places
 twelve = refl
 
 zeros : List ℕ
@@ -203,5 +203,5 @@ zeros = replicate 16 48
 -- A,6,0, and three zero floats
 still : answerText (Moved (record { delta = record { x = +0; y = +0; z = +0 }; used = 6; screened = 0 }))
     ≡ 65 ∷ 44 ∷ 54 ∷ 44 ∷ 48 ∷ 44 ∷ (zeros ++ (44 ∷ [])) ++ ((zeros ++ (44 ∷ [])) ++ (zeros ++ (10 ∷ [])))
-unfolding digits places ofBits toBits zeros
+unfolding digitsText places ofBits toBits zeros
 still = refl

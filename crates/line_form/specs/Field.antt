@@ -17,9 +17,9 @@ abbrev pub isDigit : ℕ → Bool
 isDigit b = leb 48 b && leb b 57
 
 -- the value of decimal digits, read after the number n
-unfoldable pub decimal : ℕ → List ℕ → ℕ
-decimal n [] = n
-decimal n (b ∷ s) = decimal (n * 10 + (b - 48)) s
+unfoldable pub decimalValue : ℕ → List ℕ → ℕ
+decimalValue n [] = n
+decimalValue n (b ∷ s) = decimalValue (n * 10 + (b - 48)) s
 
 -- not empty, and no 0 (48) in front of another byte
 unfoldable pub plain : List ℕ → Bool
@@ -29,10 +29,10 @@ plain (b ∷ (c ∷ s)) = not (eqb b 48)
 
 -- a number below the limit
 unfoldable pub isNumber : ℕ → List ℕ → Bool
-isNumber limit s = plain s && every isDigit s && ltb (decimal 0 s) limit
+isNumber limit s = plain s && every isDigit s && ltb (decimalValue 0 s) limit
 
 unfoldable pub number : ℕ → List ℕ → ℕ
-number limit s = cond (isNumber limit s) (decimal 0 s) 0
+number limit s = cond (isNumber limit s) (decimalValue 0 s) 0
 
 -- a signed number of 32 bits: it may bear a minus sign (45), never before 0
 unfoldable pub isState : List ℕ → Bool
@@ -61,9 +61,9 @@ unfoldable pub isFloat : List ℕ → Bool
 isFloat s = eqb (length s) 16 && every isHexDigit s
 
 -- the 64 bits
-unfoldable pub pattern : List ℕ → ℕ
-pattern s = cond (isFloat s) (hex 0 s) 0
+unfoldable pub patternIn : List ℕ → ℕ
+patternIn s = cond (isFloat s) (hex 0 s) 0
 
 -- the float; every pattern of a NaN is one value
-abbrev pub float : List ℕ → Float
-float s = bits (pattern s)
+abbrev pub floatIn : List ℕ → Float
+floatIn s = bits (patternIn s)

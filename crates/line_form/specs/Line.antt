@@ -8,7 +8,7 @@ use Rattle.exact.specs.Float.{+0}
 use Rattle.numeric.specs.declared.vec3.Vec3.{Vec3}
 use Rattle.estimator.specs.declared.record.Carrier.{Carrier}
 use Rattle.line_form.specs.Split.{fields, field}
-use Rattle.line_form.specs.Field.{isNumber, number, isState, state, isFloat, float}
+use Rattle.line_form.specs.Field.{isNumber, number, isState, state, isFloat, floatIn}
 use Rattle.line_form.specs.declared.line.Given.{Given}
 use Rattle.line_form.specs.declared.line.First.{First}
 use Rattle.line_form.specs.declared.line.First.the-variants.{Is, Broken as First·Broken}
@@ -34,7 +34,7 @@ unfoldable pub isPlace : List ℕ → ℕ → Bool
 isPlace l k = isFloat (field l k) && isFloat (field l (k + 1)) && isFloat (field l (k + 2))
 
 unfoldable pub place : List ℕ → ℕ → Vec3
-place l k = record { x = float (field l k); y = float (field l (k + 1)); z = float (field l (k + 2)) }
+place l k = record { x = floatIn (field l k); y = floatIn (field l (k + 1)); z = floatIn (field l (k + 2)) }
 
 -- ---- S,dt,x,y,z,screen,sigma_a,sigma_b,huber,mask,rounds
 
@@ -51,14 +51,14 @@ isSettings l = eleven l && eqb (tag l) 83 && settingsForm l
 unfoldable pub given : List ℕ → Given
 given l =
     record {
-      dt = float (field l 1);
+      dt = floatIn (field l 1);
       receiver = place l 2;
       settings = record {
-        screen = float (field l 5);
-        «sigma_a» = float (field l 6);
-        «sigma_b» = float (field l 7);
-        huber = float (field l 8);
-        mask = float (field l 9);
+        screen = floatIn (field l 5);
+        «sigma_a» = floatIn (field l 6);
+        «sigma_b» = floatIn (field l 7);
+        huber = floatIn (field l 8);
+        mask = floatIn (field l 9);
         rounds = number (2 ^ 32) (field l 10);
         agreement = +0;
       };
@@ -81,11 +81,11 @@ carrier l =
       constellation = number (2 ^ 8) (field l 1);
       svid = number (2 ^ 16) (field l 2);
       band = number (2 ^ 32) (field l 3);
-      adr = float (field l 4);
+      adr = floatIn (field l 4);
       state = state (field l 5);
       satellite = place l 6;
-      elevation = float (field l 9);
-      rate = float (field l 10);
+      elevation = floatIn (field l 9);
+      rate = floatIn (field l 10);
     }
 
 -- P (80) is of the previous epoch, C (67) of the current one

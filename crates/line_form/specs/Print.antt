@@ -13,9 +13,9 @@ abbrev pub glyph : ℕ → ℕ
 glyph d = cond (ltb d 10) (48 + d) (55 + d)
 
 -- the last k digits of n in base b, the most significant first
-unfoldable pub digits : ℕ → ℕ → ℕ → List ℕ
-digits b zero n = []
-digits b (suc k) n = digits b k (n / b) ++ (glyph (n % b) ∷ [])
+unfoldable pub digitsText : ℕ → ℕ → ℕ → List ℕ
+digitsText b zero n = []
+digitsText b (suc k) n = digitsText b k (n / b) ++ (glyph (n % b) ∷ [])
 
 -- how many decimal digits n has, if it is below 10 ^ (f + 1)
 unfoldable pub places : ℕ → ℕ → ℕ
@@ -24,11 +24,11 @@ places (suc f) n = let p = places f (n / 10) in cond (ltb n 10) 1 (suc p)
 
 -- a number of 64 bits in decimal
 abbrev pub decimalText : ℕ → List ℕ
-decimalText n = digits 10 (places 20 n) n
+decimalText n = digitsText 10 (places 20 n) n
 
 -- 64 bits as sixteen hexadecimal digits
 abbrev pub hexText : ℕ → List ℕ
-hexText p = digits 16 16 p
+hexText p = digitsText 16 16 p
 
 abbrev pub floatText : Float → List ℕ
 floatText x = hexText (toBits binary64 x)

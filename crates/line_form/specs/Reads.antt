@@ -3,7 +3,7 @@ use Prim.Native.Nat.{ℕ, _<_}
 use mathlib.Core.Path.{_≡_}
 use mathlib.Core.List.{List}
 use Rattle.estimator.specs.declared.displacement.Displacement.{Displacement}
-use Rattle.line_form.specs.Field.{isNumber, number, isState, state, isFloat, pattern, float}
+use Rattle.line_form.specs.Field.{isNumber, number, isState, state, isFloat, patternIn, floatIn}
 use Rattle.line_form.specs.Line.{isPlace, place, settingsForm, given, carrierForm, carrier}
 use Rattle.line_form.specs.Text.{displacementIn}
 use Rattle.line_form.specs.Written.{Printable}
@@ -25,11 +25,11 @@ pub record ReadsState (s : List ℕ) (r : Signed) : Type 0 where
 
 pub record ReadsPattern (s : List ℕ) (r : Number) : Type 0 where
   pub formed : r .formed ≡ isFloat s
-  pub value : r .value ≡ pattern s
+  pub value : r .value ≡ patternIn s
 
 pub record ReadsFloat (s : List ℕ) (r : Real) : Type 0 where
   pub formed : r .formed ≡ isFloat s
-  pub value : r .value ≡ float s
+  pub value : r .value ≡ floatIn s
 
 pub record ReadsPlace (line : List ℕ) (k : ℕ) (r : Place) : Type 0 where
   pub formed : r .formed ≡ isPlace line k

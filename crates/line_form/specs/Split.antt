@@ -16,9 +16,9 @@ split c [] = [] ∷ []
 split c (b ∷ s) = let ps = split c s in cond (eqb b c) ([] ∷ ps) (onto b ps)
 
 -- how many bytes stand before the first c
-unfoldable pub before : ℕ → List ℕ → ℕ
-before c [] = 0
-before c (b ∷ s) = cond (eqb b c) 0 (suc (before c s))
+unfoldable pub countBefore : ℕ → List ℕ → ℕ
+countBefore c [] = 0
+countBefore c (b ∷ s) = cond (eqb b c) 0 (suc (countBefore c s))
 
 -- the fields of a line, parted by commas (44)
 abbrev pub fields : List ℕ → List (List ℕ)

@@ -3,7 +3,7 @@ ghost use mathlib.Core.Path.{_≡_};
 ghost use mathlib.Core.List.{[], _∷_, _++_};
 ghost use Prim.Native.Nat.{_+_, _≤_, _<_};
 ghost use lib.ListN.{length};
-ghost use Rattle.line_form.specs.Print.{glyph, digits, places, decimalText, hexText, answerText};
+ghost use Rattle.line_form.specs.Print.{glyph, digitsText, places, decimalText, hexText, answerText};
 ghost use Rattle.line_form.specs.Written.{Numbers, Printable, vectorText, written, Put};
 use estimator::displacement::Displacement;
 use numeric::vec3::Vec3;
@@ -20,7 +20,7 @@ fn spell(out: &mut [u8], at: usize, k: usize, base: u64, n: u64)
     requires { ⌜ 0 < base ⌝ }
     requires { ⌜ base ≤ 16 ⌝ }
     requires { ⌜ at + k ≤ length (now out) ⌝ }
-    ensures { λ _. ⌜ now (out .exit) ≡ written (now (out .entry)) at (digits base k n) ⌝ }
+    ensures { λ _. ⌜ now (out .exit) ≡ written (now (out .entry)) at (digitsText base k n) ⌝ }
 {
     let mut i = k;
     let mut rest = n;

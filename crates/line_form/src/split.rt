@@ -2,13 +2,13 @@
 ghost use mathlib.Core.Path.{_≡_};
 ghost use Prim.Native.Nat.{_+_, _≤_};
 ghost use lib.ListN.{length, drop};
-ghost use Rattle.line_form.specs.Split.{before, field};
+ghost use Rattle.line_form.specs.Split.{countBefore, field};
 ghost use Rattle.line_form.specs.Fields.{FieldsOf, Parted};
 
 // Where the first byte c at or after `at` stands, or the end.
 pub(crate) fn find(s: &[u8], at: usize, c: u8) -> usize
     requires { ⌜ at ≤ length (now s) ⌝ }
-    ensures { λ r. ⌜ r ≡ at + before c (drop at (now (s .entry))) ⌝ }
+    ensures { λ r. ⌜ r ≡ at + countBefore c (drop at (now (s .entry))) ⌝ }
 {
     let mut i = at;
     while i < s.len() {

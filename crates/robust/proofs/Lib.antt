@@ -1,5 +1,4 @@
 -- What the proofs of more than one function use, and the laws.
-pub mod ClocksLaws
 pub mod Zeros
 pub mod NineLaws
 pub mod RoundSound

@@ -1,4 +1,3 @@
-pub mod Clocks
 pub mod Nine
 pub mod Round
 pub mod Step

@@ -1,5 +1,4 @@
 // The robust weighted least-squares round that the fix and the displacement share (robust.rs).
-pub mod clocks;
 pub mod round;
 pub mod row;
 pub mod sigma;

@@ -21,7 +21,7 @@ fn long(count: usize, index: &[usize], value: &[f64], sigma: &[f64]) -> bool
 }
 
 // Whether the counts are allowed and all that is lent is long enough.
-pub fn counts(
+pub(crate) fn counts(
     n: usize,
     anchors: usize,
     links: usize,
@@ -111,7 +111,7 @@ fn measured_in_range(count: usize, index: &[usize], value: &[f64], sigma: &[f64]
 }
 
 // Whether every float of a counted anchor or link is in range.
-pub fn records(
+pub(crate) fn records(
     n: usize,
     anchors: usize,
     links: usize,
@@ -132,7 +132,7 @@ pub fn records(
 }
 
 // Whether there are epochs and anchors, all sigmas are above 0 and all indices within the epochs.
-pub fn sound(
+pub(crate) fn sound(
     n: usize,
     anchors: usize,
     links: usize,

@@ -103,7 +103,7 @@ fn refine(
 }
 
 // The track. False where the first pass fails.
-pub fn fit(
+pub(crate) fn fit(
     w: &mut [f64],
     n: usize,
     anchors: usize,

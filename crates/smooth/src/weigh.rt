@@ -23,7 +23,7 @@ fn huber(h: f64, z: f64) -> f64
 }
 
 // A bound for the square of a distance: up to it the distance is within the threshold h. A NaN where there is none.
-pub fn limit(h: f64) -> f64
+pub(crate) fn limit(h: f64) -> f64
     ensures { λ r. ⌜ Limit h r ⌝ }
 {
     let c = h * h;
@@ -50,7 +50,7 @@ fn scale(x: f64, y: f64, z: f64, sx: f64, sy: f64, sz: f64, h: f64, c: f64) -> f
 }
 
 // The scales of the anchors, by the fit in r.
-pub fn weigh_anchors(
+pub(crate) fn weigh_anchors(
     w: &mut [f64],
     n: usize,
     from: usize,
@@ -78,7 +78,7 @@ pub fn weigh_anchors(
 }
 
 // The scales of the links, by the fit in r.
-pub fn weigh_links(
+pub(crate) fn weigh_links(
     w: &mut [f64],
     n: usize,
     from: usize,

@@ -93,7 +93,7 @@ fn add_links(
 }
 
 // The equations of the three axes, by the scales that stand after the blocks.
-pub fn assemble(
+pub(crate) fn assemble(
     w: &mut [f64],
     n: usize,
     anchors: usize,

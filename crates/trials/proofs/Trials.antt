@@ -12,7 +12,7 @@ use Rattle.numeric.specs.Real.{abs, inRange}
 use Rattle.walk.specs.Walk.{every}
 use Rattle.median.specs.Sorted.{insertBy, sortedBy, medianOf}
 use Rattle.median.specs.Centre.{centreOf, deviationOf, centreAndScaleOf, centreScaleOf}
-use Rattle.robust.specs.Clocks.{has, appearing, slotFrom, clocksIn, clocksOf}
+use Rattle.clocks.specs.Clocks.{has, appearing, slotFrom, clocksIn, clocksOf}
 use Rattle.estimator.specs.Record.{unsigned, bitSet, usable}
 use Rattle.table.specs.Table.{timeKey, rises, ranged, sound}
 use Rattle.table.specs.Query.{near, firstOf, lastOf, line, bridged, between, answerAt, queryOf}

@@ -15,7 +15,7 @@ use Rattle.numeric.specs.declared.refusal.Refusal.the-variants.{NoCorrection}
 use Rattle.median.specs.Sorted.{medianOf}
 use Rattle.median.specs.Centre.{centreOf, deviationsOf, centreScaleOf}
 use Rattle.median.specs.declared.centre.Centre.the-variants.{Of}
-use Rattle.robust.specs.Clocks.{slot, clocksOf}
+use Rattle.clocks.specs.Clocks.{slot, clocksOf}
 use Rattle.estimator.specs.Record.{usable}
 use Rattle.estimator.specs.declared.record.Carrier.{Carrier}
 use Rattle.table.specs.Query.{queryOf}

@@ -1,7 +1,7 @@
 // The marked trial of the clocks.
 ghost use mathlib.Core.Path.{_≡_};
 ghost use mathlib.Core.Bool.{true};
-use robust::clocks::Clocks;
+use clocks::clocks::Clocks;
 
 // Constellations 6, 1, 6, 9, 7 give slots 3, 4, 3, 5, 5.
 pub fn five() -> bool

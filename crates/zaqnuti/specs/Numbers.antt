@@ -13,7 +13,7 @@ use Rattle.median.specs.declared.centre.Centre.the-variants as Centre
 use Rattle.robust.specs.Step.{Stepped, refused, stepOf}
 use Rattle.robust.specs.declared.round.Stepping.{Stepping}
 use Rattle.robust.specs.declared.round.Stepping.the-variants as Stepping
-use Rattle.robust.specs.declared.clocks.Clocks.{Clocks}
+use Rattle.clocks.specs.declared.clocks.Clocks.{Clocks}
 use Rattle.zaqnuti.specs.Columns.{RowColumns, rowsOf, rowsFit}
 
 abbrev pub factorNumber : Factored → ℕ

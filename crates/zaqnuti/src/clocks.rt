@@ -1,8 +1,8 @@
 // Entry points of the receiver clocks, whose state the caller holds: the slot of each place, and how many constellations have been given.
 ghost use mathlib.Core.Path.{_≡_};
-ghost use Rattle.robust.specs.Clocks as spec;
+ghost use Rattle.clocks.specs.Clocks as spec;
 ghost use Rattle.zaqnuti.specs.Numbers.{clocksFrom};
-use robust::clocks::Clocks;
+use clocks::clocks::Clocks;
 
 // The state of no constellation given, in the lent slots and count.
 #[no_mangle]

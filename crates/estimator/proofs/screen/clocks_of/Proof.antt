@@ -6,9 +6,9 @@ use lib.ListN.{length, drop, take}
 use borrow.Author.Needs.{needs}
 use Rattle.walk.specs.Walk.{fold}
 use Rattle.walk.proofs.Walk.{length-mapped, fold-turn, fold-end}
-use Rattle.robust.specs.Clocks.{none, given, clocksOf}
+use Rattle.clocks.specs.Clocks.{none, given, clocksOf}
 use Rattle.estimator.specs.Screen.{constellations}
-use Rattle.robust.proofs.ClocksLaws.{law, fold-map}
+use Rattle.clocks.proofs.ClocksLaws.{law, fold-map}
 use Rattle.estimator.proofs.PairLaws.{blankPair}
 use Rattle.estimator.proofs.screen.clocks_of.Statement.{statement}
 use Rattle.estimator.proofs.screen.clocks_of.Tie as tie

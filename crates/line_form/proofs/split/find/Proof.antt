@@ -5,13 +5,13 @@ use denote.Ref.{now}
 use native.Mathlib.Omega.{arith}
 use lib.ListN.{length, drop}
 use borrow.Author.Needs.{needs}
-use Rattle.line_form.specs.Split.{before}
+use Rattle.line_form.specs.Split.{countBefore}
 use Rattle.line_form.proofs.SplitLaws.{before-end, before-yes, before-no}
 use Rattle.line_form.proofs.split.find.Statement.{statement}
 use Rattle.line_form.proofs.split.find.Tie as tie
 
 abbrev Inv-loop : tie.InvT-loop
-Inv-loop s at c i₀ i = (at ≤ i) × (i ≤ length s) × (i + before c (drop i s) ≡ at + before c (drop at s))
+Inv-loop s at c i₀ i = (at ≤ i) × (i ≤ length s) × (i + countBefore c (drop i s) ≡ at + countBefore c (drop at s))
 
 abbrev μ-loop : tie.MeasureT-loop
 μ-loop s at c i₀ i = length s - i

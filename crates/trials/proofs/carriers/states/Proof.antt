@@ -8,7 +8,7 @@ use Rattle.median.specs.Sorted.{insertBy, sortedBy, medianOf}
 use Rattle.median.specs.Centre.{centreOf}
 use Rattle.estimator.specs.Rules.{ruled}
 use Rattle.estimator.specs.Record.{placeable, isElevation, sound, unsigned, bitSet, usable, same}
-use Rattle.robust.specs.Clocks.{has, appearing, slotFrom, clocksIn, clocksOf}
+use Rattle.clocks.specs.Clocks.{has, appearing, slotFrom, clocksIn, clocksOf}
 use Rattle.estimator.specs.Pair.{pairOf, firstPair, pairAt, pairsOf}
 use Rattle.estimator.specs.Screen.{centre, within, keptOf}
 use Rattle.estimator.specs.Valid.{settingsPass, badInterval, displacementInput, displacementCounts}

@@ -1,8 +1,8 @@
 use mathlib.Core.Path.{_≡_, refl, ap, _∙_}
 use mathlib.Core.Bool.{Bool, true, _&&_}
 use lib.Dec.{eqb}
-use Rattle.robust.specs.Clocks.{none, given, slot}
-use Rattle.robust.specs.declared.clocks.Clocks.{Clocks}
+use Rattle.clocks.specs.Clocks.{none, given, slot}
+use Rattle.clocks.specs.declared.clocks.Clocks.{Clocks}
 use borrow.Author.Needs.{needs}
 use Rattle.trials.proofs.clocks.five.Statement.{statement}
 use Rattle.trials.proofs.clocks.five.Tie as tie

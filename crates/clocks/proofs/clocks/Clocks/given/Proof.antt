@@ -1,9 +1,9 @@
--- `robust::clocks::Clocks::given` meets its contract. Assumes nothing.
+-- `clocks::clocks::Clocks::given` meets its contract. Assumes nothing.
 use borrow.Author.Tests.{lt-ltb, le-ltb, eq-eqb, ne-eqb}
-use Rattle.robust.specs.Clocks.{given}
+use Rattle.clocks.specs.Clocks.{given}
 use borrow.Author.Needs.{needs}
-use Rattle.robust.proofs.clocks.Clocks.given.Statement.{statement}
-use Rattle.robust.proofs.clocks.Clocks.given.Tie as tie
+use Rattle.clocks.proofs.clocks.Clocks.given.Statement.{statement}
+use Rattle.clocks.proofs.clocks.Clocks.given.Tie as tie
 
 returns : tie.Need-returns
 unfolding given

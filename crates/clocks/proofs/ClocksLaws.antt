@@ -10,8 +10,8 @@ use lib.Dec.{eqb, ltb}
 use borrow.Author.Tests.{eq-eqb, ne-eqb, le-ltb}
 use lib.ListN.{length, getD, set, length-append}
 use Rattle.walk.specs.Walk.{fold}
-use Rattle.robust.specs.Clocks.{place, notGiven, none, slot, given, has, appearing, slotFrom, clocksIn, clocksOf}
-use Rattle.robust.specs.declared.clocks.Clocks.{Clocks}
+use Rattle.clocks.specs.Clocks.{place, notGiven, none, slot, given, has, appearing, slotFrom, clocksIn, clocksOf}
+use Rattle.clocks.specs.declared.clocks.Clocks.{Clocks}
 
 -- ---- a place in a list, and one more at its end
 or-no : (a b : Bool) → (a || b) ≡ false → (a ≡ false) × (b ≡ false)

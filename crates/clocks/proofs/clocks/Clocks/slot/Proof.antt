@@ -1,7 +1,7 @@
--- `robust::clocks::Clocks::slot` meets its contract. Assumes nothing.
+-- `clocks::clocks::Clocks::slot` meets its contract. Assumes nothing.
 use borrow.Author.Needs.{needs}
-use Rattle.robust.proofs.clocks.Clocks.slot.Statement.{statement}
-use Rattle.robust.proofs.clocks.Clocks.slot.Tie as tie
+use Rattle.clocks.proofs.clocks.Clocks.slot.Statement.{statement}
+use Rattle.clocks.proofs.clocks.Clocks.slot.Tie as tie
 
 place-requires : tie.Need-place-requires
 place-requires c κs = search needs

@@ -1,6 +1,6 @@
 // The receiver clocks, one for each constellation.
 ghost use mathlib.Core.Path.{_≡_};
-ghost use Rattle.robust.specs.Clocks as spec;
+ghost use Rattle.clocks.specs.Clocks as spec;
 
 // The slot of each place, and how many constellations have been given.
 pub struct Clocks {

@@ -1,0 +1,2 @@
+// The receiver clocks, one for each constellation.
+pub mod clocks;
