@@ -163,6 +163,11 @@ pub record Promised (i : Input) (r : Fix) : Type 0 where
   pub answer : r ≡ fixOf i
   pub accepted : (s : Solution) → r ≡ At s → Accepted i s
 
+-- the position alone is that of the fix, and demand 3 holds of every round of an accepted one
+pub record PositionPromised (i : Input) (r : Position) : Type 0 where
+  pub answer : r ≡ positionOf (fixOf i)
+  pub accepted : (s : Solution) → fixOf i ≡ At s → Accepted i s
+
 -- ---- the code's end: where the rounds of the fit f are not refused, the state that they reach and the last round's rows
 pub record Reaches (f : Fit) (r : Fitted) : Type 0 where
   pub few-rows : r .rows .count ≤ 64

@@ -217,7 +217,7 @@ pub fn solve_full(observations: Observations, guess: Vec3, settings: Settings) -
 
 // The receiver's position from one epoch.
 pub fn solve(observations: Observations, guess: Vec3, settings: Settings) -> Position
-    ensures { λ r. ⌜ r ≡ spec.positionOf (spec.fixOf (spec.input observations guess settings)) ⌝ }
+    ensures { λ r. ⌜ spec.PositionPromised (spec.input observations guess settings) r ⌝ }
 {
     match solve_full(observations, guess, settings) {
         Fix::Refused(r) => Position::Refused(r),

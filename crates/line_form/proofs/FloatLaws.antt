@@ -58,7 +58,7 @@ and-both : (t u : Bool) → (t && u) ≡ true → (t ≡ true) × (u ≡ true)
 and-both true u e = (refl, e)
 and-both false u e = absurd (subst T (sym e) tt)
 
-every-append : (test : ℕ → Bool) (s : List ℕ) (b : ℕ) → every test s ≡ true → test b ≡ true → every test (s ++ (b ∷ [])) ≡ true
+pub every-append : (test : ℕ → Bool) (s : List ℕ) (b : ℕ) → every test s ≡ true → test b ≡ true → every test (s ++ (b ∷ [])) ≡ true
 unfolding every
 every-append test [] b e h = ap (λ (t : Bool). t && true) h
 every-append test (x ∷ s) b e h =

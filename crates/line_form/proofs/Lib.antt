@@ -5,5 +5,6 @@ pub mod PrintLaws
 pub mod LineLaws
 pub mod TextLaws
 pub mod FloatLaws
+pub mod NumberLaws
 pub mod AnswerLaws
 pub mod Values
