@@ -1,6 +1,7 @@
 // One case of each kind: whether the library gives what the Rust gave, all NaNs as one.
 use crate::read::next_float;
 use crate::read::number;
+use crate::read::refused;
 use cholesky::factor::factor_into;
 use cholesky::factor::solve_lent;
 use numeric::order::before;
@@ -13,6 +14,7 @@ use numeric::real::radians;
 use numeric::real::square;
 use numeric::real::travel_cosine;
 use numeric::real::travel_sine;
+use numeric::refusal::Refusal;
 use root::sqrt::sqrt;
 
 // A pattern and the pattern of its root.
@@ -75,11 +77,14 @@ fn cells_differ(m: [[f64; 9]; 9]) -> bool {
 // A matrix, the number, and the factor, zeros where refused.
 pub fn factor() -> bool {
     let a = rows();
-    let accepted = number() == 0;
     let mut l = [[0.0; 9]; 9];
-    let done = factor_into(&a, &mut l);
+    let mut answer: u8 = 0;
+    if !factor_into(&a, &mut l) {
+        answer = Refusal::FitFailed.number();
+    }
+    let same = refused(answer);
     let differ = cells_differ(l);
-    (done == accepted) & !differ
+    same & !differ
 }
 
 // A factor, a right side and the solution.

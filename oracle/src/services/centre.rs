@@ -148,5 +148,6 @@ fn vectors(random: &mut Random) -> Vectors {
     };
     Vectors {
         cases: (0..40).map(one).collect(),
+        answer: 3,
     }
 }

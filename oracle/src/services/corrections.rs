@@ -656,8 +656,8 @@ fn query_case(random: &mut Random) -> Option<(u8, Vec<u64>)> {
 fn vectors(random: &mut Random) -> Vectors {
     let epochs = [(0, 18), (2, 3), (3, 2), (4, 5), (11, 3)];
     let queries = [(0, 20), (2, 2), (3, 2), (4, 4), (12, 10)];
-    let mut out = Vectors::of_each(&epochs, || epoch_case(random));
-    let asked = Vectors::of_each(&queries, || query_case(random));
+    let mut out = Vectors::of_each(&epochs, 2, || epoch_case(random));
+    let asked = Vectors::of_each(&queries, 2, || query_case(random));
     out.cases.extend(asked.cases);
     out
 }

@@ -118,7 +118,7 @@ fn vectors(random: &mut Random) -> Vectors {
         (9, 2),
         (10, 3),
     ];
-    Vectors::of_each(&wanted, || {
+    Vectors::of_each(&wanted, 6, || {
         let input: Displacement = sky::input(random);
         let call = Call::of(&input);
         let (p, c) = (call.previous.columns.count, call.current.columns.count);

@@ -140,5 +140,5 @@ fn vectors(random: &mut Random) -> Vectors {
             put(&a);
         }
     }
-    Vectors::alike(163, numbers)
+    Vectors::alike(163, 82, numbers)
 }

@@ -118,7 +118,7 @@ const ROOM: usize = 64;
 /// position 3, chi, pdop (zeros where refused).
 fn vectors(random: &mut Random) -> Vectors {
     let wanted = [(0, 18), (2, 1), (3, 3), (4, 3), (8, 3), (9, 2), (10, 4)];
-    Vectors::of_each(&wanted, || {
+    Vectors::of_each(&wanted, 7, || {
         let input: Fix = sky::input(random);
         let call = Call::of(&input);
         let o = &call.observations;

@@ -93,6 +93,7 @@ fn vectors(random: &mut Random) -> Vectors {
     });
     Vectors::alike(
         3,
+        1,
         pairs
             .flat_map(|(a, b)| [a, b, u64::from(reference(a, b))])
             .collect(),

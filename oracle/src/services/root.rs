@@ -122,6 +122,7 @@ fn vectors(random: &mut Random) -> Vectors {
         .collect();
     Vectors::alike(
         2,
+        1,
         specials
             .chain(others)
             .flat_map(|x| [x.to_bits(), pattern(x.sqrt())])

@@ -277,7 +277,7 @@ fn time(random: &mut Random) {
 
 /// Rows, unknowns, huber; of each row, of 64 at most, unit, clock, residual, sigma; number, step 9 (zeros where refused).
 fn vectors(random: &mut Random) -> Vectors {
-    Vectors::of_each(&[(0, 24), (2, 2), (4, 4), (10, 6)], || {
+    Vectors::of_each(&[(0, 24), (2, 2), (4, 4), (10, 6)], 10, || {
         let input = input(random);
         let rows = &input.rows;
         // A case has room for 64 rows; more of them are refused with or without their floats.

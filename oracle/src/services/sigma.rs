@@ -66,5 +66,6 @@ fn vectors(random: &mut Random) -> Vectors {
     };
     Vectors {
         cases: (0..60).map(one).collect(),
+        answer: 1,
     }
 }

@@ -110,5 +110,5 @@ fn vectors(random: &mut Random) -> Vectors {
         numbers.extend(b.map(f64::to_bits));
         numbers.extend(patterns(&reference(&l, &b)));
     }
-    Vectors::alike(99, numbers)
+    Vectors::alike(99, 9, numbers)
 }

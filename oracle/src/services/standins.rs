@@ -148,5 +148,5 @@ fn vectors(random: &mut Random) -> Vectors {
             numbers.extend([number as u64, a.to_bits(), b.to_bits(), answer]);
         }
     }
-    Vectors::alike(4, numbers)
+    Vectors::alike(4, 1, numbers)
 }

@@ -408,7 +408,7 @@ const ROOM: usize = 8;
 /// and how many floats of the work are zeros afterwards, where all of both were 1 before.
 fn vectors(random: &mut Random) -> Vectors {
     let wanted = [(0, 20), (2, 2), (3, 3), (4, 4), (6, 5), (10, 4)];
-    Vectors::of_each(&wanted, || {
+    Vectors::of_each(&wanted, 26, || {
         let n = 1 + random.place(4);
         let mut input = sound(random, n);
         if random.below(2) == 0 {

@@ -1,4 +1,6 @@
+-- `vectors::replay`: every kind has a place, and so have its altered cases. Assumes nothing.
 use Prim.Native.Nat.{_≤_}
+use mathlib.Core.Logic.{⊎-elim}
 use native.Mathlib.Omega.{arith}
 use borrow.Author.Needs.{needs}
 use Rattle.vectors.proofs.replay.Statement.{statement}
@@ -16,11 +18,17 @@ count-requires c κs = search needs
 loop-holds : tie.Need-loop-holds Inv-loop μ-loop
 loop-holds c = omega arith
 
+is-requires : tie.Need-is-requires Inv-loop μ-loop
+is-requires c κs = search needs
+
+add-place : tie.Need-add-place Inv-loop μ-loop
+add-place c = omega arith
+
 mul-t : tie.Need-mul-t Inv-loop μ-loop
-mul-t c = omega arith
+mul-t c = ⊎-elim (λ w. omega arith) (λ w. omega arith) (c .before .if3 .came)
 
 array-copy-out-t : tie.Need-array-copy-out-t Inv-loop μ-loop
-array-copy-out-t c = search needs
+array-copy-out-t c = ⊎-elim (λ w. omega arith) (λ w. omega arith) (c .before .if3 .came)
 
 same-requires : tie.Need-same-requires Inv-loop μ-loop
 same-requires c κs = search needs
@@ -29,10 +37,10 @@ counted-requires : tie.Need-counted-requires Inv-loop μ-loop
 counted-requires c κs = search needs
 
 mul-tallies : tie.Need-mul-tallies Inv-loop μ-loop
-mul-tallies c = omega arith
+mul-tallies c = ⊎-elim (λ w. omega arith) (λ w. omega arith) (c .before .before .before .before .if3 .came)
 
 array-set-from-tallies : tie.Need-array-set-from-tallies Inv-loop μ-loop
-array-set-from-tallies c = search needs
+array-set-from-tallies c = ⊎-elim (λ w. omega arith) (λ w. omega arith) (c .before .before .before .before .if3 .came)
 
 count-requires-2 : tie.Need-count-requires-2 Inv-loop μ-loop
 count-requires-2 c κs = search needs
@@ -63,6 +71,8 @@ replay-spec =
     μ-loop
     count-requires
     loop-holds
+    is-requires
+    add-place
     mul-t
     array-copy-out-t
     same-requires

@@ -1,6 +1,6 @@
 //! The stored texts that the program `line_vectors` replays, with their answers' lines: a case is the
-//! number 1, the text's length and its bytes, the line's length and its bytes. A number has eight
-//! bytes, the least first.
+//! number 1, or 2 where the line is altered, the text's length and its bytes, the line's length and its
+//! bytes. A number has eight bytes, the least first.
 
 use super::texts::{of_length, text, EXAMPLE, WHOLES};
 use crate::estimate::Displacement;
@@ -133,13 +133,32 @@ pub fn cases(random: &mut Random) -> (usize, Vec<u8>) {
     texts.push(text_of(&of_length(random, BYTES + 1)));
     let mut out = Vec::new();
     for text in &texts {
-        out.extend(1u64.to_le_bytes());
-        for bytes in [text, &line(&answer(text))] {
-            out.extend((bytes.len() as u64).to_le_bytes());
-            out.extend(bytes);
-        }
+        extend(&mut out, 1, text, &line(&answer(text)));
+    }
+    for altered in alterations(&line(&answer(&texts[2]))) {
+        extend(&mut out, 2, &texts[2], &altered);
     }
     (texts.len(), out)
+}
+
+/// Adds a case.
+fn extend(out: &mut Vec<u8>, mark: u64, text: &[u8], line: &[u8]) {
+    out.extend(mark.to_le_bytes());
+    for bytes in [text, line] {
+        out.extend((bytes.len() as u64).to_le_bytes());
+        out.extend(bytes);
+    }
+}
+
+/// A line with one bit turned, a byte less and a byte more: the replay has to tell each from the line.
+fn alterations(line: &[u8]) -> Vec<Vec<u8>> {
+    let turned = (0..line.len()).map(|k| {
+        let mut altered = line.to_vec();
+        altered[k] ^= 1;
+        altered
+    });
+    let lengths = [line[..line.len() - 1].to_vec(), [line, b"\n"].concat()];
+    turned.chain(lengths).collect()
 }
 
 #[cfg(test)]
