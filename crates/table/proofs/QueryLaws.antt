@@ -8,7 +8,7 @@ use native.Mathlib.Omega.{arith}
 use lib.ListN.{length, getD, take}
 use lib.Seq.{getD-take, length-take-le}
 use lib.Dec.{T, ltb, eqb}
-use borrow.Author.Tests.{ltb-true, ltb-false, eqb-true, lt-ltb, le-ltb, eq-eqb, ne-eqb, not-true, not-false}
+use borrow.Author.Tests.{ltb-true, ltb-false, eqb-true, eqb-false, lt-ltb, le-ltb, eq-eqb, ne-eqb, not-true, not-false}
 use lib.Ieee.{Float, nan, lt, fits, binary64}
 use lib.Ieee.Scale.{finite}
 use Rattle.exact.specs.Float.{_⊖_}
@@ -91,6 +91,43 @@ module _ (g : ℕ) (t : Float) (a : Sample) where
 
   pub not-mine : (signalOf a ≡ g → ⊥) → (p : Bool) → (eqb (signalOf a) g && p) ≡ false
   not-mine ne p = rw (ne-eqb _ _ ne)
+
+-- ---- the same tests, column by column
+module _ (a : Sample) (c v b : ℕ) (av : a .svid < 2 ^ 16) (vl : v < 2 ^ 16) (ab : a .band < 2 ^ 8) (bl : b < 2 ^ 8) where
+  -- digits p and q that decide
+  decided : (t : Float) (p q : ℕ) → (p ≡ q → ⊥) → (p < q → signalOf a < signal c v b) → (q < p → signal c v b < signalOf a) → ltb p q ≡ ahead (signal c v b) t a
+  decided t p q ne lo hi = go (ltb p q) refl
+    where
+      go : (x : Bool) → ltb p q ≡ x → x ≡ ahead (signal c v b) t a
+      go true e = sym (ahead-low (signal c v b) t a (lo (ltb-true p q e)))
+      go false e = let w : q ≤ p = ltb-false p q e in let z : q < p = omega arith in sym (ahead-high (signal c v b) t a (hi z))
+
+  pub ahead-constellation : (t : Float) → (a .constellation ≡ c → ⊥) → ltb (a .constellation) c ≡ ahead (signal c v b) t a
+  ahead-constellation t ne = decided t (a .constellation) c ne (λ h. omega arith) (λ h. omega arith)
+
+  pub other-constellation : (a .constellation ≡ c → ⊥) → false ≡ eqb (signalOf a) (signal c v b)
+  other-constellation ne = sym (ne-eqb (signalOf a) (signal c v b) (λ (e : signalOf a ≡ signal c v b). ne (omega arith)))
+
+  module _ (ce : a .constellation ≡ c) where
+    pub ahead-svid : (t : Float) → (a .svid ≡ v → ⊥) → ltb (a .svid) v ≡ ahead (signal c v b) t a
+    ahead-svid t ne = decided t (a .svid) v ne (λ h. omega arith) (λ h. omega arith)
+
+    pub other-svid : (a .svid ≡ v → ⊥) → false ≡ eqb (signalOf a) (signal c v b)
+    other-svid ne = sym (ne-eqb (signalOf a) (signal c v b) (λ (e : signalOf a ≡ signal c v b). ne (omega arith)))
+
+    module _ (ve : a .svid ≡ v) where
+      pub ahead-band : (t : Float) → (a .band ≡ b → ⊥) → ltb (a .band) b ≡ ahead (signal c v b) t a
+      ahead-band t ne = decided t (a .band) b ne (λ h. omega arith) (λ h. omega arith)
+
+      pub same-band : eqb (a .band) b ≡ eqb (signalOf a) (signal c v b)
+      same-band = go (eqb (a .band) b) refl
+        where
+          go : (x : Bool) → eqb (a .band) b ≡ x → x ≡ eqb (signalOf a) (signal c v b)
+          go true e = let q : a .band ≡ b = eqb-true (a .band) b e in sym (eq-eqb (signalOf a) (signal c v b) (omega arith))
+          go false e = let ne : a .band ≡ b → ⊥ = eqb-false (a .band) b e in sym (ne-eqb (signalOf a) (signal c v b) (λ (u : signalOf a ≡ signal c v b). ne (omega arith)))
+
+      pub ahead-time : (t : Float) → a .band ≡ b → lt (a .time) t ≡ ahead (signal c v b) t a
+      ahead-time t be = sym (ahead-here (signal c v b) t a (omega arith))
 
 -- ---- the test holds from the front up to some place
 module _ (l : List Sample) (s : Sound l) (f : Held l) (g : ℕ) (t : Float) (ft : T (fits binary64 t)) where

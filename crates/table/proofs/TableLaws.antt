@@ -7,7 +7,7 @@ use native.Mathlib.Nat.{not-suc-le-zero, le-of-suc-le-suc}
 use native.Mathlib.Omega.{arith}
 use lib.ListN.{length, getD, take, drop}
 use lib.Dec.{ltb, leb, eqb}
-use borrow.Author.Tests.{ltb-true, ltb-false, leb-true, eqb-true, eqb-false, lt-ltb, le-ltb, le-leb, lt-leb}
+use borrow.Author.Tests.{ltb-true, ltb-false, leb-true, eqb-true, eqb-false, lt-ltb, le-ltb, le-leb, lt-leb, eq-eqb, ne-eqb}
 use Rattle.walk.specs.Walk.{every}
 use Rattle.walk.proofs.Walk.{left-at, left-end}
 use Rattle.numeric.specs.Real.{inRange}
@@ -41,6 +41,18 @@ lex g h j k w jl kl = first (ltb g h) refl
     first true e = sym (lt-ltb (g * w + j) (h * w + k) (above g h j k (ltb-true g h e) jl))
     first false e = second (eqb g h) refl (ltb-false g h e)
 
+-- where the first are not equal, they decide
+pub lex-first : (g h j k w : ℕ) → j < w → k < w → (g ≡ h → ⊥) → ltb g h ≡ ltb (g * w + j) (h * w + k)
+lex-first g h j k w jl kl ne = sym (or-no (ltb g h)) ∙ (rw (ne-eqb g h ne) at (lex g h j k w jl kl))
+  where
+    or-no : (a : Bool) → (a || false) ≡ a
+    or-no true = refl
+    or-no false = refl
+
+-- where they are equal, the second decide
+pub lex-second : (g h j k w : ℕ) → j < w → k < w → g ≡ h → ltb j k ≡ ltb (g * w + j) (h * w + k)
+lex-second g h j k w jl kl e = rw (le-ltb g h (omega arith), eq-eqb g h e) at (lex g h j k w jl kl)
+
 -- ---- a table that rises
 pub and-left : (a b : Bool) → (a && b) ≡ true → a ≡ true
 and-left true b e = refl
@@ -71,6 +83,10 @@ unfolding every
 every-at q [] j e h = absurd (not-suc-le-zero h)
 every-at q (a ∷ l) zero e h = and-left _ _ e
 every-at q (a ∷ l) (suc j) e h = every-at q l j (and-right (q a) _ e) (le-of-suc-le-suc h)
+
+pub ranged-time : (s : Sample) → ranged s ≡ true → inRange (s .time) ≡ true
+unfolding ranged
+ranged-time s e = and-left _ _ e
 
 -- a sound table, place by place
 pub record Sound (l : List Sample) : Type 0 where

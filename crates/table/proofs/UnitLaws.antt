@@ -241,3 +241,20 @@ earlier-of (fin s m d) (fin t n k) nan fx fy fq rx ry h e = unfold lt in e
 earlier-of (fin s m d) (fin t n k) (inf r) fx fy fq rx ry h e = unfold lt in e
 earlier-of (fin s m d) (fin t n k) (fin r u j) fx fy fq rx ry h e =
     lt-is s m d r u j fx fq ∙ earlier-fin s m d t n k r (units u j) fx fy h (sym (lt-is t n k r u j fy fq) ∙ e)
+
+lt-self : (x : Float) → T (fits binary64 x) → inRange x ≡ true → lt x x ≡ false
+lt-self nan f r = not-nan r
+lt-self (inf s) f r = not-inf s r
+lt-self (fin s m e) f r = lt-is s m e s m e f f ∙ go s
+  where
+    go : (s : Bool) → below s (units m e) s (units m e) ≡ false
+    go false = le-ltb (units m e) (units m e) (native.Mathlib.Nat.le-refl (units m e))
+    go true = le-ltb (units m e) (units m e) (native.Mathlib.Nat.le-refl (units m e))
+
+-- a later time has no lower place
+pub key-of-later : (x y : Float) → T (fits binary64 x) → T (fits binary64 y) → inRange x ≡ true → inRange y ≡ true → lt x y ≡ true → timeKey x ≤ timeKey y
+key-of-later x y fx fy rx ry e = go (ltb (timeKey y) (timeKey x)) refl
+  where
+    go : (b : Bool) → ltb (timeKey y) (timeKey x) ≡ b → timeKey x ≤ timeKey y
+    go false q = ltb-false (timeKey y) (timeKey x) q
+    go true q = never (sym (lt-self y fy ry) ∙ earlier-of y x y fy fx fy ry rx (native.Mathlib.Nat.le-of-lt (ltb-true (timeKey y) (timeKey x) q)) e)

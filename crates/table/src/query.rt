@@ -3,13 +3,13 @@ ghost use mathlib.Core.Path.{_≡_};
 ghost use mathlib.Core.Bool.{true};
 ghost use Prim.Native.Nat.{_≤_};
 ghost use lib.ListN.{length};
-ghost use Rattle.table.specs.Table.{rows, capacity, tableOf, sound};
+ghost use lib.Dec.{eqb};
+ghost use Rattle.table.specs.Table.{rows, capacity, tableOf, signal, signalOf, sound};
 ghost use Rattle.table.specs.Query.{near, line, ahead, Parted, answerAt, queryOf, GivesFinite};
 use crate::sample::Sample;
 use crate::sample::capacity_of;
 use crate::sample::is_sound;
 use crate::sample::sample_at;
-use crate::sample::signal_of;
 use numeric::real::abs;
 use numeric::real::in_range;
 use numeric::real::is_finite;
@@ -35,15 +35,36 @@ fn line_of(t: f64, a: Sample, b: Sample) -> f64
     a.correction + (t - a.time) / (b.time - a.time) * (b.correction - a.correction)
 }
 
-// Whether the sample stands before the signal g at the time t.
-fn is_ahead(a: Sample, g: u64, t: f64) -> bool
-    ensures { λ r. ⌜ r ≡ ahead g t a ⌝ }
+// Whether the sample is of the signal c, v, b.
+fn is_of(a: Sample, c: u8, v: u16, b: u8) -> bool
+    ensures { λ r. ⌜ r ≡ eqb (signalOf a) (signal c v b) ⌝ }
 {
-    let h = signal_of(a.constellation, a.svid, a.band);
-    (h < g) | ((h == g) & (a.time < t))
+    if a.constellation != c {
+        return false;
+    }
+    if a.svid != v {
+        return false;
+    }
+    a.band == b
 }
 
-// How many samples of a sound table stand before the signal g at the time t, by halving.
+// Whether the sample stands before the signal c, v, b at the time t. A column is read only where those before it are equal.
+fn is_ahead(a: Sample, c: u8, v: u16, b: u8, t: f64) -> bool
+    ensures { λ r. ⌜ r ≡ ahead (signal c v b) t a ⌝ }
+{
+    if a.constellation != c {
+        return a.constellation < c;
+    }
+    if a.svid != v {
+        return a.svid < v;
+    }
+    if a.band != b {
+        return a.band < b;
+    }
+    a.time < t
+}
+
+// How many samples of a sound table stand before the signal c, v, b at the time t, by halving.
 fn first_from(
     cs: &[u8],
     vs: &[u16],
@@ -51,19 +72,21 @@ fn first_from(
     ts: &[f64],
     xs: &[f64],
     n: usize,
-    g: u64,
+    c: u8,
+    v: u16,
+    b: u8,
     t: f64,
 ) -> usize
     requires { ⌜ n ≤ length (rows (now cs) (now vs) (now bs) (now ts) (now xs)) ⌝ }
     requires { ⌜ sound (tableOf n (now cs) (now vs) (now bs) (now ts) (now xs)) ≡ true ⌝ }
-    ensures { λ r. ⌜ Parted g t (tableOf n (now (cs .entry)) (now (vs .entry)) (now (bs .entry)) (now (ts .entry)) (now (xs .entry))) r ⌝ }
+    ensures { λ r. ⌜ Parted (signal c v b) t (tableOf n (now (cs .entry)) (now (vs .entry)) (now (bs .entry)) (now (ts .entry)) (now (xs .entry))) r ⌝ }
 {
     let mut lo: usize = 0;
     let mut hi = n;
     while lo < hi {
         let mid = lo + (hi - lo) / 2;
         let a = sample_at(cs, vs, bs, ts, xs, mid);
-        if is_ahead(a, g, t) {
+        if is_ahead(a, c, v, b, t) {
             lo = mid + 1;
         } else {
             hi = mid;
@@ -90,13 +113,12 @@ fn look_up(
     requires { ⌜ sound (tableOf n (now cs) (now vs) (now bs) (now ts) (now xs)) ≡ true ⌝ }
     ensures { λ r. ⌜ r ≡ answerAt (tableOf n (now (cs .entry)) (now (vs .entry)) (now (bs .entry)) (now (ts .entry)) (now (xs .entry))) gap c v b t ⌝ }
 {
-    let g = signal_of(c, v, b);
-    let i = first_from(cs, vs, bs, ts, xs, n, g, t);
+    let i = first_from(cs, vs, bs, ts, xs, n, c, v, b, t);
     if i == n {
         return Correction::Refused(Refusal::NoCorrection);
     }
     let p = sample_at(cs, vs, bs, ts, xs, i);
-    if signal_of(p.constellation, p.svid, p.band) != g {
+    if !is_of(p, c, v, b) {
         return Correction::Refused(Refusal::NoCorrection);
     }
     if is_near(p.time, t) {
@@ -106,7 +128,7 @@ fn look_up(
         return Correction::Refused(Refusal::NoCorrection);
     }
     let q = sample_at(cs, vs, bs, ts, xs, i - 1);
-    if signal_of(q.constellation, q.svid, q.band) != g {
+    if !is_of(q, c, v, b) {
         return Correction::Refused(Refusal::NoCorrection);
     }
     if is_near(q.time, t) {

@@ -1,8 +1,10 @@
 // A sample of a correction, and the table's rows, order and soundness.
 ghost use mathlib.Core.Path.{_≡_};
-ghost use Prim.Native.Nat.{_≤_, _<_, min};
+ghost use mathlib.Core.Bool.{true};
+ghost use Prim.Native.Nat.{_+_, _*_, _^_, _≤_, _<_, min};
 ghost use lib.ListN.{length, getD};
 ghost use lib.Dec.{ltb};
+ghost use Rattle.numeric.specs.Real.{inRange};
 ghost use Rattle.table.specs.Table.{rows, blank, capacity, tableOf, signal, timeKey, placeOf, ranged, sound};
 use numeric::order::key;
 use numeric::order::pattern;
@@ -89,26 +91,46 @@ pub(crate) fn is_ranged(s: Sample) -> bool
     in_range(s.time) & in_range(s.correction)
 }
 
+// Whether a sample of the signal s at the time t stands before one of the signal h at the time u. Where the times tell, they are compared as they are.
+fn is_below(s: u64, t: f64, h: u64, u: f64) -> bool
+    requires { ⌜ (inRange t ≡ true) × (inRange u ≡ true) ⌝ }
+    ensures { λ r. ⌜ r ≡ ltb (s * 2 ^ 64 + timeKey t) (h * 2 ^ 64 + timeKey u) ⌝ }
+{
+    if s != h {
+        return s < h;
+    }
+    if u < t {
+        return false;
+    }
+    time_key(t) < time_key(u)
+}
+
 // Whether rule 4 lets the first n samples pass, in one pass.
 pub(crate) fn is_sound(cs: &[u8], vs: &[u16], bs: &[u8], ts: &[f64], xs: &[f64], n: usize) -> bool
     requires { ⌜ n ≤ length (rows (now cs) (now vs) (now bs) (now ts) (now xs)) ⌝ }
     ensures { λ r. ⌜ r ≡ sound (tableOf n (now (cs .entry)) (now (vs .entry)) (now (bs .entry)) (now (ts .entry)) (now (xs .entry))) ⌝ }
 {
-    let mut signal: u64 = 0;
-    let mut place: u64 = 0;
-    let mut i: usize = 0;
+    if n == 0 {
+        return true;
+    }
+    let first = sample_at(cs, vs, bs, ts, xs, 0);
+    if !is_ranged(first) {
+        return false;
+    }
+    let mut signal = signal_of(first.constellation, first.svid, first.band);
+    let mut time = first.time;
+    let mut i: usize = 1;
     while i < n {
         let a = sample_at(cs, vs, bs, ts, xs, i);
-        let s = signal_of(a.constellation, a.svid, a.band);
-        let k = time_key(a.time);
-        if (s < signal) | ((s == signal) & (k < place)) {
-            return false;
-        }
         if !is_ranged(a) {
             return false;
         }
+        let s = signal_of(a.constellation, a.svid, a.band);
+        if is_below(s, a.time, signal, time) {
+            return false;
+        }
         signal = s;
-        place = k;
+        time = a.time;
         i += 1;
     }
     true

@@ -8,17 +8,17 @@ use Prim.Native.Nat.{_<_, _-_, _+_}
 use native.Mathlib.Omega.{arith}
 use borrow.Author.Needs.{needs}
 use lib.ListN.{take}
-use Rattle.table.specs.Table.{blank, rows}
+use Rattle.table.specs.Table.{blank, rows, signal}
 use Rattle.table.proofs.TableLaws.{sound-at}
 use Rattle.table.proofs.QueryLaws.{Searching, searching-start, searching-up, searching-down, searching-end, held, Held}
 use Rattle.table.proofs.query.first_from.Statement.{statement}
 use Rattle.table.proofs.query.first_from.Tie as tie
 
 abbrev Inv-loop : tie.InvT-loop
-Inv-loop cs vs bs ts xs n g t lo₀ hi₀ lo hi = Searching g t (take n (rows cs vs bs ts xs)) n lo hi
+Inv-loop cs vs bs ts xs n c v b t lo₀ hi₀ lo hi = Searching (signal c v b) t (take n (rows cs vs bs ts xs)) n lo hi
 
 abbrev μ-loop : tie.MeasureT-loop
-μ-loop cs vs bs ts xs n g t lo₀ hi₀ lo hi = hi - lo
+μ-loop cs vs bs ts xs n c v b t lo₀ hi₀ lo hi = hi - lo
 
 known : (c : tie.After-shared-slice-known5 Inv-loop μ-loop) → Held (take (c .before .before .before .before .before .args .n) (rows (c .before .before .before .before .before .args .cs .now) (c .before .before .before .before .before .args .vs .now) (c .before .before .before .before .before .args .bs .now) (c .before .before .before .before .before .args .ts .now) (c .before .before .before .before .before .args .xs .now)))
 known c = held _ _ _ _ _ _ (c .before .before .before .before .before .pre .0) (λ i h. c .before .shared-slice-known4 .given i)
@@ -52,7 +52,7 @@ loop-again c =
     let m = h .lo + (h .hi - h .lo) / 2 in
     let b : m < a .n = omega arith in
     let at = getD-take (a .n) (rows (a .cs .now) (a .vs .now) (a .bs .now) (a .ts .now) (a .xs .now)) m blank b in
-    searching-up _ _ _ _ (sound-at _ (s .pre .1)) (known (c .before .before .before .before .before)) (subst T (sym (s .good .1 .1 .1 .1 .1 .1 .1 .0 .1)) tt) _ _ _ (h .inv) (omega arith) (omega arith) (cc at)
+    searching-up _ _ _ _ (sound-at _ (s .pre .1)) (known (c .before .before .before .before .before)) (subst T (sym (s .good .1 .1 .1 .1 .1 .1 .1 .1 .1 .0 .1)) tt) _ _ _ (h .inv) (omega arith) (omega arith) (cc at)
 
 loop-less-2 : tie.Need-loop-less-2 Inv-loop μ-loop
 loop-less-2 c = omega arith
@@ -65,7 +65,7 @@ loop-again-2 c =
     let m = h .lo + (h .hi - h .lo) / 2 in
     let b : m < a .n = omega arith in
     let at = getD-take (a .n) (rows (a .cs .now) (a .vs .now) (a .bs .now) (a .ts .now) (a .xs .now)) m blank b in
-    searching-down _ _ _ _ (sound-at _ (s .pre .1)) (known (c .before .before .before .before .before)) (subst T (sym (s .good .1 .1 .1 .1 .1 .1 .1 .0 .1)) tt) _ _ _ (h .inv) (omega arith) (omega arith) (cc at)
+    searching-down _ _ _ _ (sound-at _ (s .pre .1)) (known (c .before .before .before .before .before)) (subst T (sym (s .good .1 .1 .1 .1 .1 .1 .1 .1 .1 .0 .1)) tt) _ _ _ (h .inv) (omega arith) (omega arith) (cc at)
 
 returns : tie.Need-returns Inv-loop μ-loop
 returns c = searching-end _ _ _ _ _ _ (c .before .loop .inv) (c .loop-test .left)
