@@ -3,6 +3,7 @@ pub mod Squares
 pub mod Reading
 pub mod RootLaws
 pub mod Parts
+pub mod Normal
 pub mod NormalRoot
 pub mod Special
 pub mod Theorems

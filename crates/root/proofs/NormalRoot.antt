@@ -11,12 +11,14 @@ use Rattle.root.proofs.RootLaws.{Wide, wide, result}
 pub room : (b : ℕ) → Wide (b % 2 ^ 52 + 2 ^ 52) ((b / 2 ^ 52 + 51) % 2)
 room b = wide (b % 2 ^ 52 + 2 ^ 52) ((b / 2 ^ 52 + 51) % 2) (omega arith) (omega arith) (omega arith)
 
--- the exponent of the root
-exponent : (b q : ℕ) → ((b / 2 ^ 52 + 51) / 2 + 485) * 2 ^ 52 + q ≡ ((b + 2 ^ 52) / 2 ^ 53 + 510) * 2 ^ 52 + q
-exponent b q = omega arith
+-- the exponent of the root, and its digits without the leading one
+joined : (b n : ℕ) → ((b / 2 ^ 52 + 51) / 2 + 485) * 2 ^ 52 + (n % 2 ^ 52 + 2 ^ 52) ≡ (b / 2 ^ 52 + 1023) / 2 * 2 ^ 52 + n % 2 ^ 52
+joined b n = omega arith
 
-pub found : (b q w : ℕ) → 2 ^ 52 ≤ b → b < 0x7ff0_0000_0000_0000 → w ≡ (b % 2 ^ 52 + 2 ^ 52) * (1 + (b / 2 ^ 52 + 51) % 2) → Nearest (w * 2 ^ 52) q
-    → ofBits binary64 (((b + 2 ^ 52) / 2 ^ 53 + 510) * 2 ^ 52 + q) ≡ rootOf (ofBits binary64 b)
-found b q w l h e n =
-    ap (ofBits binary64) (sym (exponent b q))
-    ∙ result (ofBits binary64 b) (b % 2 ^ 52 + 2 ^ 52) (b / 2 ^ 52 + 51) q (normal-parts b (b % 2 ^ 52 + 2 ^ 52) l h refl) (subst (λ (z : ℕ). Nearest (z * 2 ^ 52) q) e n) .is
+-- the root has the digits of n
+pub found : (b n w : ℕ) → 2 ^ 52 ≤ b → b < 0x7ff0_0000_0000_0000 → w ≡ (b % 2 ^ 52 + 2 ^ 52) * (1 + (b / 2 ^ 52 + 51) % 2) → Nearest (w * 2 ^ 52) (n % 2 ^ 52 + 2 ^ 52)
+    → ofBits binary64 ((b / 2 ^ 52 + 1023) / 2 * 2 ^ 52 + n % 2 ^ 52) ≡ rootOf (ofBits binary64 b)
+found b n w l h e d =
+    let q = n % 2 ^ 52 + 2 ^ 52 in
+    ap (ofBits binary64) (sym (joined b n))
+    ∙ result (ofBits binary64 b) (b % 2 ^ 52 + 2 ^ 52) (b / 2 ^ 52 + 51) q (normal-parts b (b % 2 ^ 52 + 2 ^ 52) l h refl) (subst (λ (z : ℕ). Nearest (z * 2 ^ 52) q) e d) .is

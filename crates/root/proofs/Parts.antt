@@ -1,7 +1,7 @@
 -- The digits and the exponent of a positive finite binary64 number, from its bits. Assumes nothing.
 use mathlib.Core.Path.{_≡_, sym, ap, _∙_, subst}
 use Prim.Native.Nat.{ℕ, suc, _+_, _-_, _*_, _/_, _%_, _^_, _≤_, _<_}
-use native.Mathlib.Nat.{lt-of-le-of-lt, mul-assoc, mul-comm, mul-one, mul-le-mul-right, mul-lt-mul-of-pos-right, lt-of-not-le, not-le-of-lt}
+use native.Mathlib.Nat.{lt-of-le-of-lt, mul-assoc, mul-comm, mul-le-mul-right, mul-lt-mul-of-pos-right, lt-of-not-le, not-le-of-lt}
 use native.Mathlib.Omega.{arith}
 use mathlib.Core.Bool.{false}
 use lib.Pow.{pow-add, pow-pos, pow-mono}
@@ -9,7 +9,7 @@ use lib.Count.{leadingZeros, leading-top}
 use lib.Ieee.{Float, binary64, odd, ofBits}
 use lib.Ieee.Exact.{HasValue, odd-sign}
 use Rattle.root.specs.Root.{IsParts}
-use Rattle.root.proofs.Reading.{read-normal, read-subnormal}
+use Rattle.root.proofs.Reading.{read-normal, subnormal-value}
 
 normal-same : (m e : ℕ) → 0 < e → m * 2 ^ (e - 1) * 2 ^ 52 ≡ m * 2 ^ (e + 51)
 normal-same m e h =
@@ -44,7 +44,7 @@ subnormal-parts b j l u h =
     let back : 2 ^ j * 2 ^ i ≡ 2 ^ 52 = mul-comm (2 ^ j) (2 ^ i) ∙ whole in
     record {
       a = b;
-      is = subst (λ (x : Float). HasValue x false b (2 ^ 1074)) (sym (read-subnormal b h)) (subst (λ (z : ℕ). HasValue (odd 53 false b 0 1074) false z (2 ^ 1074)) (mul-one b) (odd-sign 53 false b 0 1074));
+      is = subnormal-value b h;
       same = ap (λ (z : ℕ). b * z) (sym whole) ∙ sym (mul-assoc b (2 ^ i) (2 ^ j));
       from = omega (arith, mul-le-mul-right (2 ^ i) l, back);
       below = omega (arith, mul-lt-mul-of-pos-right u (pow-pos i), more);

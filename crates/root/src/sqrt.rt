@@ -8,6 +8,8 @@ ghost use lib.Ieee.Exact.{HasValue};
 ghost use Rattle.root.specs.Root.{Nearest, rootOf, IsParts};
 use root_table::place_of;
 use root_table::wide_place_of;
+use std::num::wrapping_add_u64;
+use std::num::wrapping_sub_u64;
 
 // x = m * 2 ^ y / 2 ^ 1126, with m of 53 binary digits.
 struct Parts {
@@ -59,7 +61,7 @@ fn slow(w: u64) -> u64
 }
 
 // A guess of √f, for f = m * (1 + p) / 2 ^ 52, which is from 1 up and below 4. g comes near √f and k near 1 / (2 * √f), within 7
-// parts in 10 ^ 7. h is g, cut to so few digits that f - h * h is exact. Nothing is proved of how near the guess is: `near`
+// parts in 10 ^ 7. h is g, cut to so few digits that f - h * h is exact. Nothing is proved of how near the guess is: `agrees`
 // tests it.
 fn guess(m: u64, p: u64) -> f64
     requires { ⌜ (2 ^ 52 ≤ m) × (m < 2 ^ 53) × (p < 2) ⌝ }
@@ -79,28 +81,19 @@ fn guess(m: u64, p: u64) -> f64
     h + r / (2.0 * h + r * k)
 }
 
-// Whether q is seen to be the whole number nearest to the root of w * 2 ^ 52: true only where it is, and false where it is but q * q lies
-// within 2 ^ 27 of a border. q * q is a * a * 2 ^ 52 + u * 2 ^ 26 and less than 2 ^ 26 more.
-fn near(w: u64, q: u64) -> bool
-    requires { ⌜ (w < 2 ^ 54) × (0 < q) × (q ≤ 2 ^ 53) ⌝ }
-    ensures { λ r. ⌜ (r ≡ true → Nearest (w * 2 ^ 52) q) ⌝ }
+// Whether the digits q of n, its lowest 52 and a leading one, are seen to be the whole number nearest to the root of w * 2 ^ 52: true only where they are, and
+// false where they are but the root lies within 1 part in 1000 of a border. With q = a * 2 ^ 21 + b the square of q + 1/2 is w * 2 ^ 52 and from x to x + 2 times
+// 2 ^ 42 more. That must be above 0 and below 2 * q. A negative x wraps to a huge one.
+fn agrees(w: u64, n: u64) -> bool
+    requires { ⌜ (2 ^ 52 ≤ w) × (w < 2 ^ 54) ⌝ }
+    ensures { λ r. ⌜ (r ≡ true → Nearest (w * 2 ^ 52) (n % 2 ^ 52 + 2 ^ 52)) ⌝ }
 {
-    let a = q / 0x0400_0000;
-    let b = q % 0x0400_0000;
-    let square = a * a;
-    if w < square {
-        return false;
-    }
-    let rest = w - square;
-    if rest >= 0x0000_0001_0000_0000 {
-        return false;
-    }
-    let l = rest * 0x0400_0000;
-    let u = a * b * 2 + b * b / 0x0400_0000;
-    if u + a < l {
-        return false;
-    }
-    u < l + a
+    let a = n / 0x0020_0000 % 0x8000_0000 + 0x8000_0000;
+    let b = n % 0x0020_0000;
+    let part = a * (b * 2 + 1) / 0x0020_0000;
+    let over = wrapping_sub_u64(a * a, w * 1024);
+    let x = wrapping_add_u64(over, part);
+    x < a / 0x0010_0000 - 1
 }
 
 // The whole number nearest to the root of w * 2 ^ 52: g or a neighbour of it, where the test says so.
@@ -108,14 +101,14 @@ fn settled(w: u64, g: u64) -> u64
     requires { ⌜ (2 ^ 52 ≤ w) × (w < 2 ^ 54) × (2 ^ 52 ≤ g) × (g < 2 ^ 53) ⌝ }
     ensures { λ r. ⌜ Nearest (w * 2 ^ 52) r ⌝ }
 {
-    if near(w, g) {
+    if agrees(w, g) {
         return g;
     }
-    if near(w, g + 1) {
-        return g + 1;
+    if agrees(w, g + 1) {
+        return (g + 1) % 0x0010_0000_0000_0000 + 0x0010_0000_0000_0000;
     }
-    if near(w, g - 1) {
-        return g - 1;
+    if agrees(w, g - 1) {
+        return (g - 1) % 0x0010_0000_0000_0000 + 0x0010_0000_0000_0000;
     }
     slow(w)
 }
@@ -171,19 +164,17 @@ fn of_any(x: f64) -> f64
     positive(b)
 }
 
-// A guess of the root of the float from 1 up and below 4 whose digits are those of b, and whose exponent is odd where that of b is, by the table's place for the
-// middle c of the range of its digits. With d its distance from c, t = d / (2 * √c) and z = d / (4 * c) the root is
-// √c + t * (1 - z + 2 * z ^ 2 - 5 * z ^ 3 + 14 * z ^ 4 - ..). The last four factors are those of the polynomial nearest to the whole sum for
-// |z| up to 2 ^ -8. Nothing is proved of how near the guess is: `near` tests it.
+// A guess of the root of the float from 1/2 up and below 2 whose digits are those of b, and whose exponent is odd where that of b is. With the table's place for the
+// range of its digits and u = (f - square) / (2 * square) the root is root * √(1 + 2 * u), and that is root + root * u * (1 - u / 2 + u ^ 2 / 2 - 5 * u ^ 3 / 8 + 7 * u ^ 4 / 8 - ..).
+// The factors are those of the polynomial nearest to the whole sum for |u| up to 2 ^ -10. Nothing is proved of how near the guess is: `agrees` tests it.
 fn from_table(b: u64) -> f64 {
-    let p = place_of(b / 0x0000_8000_0000_0000 % 64);
-    let d = f64::from_bits(b % 0x0000_8000_0000_0000 + 0x3ff0_0000_0000_0000) - 1.015625;
-    let z = d * p.quarter;
-    let t = d * p.half;
-    let zz = z * z;
-    let tzz = t * zz;
-    let first = t - t * z + p.rest + tzz * (2.0 - 4.99999994229 * z);
-    let second = tzz * zz * (13.9999995 - 42.0102 * z + 132.0476 * zz);
+    let p = place_of(b / 0x0000_1000_0000_0000 % 512);
+    let f = f64::from_bits(b % 0x0020_0000_0000_0000 + 0x3fe0_0000_0000_0000);
+    let u = (f - p.square) * p.half;
+    let uu = u * u;
+    let t = p.root * u;
+    let first = t * (1.0 - 0.49999999999974 * u);
+    let second = t * uu * (0.49999999999945 - 0.6250013 * u + 0.8750023 * uu);
     p.root + (first + second)
 }
 
@@ -193,14 +184,14 @@ fn radicand(b: u64) -> u64
     ensures { λ r. ⌜ r ≡ (b % 2 ^ 52 + 2 ^ 52) * (1 + (b / 2 ^ 52 + 51) % 2) ⌝ }
 {
     let v = b % 0x0020_0000_0000_0000;
-    if v >= 0x0010_0000_0000_0000 {
+    if b / 0x0010_0000_0000_0000 % 2 == 1 {
         v
     } else {
         v * 2 + 0x0020_0000_0000_0000
     }
 }
 
-// The root of the positive normal number whose bits are b. Its digits q are those of the guess, and its exponent is k + 1.
+// The root of the positive normal number whose bits are b. Its digits are those of the guess.
 fn normal(b: u64) -> f64
     requires { ⌜ (2 ^ 52 ≤ b) × (b < 0x7ff0_0000_0000_0000) ⌝ }
     ensures { λ r. ⌜ r ≡ rootOf (Ieee.ofBits binary64 b) ⌝ }
@@ -209,11 +200,11 @@ fn normal(b: u64) -> f64
     if g != g {
         return positive(b);
     }
-    let q = f64::to_bits(g) % 0x0010_0000_0000_0000 + 0x0010_0000_0000_0000;
+    let n = f64::to_bits(g);
     let w = radicand(b);
-    if near(w, q) {
-        let k = (b + 0x0010_0000_0000_0000) / 0x0020_0000_0000_0000 + 510;
-        return f64::from_bits(k * 0x0010_0000_0000_0000 + q);
+    if agrees(w, n) {
+        let e = (b / 0x0010_0000_0000_0000 + 1023) / 2;
+        return f64::from_bits(e * 0x0010_0000_0000_0000 + n % 0x0010_0000_0000_0000);
     }
     positive(b)
 }
@@ -222,48 +213,35 @@ fn normal(b: u64) -> f64
 fn is_root(x: f64, s: f64) -> bool
     ensures { λ r. ⌜ (r ≡ true → s ≡ rootOf x) ⌝ }
 {
-    if x != x {
-        return false;
+    if x >= 2.2250738585072014e-308 {
+        if x >= 1.0 / 0.0 {
+            return false;
+        }
+        if s != s {
+            return false;
+        }
+        let b = f64::to_bits(x);
+        let n = f64::to_bits(s);
+        if n / 0x0010_0000_0000_0000 != (b / 0x0010_0000_0000_0000 + 1023) / 2 {
+            return false;
+        }
+        let w = radicand(b);
+        return agrees(w, n);
     }
-    if s != s {
-        return false;
-    }
-    let b = f64::to_bits(x);
-    if b < 0x0010_0000_0000_0000 {
-        return false;
-    }
-    if b >= 0x7ff0_0000_0000_0000 {
-        return false;
-    }
-    let n = f64::to_bits(s);
-    let k = (b + 0x0010_0000_0000_0000) / 0x0020_0000_0000_0000 + 510;
-    let base = k * 0x0010_0000_0000_0000;
-    if n <= base {
-        return false;
-    }
-    let q = n - base;
-    if q > 0x0020_0000_0000_0000 {
-        return false;
-    }
-    let w = radicand(b);
-    near(w, q)
+    false
 }
 
-// The square root of x, correctly rounded.
+// The square root of x, correctly rounded. A NaN, a zero and what is negative are not from the least normal number up.
 pub fn sqrt(x: f64) -> f64
     ensures { λ r. ⌜ r ≡ rootOf x ⌝ }
 {
-    if x != x {
-        return x;
+    if x >= 2.2250738585072014e-308 {
+        if x >= 1.0 / 0.0 {
+            return x;
+        }
+        return normal(f64::to_bits(x));
     }
-    let b = f64::to_bits(x);
-    if b < 0x0010_0000_0000_0000 {
-        return of_any(x);
-    }
-    if b >= 0x7ff0_0000_0000_0000 {
-        return of_any(x);
-    }
-    normal(b)
+    of_any(x)
 }
 
 // The square root of x, correctly rounded, quicker where r is the root of a float within 2 ^ -18 of x. h is r, cut to so few digits that d is exact. With
@@ -304,46 +282,36 @@ pub fn no_tangent() -> Tangent {
     }
 }
 
-// The tangent at the positive float whose bits are b, as in `from_table`, by wider ranges and more of the sum.
+// The tangent at the positive float whose bits are b, as in `from_table`, by wider ranges, for |u| up to 2 ^ -8, and one more part of the sum.
 fn from_wide_table(b: u64) -> Tangent
     requires { ⌜ b < 0x7ff0_0000_0000_0000 ⌝ }
 {
     let f = b % 0x0020_0000_0000_0000;
-    let i = f / 0x0001_0000_0000_0000;
     let e = b / 0x0020_0000_0000_0000;
-    let p = wide_place_of(i);
-    let c = f64::from_bits(i * 0x0001_0000_0000_0000 + 0x3fe0_8000_0000_0000);
-    let d = f64::from_bits(f + 0x3fe0_0000_0000_0000) - c;
-    let scale = f64::from_bits((e + 512) * 0x0010_0000_0000_0000);
+    let p = wide_place_of(f / 0x0000_4000_0000_0000);
+    let u = (f64::from_bits(f + 0x3fe0_0000_0000_0000) - p.square) * p.half;
+    let uu = u * u;
+    let high = p.root * f64::from_bits((e + 512) * 0x0010_0000_0000_0000);
     let inverse = f64::from_bits((1534 - e) * 0x0010_0000_0000_0000);
-    let z = d * p.quarter;
-    let t = d * scale * p.half;
-    let zz = z * z;
-    let tzz = t * zz;
-    let first = t * (1.0 - z) + p.rest * scale + tzz * (2.0 - 5.0 * z);
-    let second = tzz * zz * (14.0 - 42.0 * z + zz * (132.0 - 429.0 * z) + zz * zz * 1430.0);
+    let more = 0.49999999985939 - 0.62499999945 * u + uu * (0.8750365 - 1.31258 * u);
     let at = f64::from_bits(b);
     Tangent {
         at: at,
-        high: p.root * scale,
-        low: first + second,
-        slope: p.half * inverse * (1.0 - 2.0 * z + 6.0 * zz),
+        high: high,
+        low: high * u * (1.0 - 0.500000000000001 * u + uu * more),
+        slope: p.root * p.half * inverse * (1.0 - u + 1.5 * uu),
     }
 }
 
-// The tangent at x, where x is positive and well within the range of the exponents.
+// The tangent at x, where x is a positive normal number.
 pub fn tangent_at(x: f64) -> Tangent {
-    if x != x {
-        return no_tangent();
+    if x >= 2.2250738585072014e-308 {
+        if x >= 1.0 / 0.0 {
+            return no_tangent();
+        }
+        return from_wide_table(f64::to_bits(x));
     }
-    let b = f64::to_bits(x);
-    if b < 0x1000_0000_0000_0000 {
-        return no_tangent();
-    }
-    if b >= 0x6000_0000_0000_0000 {
-        return no_tangent();
-    }
-    from_wide_table(b)
+    no_tangent()
 }
 
 // The square root of x, correctly rounded, quicker where g is the tangent at a float within 2 ^ -40 of x.

@@ -8,29 +8,20 @@ use Rattle.root.proofs.sqrt.from_wide_table.Tie as tie
 wide-place-of-requires : tie.Need-wide-place-of-requires
 wide-place-of-requires c κs = search needs
 
-mul-c : tie.Need-mul-c
-mul-c c = search needs
+add-u : tie.Need-add-u
+add-u c = search needs
 
-add-c : tie.Need-add-c
-add-c c = search needs
+float-from-bits-u : tie.Need-float-from-bits-u
+float-from-bits-u c = no-nan _ (omega arith)
 
-float-from-bits-c : tie.Need-float-from-bits-c
-float-from-bits-c c = no-nan _ (omega arith)
+add-high : tie.Need-add-high
+add-high c = search needs
 
-add-d : tie.Need-add-d
-add-d c = search needs
+mul-high : tie.Need-mul-high
+mul-high c = search needs
 
-float-from-bits-d : tie.Need-float-from-bits-d
-float-from-bits-d c = no-nan _ (omega arith)
-
-add-scale : tie.Need-add-scale
-add-scale c = search needs
-
-mul-scale : tie.Need-mul-scale
-mul-scale c = search needs
-
-float-from-bits-scale : tie.Need-float-from-bits-scale
-float-from-bits-scale c = no-nan _ (omega arith)
+float-from-bits-high : tie.Need-float-from-bits-high
+float-from-bits-high c = no-nan _ (omega arith)
 
 sub-inverse : tie.Need-sub-inverse
 sub-inverse c = search needs
@@ -52,14 +43,11 @@ from-wide-table-spec =
     tie.close
     (tie.spec
     wide-place-of-requires
-    mul-c
-    add-c
-    float-from-bits-c
-    add-d
-    float-from-bits-d
-    add-scale
-    mul-scale
-    float-from-bits-scale
+    add-u
+    float-from-bits-u
+    add-high
+    mul-high
+    float-from-bits-high
     sub-inverse
     mul-inverse
     float-from-bits-inverse

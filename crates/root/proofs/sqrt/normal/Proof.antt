@@ -1,5 +1,4 @@
--- `root::sqrt::normal` meets its contract: the answer's digits were tested by `near`, or it comes from `positive`. Assumes nothing.
-use Prim.Native.Nat.{_+_, _%_, _^_}
+-- `root::sqrt::normal` meets its contract: the answer's digits were tested by `agrees`, or it comes from `positive`. Assumes nothing.
 use native.Mathlib.Omega.{arith}
 use lib.Ieee.{binary64, toBits}
 use Rattle.root.proofs.Reading.{no-nan}
@@ -18,23 +17,17 @@ positive-requires c κs = search needs
 returns : tie.Need-returns
 returns c = search needs
 
-float-to-bits-q : tie.Need-float-to-bits-q
-float-to-bits-q c = is-number (c .before .from-table .result) (c .if1 .left)
-
-add-q : tie.Need-add-q
-add-q c = search needs
+float-to-bits-n : tie.Need-float-to-bits-n
+float-to-bits-n c = is-number (c .before .from-table .result) (c .if1 .left)
 
 radicand-requires : tie.Need-radicand-requires
 radicand-requires c κs = search needs
 
-near-requires : tie.Need-near-requires
-near-requires c κs = omega (arith, room (c .before .before .before .args .b), c .radicand .ensures)
+agrees-requires : tie.Need-agrees-requires
+agrees-requires c κs = omega (arith, room (c .before .before .before .args .b), c .radicand .ensures)
 
-add-k : tie.Need-add-k
-add-k c = search needs
-
-add-k-2 : tie.Need-add-k-2
-add-k-2 c = search needs
+add-e : tie.Need-add-e
+add-e c = search needs
 
 mul-result : tie.Need-mul-result
 mul-result c = search needs
@@ -48,8 +41,7 @@ float-from-bits-result c = no-nan _ (omega arith)
 returns-2 : tie.Need-returns-2
 returns-2 c =
     let d = c .before .before .before .before .before in
-    let q = toBits binary64 (c .before .before .before .before .from-table .result) % 2 ^ 52 + 2 ^ 52 in
-    found (d .args .b) q (c .before .before .radicand .result) (d .pre .0) (d .pre .1) (c .before .before .radicand .ensures) (c .before .near .ensures (c .if2 .taken))
+    found (d .args .b) (toBits binary64 (c .before .before .before .before .from-table .result)) (c .before .before .radicand .result) (d .pre .0) (d .pre .1) (c .before .before .radicand .ensures) (c .before .agrees .ensures (c .if2 .taken))
 
 positive-requires-2 : tie.Need-positive-requires-2
 positive-requires-2 c κs = search needs
@@ -64,12 +56,10 @@ normal-spec =
     from-table-requires
     positive-requires
     returns
-    float-to-bits-q
-    add-q
+    float-to-bits-n
     radicand-requires
-    near-requires
-    add-k
-    add-k-2
+    agrees-requires
+    add-e
     mul-result
     add-result
     float-from-bits-result

@@ -1,5 +1,7 @@
 -- `root::sqrt::tangent_at` is safe. Assumes nothing.
-use Rattle.root.proofs.Special.{is-number}
+use mathlib.Core.Path.{sym, subst}
+use lib.Dec.{T}
+use Rattle.root.proofs.Normal.{le-number, normal-bits}
 use borrow.Author.Needs.{needs}
 use Rattle.root.proofs.sqrt.tangent_at.Statement.{statement}
 use Rattle.root.proofs.sqrt.tangent_at.Tie as tie
@@ -10,26 +12,20 @@ no-tangent-requires c κs = search needs
 returns : tie.Need-returns
 returns c = search needs
 
-float-to-bits-b : tie.Need-float-to-bits-b
-float-to-bits-b c = is-number (c .before .args .x) (c .if1 .left)
+float-to-bits-from-wide-table : tie.Need-float-to-bits-from-wide-table
+float-to-bits-from-wide-table c = le-number _ (c .before .before .args .x) (c .before .if1 .taken)
 
-no-tangent-requires-2 : tie.Need-no-tangent-requires-2
-no-tangent-requires-2 c κs = search needs
+from-wide-table-requires : tie.Need-from-wide-table-requires
+from-wide-table-requires c κs = let d = c .before .before in normal-bits (d .args .x) (subst T (sym (d .good .0 .1)) tt) (c .before .if1 .taken) (c .if2 .left) .below
 
 returns-2 : tie.Need-returns-2
 returns-2 c = search needs
 
-no-tangent-requires-3 : tie.Need-no-tangent-requires-3
-no-tangent-requires-3 c κs = search needs
+no-tangent-requires-2 : tie.Need-no-tangent-requires-2
+no-tangent-requires-2 c κs = search needs
 
 returns-3 : tie.Need-returns-3
 returns-3 c = search needs
-
-from-wide-table-requires : tie.Need-from-wide-table-requires
-from-wide-table-requires c κs = search needs
-
-returns-4 : tie.Need-returns-4
-returns-4 c = search needs
 
 pub tangent-at-spec : {M : Type 1} → statement M
 tangent-at-spec =
@@ -37,10 +33,8 @@ tangent-at-spec =
     (tie.spec
     no-tangent-requires
     returns
-    float-to-bits-b
-    no-tangent-requires-2
-    returns-2
-    no-tangent-requires-3
-    returns-3
+    float-to-bits-from-wide-table
     from-wide-table-requires
-    returns-4)
+    returns-2
+    no-tangent-requires-2
+    returns-3)
