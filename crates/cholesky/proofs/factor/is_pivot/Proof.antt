@@ -1,12 +1,12 @@
+use mathlib.Core.Path.{sym, subst}
+use lib.Dec.{T}
 use Rattle.cholesky.proofs.Pivot.{pivot-of-above, no-pivot}
 use Rattle.cholesky.proofs.factor.is_pivot.Statement.{statement}
 use Rattle.cholesky.proofs.factor.is_pivot.Tie as tie
 
--- src/lib.rt:22:1
 returns : tie.Need-returns
-returns c = pivot-of-above (c .before .args .p) (c .if1 .taken)
+returns c = pivot-of-above (c .before .args .p) (subst T (sym (c .before .good .0 .1)) tt) (c .if1 .taken)
 
--- src/lib.rt:22:1
 returns-2 : tie.Need-returns-2
 returns-2 c = no-pivot (c .before .args .p) (c .if1 .left)
 
