@@ -19,16 +19,12 @@ pub enum Factoring {
     Done,
 }
 
-// A pivot that is not finite or not above 0 is refused; a NaN is neither above 0 nor at most the largest number. It is compared with that number, since of
-// comparisons with 0 and infinity the compiler makes a test of bits that takes three times as long.
+// A pivot that is not finite or not above 0 is refused; a NaN is neither above 0 nor at most the largest number. It is not held against infinity, since the
+// compiler then makes a test of bits of the two comparisons, which takes three times the instructions.
 fn is_pivot(p: f64) -> bool
     ensures { λ r. ⌜ r ≡ isPivot p ⌝ }
 {
-    if 0.0 < p {
-        p <= 1.7976931348623157e308
-    } else {
-        false
-    }
+    (0.0 < p) & (p <= 1.7976931348623157e308)
 }
 
 // A number of a program is a binary64; reading one out of a matrix does not tell that.
@@ -46,8 +42,8 @@ fn few(j: usize) -> usize
     if j < 7 { j } else { 7 }
 }
 
-// Makes the factor of a in l, which holds zeros, and says whether there is one; where there is none l is left half made. The unknowns from n on are unused: the
-// first n rows are made alone, and below them the identity's. Only the lower triangle of a is read.
+// Makes the factor of a in l, which holds zeros, and says whether there is one; where there is none, l is left with what was made of it. The unknowns from n
+// on are unused: the first n rows are made alone, and below them the identity's. Only the lower triangle of a is read.
 // The factor is made column by column, since the sums of a column do not wait for the root of its pivot. p is the pivot of column j, and q what
 // the next one has come to before column j: q less s * s / p is so near the next pivot that the tangent there gives its root at once.
 pub fn factor_used(n: usize, a: &[[f64; 9]; 9], l: &mut [[f64; 9]; 9]) -> bool

@@ -1,7 +1,7 @@
 -- `cholesky::factor::factor_used` meets its contract: before column j the rows are as `Columns` says and p is the pivot of row j. Assumes nothing.
 use native.Mathlib.Omega.{arith}
 use borrow.Author.Needs.{needs}
-use mathlib.Core.Bool.{true, false≢true}
+use mathlib.Core.Bool.{false≢true}
 use mathlib.Core.List.{List}
 use mathlib.Core.Path.{_≡_, sym, _∙_, subst}
 use mathlib.Core.Logic.{_≢_}
@@ -10,7 +10,7 @@ use lib.Ieee.{Float}
 use Prim.Native.Nat.{_≤_, _<_, _-_, _+_}
 use Rattle.exact.proofs.Products.{less-zero, less-next}
 use Rattle.exact.specs.Products.{lessProducts}
-use Rattle.cholesky.specs.Factor.{factorOf, Refused, Lower, row, cell, isPivot}
+use Rattle.cholesky.specs.Factor.{factorOf, Refused, Lower, row, cell}
 use Rattle.cholesky.proofs.FactorColumns.{Columns, columns-none, columns-diagonal, columns-root, diagonal-kept, pivot-next, pivot-kept, columns-element, columns-stop}
 use Rattle.cholesky.proofs.FactorUsed.{Closing, closing-none, closing-next, closing-end, closing-unused}
 use Rattle.cholesky.proofs.factor.factor_used.Statement.{statement}
