@@ -1,14 +1,14 @@
 -- What a caller of the factorisation goes on: whether there is a factor, and what the lent rows hold. Assumes nothing.
 use Prim.Native.Nat.{ℕ}
 use native.Mathlib.Omega.{arith}
-use mathlib.Core.Path.{_≡_, refl, sym, ap, _∙_}
-use mathlib.Core.Bool.{true, false}
+use mathlib.Core.Path.{_≡_, refl, sym}
 use mathlib.Core.List.{List}
 use lib.Ieee.{Float}
+use mathlib.Core.Bool.{true, false}
 use Rattle.cholesky.specs.declared.factor.Factoring.the-variants as Factoring
 use Rattle.numeric.specs.declared.refusal.Refusal.the-variants.{FitFailed}
-use Rattle.cholesky.specs.Factor.{zeros, Factored, Refused, Lower, solutionOf}
-use Rattle.cholesky.specs.Answer.{accepted, factoringOf, rowsAfter, solvedBy}
+use Rattle.cholesky.specs.Factor.{Factored, Refused, Lower}
+use Rattle.cholesky.specs.Answer.{accepted, factoringOf, rowsAfter}
 
 -- one case of what factoring gives is ruled out by the answer
 never : {A : Type 0} → false ≡ true → A
@@ -22,10 +22,10 @@ pub refused : (w : Factored) → false ≡ accepted w → Factoring.Refused FitF
 refused Refused e = refl
 refused (Lower l) e = never e
 
-pub solved-yes : (w : Factored) (m l : List (List Float)) (b x : List Float) → true ≡ accepted w → l ≡ rowsAfter w m → x ≡ solutionOf l b → x ≡ solvedBy w b
-solved-yes Refused m l b x e h k = never (sym e)
-solved-yes (Lower n) m l b x e h k = k ∙ ap (λ (z : List (List Float)). solutionOf z b) h
+pub rows-done : (w : Factored) (m n : List (List Float)) → true ≡ accepted w → rowsAfter w m ≡ rowsAfter w n
+rows-done Refused m n e = never (sym e)
+rows-done (Lower l) m n e = refl
 
-pub solved-no : (w : Factored) (b : List Float) → false ≡ accepted w → zeros ≡ solvedBy w b
-solved-no Refused b e = refl
-solved-no (Lower n) b e = never e
+pub rows-refused : (w : Factored) (m : List (List Float)) → false ≡ accepted w → m ≡ rowsAfter w m
+rows-refused Refused m e = refl
+rows-refused (Lower l) m e = never e

@@ -87,18 +87,6 @@ module _ (a w : List (List Float)) (m j : ℕ) (mb : m ≤ 9) (b : j < m) (h : C
       let n : length (row w j) ≡ 9 = ap length (h .done j (le-refl j) b) ∙ below-length j w (row a j) in
       ap (λ (r : List Float). at r j) (getD-set-same w j (set (row w j) j d) [] (omega (arith, h .nine))) ∙ getD-set-same (row w j) j d nan (omega arith)
 
-  -- the sums of another row with row j do not read its diagonal
-  pub columns-sums : (d : Float) (i : ℕ) → i ≢ j → (z : Float)
-      → lessProducts z (cell w i) (cell w j) j ≡ lessProducts z (cell (set w j (set (row w j) j d)) i) (cell (set w j (set (row w j) j d)) j) j
-  columns-sums d i f z =
-      let x = set (row w j) j d in
-      less-ext z z (cell w i) (cell (set w j x) i) (cell w j) (cell (set w j x) j) j refl (λ k kb. ap (λ (r : List Float). at r k) (sym (kept w j x i f)))
-      (λ k kb. sym (ap (λ (r : List Float). at r k) (getD-set-same w j x [] (omega (arith, h .nine))) ∙ getD-set-other (row w j) j k d nan (omega arith)))
-
-  pub columns-squares : (d : Float) (i : ℕ) → i ≢ j → (z : Float) (n : ℕ)
-      → lessProducts z (cell w i) (cell w i) n ≡ lessProducts z (cell (set w j (set (row w j) j d)) i) (cell (set w j (set (row w j) j d)) i) n
-  columns-squares d i f z n = kept-squares w j (set (row w j) j d) i f z n
-
   module _ (ok : isPivot p ≡ true) (d : Float) (q : d ≡ rootOf p) where
     x : List Float
     x = set (row w j) j d
@@ -228,10 +216,6 @@ module _ (a w : List (List Float)) (m n : ℕ) (h : Columns m n m a w) (b : n �
       let stop : factorTo (n + 1) a ≡ Refused = factorTo-next n a (g .l) (g .is) ∙ rw (pivot-agree n (g .l) w (row a n) (g .rows), f) in
       let m : 9 - (n + 1) + (n + 1) ≡ 9 = omega arith in
       rw m at (refused-more (9 - (n + 1)) (n + 1) a stop)
-
--- nine columns are the factor
-pub columns-end : (a w : List (List Float)) → Columns 9 9 9 a w → factorOf a ≡ Lower w
-columns-end a w h = made-all a w (h .nine) (made a w 9 9 h (le-refl 9) 9 (le-refl 9))
 
 pub columns-stop : (a w : List (List Float)) (m j : ℕ) → m ≤ 9 → j < m → Columns m j m a w → (p : Float) → p ≡ lessProducts (cell a j j) (cell w j) (cell w j) j → isPivot p ≡ false → factorOf a ≡ Refused
 columns-stop a w m j mb b h p e f = columns-refused a w m j h (omega arith) (omega arith) (rw (columns-pivot a w m j mb b h p e) at f)

@@ -8,7 +8,6 @@ use lib.ListN.{set, replicate}
 use lib.Ieee.{Float}
 use Rattle.exact.specs.Float.{_⊘_, +0}
 use Rattle.exact.specs.Products.{lessProducts}
-use Rattle.root.specs.Root.{rootOf}
 use Rattle.cholesky.specs.Factor.{at, row, cell, isPivot, withElement, below, pivotOf, rowOf, Refused, Lower, when, next, factorTo, factorOf, forwardTo, withForward, backTo, withBack}
 
 pub below-zero : (l : List (List Float)) (a : List Float) → below 0 l a ≡ replicate 9 +0
@@ -22,10 +21,6 @@ below-next j l a = rw add-one
 pub pivotOf-is : (i : ℕ) (l : List (List Float)) (a : List Float) → pivotOf i l a ≡ lessProducts (at a i) (at (below i l a)) (at (below i l a)) i
 unfolding pivotOf
 pivotOf-is i l a = refl
-
-pub rowOf-is : (i : ℕ) (l : List (List Float)) (a : List Float) → rowOf i l a ≡ set (below i l a) i (rootOf (pivotOf i l a))
-unfolding rowOf
-rowOf-is i l a = refl
 
 pub factorTo-zero : (a : List (List Float)) → factorTo 0 a ≡ Lower (replicate 9 (replicate 9 +0))
 unfolding factorTo

@@ -9,7 +9,7 @@ use mathlib.Core.List.{List, []}
 use lib.Dec.{T, ltb→lt}
 use lib.Pow.{pow-pos}
 use lib.ListN.{set, length, length-set, getD-replicate}
-use lib.Seq.{getD-set-same, getD-set-other, set-getD, ext-getD}
+use lib.Seq.{getD-set-same, getD-set-other, set-getD}
 use lib.Ieee.{Float, nan, inf, fin, binary64, up, down, fits, lt, ofBits}
 use lib.Ieee.Fits.{sub-fits}
 use lib.Ieee.Scale.{finite}

@@ -21,6 +21,13 @@ use Rattle.cholesky.proofs.FactorLaws.{forwardTo-next, backTo-zero, bac
 use Rattle.cholesky.proofs.FactorFinite.{zero-finite}
 use Rattle.numeric.proofs.Zeros.{less-zeros, less-nothing, zero-over-one}
 
+-- all nine are used
+pub all-used : (m : List (List Float)) → Unused 9 m
+all-used m = record { diagonal-is = λ i b c. absurd (omega arith); below-is = λ i j b c d. absurd (omega arith) }
+
+pub all-places : (x : List Float) → UnusedPlaces 9 x
+all-places x = record { zero-at = λ i b c. absurd (omega arith) }
+
 -- a used place set
 pub places-kept : (n i : ℕ) (x : List Float) (v : Float) → i < n → UnusedPlaces n x → UnusedPlaces n (set x i v)
 places-kept n i x v b h = record { zero-at = λ k kb kc. getD-set-other x i k v nan (omega arith) ∙ h .zero-at k kb kc }

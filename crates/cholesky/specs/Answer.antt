@@ -5,7 +5,7 @@ use lib.Ieee.{Float}
 use Rattle.cholesky.specs.declared.factor.Factoring.{Factoring}
 use Rattle.cholesky.specs.declared.factor.Factoring.the-variants as Factoring
 use Rattle.numeric.specs.declared.refusal.Refusal.the-variants.{FitFailed}
-use Rattle.cholesky.specs.Factor.{zeros, Factored, Refused, Lower, solutionOf}
+use Rattle.cholesky.specs.Factor.{Factored, Refused, Lower}
 
 abbrev pub accepted : Factored → Bool
 accepted Refused = false
@@ -20,8 +20,3 @@ factoringOf (Lower l) = Factoring.Done
 abbrev pub rowsAfter : Factored → List (List Float) → List (List Float)
 rowsAfter Refused m = m
 rowsAfter (Lower l) m = l
-
--- the solution, zeros where the matrix is refused
-abbrev pub solvedBy : Factored → List Float → List Float
-solvedBy Refused b = zeros
-solvedBy (Lower l) b = solutionOf l b

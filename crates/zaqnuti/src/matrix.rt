@@ -4,7 +4,7 @@ ghost use Rattle.cholesky.specs.Factor.{factorOf, solutionOf};
 ghost use Rattle.cholesky.specs.Answer.{rowsAfter};
 ghost use Rattle.zaqnuti.specs.Numbers.{factorNumber};
 use cholesky::factor::factor_into;
-use cholesky::factor::solve_lent;
+use cholesky::factor::solve_into;
 use numeric::refusal::Refusal;
 
 // The factor of a in l and 0, or 10, which leaves l as it was.
@@ -24,6 +24,6 @@ pub extern "C" fn zaqnuti_factor(a: &[[f64; 9]; 9], l: &mut [[f64; 9]; 9]) -> u8
 pub extern "C" fn zaqnuti_solve(l: &[[f64; 9]; 9], b: &[f64; 9], x: &mut [f64; 9])
     ensures { λ _. ⌜ now (x .exit) ≡ solutionOf (now (l .entry)) (now (b .entry)) ⌝ }
 {
-    let y = solve_lent(l, *b);
-    *x = y;
+    *x = *b;
+    solve_into(l, x);
 }

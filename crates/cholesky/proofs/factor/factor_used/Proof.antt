@@ -1,1387 +1,255 @@
 -- `cholesky::factor::factor_used` meets its contract: before column j the rows are as `Columns` says and p is the pivot of row j. Assumes nothing.
 use native.Mathlib.Omega.{arith}
 use borrow.Author.Needs.{needs}
-use mathlib.Core.Bool.{true, false≢true}
-use Rattle.exact.proofs.Products.{less-zero, less-next}
-use Rattle.exact.specs.Products.{lessProducts}
-use Rattle.cholesky.specs.Factor.{factorOf, Refused, Lower, row, cell, isPivot}
-use Rattle.cholesky.proofs.FactorColumns.{Columns, columns-none, columns-sums, columns-squares, columns-diagonal, columns-root, diagonal-kept, pivot-next, pivot-kept, columns-element, columns-stop}
-use Rattle.cholesky.proofs.FactorUsed.{Closing, closing-none, closing-next, closing-end, closing-unused}
+use mathlib.Core.Bool.{false≢true}
+use mathlib.Core.List.{List}
 use mathlib.Core.Path.{_≡_, sym, _∙_, subst}
 use mathlib.Core.Logic.{_≢_}
 use lib.ListN.{set}
+use lib.Ieee.{Float}
 use Prim.Native.Nat.{_≤_, _<_, _-_, _+_}
+use Rattle.exact.proofs.Products.{less-zero, less-next}
+use Rattle.exact.specs.Products.{lessProducts}
+use Rattle.cholesky.specs.Factor.{factorOf, Refused, Lower, row, cell}
+use Rattle.cholesky.proofs.FactorColumns.{Columns, columns-none, columns-diagonal, columns-root, diagonal-kept, pivot-next, pivot-kept, columns-element, columns-stop}
+use Rattle.cholesky.proofs.FactorUsed.{Closing, closing-none, closing-next, closing-end, closing-unused}
 use Rattle.cholesky.proofs.factor.factor_used.Statement.{statement}
 use Rattle.cholesky.proofs.factor.factor_used.Tie as tie
 
-abbrev Inv-loop2 : tie.InvT-loop2
-Inv-loop2 n a l w p t last j m s₀ q₀ k₀ s q k = (j + 1 < n) × (k ≤ j) × (s ≡ lessProducts (cell a m j) (cell w m) (cell w j) k) × (q ≡ lessProducts (cell a m m) (cell w m) (cell w m) k)
+abbrev I2 : tie.InvT-loop2
+I2 n a l₀ p j d m i₀ l i = (n ≤ i) × (i ≤ 9) × Closing n i a l
 
-abbrev μ-loop2 : tie.MeasureT-loop2
-μ-loop2 n a l w p t last j m s₀ q₀ k₀ s q k = j - k
+abbrev μ2 : tie.MeasureT-loop2
+μ2 n a l₀ p j d m i₀ l i = 9 - i
 
-abbrev Inv-loop4 : tie.InvT-loop4
-Inv-loop4 n a l w p t last j m s q r d v i s₀ k₀ s' k = (j < i) × (i < n) × (k ≤ j) × (s' ≡ lessProducts (cell a i j) (cell w i) (cell w j) k)
+abbrev I3 : tie.InvT-loop3
+I3 n a l p j d m c s₀ q₀ k₀ s q k = (j + 1 < n) × (k ≤ j) × (s ≡ lessProducts (cell a m j) (cell l m) (cell l j) k) × (q ≡ lessProducts (cell a m m) (cell l m) (cell l m) k)
 
-abbrev μ-loop4 : tie.MeasureT-loop4
-μ-loop4 n a l w p t last j m s q r d v i s₀ k₀ s' k = j - k
+abbrev μ3 : tie.MeasureT-loop3
+μ3 n a l p j d m c s₀ q₀ k₀ s q k = c - k
 
-abbrev Inv-loop3 : tie.InvT-loop3
-Inv-loop3 n a l w₀ p t last j m s q r d v i₀ w i = (j + 1 < i) × (i ≤ n) × Columns n (j + 1) i a w × (d ≡ cell w j j) × (p ≡ lessProducts (cell a m m) (cell w m) (cell w m) m)
+abbrev I5 : tie.InvT-loop5
+I5 n a l p t j d m c s q r v i s₀ k₀ s' k = (j < i) × (i < n) × (k ≤ j) × (s' ≡ lessProducts (cell a i j) (cell l i) (cell l j) k)
 
-abbrev μ-loop3 : tie.MeasureT-loop3
-μ-loop3 n a l w₀ p t last j m s q r d v i₀ w i = n - i
+abbrev μ5 : tie.MeasureT-loop5
+μ5 n a l p t j d m c s q r v i s₀ k₀ s' k = c - k
 
-abbrev Inv-loop : tie.InvT-loop
-Inv-loop n a l w₀ p₀ t₀ last j₀ w p t j = (last + 1 ≡ n) × (j ≤ last) × Columns n j n a w × (p ≡ lessProducts (cell a j j) (cell w j) (cell w j) j)
+abbrev I4 : tie.InvT-loop4
+I4 n a l₀ p t j d m c s q r v i₀ l i = (j + 1 < i) × (i ≤ n) × Columns n (j + 1) i a l × (d ≡ cell l j j) × (p ≡ lessProducts (cell a m m) (cell l m) (cell l m) m)
 
-abbrev μ-loop : tie.MeasureT-loop
-μ-loop n a l w₀ p₀ t₀ last j₀ w p t j = last - j
+abbrev μ4 : tie.MeasureT-loop4
+μ4 n a l₀ p t j d m c s q r v i₀ l i = n - i
 
-abbrev Inv-loop5 : tie.InvT-loop5
-Inv-loop5 n a l w₀ p last d i₀ w i = (n ≤ i) × (i ≤ 9) × Closing n i a w
+abbrev I : tie.InvT-loop
+I n a l₀ p₀ t₀ j₀ l p t j = (j < n) × Columns n j n a l × (p ≡ lessProducts (cell a j j) (cell l j) (cell l j) j)
 
-abbrev μ-loop5 : tie.MeasureT-loop5
-μ-loop5 n a l w₀ p last d i₀ w i = 9 - i
+abbrev μ : tie.MeasureT-loop
+μ n a l₀ p₀ t₀ j₀ l p t j = n - j
 
-index-1-held :
-    tie.Need-index-1-held
-    Inv-loop2
-    μ-loop2
-    Inv-loop4
-    μ-loop4
-    Inv-loop3
-    μ-loop3
-    Inv-loop
-    μ-loop
-    Inv-loop5
-    μ-loop5
-index-1-held c = omega arith
+-- column j with the root of its pivot on the diagonal
+rooted : (c : tie.After-sqrt-near I2 μ2 I3 μ3 I5 μ5 I4 μ4 I μ) → let t = c .before .before .before .before in let s = t .before .before .before .before in let d = c .sqrt-near .result in let j = t .loop .j in Columns (s .args .n) (j + 1) (j + 1) (s .args .a .now) (set (t .loop .l) j (set (row (t .loop .l) j) j d))
+rooted c =
+    let t = c .before .before .before .before in
+    let s = t .before .before .before .before in
+    let h = t .loop in
+    columns-root (s .args .a .now) (h .l) (s .args .n) (h .j) (omega arith) (omega arith) (h .inv .1) (h .p) (h .inv .2) (sym (c .before .before .is-pivot .ensures) ∙ c .before .if1 .taken) (c .sqrt-near .result) (c .sqrt-near .ensures)
 
-index-2-held :
-    tie.Need-index-2-held
-    Inv-loop2
-    μ-loop2
-    Inv-loop4
-    μ-loop4
-    Inv-loop3
-    μ-loop3
-    Inv-loop
-    μ-loop
-    Inv-loop5
-    μ-loop5
-index-2-held c = omega arith
+loop-holds : tie.Need-loop-holds I2 μ2 I3 μ3 I5 μ5 I4 μ4 I μ
+loop-holds c =
+    let s = c .before .before .before in
+    (omega arith, subst (λ (w : List (List Float)). Columns (s .args .n) 0 (s .args .n) (s .args .a .now) w) (sym (s .pre .3)) (columns-none (s .args .n) (omega arith) (s .args .a .now)), c .before .held .ensures .0 ∙ sym (less-zero _ _ _))
 
-held-requires :
-    tie.Need-held-requires
-    Inv-loop2
-    μ-loop2
-    Inv-loop4
-    μ-loop4
-    Inv-loop3
-    μ-loop3
-    Inv-loop
-    μ-loop
-    Inv-loop5
-    μ-loop5
-held-requires c κs = search needs
-
-no-tangent-requires :
-    tie.Need-no-tangent-requires
-    Inv-loop2
-    μ-loop2
-    Inv-loop4
-    μ-loop4
-    Inv-loop3
-    μ-loop3
-    Inv-loop
-    μ-loop
-    Inv-loop5
-    μ-loop5
-no-tangent-requires c κs = search needs
-
-sub-last :
-    tie.Need-sub-last
-    Inv-loop2
-    μ-loop2
-    Inv-loop4
-    μ-loop4
-    Inv-loop3
-    μ-loop3
-    Inv-loop
-    μ-loop
-    Inv-loop5
-    μ-loop5
-sub-last c = omega arith
-
-loop-holds :
-    tie.Need-loop-holds
-    Inv-loop2
-    μ-loop2
-    Inv-loop4
-    μ-loop4
-    Inv-loop3
-    μ-loop3
-    Inv-loop
-    μ-loop
-    Inv-loop5
-    μ-loop5
-loop-holds c = (omega arith, omega arith, columns-none (c .before .before .before .args .n) (omega arith) (c .before .before .before .args .a .now), c .before .held .ensures .0 ∙ sym (less-zero _ _ _))
-
-is-pivot-requires :
-    tie.Need-is-pivot-requires
-    Inv-loop2
-    μ-loop2
-    Inv-loop4
-    μ-loop4
-    Inv-loop3
-    μ-loop3
-    Inv-loop
-    μ-loop
-    Inv-loop5
-    μ-loop5
-is-pivot-requires c κs = search needs
-
-add-m :
-    tie.Need-add-m
-    Inv-loop2
-    μ-loop2
-    Inv-loop4
-    μ-loop4
-    Inv-loop3
-    μ-loop3
-    Inv-loop
-    μ-loop
-    Inv-loop5
-    μ-loop5
-add-m c = omega arith
-
-mul-s :
-    tie.Need-mul-s
-    Inv-loop2
-    μ-loop2
-    Inv-loop4
-    μ-loop4
-    Inv-loop3
-    μ-loop3
-    Inv-loop
-    μ-loop
-    Inv-loop5
-    μ-loop5
-mul-s c = omega arith
-
-mul-s-2 :
-    tie.Need-mul-s-2
-    Inv-loop2
-    μ-loop2
-    Inv-loop4
-    μ-loop4
-    Inv-loop3
-    μ-loop3
-    Inv-loop
-    μ-loop
-    Inv-loop5
-    μ-loop5
-mul-s-2 c = omega arith
-
-index-1-s :
-    tie.Need-index-1-s
-    Inv-loop2
-    μ-loop2
-    Inv-loop4
-    μ-loop4
-    Inv-loop3
-    μ-loop3
-    Inv-loop
-    μ-loop
-    Inv-loop5
-    μ-loop5
-index-1-s c = omega arith
-
-index-2-s :
-    tie.Need-index-2-s
-    Inv-loop2
-    μ-loop2
-    Inv-loop4
-    μ-loop4
-    Inv-loop3
-    μ-loop3
-    Inv-loop
-    μ-loop
-    Inv-loop5
-    μ-loop5
-index-2-s c = omega arith
-
-mul-q :
-    tie.Need-mul-q
-    Inv-loop2
-    μ-loop2
-    Inv-loop4
-    μ-loop4
-    Inv-loop3
-    μ-loop3
-    Inv-loop
-    μ-loop
-    Inv-loop5
-    μ-loop5
-mul-q c = omega arith
-
-mul-q-2 :
-    tie.Need-mul-q-2
-    Inv-loop2
-    μ-loop2
-    Inv-loop4
-    μ-loop4
-    Inv-loop3
-    μ-loop3
-    Inv-loop
-    μ-loop
-    Inv-loop5
-    μ-loop5
-mul-q-2 c = omega arith
-
-index-1-q :
-    tie.Need-index-1-q
-    Inv-loop2
-    μ-loop2
-    Inv-loop4
-    μ-loop4
-    Inv-loop3
-    μ-loop3
-    Inv-loop
-    μ-loop
-    Inv-loop5
-    μ-loop5
-index-1-q c = omega arith
-
-index-2-q :
-    tie.Need-index-2-q
-    Inv-loop2
-    μ-loop2
-    Inv-loop4
-    μ-loop4
-    Inv-loop3
-    μ-loop3
-    Inv-loop
-    μ-loop
-    Inv-loop5
-    μ-loop5
-index-2-q c = omega arith
-
-loop2-holds :
-    tie.Need-loop2-holds
-    Inv-loop2
-    μ-loop2
-    Inv-loop4
-    μ-loop4
-    Inv-loop3
-    μ-loop3
-    Inv-loop
-    μ-loop
-    Inv-loop5
-    μ-loop5
-loop2-holds c = (omega arith, omega arith, rw less-zero, rw less-zero)
-
-mul-x :
-    tie.Need-mul-x
-    Inv-loop2
-    μ-loop2
-    Inv-loop4
-    μ-loop4
-    Inv-loop3
-    μ-loop3
-    Inv-loop
-    μ-loop
-    Inv-loop5
-    μ-loop5
-mul-x c = omega arith
-
-mul-x-2 :
-    tie.Need-mul-x-2
-    Inv-loop2
-    μ-loop2
-    Inv-loop4
-    μ-loop4
-    Inv-loop3
-    μ-loop3
-    Inv-loop
-    μ-loop
-    Inv-loop5
-    μ-loop5
-mul-x-2 c = omega arith
-
-index-1-x :
-    tie.Need-index-1-x
-    Inv-loop2
-    μ-loop2
-    Inv-loop4
-    μ-loop4
-    Inv-loop3
-    μ-loop3
-    Inv-loop
-    μ-loop
-    Inv-loop5
-    μ-loop5
-index-1-x c = omega arith
-
-index-2-x :
-    tie.Need-index-2-x
-    Inv-loop2
-    μ-loop2
-    Inv-loop4
-    μ-loop4
-    Inv-loop3
-    μ-loop3
-    Inv-loop
-    μ-loop
-    Inv-loop5
-    μ-loop5
-index-2-x c = omega arith
-
-mul-s-3 :
-    tie.Need-mul-s-3
-    Inv-loop2
-    μ-loop2
-    Inv-loop4
-    μ-loop4
-    Inv-loop3
-    μ-loop3
-    Inv-loop
-    μ-loop
-    Inv-loop5
-    μ-loop5
-mul-s-3 c = omega arith
-
-mul-s-4 :
-    tie.Need-mul-s-4
-    Inv-loop2
-    μ-loop2
-    Inv-loop4
-    μ-loop4
-    Inv-loop3
-    μ-loop3
-    Inv-loop
-    μ-loop
-    Inv-loop5
-    μ-loop5
-mul-s-4 c = omega arith
-
-index-1-s-2 :
-    tie.Need-index-1-s-2
-    Inv-loop2
-    μ-loop2
-    Inv-loop4
-    μ-loop4
-    Inv-loop3
-    μ-loop3
-    Inv-loop
-    μ-loop
-    Inv-loop5
-    μ-loop5
-index-1-s-2 c = omega arith
-
-index-2-s-2 :
-    tie.Need-index-2-s-2
-    Inv-loop2
-    μ-loop2
-    Inv-loop4
-    μ-loop4
-    Inv-loop3
-    μ-loop3
-    Inv-loop
-    μ-loop
-    Inv-loop5
-    μ-loop5
-index-2-s-2 c = omega arith
-
-add-k :
-    tie.Need-add-k
-    Inv-loop2
-    μ-loop2
-    Inv-loop4
-    μ-loop4
-    Inv-loop3
-    μ-loop3
-    Inv-loop
-    μ-loop
-    Inv-loop5
-    μ-loop5
-add-k c = omega arith
-
-loop2-less :
-    tie.Need-loop2-less
-    Inv-loop2
-    μ-loop2
-    Inv-loop4
-    μ-loop4
-    Inv-loop3
-    μ-loop3
-    Inv-loop
-    μ-loop
-    Inv-loop5
-    μ-loop5
-loop2-less c = omega arith
-
-loop2-again :
-    tie.Need-loop2-again
-    Inv-loop2
-    μ-loop2
-    Inv-loop4
-    μ-loop4
-    Inv-loop3
-    μ-loop3
-    Inv-loop
-    μ-loop
-    Inv-loop5
-    μ-loop5
-loop2-again c = (omega arith, omega arith, rw (c .before .before .before .loop2 .inv .2, less-next), rw (c .before .before .before .loop2 .inv .3, less-next))
-
-tangent-at-requires :
-    tie.Need-tangent-at-requires
-    Inv-loop2
-    μ-loop2
-    Inv-loop4
-    μ-loop4
-    Inv-loop3
-    μ-loop3
-    Inv-loop
-    μ-loop
-    Inv-loop5
-    μ-loop5
-tangent-at-requires c κs = search needs
-
-sqrt-near-requires :
-    tie.Need-sqrt-near-requires
-    Inv-loop2
-    μ-loop2
-    Inv-loop4
-    μ-loop4
-    Inv-loop3
-    μ-loop3
-    Inv-loop
-    μ-loop
-    Inv-loop5
-    μ-loop5
-sqrt-near-requires c κs = search needs
-
-mul-w :
-    tie.Need-mul-w
-    Inv-loop2
-    μ-loop2
-    Inv-loop4
-    μ-loop4
-    Inv-loop3
-    μ-loop3
-    Inv-loop
-    μ-loop
-    Inv-loop5
-    μ-loop5
-mul-w c = omega arith
-
-mul-w-2 :
-    tie.Need-mul-w-2
-    Inv-loop2
-    μ-loop2
-    Inv-loop4
-    μ-loop4
-    Inv-loop3
-    μ-loop3
-    Inv-loop
-    μ-loop
-    Inv-loop5
-    μ-loop5
-mul-w-2 c = omega arith
-
-index-1-w :
-    tie.Need-index-1-w
-    Inv-loop2
-    μ-loop2
-    Inv-loop4
-    μ-loop4
-    Inv-loop3
-    μ-loop3
-    Inv-loop
-    μ-loop
-    Inv-loop5
-    μ-loop5
-index-1-w c = omega arith
-
-index-2-w :
-    tie.Need-index-2-w
-    Inv-loop2
-    μ-loop2
-    Inv-loop4
-    μ-loop4
-    Inv-loop3
-    μ-loop3
-    Inv-loop
-    μ-loop
-    Inv-loop5
-    μ-loop5
-index-2-w c = omega arith
-
-mul-w-3 :
-    tie.Need-mul-w-3
-    Inv-loop2
-    μ-loop2
-    Inv-loop4
-    μ-loop4
-    Inv-loop3
-    μ-loop3
-    Inv-loop
-    μ-loop
-    Inv-loop5
-    μ-loop5
-mul-w-3 c = omega arith
-
-mul-w-4 :
-    tie.Need-mul-w-4
-    Inv-loop2
-    μ-loop2
-    Inv-loop4
-    μ-loop4
-    Inv-loop3
-    μ-loop3
-    Inv-loop
-    μ-loop
-    Inv-loop5
-    μ-loop5
-mul-w-4 c = omega arith
-
-index-1-w-2 :
-    tie.Need-index-1-w-2
-    Inv-loop2
-    μ-loop2
-    Inv-loop4
-    μ-loop4
-    Inv-loop3
-    μ-loop3
-    Inv-loop
-    μ-loop
-    Inv-loop5
-    μ-loop5
-index-1-w-2 c = omega arith
-
-index-2-w-2 :
-    tie.Need-index-2-w-2
-    Inv-loop2
-    μ-loop2
-    Inv-loop4
-    μ-loop4
-    Inv-loop3
-    μ-loop3
-    Inv-loop
-    μ-loop
-    Inv-loop5
-    μ-loop5
-index-2-w-2 c = omega arith
-
-add-i :
-    tie.Need-add-i
-    Inv-loop2
-    μ-loop2
-    Inv-loop4
-    μ-loop4
-    Inv-loop3
-    μ-loop3
-    Inv-loop
-    μ-loop
-    Inv-loop5
-    μ-loop5
-add-i c = omega arith
-
-loop3-holds :
-    tie.Need-loop3-holds
-    Inv-loop2
-    μ-loop2
-    Inv-loop4
-    μ-loop4
-    Inv-loop3
-    μ-loop3
-    Inv-loop
-    μ-loop
-    Inv-loop5
-    μ-loop5
-loop3-holds c =
-    let t1 = c .before .before .before .before .before .before .before .before .before in
-    let t2 = c .before .before .before in
-    let n = t1 .before .before .before .before .args .n in
-    let a = t1 .before .before .before .before .args .a .now in
-    let w = t1 .loop .w in
-    let p = t1 .loop .p in
-    let j = t1 .loop .j in
-    let h = t1 .loop .inv .2 in
-    let f = t1 .loop .inv .3 in
-    let d = c .sqrt-near .result in
-    let y : isPivot p ≡ true = sym (c .before .before .before .before .before .before .before .is-pivot .ensures) ∙ c .before .before .before .before .before .before .if1 .taken in
-    let e : t2 .loop2 .k ≡ j = omega arith in
-    let s : t2 .loop2 .s ≡ lessProducts (cell a (j + 1) j) (cell w (j + 1)) (cell w j) j = rw e at (t2 .loop2 .inv .2) in
-    let q : t2 .loop2 .q ≡ lessProducts (cell a (j + 1) (j + 1)) (cell w (j + 1)) (cell w (j + 1)) j = rw e at (t2 .loop2 .inv .3) in
-    let other : j + 1 ≢ j = omega arith in
-    let s' = s ∙ columns-sums a w n j (omega arith) (omega arith) h p f d (j + 1) other (cell a (j + 1) j) in
-    let q' = q ∙ columns-squares a w n j (omega arith) (omega arith) h p f d (j + 1) other (cell a (j + 1) (j + 1)) j in
-    let g = columns-root a w n j (omega arith) (omega arith) h p f y d (c .sqrt-near .ensures) in
-    let o = sym (columns-diagonal a w n j (omega arith) (omega arith) h p f d) in
-    let m = set w j (set (row w j) j d) in
-    (omega arith, omega arith, columns-element a m n j (j + 1) (omega arith) (omega arith) (omega arith) g (t2 .loop2 .s) d s' o, diagonal-kept a m n j (j + 1) (omega arith) (omega arith) (omega arith) g (t2 .loop2 .s) d s' o, pivot-next a m n j (j + 1) (omega arith) (omega arith) (omega arith) g (t2 .loop2 .s) d s' o (cell a (j + 1) (j + 1)) (t2 .loop2 .q) q')
-
-mul-s-5 :
-    tie.Need-mul-s-5
-    Inv-loop2
-    μ-loop2
-    Inv-loop4
-    μ-loop4
-    Inv-loop3
-    μ-loop3
-    Inv-loop
-    μ-loop
-    Inv-loop5
-    μ-loop5
-mul-s-5 c = omega arith
-
-mul-s-6 :
-    tie.Need-mul-s-6
-    Inv-loop2
-    μ-loop2
-    Inv-loop4
-    μ-loop4
-    Inv-loop3
-    μ-loop3
-    Inv-loop
-    μ-loop
-    Inv-loop5
-    μ-loop5
-mul-s-6 c = omega arith
-
-index-1-s-3 :
-    tie.Need-index-1-s-3
-    Inv-loop2
-    μ-loop2
-    Inv-loop4
-    μ-loop4
-    Inv-loop3
-    μ-loop3
-    Inv-loop
-    μ-loop
-    Inv-loop5
-    μ-loop5
-index-1-s-3 c = omega arith
-
-index-2-s-3 :
-    tie.Need-index-2-s-3
-    Inv-loop2
-    μ-loop2
-    Inv-loop4
-    μ-loop4
-    Inv-loop3
-    μ-loop3
-    Inv-loop
-    μ-loop
-    Inv-loop5
-    μ-loop5
-index-2-s-3 c = omega arith
-
-loop4-holds :
-    tie.Need-loop4-holds
-    Inv-loop2
-    μ-loop2
-    Inv-loop4
-    μ-loop4
-    Inv-loop3
-    μ-loop3
-    Inv-loop
-    μ-loop
-    Inv-loop5
-    μ-loop5
-loop4-holds c = (omega arith, omega arith, omega arith, rw less-zero)
-
-mul-s-7 :
-    tie.Need-mul-s-7
-    Inv-loop2
-    μ-loop2
-    Inv-loop4
-    μ-loop4
-    Inv-loop3
-    μ-loop3
-    Inv-loop
-    μ-loop
-    Inv-loop5
-    μ-loop5
-mul-s-7 c = omega arith
-
-mul-s-8 :
-    tie.Need-mul-s-8
-    Inv-loop2
-    μ-loop2
-    Inv-loop4
-    μ-loop4
-    Inv-loop3
-    μ-loop3
-    Inv-loop
-    μ-loop
-    Inv-loop5
-    μ-loop5
-mul-s-8 c = omega arith
-
-index-1-s-4 :
-    tie.Need-index-1-s-4
-    Inv-loop2
-    μ-loop2
-    Inv-loop4
-    μ-loop4
-    Inv-loop3
-    μ-loop3
-    Inv-loop
-    μ-loop
-    Inv-loop5
-    μ-loop5
-index-1-s-4 c = omega arith
-
-index-2-s-4 :
-    tie.Need-index-2-s-4
-    Inv-loop2
-    μ-loop2
-    Inv-loop4
-    μ-loop4
-    Inv-loop3
-    μ-loop3
-    Inv-loop
-    μ-loop
-    Inv-loop5
-    μ-loop5
-index-2-s-4 c = omega arith
-
-mul-s-9 :
-    tie.Need-mul-s-9
-    Inv-loop2
-    μ-loop2
-    Inv-loop4
-    μ-loop4
-    Inv-loop3
-    μ-loop3
-    Inv-loop
-    μ-loop
-    Inv-loop5
-    μ-loop5
-mul-s-9 c = omega arith
-
-mul-s-10 :
-    tie.Need-mul-s-10
-    Inv-loop2
-    μ-loop2
-    Inv-loop4
-    μ-loop4
-    Inv-loop3
-    μ-loop3
-    Inv-loop
-    μ-loop
-    Inv-loop5
-    μ-loop5
-mul-s-10 c = omega arith
-
-index-1-s-5 :
-    tie.Need-index-1-s-5
-    Inv-loop2
-    μ-loop2
-    Inv-loop4
-    μ-loop4
-    Inv-loop3
-    μ-loop3
-    Inv-loop
-    μ-loop
-    Inv-loop5
-    μ-loop5
-index-1-s-5 c = omega arith
-
-index-2-s-5 :
-    tie.Need-index-2-s-5
-    Inv-loop2
-    μ-loop2
-    Inv-loop4
-    μ-loop4
-    Inv-loop3
-    μ-loop3
-    Inv-loop
-    μ-loop
-    Inv-loop5
-    μ-loop5
-index-2-s-5 c = omega arith
-
-add-k-2 :
-    tie.Need-add-k-2
-    Inv-loop2
-    μ-loop2
-    Inv-loop4
-    μ-loop4
-    Inv-loop3
-    μ-loop3
-    Inv-loop
-    μ-loop
-    Inv-loop5
-    μ-loop5
-add-k-2 c = omega arith
-
-loop4-less :
-    tie.Need-loop4-less
-    Inv-loop2
-    μ-loop2
-    Inv-loop4
-    μ-loop4
-    Inv-loop3
-    μ-loop3
-    Inv-loop
-    μ-loop
-    Inv-loop5
-    μ-loop5
-loop4-less c = omega arith
-
-loop4-again :
-    tie.Need-loop4-again
-    Inv-loop2
-    μ-loop2
-    Inv-loop4
-    μ-loop4
-    Inv-loop3
-    μ-loop3
-    Inv-loop
-    μ-loop
-    Inv-loop5
-    μ-loop5
-loop4-again c = (omega arith, omega arith, omega arith, rw (c .before .before .before .loop4 .inv .3, less-next))
-
-mul-w-5 :
-    tie.Need-mul-w-5
-    Inv-loop2
-    μ-loop2
-    Inv-loop4
-    μ-loop4
-    Inv-loop3
-    μ-loop3
-    Inv-loop
-    μ-loop
-    Inv-loop5
-    μ-loop5
-mul-w-5 c = omega arith
-
-mul-w-6 :
-    tie.Need-mul-w-6
-    Inv-loop2
-    μ-loop2
-    Inv-loop4
-    μ-loop4
-    Inv-loop3
-    μ-loop3
-    Inv-loop
-    μ-loop
-    Inv-loop5
-    μ-loop5
-mul-w-6 c = omega arith
-
-index-1-w-3 :
-    tie.Need-index-1-w-3
-    Inv-loop2
-    μ-loop2
-    Inv-loop4
-    μ-loop4
-    Inv-loop3
-    μ-loop3
-    Inv-loop
-    μ-loop
-    Inv-loop5
-    μ-loop5
-index-1-w-3 c = omega arith
-
-index-2-w-3 :
-    tie.Need-index-2-w-3
-    Inv-loop2
-    μ-loop2
-    Inv-loop4
-    μ-loop4
-    Inv-loop3
-    μ-loop3
-    Inv-loop
-    μ-loop
-    Inv-loop5
-    μ-loop5
-index-2-w-3 c = omega arith
-
-add-i-2 :
-    tie.Need-add-i-2
-    Inv-loop2
-    μ-loop2
-    Inv-loop4
-    μ-loop4
-    Inv-loop3
-    μ-loop3
-    Inv-loop
-    μ-loop
-    Inv-loop5
-    μ-loop5
-add-i-2 c = omega arith
-
-loop3-less :
-    tie.Need-loop3-less
-    Inv-loop2
-    μ-loop2
-    Inv-loop4
-    μ-loop4
-    Inv-loop3
-    μ-loop3
-    Inv-loop
-    μ-loop
-    Inv-loop5
-    μ-loop5
-loop3-less c = omega arith
-
-loop3-again :
-    tie.Need-loop3-again
-    Inv-loop2
-    μ-loop2
-    Inv-loop4
-    μ-loop4
-    Inv-loop3
-    μ-loop3
-    Inv-loop
-    μ-loop
-    Inv-loop5
-    μ-loop5
-loop3-again c =
-    let t1 = c .before .before .before .before .before .before .before .before .before .before .before .before .before .before in
-    let t3 = c .before .before .before .before in
-    let t4 = c .before in
-    let n = t1 .before .before .before .before .args .n in
-    let a = t1 .before .before .before .before .args .a .now in
-    let w = t3 .loop3 .w in
-    let j = t1 .loop .j in
-    let i = t3 .loop3 .i in
-    let d = t3 .before .sqrt-near .result in
-    let h = t3 .loop3 .inv .2 in
-    let o = t3 .loop3 .inv .3 in
-    let e : t4 .loop4 .k ≡ j = omega arith in
-    let s : t4 .loop4 .s ≡ lessProducts (cell a i j) (cell w i) (cell w j) j = rw e at (t4 .loop4 .inv .3) in
-    let other : j + 1 ≢ i = omega arith in
-    (omega arith, omega arith, columns-element a w n j i (omega arith) (omega arith) (omega arith) h (t4 .loop4 .s) d s o, diagonal-kept a w n j i (omega arith) (omega arith) (omega arith) h (t4 .loop4 .s) d s o, t3 .loop3 .inv .4 ∙ pivot-kept a w n j i (omega arith) (omega arith) (omega arith) h (t4 .loop4 .s) d s o (j + 1) other (cell a (j + 1) (j + 1)) (j + 1))
-
-returns :
-    tie.Need-returns
-    Inv-loop2
-    μ-loop2
-    Inv-loop4
-    μ-loop4
-    Inv-loop3
-    μ-loop3
-    Inv-loop
-    μ-loop
-    Inv-loop5
-    μ-loop5
-returns c =
-    let t1 = c .before .before .before in
-    let n = t1 .before .before .before .before .args .n in
-    let a = t1 .before .before .before .before .args .a .now in
-    let z : factorOf a ≡ Refused = columns-stop a (t1 .loop .w) n (t1 .loop .j) (omega arith) (omega arith) (t1 .loop .inv .2) (t1 .loop .p) (t1 .loop .inv .3) (sym (c .before .is-pivot .ensures) ∙ c .if1 .left) in
-    (rw z, rw z, λ e. absurd (false≢true e))
-
-add-j :
-    tie.Need-add-j
-    Inv-loop2
-    μ-loop2
-    Inv-loop4
-    μ-loop4
-    Inv-loop3
-    μ-loop3
-    Inv-loop
-    μ-loop
-    Inv-loop5
-    μ-loop5
-add-j c = omega arith
-
-loop-less :
-    tie.Need-loop-less
-    Inv-loop2
-    μ-loop2
-    Inv-loop4
-    μ-loop4
-    Inv-loop3
-    μ-loop3
-    Inv-loop
-    μ-loop
-    Inv-loop5
-    μ-loop5
-loop-less c = omega arith
-
-loop-again :
-    tie.Need-loop-again
-    Inv-loop2
-    μ-loop2
-    Inv-loop4
-    μ-loop4
-    Inv-loop3
-    μ-loop3
-    Inv-loop
-    μ-loop
-    Inv-loop5
-    μ-loop5
-loop-again c =
-    let t1 = c .before .before .before .before .before .before .before .before .before .before .before in
-    let t3 = c .before in
-    let n = t1 .before .before .before .before .args .n in
-    let e : t3 .loop3 .i ≡ n = omega arith in
-    let h : Columns n (t1 .loop .j + 1) n (t1 .before .before .before .before .args .a .now) (t3 .loop3 .w) = rw e at (t3 .loop3 .inv .2) in
-    (omega arith, omega arith, h, t3 .loop3 .inv .4)
-
-is-pivot-requires-2 :
-    tie.Need-is-pivot-requires-2
-    Inv-loop2
-    μ-loop2
-    Inv-loop4
-    μ-loop4
-    Inv-loop3
-    μ-loop3
-    Inv-loop
-    μ-loop
-    Inv-loop5
-    μ-loop5
-is-pivot-requires-2 c κs = search needs
-
-sqrt-near-requires-2 :
-    tie.Need-sqrt-near-requires-2
-    Inv-loop2
-    μ-loop2
-    Inv-loop4
-    μ-loop4
-    Inv-loop3
-    μ-loop3
-    Inv-loop
-    μ-loop
-    Inv-loop5
-    μ-loop5
-sqrt-near-requires-2 c κs = search needs
-
-mul-w-7 :
-    tie.Need-mul-w-7
-    Inv-loop2
-    μ-loop2
-    Inv-loop4
-    μ-loop4
-    Inv-loop3
-    μ-loop3
-    Inv-loop
-    μ-loop
-    Inv-loop5
-    μ-loop5
-mul-w-7 c = omega arith
-
-mul-w-8 :
-    tie.Need-mul-w-8
-    Inv-loop2
-    μ-loop2
-    Inv-loop4
-    μ-loop4
-    Inv-loop3
-    μ-loop3
-    Inv-loop
-    μ-loop
-    Inv-loop5
-    μ-loop5
-mul-w-8 c = omega arith
-
-index-1-w-4 :
-    tie.Need-index-1-w-4
-    Inv-loop2
-    μ-loop2
-    Inv-loop4
-    μ-loop4
-    Inv-loop3
-    μ-loop3
-    Inv-loop
-    μ-loop
-    Inv-loop5
-    μ-loop5
-index-1-w-4 c = omega arith
-
-index-2-w-4 :
-    tie.Need-index-2-w-4
-    Inv-loop2
-    μ-loop2
-    Inv-loop4
-    μ-loop4
-    Inv-loop3
-    μ-loop3
-    Inv-loop
-    μ-loop
-    Inv-loop5
-    μ-loop5
-index-2-w-4 c = omega arith
-
-loop5-holds :
-    tie.Need-loop5-holds
-    Inv-loop2
-    μ-loop2
-    Inv-loop4
-    μ-loop4
-    Inv-loop3
-    μ-loop3
-    Inv-loop
-    μ-loop
-    Inv-loop5
-    μ-loop5
-loop5-holds c =
-    let t1 = c .before .before .before .before in
-    let n = t1 .before .before .before .before .args .n in
-    let a = t1 .before .before .before .before .args .a .now in
-    let w = t1 .loop .w in
-    let j = t1 .loop .j in
-    let k = n - 1 in
-    let p = t1 .loop .p in
-    let d = c .sqrt-near2 .result in
-    let e : j ≡ k = omega arith in
-    let u : k + 1 ≡ n = omega arith in
-    let h : Columns n k n a w = rw e at (t1 .loop .inv .2) in
-    let f : p ≡ lessProducts (cell a k k) (cell w k) (cell w k) k = rw e at (t1 .loop .inv .3) in
-    let y : isPivot p ≡ true = sym (c .before .before .is-pivot2 .ensures) ∙ c .before .if2 .taken in
-    let g : Columns n (k + 1) (k + 1) a (set w k (set (row w k) k d)) = columns-root a w n k (omega arith) (omega arith) h p f y d (c .sqrt-near2 .ensures) in
-    (omega arith, omega arith, closing-none n a (set w k (set (row w k) k d)) (omega arith) (subst (λ z. Columns n z z a (set w k (set (row w k) k d))) u g))
-
-mul-w-9 :
-    tie.Need-mul-w-9
-    Inv-loop2
-    μ-loop2
-    Inv-loop4
-    μ-loop4
-    Inv-loop3
-    μ-loop3
-    Inv-loop
-    μ-loop
-    Inv-loop5
-    μ-loop5
-mul-w-9 c = omega arith
-
-mul-w-10 :
-    tie.Need-mul-w-10
-    Inv-loop2
-    μ-loop2
-    Inv-loop4
-    μ-loop4
-    Inv-loop3
-    μ-loop3
-    Inv-loop
-    μ-loop
-    Inv-loop5
-    μ-loop5
-mul-w-10 c = omega arith
-
-index-1-w-5 :
-    tie.Need-index-1-w-5
-    Inv-loop2
-    μ-loop2
-    Inv-loop4
-    μ-loop4
-    Inv-loop3
-    μ-loop3
-    Inv-loop
-    μ-loop
-    Inv-loop5
-    μ-loop5
-index-1-w-5 c = omega arith
-
-index-2-w-5 :
-    tie.Need-index-2-w-5
-    Inv-loop2
-    μ-loop2
-    Inv-loop4
-    μ-loop4
-    Inv-loop3
-    μ-loop3
-    Inv-loop
-    μ-loop
-    Inv-loop5
-    μ-loop5
-index-2-w-5 c = omega arith
-
-add-i-3 :
-    tie.Need-add-i-3
-    Inv-loop2
-    μ-loop2
-    Inv-loop4
-    μ-loop4
-    Inv-loop3
-    μ-loop3
-    Inv-loop
-    μ-loop
-    Inv-loop5
-    μ-loop5
-add-i-3 c = omega arith
-
-loop5-less :
-    tie.Need-loop5-less
-    Inv-loop2
-    μ-loop2
-    Inv-loop4
-    μ-loop4
-    Inv-loop3
-    μ-loop3
-    Inv-loop
-    μ-loop
-    Inv-loop5
-    μ-loop5
-loop5-less c = omega arith
-
-loop5-again :
-    tie.Need-loop5-again
-    Inv-loop2
-    μ-loop2
-    Inv-loop4
-    μ-loop4
-    Inv-loop3
-    μ-loop3
-    Inv-loop
-    μ-loop
-    Inv-loop5
-    μ-loop5
-loop5-again c =
-    let t5 = c .before in
-    let t1 = t5 .before .before .before .before .before in
-    let n = t1 .before .before .before .before .args .n in
-    let a = t1 .before .before .before .before .args .a .now in
-    (omega arith, omega arith, closing-next n (t5 .loop5 .i) a (t5 .loop5 .w) (omega arith) (omega arith) (t5 .loop5 .inv .2))
-
-returns-2 :
-    tie.Need-returns-2
-    Inv-loop2
-    μ-loop2
-    Inv-loop4
-    μ-loop4
-    Inv-loop3
-    μ-loop3
-    Inv-loop
-    μ-loop
-    Inv-loop5
-    μ-loop5
-returns-2 c =
-    let t5 = c .before in
-    let t1 = t5 .before .before .before .before .before in
-    let s = t1 .before .before .before .before in
+loop2-holds : tie.Need-loop2-holds I2 μ2 I3 μ3 I5 μ5 I4 μ4 I μ
+loop2-holds c =
+    let t = c .before in
+    let h = t .before .before .before .before in
+    let s = h .before .before .before .before in
     let n = s .args .n in
     let a = s .args .a .now in
-    let e : t5 .loop5 .i ≡ 9 = omega arith in
-    let h : Closing n 9 a (t5 .loop5 .w) = rw e at (t5 .loop5 .inv .2) in
-    let f = t1 .before .before .held .ensures .1 in
-    let z : factorOf a ≡ Lower (t5 .loop5 .w) = closing-end n a (t5 .loop5 .w) (omega arith) (s .pre .2) f h in
-    (rw z, rw z, λ e. closing-unused n a (t5 .loop5 .w) (omega arith) (s .pre .2) f h)
+    let w = h .loop .l in
+    let j = h .loop .j in
+    let l = set w j (set (row w j) j (t .sqrt-near .result)) in
+    let e : j + 1 ≡ n = omega arith in
+    (omega arith, omega arith, closing-none n a l (omega arith) (subst (λ z. Columns n z z a l) e (rooted t)))
 
-returns-3 :
-    tie.Need-returns-3
-    Inv-loop2
-    μ-loop2
-    Inv-loop4
-    μ-loop4
-    Inv-loop3
-    μ-loop3
-    Inv-loop
-    μ-loop
-    Inv-loop5
-    μ-loop5
-returns-3 c =
-    let t1 = c .before .before .before in
-    let n = t1 .before .before .before .before .args .n in
-    let a = t1 .before .before .before .before .args .a .now in
-    let z : factorOf a ≡ Refused = columns-stop a (t1 .loop .w) n (t1 .loop .j) (omega arith) (omega arith) (t1 .loop .inv .2) (t1 .loop .p) (t1 .loop .inv .3) (sym (c .before .is-pivot2 .ensures) ∙ c .if2 .left) in
-    (rw z, rw z, λ e. absurd (false≢true e))
+loop2-again : tie.Need-loop2-again I2 μ2 I3 μ3 I5 μ5 I4 μ4 I μ
+loop2-again c =
+    let t = c .before in
+    let s = t .before .before .before .before .before .before .before .before .before .before in
+    (omega arith, omega arith, closing-next (s .args .n) (t .loop2 .i) (s .args .a .now) (t .loop2 .l) (omega arith) (omega arith) (t .loop2 .inv .2))
+
+returns : tie.Need-returns I2 μ2 I3 μ3 I5 μ5 I4 μ4 I μ
+returns c =
+    let t = c .before in
+    let s = t .before .before .before .before .before .before .before .before .before .before in
+    let n = s .args .n in
+    let a = s .args .a .now in
+    let l = t .loop2 .l in
+    let e : t .loop2 .i ≡ 9 = omega arith in
+    let h : Closing n 9 a l = rw e at (t .loop2 .inv .2) in
+    let f = t .before .before .before .before .before .before .before .before .held .ensures .1 in
+    let z : factorOf a ≡ Lower l = closing-end n a l (omega arith) (s .pre .2) f h in
+    (rw z, λ _. (rw z, closing-unused n a l (omega arith) (s .pre .2) f h))
+
+loop3-holds : tie.Need-loop3-holds I2 μ2 I3 μ3 I5 μ5 I4 μ4 I μ
+loop3-holds c = (omega arith, omega arith, rw less-zero, rw less-zero)
+
+loop3-again : tie.Need-loop3-again I2 μ2 I3 μ3 I5 μ5 I4 μ4 I μ
+loop3-again c = (omega arith, omega arith, rw (c .before .before .before .loop3 .inv .2, less-next), rw (c .before .before .before .loop3 .inv .3, less-next))
+
+loop4-holds : tie.Need-loop4-holds I2 μ2 I3 μ3 I5 μ5 I4 μ4 I μ
+loop4-holds c =
+    let t3 = c .before .before in
+    let t = t3 .before .before .before .before .before in
+    let h = t .before .before .before .before in
+    let s = h .before .before .before .before in
+    let n = s .args .n in
+    let a = s .args .a .now in
+    let w = h .loop .l in
+    let j = h .loop .j in
+    let d = t .sqrt-near .result in
+    let l = set w j (set (row w j) j d) in
+    let e : t3 .loop3 .k ≡ j = omega arith in
+    let x : t3 .loop3 .s ≡ lessProducts (cell a (j + 1) j) (cell l (j + 1)) (cell l j) j = rw e at (t3 .loop3 .inv .2) in
+    let q : t3 .loop3 .q ≡ lessProducts (cell a (j + 1) (j + 1)) (cell l (j + 1)) (cell l (j + 1)) j = rw e at (t3 .loop3 .inv .3) in
+    let g = rooted t in
+    let o = sym (columns-diagonal a w n j (omega arith) (omega arith) (h .loop .inv .1) (h .loop .p) (h .loop .inv .2) d) in
+    (omega arith, omega arith, columns-element a l n j (j + 1) (omega arith) (omega arith) (omega arith) g (t3 .loop3 .s) d x o, diagonal-kept a l n j (j + 1) (omega arith) (omega arith) (omega arith) g (t3 .loop3 .s) d x o, pivot-next a l n j (j + 1) (omega arith) (omega arith) (omega arith) g (t3 .loop3 .s) d x o (cell a (j + 1) (j + 1)) (t3 .loop3 .q) q)
+
+loop5-holds : tie.Need-loop5-holds I2 μ2 I3 μ3 I5 μ5 I4 μ4 I μ
+loop5-holds c = (omega arith, omega arith, omega arith, rw less-zero)
+
+loop5-again : tie.Need-loop5-again I2 μ2 I3 μ3 I5 μ5 I4 μ4 I μ
+loop5-again c = (omega arith, omega arith, omega arith, rw (c .before .before .before .loop5 .inv .3, less-next))
+
+loop4-again : tie.Need-loop4-again I2 μ2 I3 μ3 I5 μ5 I4 μ4 I μ
+loop4-again c =
+    let t5 = c .before in
+    let t4 = t5 .before .before .before in
+    let t = t4 .before .before .before .before .before .before .before .before in
+    let h = t .before .before .before .before in
+    let s = h .before .before .before .before in
+    let n = s .args .n in
+    let a = s .args .a .now in
+    let l = t4 .loop4 .l in
+    let j = h .loop .j in
+    let i = t4 .loop4 .i in
+    let d = t .sqrt-near .result in
+    let g = t4 .loop4 .inv .2 in
+    let o = t4 .loop4 .inv .3 in
+    let e : t5 .loop5 .k ≡ j = omega (arith, t4 .before .before .before .before .before .before .few .ensures) in
+    let x : t5 .loop5 .s ≡ lessProducts (cell a i j) (cell l i) (cell l j) j = rw e at (t5 .loop5 .inv .3) in
+    let other : j + 1 ≢ i = omega arith in
+    (omega arith, omega arith, columns-element a l n j i (omega arith) (omega arith) (omega arith) g (t5 .loop5 .s) d x o, diagonal-kept a l n j i (omega arith) (omega arith) (omega arith) g (t5 .loop5 .s) d x o, t4 .loop4 .inv .4 ∙ pivot-kept a l n j i (omega arith) (omega arith) (omega arith) g (t5 .loop5 .s) d x o (j + 1) other (cell a (j + 1) (j + 1)) (j + 1))
+
+returns-2 : tie.Need-returns-2 I2 μ2 I3 μ3 I5 μ5 I4 μ4 I μ
+returns-2 c =
+    let h = c .before .before .before in
+    let s = h .before .before .before .before in
+    let a = s .args .a .now in
+    let z : factorOf a ≡ Refused = columns-stop a (h .loop .l) (s .args .n) (h .loop .j) (omega arith) (omega arith) (h .loop .inv .1) (h .loop .p) (h .loop .inv .2) (sym (c .before .is-pivot .ensures) ∙ c .if1 .left) in
+    (rw z, λ e. absurd (false≢true e))
+
+loop-again : tie.Need-loop-again I2 μ2 I3 μ3 I5 μ5 I4 μ4 I μ
+loop-again c =
+    let t4 = c .before in
+    let h = t4 .before .before .before .before .before .before .before .before .before .before .before .before in
+    let s = h .before .before .before .before in
+    let e : t4 .loop4 .i ≡ s .args .n = omega arith in
+    let g : Columns (s .args .n) (h .loop .j + 1) (s .args .n) (s .args .a .now) (t4 .loop4 .l) = rw e at (t4 .loop4 .inv .2) in
+    (omega arith, g, t4 .loop4 .inv .4)
+
+returns-3 : tie.Need-returns-3 I2 μ2 I3 μ3 I5 μ5 I4 μ4 I μ
+returns-3 c = absurd (omega arith)
 
 pub factor-used-spec : {M : Type 1} → statement M
 factor-used-spec =
     tie.close
     (tie.spec
-    Inv-loop2
-    μ-loop2
-    Inv-loop4
-    μ-loop4
-    Inv-loop3
-    μ-loop3
-    Inv-loop
-    μ-loop
-    Inv-loop5
-    μ-loop5
-    index-1-held
-    index-2-held
-    held-requires
-    no-tangent-requires
-    sub-last
+    I2
+    μ2
+    I3
+    μ3
+    I5
+    μ5
+    I4
+    μ4
+    I
+    μ
+    (λ c. omega arith)
+    (λ c. omega arith)
+    (λ c κs. search needs)
+    (λ c κs. search needs)
     loop-holds
-    is-pivot-requires
-    add-m
-    mul-s
-    mul-s-2
-    index-1-s
-    index-2-s
-    mul-q
-    mul-q-2
-    index-1-q
-    index-2-q
+    (λ c κs. search needs)
+    (λ c κs. search needs)
+    (λ c. omega arith)
+    (λ c. omega arith)
+    (λ c. omega arith)
+    (λ c. omega arith)
+    (λ c. omega arith)
     loop2-holds
-    mul-x
-    mul-x-2
-    index-1-x
-    index-2-x
-    mul-s-3
-    mul-s-4
-    index-1-s-2
-    index-2-s-2
-    add-k
-    loop2-less
+    (λ c. omega arith)
+    (λ c. omega arith)
+    (λ c. omega arith)
+    (λ c. omega arith)
+    (λ c. omega arith)
+    (λ c. omega arith)
     loop2-again
-    tangent-at-requires
-    sqrt-near-requires
-    mul-w
-    mul-w-2
-    index-1-w
-    index-2-w
-    mul-w-3
-    mul-w-4
-    index-1-w-2
-    index-2-w-2
-    add-i
-    loop3-holds
-    mul-s-5
-    mul-s-6
-    index-1-s-3
-    index-2-s-3
-    loop4-holds
-    mul-s-7
-    mul-s-8
-    index-1-s-4
-    index-2-s-4
-    mul-s-9
-    mul-s-10
-    index-1-s-5
-    index-2-s-5
-    add-k-2
-    loop4-less
-    loop4-again
-    mul-w-5
-    mul-w-6
-    index-1-w-3
-    index-2-w-3
-    add-i-2
-    loop3-less
-    loop3-again
     returns
-    add-j
-    loop-less
-    loop-again
-    is-pivot-requires-2
-    sqrt-near-requires-2
-    mul-w-7
-    mul-w-8
-    index-1-w-4
-    index-2-w-4
+    (λ c κs. search needs)
+    (λ c. omega arith)
+    (λ c. omega arith)
+    (λ c. omega arith)
+    (λ c. omega arith)
+    (λ c. omega arith)
+    (λ c. omega arith)
+    (λ c. omega arith)
+    (λ c. omega arith)
+    loop3-holds
+    (λ c. omega arith)
+    (λ c. omega arith)
+    (λ c. omega arith)
+    (λ c. omega arith)
+    (λ c. omega arith)
+    (λ c. omega arith)
+    (λ c. omega arith)
+    (λ c. omega arith)
+    (λ c. omega arith)
+    (λ c. omega arith)
+    loop3-again
+    (λ c κs. search needs)
+    (λ c. omega arith)
+    (λ c. omega arith)
+    (λ c. omega arith)
+    (λ c. omega arith)
+    (λ c. omega arith)
+    loop4-holds
+    (λ c. omega arith)
+    (λ c. omega arith)
+    (λ c. omega arith)
+    (λ c. omega arith)
     loop5-holds
-    mul-w-9
-    mul-w-10
-    index-1-w-5
-    index-2-w-5
-    add-i-3
-    loop5-less
+    (λ c. omega arith)
+    (λ c. omega arith)
+    (λ c. omega arith)
+    (λ c. omega arith)
+    (λ c. omega arith)
+    (λ c. omega arith)
+    (λ c. omega arith)
+    (λ c. omega arith)
+    (λ c. omega arith)
+    (λ c. omega arith)
     loop5-again
+    (λ c. omega arith)
+    (λ c. omega arith)
+    (λ c. omega arith)
+    (λ c. omega arith)
+    (λ c. omega arith)
+    (λ c. omega arith)
+    loop4-again
     returns-2
+    (λ c. omega arith)
+    (λ c. omega arith)
+    loop-again
     returns-3)

@@ -5,8 +5,8 @@ use Rattle.cholesky.proofs.SolveUsed.{forward-places, forward-fits, sol
 use Rattle.cholesky.proofs.factor.solve_used.Statement.{statement}
 use Rattle.cholesky.proofs.factor.solve_used.Tie as tie
 
-forward-used-requires : tie.Need-forward-used-requires
-forward-used-requires c κs = search needs
+forward-requires : tie.Need-forward-requires
+forward-requires c κs = search needs
 
 sub-last : tie.Need-sub-last
 sub-last c = search needs
@@ -20,22 +20,22 @@ array-read-z c = search needs
 is-finite-requires : tie.Need-is-finite-requires
 is-finite-requires c κs = search needs
 
-back-used-requires : tie.Need-back-used-requires
-back-used-requires c κs =
-    let y = c .before .before in
-    let h = y .before .pre in
-    (h .1, h .2, rw (y .forward-used .ensures) (forward-places _ _ _ (h .3)), rw (y .forward-used .ensures) (forward-fits _ _ _ (h .0)))
+back-requires : tie.Need-back-requires
+back-requires c κs =
+    let y = c .before .before .before in
+    let h = y .before .before .pre in
+    (h .1, h .2, rw (y .forward .ensures) (forward-places _ _ _ (h .3)), rw (y .forward .ensures) (forward-fits _ _ _ (h .0)))
 
 solve-lent-requires : tie.Need-solve-lent-requires
 solve-lent-requires c κs = search needs
 
 returns : tie.Need-returns
 returns c =
-    let t = c .before in
+    let t = c .before .before in
     let y = t .before .before in
-    let h = y .before .pre in
+    let h = y .before .before .pre in
     let f = subst T (sym (sym (t .before .is-finite .ensures) ∙ t .if1 .taken)) tt in
-    solution-used _ _ _ (y .forward-used .result) (c .back-used .result) (h .0) (h .1) (h .2) (h .3) (y .forward-used .ensures) f (c .back-used .ensures)
+    solution-used _ _ _ _ _ (h .0) (h .1) (h .2) (h .3) (y .forward .ensures) f (c .back .ensures)
 
 returns-2 : tie.Need-returns-2
 returns-2 c = search needs
@@ -44,12 +44,12 @@ pub solve-used-spec : {M : Type 1} → statement M
 solve-used-spec =
     tie.close
     (tie.spec
-    forward-used-requires
+    forward-requires
     sub-last
     mul-z
     array-read-z
     is-finite-requires
-    back-used-requires
+    back-requires
     solve-lent-requires
     returns
     returns-2)

@@ -95,13 +95,13 @@ factor-used-requires : tie.Need-factor-used-requires Inv-loop μ-loop
 factor-used-requires c κs =
     let u = c .before .before .used-of .ensures in
     let f = c .before .before .before .normal .ensures in
-    (u .0, u .1, rw (f .matrix-is) (matrix-unused _ _ _ _ (u .2)))
+    (u .0, u .1, rw (f .matrix-is) (matrix-unused _ _ _ _ (u .2)), refl)
 
 solve-used-requires : tie.Need-solve-used-requires Inv-loop μ-loop
 solve-used-requires c κs =
     let u = c .before .before .before .before .before .used-of .ensures in
     let f = c .before .before .before .before .before .before .normal .ensures in
-    (u .0, u .1, c .before .before .factor-used .ensures .2 (c .before .if1 .taken), rw (f .right-is) (right-unused _ _ _ _ (u .2)))
+    (u .0, u .1, c .before .before .factor-used .ensures .1 (c .before .if1 .taken) .1, rw (f .right-is) (right-unused _ _ _ _ (u .2)))
 
 returns-2 : tie.Need-returns-2 Inv-loop μ-loop
 returns-2 c =
@@ -109,7 +109,7 @@ returns-2 c =
     let g = c .before .before .before .before .before .before .before .before .before .before .before .c .given .0 .0 in
     let f = c .before .before .before .factor-used in
     let t = c .before .before .before .before .before .before .before in
-    solve t (solving-yes (weight g (s .huber)) (counted (s .t1)) (s .n) _ _ _ (f .result) (t .normal .ensures) (f .ensures .0) _ _ (c .solve-used .result) (f .ensures .1) (c .before .before .if1 .taken) (c .solve-used .ensures))
+    solve t (solving-yes (weight g (s .huber)) (counted (s .t1)) (s .n) _ _ _ (f .result) (t .normal .ensures) (f .ensures .0) _ _ (c .solve-used .result) (f .ensures .1 (c .before .before .if1 .taken) .0) (c .before .before .if1 .taken) (c .solve-used .ensures))
 
 returns-3 : tie.Need-returns-3 Inv-loop μ-loop
 returns-3 c =
