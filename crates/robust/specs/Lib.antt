@@ -1,6 +1,7 @@
 pub mod Clocks
 pub mod Nine
 pub mod Round
+pub mod Columns
 pub mod Step
 pub mod Normal
 pub mod Sigma
