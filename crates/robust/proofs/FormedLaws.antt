@@ -6,7 +6,6 @@ use mathlib.Core.Bool.{Bool, true, false, cond, _&&_}
 use mathlib.Core.List.{List}
 use lib.Dec.{ltb, leb, eqb}
 use borrow.Author.Tests.{le-ltb, le-leb, eq-eqb, ne-eqb}
-use lib.ListN.{length, getD}
 use lib.Ieee.{Float, nan}
 use Rattle.exact.specs.Float.{_⊕_, _⊗_, +0, 1·0, bits}
 use Rattle.numeric.specs.Factor.{at, Factored, Refused, Lower, factorOf, solutionOf, Unused, UnusedPlaces}
