@@ -1,28 +1,31 @@
 -- The displacement as the public call works it out: the rules in two parts, the fit, and what it comes to. Assumes nothing.
 use mathlib.Core.Path.{_≡_, refl, sym, ap, ap₂, _∙_, subst}
-use Prim.Native.Nat.{ℕ, _+_, _-_, _≤_}
+use Prim.Native.Nat.{ℕ, _-_, _≤_}
 use native.Mathlib.Omega.{arith}
-use mathlib.Core.Bool.{Bool, true, false, cond, _&&_}
+use mathlib.Core.Bool.{Bool, true, false}
 use mathlib.Core.List.{List}
 use lib.ListN.{length, take}
+use lib.Seq.{take-all}
 use lib.Ieee.{Float}
-use lib.Ieee.Scale.{finite}
 use Rattle.cholesky.specs.Factor.{at}
 use Rattle.numeric.specs.declared.refusal.Refusal.{Refusal}
 use Rattle.numeric.specs.declared.refusal.Refusal.the-variants.{FitFailed}
 use Rattle.estimator.specs.Record.{Holds}
 use Rattle.clocks.specs.Clocks.{clocksOf}
 use Rattle.estimator.specs.Screen.{keptOf, constellations}
+use Rattle.estimator.specs.Kept.{pairsIn, Kept}
 use Rattle.estimator.specs.Valid.{displacementInput, displacementCounts}
 use Rattle.estimator.specs.Rounds.{End, Failed, Reached, Fit, concluded, Ended}
-use Rattle.estimator.specs.Displacement.{Input, fitOver, pairs, kept, fitOf, vector, movedTo, concludedAt, displacementOf}
+use Rattle.estimator.specs.Displacement.{Input, fitOver, pairs, kept, fitOf, movedTo, concludedAt, displacementOf}
 use Rattle.clocks.specs.declared.clocks.Clocks.{Clocks}
 use Rattle.estimator.specs.declared.pair.Pair.{Pair}
 use Rattle.estimator.specs.declared.pair.Pairs.{Pairs}
+use Rattle.estimator.specs.declared.displacement.Settings.{Settings}
 use Rattle.estimator.specs.declared.displacement.Displacement.{Displacement}
-use Rattle.estimator.specs.declared.displacement.Displacement.the-variants.{Refused, Moved}
+use Rattle.estimator.specs.declared.displacement.Displacement.the-variants.{Refused}
 use Rattle.estimator.specs.declared.valid.Check.the-variants.{Refused as Stops, Passed}
-use Rattle.estimator.proofs.RulesLaws.{checked, Enough, counts-passed}
+use Rattle.estimator.proofs.RulesLaws.{checked, counts-passed}
+use Rattle.estimator.proofs.DisplacementLaws.{fit-same}
 use Rattle.estimator.proofs.FrontLaws.{input-refused, kept-is, kept-count, pair-count, clocks-are, fewer, counts-refused, counts-kept}
 
 -- what a fit comes to, by its end and what the code has of it
@@ -33,6 +36,23 @@ ended-no r answer (Reached z) x y h = absurd (let q = h .ok-is in let z : _≡_ 
 ended-yes : {A : Type 0} (r : A) (answer : List Float → A) (e : End) (x y : List Float) → Ended e true x y → concluded r answer (Reached y) ≡ concluded r answer e
 ended-yes r answer Failed x y h = absurd (let q = h .ok-is in let z : _≡_ {A = ℕ} 0 1 = cc in omega arith)
 ended-yes r answer (Reached z) x y h = ap (λ (w : List Float). concluded r answer (Reached w)) (h .state-is)
+
+-- the kept pairs of the columns, as if they stood in an array
+module _ {ps : List Pair} {n : ℕ} {x y z : List Float} {constellation : List ℕ} {elevation observed : List Float} (h : Kept ps n x y z constellation elevation observed) where
+  abbrev pub as-pairs : Pairs
+  as-pairs = record { count = n; pair = ps }
+
+  whole : take n ps ≡ ps
+  whole = take-all n ps (omega (arith, h .count))
+
+  pub as-held : Holds n ps ps
+  as-held = record { room = h .room; count = h .count; all = whole }
+
+  pub as-clocks : {k : Clocks} → k ≡ clocksOf (take n constellation) → k ≡ clocksOf (constellations (take n ps))
+  as-clocks e = e ∙ ap clocksOf (h .constellations ∙ ap constellations (sym whole))
+
+  pub as-fit : (settings : Settings) (k : Clocks) (ok : Bool) (a b : List Float) → Ended (fitOver settings k (pairsIn x y z constellation elevation (take n observed)) .end) ok a b → Ended (fitOver settings k (take n ps) .end) ok a b
+  as-fit settings k ok a b e = subst (λ (f : Fit). Ended (f .end) ok a b) (fit-same settings k h ∙ ap (fitOver settings k) (sym whole)) e
 
 module _ (i : Input) where
   abbrev a : Displacement

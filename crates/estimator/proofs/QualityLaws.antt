@@ -7,7 +7,7 @@ use mathlib.Core.Bool.{cond}
 use mathlib.Core.List.{List}
 use lib.Dec.{eqb}
 use borrow.Author.Tests.{eq-eqb, ne-eqb}
-use lib.ListN.{length, set, length-set, getD-replicate}
+use lib.ListN.{getD, length, set, length-set, getD-replicate}
 use lib.Seq.{getD-set-same, getD-set-other, length-take-le}
 use lib.Ieee.{Float, nan, ofInt, ofBits}
 use Rattle.exact.specs.Float.{_⊕_, _⊗_, _⊘_, +0, 1·0, bits, whole}
@@ -15,13 +15,14 @@ use Rattle.cholesky.specs.Factor.{at, zeros, solutionOf}
 use Rattle.numeric.specs.Real.{square}
 use Rattle.root.specs.Root.{rootOf}
 use Rattle.robust.specs.Nine.{nine}
-use Rattle.robust.specs.Round.{wide, triangleOf}
+use Rattle.robust.specs.Round.{wide, total, triangleOf}
 use Rattle.robust.specs.Step.{counted}
 use Rattle.robust.specs.declared.row.Row.{Row}
 use Rattle.robust.specs.declared.row.Rows.{Rows}
 use Rattle.robust.proofs.NineLaws.{nine-is}
-use Rattle.robust.proofs.Sums.{sumTo, sumTo-zero, sumTo-next, sum-total}
-use Rattle.robust.proofs.FormedLaws.{rowAt, sums, sums-next, sums-triangle}
+use Rattle.robust.proofs.Sums.{blank, sumTo, sumTo-zero, sumTo-next, sum-total}
+use Rattle.robust.proofs.ColumnLaws.{places-take}
+use Rattle.robust.proofs.FormedLaws.{sums, sums-next, sums-triangle}
 use Rattle.estimator.specs.Fix.{freedomOf, chiOf, plainMatrix, pdopOf}
 
 -- ---- the degrees of freedom
@@ -37,6 +38,9 @@ freedom-some count n h = let e : max 1 (count - n) ≡ count - n = omega arith i
 pub freedom-least : (count n : ℕ) → count ≤ n → 1·0 ≡ freedomOf count n
 unfolding freedomOf
 freedom-least count n h = let e : max 1 (count - n) ≡ 1 = omega arith in rw e one
+
+abbrev pub rowAt : Rows → ℕ → Row
+rowAt rows k = getD (rows .row) k blank
 
 -- ---- the reduced chi-squared
 
@@ -67,16 +71,16 @@ module _ (rows : Rows) where
 
     -- ---- the unweighted matrix
 
-    pub plain-is : (n : ℕ) → triangleOf n (sums (λ r p q. at (wide r) p ⊗ at (wide r) q) rows (rows .count)) ≡ plainMatrix n (counted rows)
+    pub plain-is : (n : ℕ) → triangleOf n (sums (λ r p q. at (wide r) p ⊗ at (wide r) q) (rowAt rows) (rows .count)) ≡ plainMatrix n (counted rows)
     unfolding plainMatrix
-    plain-is n = sums-triangle (λ r p q. at (wide r) p ⊗ at (wide r) q) rows long few n
+    plain-is n = sums-triangle (λ r p q. at (wide r) p ⊗ at (wide r) q) (rowAt rows) (rows .count) n ∙ ap (λ (z : List Row). triangleOf n (λ i j. total (λ r. at (wide r) i ⊗ at (wide r) j) z)) (places-take (rows .row) blank (rows .count) (omega arith))
 
   -- the sums of its cells over the first k rows, and what one row more adds, by the wide row e that the code has of it
   abbrev pub plain : ℕ → ℕ → ℕ → Float
-  plain = sums (λ r p q. at (wide r) p ⊗ at (wide r) q) rows
+  plain = sums (λ r p q. at (wide r) p ⊗ at (wide r) q) (rowAt rows)
 
   pub plain-next : (k : ℕ) (e : List Float) → e ≡ wide (rowAt rows k) → (p q : ℕ) (s : Float) → s ≡ plain k p q → s ⊕ at e p ⊗ at e q ≡ plain (k + 1) p q
-  plain-next k e e-is p q s h = sums-next (λ r p q. at (wide r) p ⊗ at (wide r) q) rows k p q s _ h (rw e-is)
+  plain-next k e e-is p q s h = sums-next (λ r p q. at (wide r) p ⊗ at (wide r) q) (rowAt rows) k p q s _ h (rw e-is)
 
 -- ---- the inverse's diagonal
 

@@ -3,6 +3,7 @@ pub mod Rules
 pub mod Valid
 pub mod Pair
 pub mod Screen
+pub mod Kept
 pub mod Mask
 pub mod Front
 pub mod Rounds

@@ -1,19 +1,20 @@
 // The displacement between two epochs.
 ghost use mathlib.Core.Path.{_≡_};
-ghost use mathlib.Core.List.{map};
-ghost use lib.ListN.{take};
+ghost use lib.ListN.{length};
 ghost use Prim.Native.Nat.{ℕ, _≤_};
+ghost use Rattle.exact.specs.Float.{_⊕_, _⊖_, _⊗_};
+ghost use Rattle.cholesky.specs.Factor.{at};
+ghost use Rattle.numeric.specs.Order.{patternOf};
+ghost use Rattle.estimator.specs.Kept.{pairsIn};
 ghost use Rattle.estimator.specs.Rounds.{Ended};
 ghost use Rattle.estimator.specs.Displacement as spec;
-use crate::pair::Pair;
-use crate::pair::Pairs;
 use crate::pair::pairs_of;
 use crate::record::Epoch;
 use crate::rounds::is_short;
 use crate::rounds::move_by;
 use crate::rounds::state_at;
 use crate::screen::clocks_of;
-use crate::screen::kept_of;
+use crate::screen::keep_into;
 use crate::valid::Check;
 use crate::valid::check_displacement;
 use crate::valid::check_pairs;
@@ -23,8 +24,6 @@ use numeric::real::is_finite;
 use numeric::refusal::Refusal;
 use numeric::vec3::Vec3;
 use robust::round::round_step;
-use robust::row::Row;
-use robust::row::Rows;
 use robust::sigma::elevation_sigma;
 
 // Weighting, screening and robustness; `agreement` is neither read nor checked.
@@ -50,82 +49,76 @@ pub enum Displacement {
     Moved(Delta),
 }
 
-// The sigma of each pair, which no round changes.
-pub(crate) fn sigmas_of(settings: Settings, pairs: Pairs) -> [f64; 64]
-    requires { ⌜ pairs .count ≤ 64 ⌝ }
-    ensures { λ r. ⌜ take (pairs .count) r ≡ map (spec.sigmaOf settings) (take (pairs .count) (pairs .pair)) ⌝ }
+// What was observed, less what the state x says of the line of sight u, v, w and the clock s, as a pattern.
+pub(crate) fn residual_of(o: f64, u: f64, v: f64, w: f64, s: usize, x: [f64; 9]) -> u64
+    ensures { λ r. ⌜ r ≡ patternOf (o ⊖ (u ⊗ at x 0 ⊕ v ⊗ at x 1 ⊕ w ⊗ at x 2) ⊖ at x s) ⌝ }
 {
-    let count = pairs.count;
+    pattern(o - (u * x[0] + v * x[1] + w * x[2]) - state_at(x, s))
+}
+
+// The rounds over the pairs of the columns: the state that they reach in state, or false and state as it was where one is refused.
+pub(crate) fn fit_pairs(
+    settings: Settings,
+    k: Clocks,
+    x: &[f64; 64],
+    y: &[f64; 64],
+    z: &[f64; 64],
+    constellation: &[u8; 64],
+    elevation: &[f64; 64],
+    observed: &[f64],
+    state: &mut [f64; 9],
+) -> bool
+    requires { ⌜ (length (now observed) ≤ 64) × (k .count ≤ 6) ⌝ }
+    ensures { λ r. ⌜ Ended (spec.fitOver settings k (pairsIn (now (x .entry)) (now (y .entry)) (now (z .entry)) (now (constellation .entry)) (now (elevation .entry)) (now (observed .entry))) .end) r (now (state .entry)) (now (state .exit)) ⌝ }
+{
+    let count = observed.len();
+    let mut clock = [0usize; 64];
     let mut sigma = [0.0; 64];
     for j in 0..count {
-        let p = pairs.pair[j];
-        let s = elevation_sigma(p.elevation, settings.sigma_a, settings.sigma_b);
-        sigma[j] = s;
+        let c = constellation[j];
+        let e = elevation[j];
+        let s = k.slot(c);
+        let t = elevation_sigma(e, settings.sigma_a, settings.sigma_b);
+        clock[j] = s;
+        sigma[j] = t;
     }
-    sigma
-}
-
-// The row of a pair with this sigma at the state x.
-pub(crate) fn row_at(sigma: f64, k: Clocks, x: [f64; 9], p: Pair) -> Row
-    ensures { λ r. ⌜ r ≡ spec.rowWith sigma k x p ⌝ }
-{
-    let u = p.unit;
-    let s = k.slot(p.constellation);
-    let residual = p.observed - (u.x * x[0] + u.y * x[1] + u.z * x[2]) - state_at(x, s);
-    Row {
-        unit: u,
-        clock: s,
-        residual: pattern(residual),
-        sigma: sigma,
-    }
-}
-
-// The rounds over the pairs: the state that they reach in x, or false and x as it was where one is refused.
-pub(crate) fn fit_pairs(settings: Settings, k: Clocks, pairs: Pairs, x: &mut [f64; 9]) -> bool
-    requires { ⌜ (pairs .count ≤ 64) × (k .count ≤ 6) ⌝ }
-    ensures { λ r. ⌜ Ended (spec.fitOver settings k (take (pairs .count) (pairs .pair)) .end) r (now (x .entry)) (now (x .exit)) ⌝ }
-{
-    let n = 3 + k.count;
-    let count = pairs.count;
-    let sigma = sigmas_of(settings, pairs);
-    let zero = Vec3 {
-        x: 0.0,
-        y: 0.0,
-        z: 0.0,
-    };
-    let none = Row {
-        unit: zero,
-        clock: 0,
-        residual: 0,
-        sigma: 0.0,
-    };
-    let row = [none; 64];
-    let mut rows = Rows {
-        count: count,
-        row: row,
-    };
-    let mut state = [0.0; 9];
+    let mut residual = [0u64; 64];
+    let mut at = [0.0; 9];
     let mut i: u32 = 0;
     while i < settings.rounds {
         for j in 0..count {
-            let p = pairs.pair[j];
-            let s = sigma[j];
-            let r = row_at(s, k, state, p);
-            rows.row[j] = r;
+            let o = observed[j];
+            let u = x[j];
+            let v = y[j];
+            let w = z[j];
+            let s = clock[j];
+            let r = residual_of(o, u, v, w, s, at);
+            residual[j] = r;
         }
+        let n = 3 + k.count;
         let mut dx = [0.0; 9];
-        if !round_step(rows, n, settings.huber, &mut dx) {
+        if !round_step(
+            x,
+            y,
+            z,
+            &clock,
+            &sigma,
+            &residual[..count],
+            n,
+            settings.huber,
+            &mut dx,
+        ) {
             return false;
         }
-        let next = move_by(n, dx, state);
-        state = next;
+        let next = move_by(n, dx, at);
+        at = next;
         if is_short(1e-5, dx) {
-            *x = state;
+            *state = at;
             return true;
         }
         i += 1;
     }
-    *x = state;
+    *state = at;
     true
 }
 
@@ -162,17 +155,41 @@ pub fn delta_position(
         return Displacement::Refused(r);
     }
     let all = pairs_of(previous, current, receiver, settings.mask, dt);
-    let kept = kept_of(all, settings.screen);
-    let clocks = clocks_of(kept);
+    let mut x = [0.0; 64];
+    let mut y = [0.0; 64];
+    let mut z = [0.0; 64];
+    let mut constellation = [0u8; 64];
+    let mut elevation = [0.0; 64];
+    let mut observed = [0.0; 64];
+    let used = keep_into(
+        all,
+        settings.screen,
+        &mut x,
+        &mut y,
+        &mut z,
+        &mut constellation,
+        &mut elevation,
+        &mut observed,
+    );
+    let clocks = clocks_of(&constellation[..used]);
     let pairs = all.count;
-    let used = kept.count;
     if let Check::Refused(r) = check_pairs(pairs, used, clocks.count) {
         return Displacement::Refused(r);
     }
     let screened = pairs - used;
-    let mut x = [0.0; 9];
-    if fit_pairs(settings, clocks, kept, &mut x) {
-        return moved_to(x, used, screened);
+    let mut state = [0.0; 9];
+    if fit_pairs(
+        settings,
+        clocks,
+        &x,
+        &y,
+        &z,
+        &constellation,
+        &elevation,
+        &observed[..used],
+        &mut state,
+    ) {
+        return moved_to(state, used, screened);
     }
     Displacement::Refused(Refusal::FitFailed)
 }

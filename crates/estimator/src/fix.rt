@@ -126,6 +126,11 @@ pub(crate) fn fit_sky(settings: Settings, k: Clocks, sky: Observations, guess: V
     };
     let row = [none; 64];
     let mut rows = Rows { count: 0, row: row };
+    let mut ux = [0.0; 64];
+    let mut uy = [0.0; 64];
+    let mut uz = [0.0; 64];
+    let mut clock = [0usize; 64];
+    let mut residual = [0u64; 64];
     let mut state = [0.0; 9];
     state[0] = guess.x;
     state[1] = guess.y;
@@ -138,9 +143,24 @@ pub(crate) fn fit_sky(settings: Settings, k: Clocks, sky: Observations, guess: V
             let s = sigma[j];
             let r = row_at(s, k, state, o);
             rows.row[j] = r;
+            ux[j] = r.unit.x;
+            uy[j] = r.unit.y;
+            uz[j] = r.unit.z;
+            clock[j] = r.clock;
+            residual[j] = r.residual;
         }
         let mut dx = [0.0; 9];
-        if !round_step(rows, n, settings.huber, &mut dx) {
+        if !round_step(
+            &ux,
+            &uy,
+            &uz,
+            &clock,
+            &sigma,
+            &residual[..count],
+            n,
+            settings.huber,
+            &mut dx,
+        ) {
             return Fitted {
                 ok: false,
                 x: state,

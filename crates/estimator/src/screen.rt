@@ -3,7 +3,7 @@ ghost use mathlib.Core.Path.{_≡_};
 ghost use lib.ListN.{take};
 ghost use Prim.Native.Nat.{_≤_};
 ghost use Rattle.clocks.specs.Clocks.{clocksOf};
-ghost use Rattle.estimator.specs.Record.{Holds};
+ghost use Rattle.estimator.specs.Kept.{Kept};
 ghost use Rattle.estimator.specs.Screen as spec;
 use crate::pair::Pairs;
 use clocks::clocks::Clocks;
@@ -12,10 +12,19 @@ use numeric::order::float;
 use numeric::order::pattern;
 use numeric::real::abs;
 
-// The pairs whose detector lies strictly within `screen` of the detectors' centre, moved to the front in their order.
-pub(crate) fn kept_of(mut p: Pairs, screen: f64) -> Pairs
+// Writes the pairs whose detector lies strictly within `screen` of the detectors' centre as columns, in their order. How many there are.
+pub(crate) fn keep_into(
+    p: Pairs,
+    screen: f64,
+    x: &mut [f64; 64],
+    y: &mut [f64; 64],
+    z: &mut [f64; 64],
+    constellation: &mut [u8; 64],
+    elevation: &mut [f64; 64],
+    observed: &mut [f64; 64],
+) -> usize
     requires { ⌜ p .count ≤ 64 ⌝ }
-    ensures { λ r. ⌜ Holds (r .count) (r .pair) (spec.keptOf screen (take (p .count) (p .pair))) ⌝ }
+    ensures { λ r. ⌜ Kept (spec.keptOf screen (take (p .count) (p .pair))) r (now (x .exit)) (now (y .exit)) (now (z .exit)) (now (constellation .exit)) (now (elevation .exit)) (now (observed .exit)) ⌝ }
 {
     let n = p.count;
     let mut d = [0u64; 64];
@@ -26,31 +35,39 @@ pub(crate) fn kept_of(mut p: Pairs, screen: f64) -> Pairs
         i += 1;
     }
     let c = float(median(&d[..n]));
+    *x = [0.0; 64];
+    *y = [0.0; 64];
+    *z = [0.0; 64];
+    *constellation = [0; 64];
+    *elevation = [0.0; 64];
+    *observed = [0.0; 64];
     let mut k: usize = 0;
     let mut j: usize = 0;
     while j < n {
         let q = p.pair[j];
         if abs(q.detector - c) < screen {
-            p.pair[k] = q;
+            x[k] = q.unit.x;
+            y[k] = q.unit.y;
+            z[k] = q.unit.z;
+            constellation[k] = q.constellation;
+            elevation[k] = q.elevation;
+            observed[k] = q.observed;
             k += 1;
         }
         j += 1;
     }
-    p.count = k;
-    p
+    k
 }
 
-// The clocks of the pairs' constellations.
-pub(crate) fn clocks_of(p: Pairs) -> Clocks
-    requires { ⌜ p .count ≤ 64 ⌝ }
-    ensures { λ r. ⌜ r ≡ clocksOf (spec.constellations (take (p .count) (p .pair))) ⌝ }
+// The clocks of these constellations.
+pub(crate) fn clocks_of(constellation: &[u8]) -> Clocks
+    ensures { λ r. ⌜ r ≡ clocksOf (now (constellation .entry)) ⌝ }
 {
     let mut k = Clocks::new();
-    let n = p.count;
+    let n = constellation.len();
     let mut i: usize = 0;
     while i < n {
-        let q = p.pair[i];
-        k = k.given(q.constellation);
+        k = k.given(constellation[i]);
         i += 1;
     }
     k

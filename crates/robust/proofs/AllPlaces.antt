@@ -19,12 +19,12 @@ use Rattle.median.specs.declared.centre.CentreScale.{CentreScale}
 use Rattle.robust.specs.Nine.{nine}
 use Rattle.robust.specs.Round.{weight, wide, triangleOf}
 use Rattle.robust.specs.Normal.{Formed}
-use Rattle.robust.specs.Step.{counted}
-use Rattle.robust.specs.declared.row.Rows.{Rows}
+use Rattle.robust.specs.Columns.{places}
 use Rattle.numeric.proofs.Zeros.{isZero, zero-times}
 use Rattle.robust.proofs.Zeros.{times-zero, times-one}
+use Rattle.robust.specs.declared.row.Row.{Row}
 use Rattle.robust.proofs.NineLaws.{nine-is, Square, square-is, store, square-store, cell-same, cell-other}
-use Rattle.robust.proofs.FormedLaws.{rowAt, cells, sides, cells-sum, sides-sum, formed}
+use Rattle.robust.proofs.FormedLaws.{cells, sides, cells-sum, sides-sum, formed}
 use Rattle.robust.proofs.SomeSums.{someTo, some-none, some-all, sum-finite}
 use Rattle.robust.proofs.Places.{wide-clock, wide-none, clock, weighted, sided, idle, reached, placedCell, Placed}
 
@@ -45,14 +45,14 @@ known-store {T} {a} i j v ib jb h = record { square = square-store a (h .square)
     go p q pb qb (yes e) (yes f) = rw (eq-eqb p i e, eq-eqb q j f) (subst (λ (z : ℕ). cell (store a i j v) z q ≡ v) (sym e) (subst (λ (z : ℕ). cell (store a i j v) i z ≡ v) (sym f) (cell-same a (h .square) i j v ib jb)))
 
 -- ---- all that there is
-module _ (c : CentreScale) (huber : Float) (rows : Rows) (n : ℕ) (few : n ≤ 9) (three : 3 ≤ n) (m : ℕ)
+module _ (c : CentreScale) (huber : Float) (rows : ℕ → Row) (n : ℕ) (few : n ≤ 9) (three : 3 ≤ n) (m : ℕ)
     {xx yx yy zx zy zz sx sy sz : Float} {a : List (List Float)} {b : List Float} (h : Placed c huber rows n m xx yx yy zx zy zz sx sy sz a b)
     (fx : T (finite xx)) (fy : T (finite yy)) (fz : T (finite zz)) (fs : T (finite sx)) where
   abbrev w : ℕ → Float
-  w k = weight c huber (rowAt rows k)
+  w k = weight c huber (rows k)
 
   abbrev e : ℕ → ℕ → Float
-  e k p = at (wide (rowAt rows k)) p
+  e k p = at (wide (rows k)) p
 
   term-x : (k : ℕ) → k < m → T (finite (weighted c huber rows n 0 0 k))
   term-x k kb = sum-finite (weighted c huber rows n 0 0) m (subst (λ (z : Float). T (finite z)) (h .xx-is ∙ cells-sum c huber rows m 0 0) fx) k kb
@@ -63,8 +63,8 @@ module _ (c : CentreScale) (huber : Float) (rows : Rows) (n : ℕ) (few : n ≤ 
   term-z : (k : ℕ) → k < m → T (finite (weighted c huber rows n 2 2 k))
   term-z k kb = sum-finite (weighted c huber rows n 2 2) m (subst (λ (z : Float). T (finite z)) (h .zz-is ∙ cells-sum c huber rows m 2 2) fz) k kb
 
-  residual-finite : (k : ℕ) → k < m → T (finite (bits (rowAt rows k .residual)))
-  residual-finite k kb = mul-finite (w k ⊗ e k 0) (bits (rowAt rows k .residual)) (sum-finite (sided c huber rows n 0) m (subst (λ (z : Float). T (finite z)) (h .sx-is ∙ sides-sum c huber rows m 0) fs) k kb) .1
+  residual-finite : (k : ℕ) → k < m → T (finite (bits (rows k .residual)))
+  residual-finite k kb = mul-finite (w k ⊗ e k 0) (bits (rows k .residual)) (sum-finite (sided c huber rows n 0) m (subst (λ (z : Float). T (finite z)) (h .sx-is ∙ sides-sum c huber rows m 0) fs) k kb) .1
 
   weight-finite : (k : ℕ) → k < m → T (finite (w k))
   weight-finite k kb = mul-finite (w k) (e k 0) (mul-finite (w k ⊗ e k 0) (e k 0) (term-x k kb) .0) .0
@@ -85,46 +85,46 @@ module _ (c : CentreScale) (huber : Float) (rows : Rows) (n : ℕ) (few : n ≤ 
   entry-finite k kb zero qb = mul-finite (w k ⊗ e k 0) (e k 0) (term-x k kb) .1
   entry-finite k kb (suc zero) qb = mul-finite (w k ⊗ e k 1) (e k 1) (term-y k kb) .1
   entry-finite k kb (suc (suc zero)) qb = mul-finite (w k ⊗ e k 2) (e k 2) (term-z k kb) .1
-  entry-finite k kb (suc (suc (suc q))) qb = go (ℕ-discrete (suc (suc (suc q))) (rowAt rows k .clock))
+  entry-finite k kb (suc (suc (suc q))) qb = go (ℕ-discrete (suc (suc (suc q))) (rows k .clock))
     where
-      go : Dec (suc (suc (suc q)) ≡ rowAt rows k .clock) → T (finite (e k (suc (suc (suc q)))))
-      go (yes i) = subst (λ (z : ℕ). T (finite (e k z))) (sym i) (subst (λ (z : Float). T (finite z)) (wide-clock (rowAt rows k) (omega (arith, h .clocks k kb .1))) one-finite)
-      go (no i) = subst (λ (z : Float). T (finite z)) (wide-none (rowAt rows k) (suc (suc (suc q))) (omega arith) qb i) zero-finite
+      go : Dec (suc (suc (suc q)) ≡ rows k .clock) → T (finite (e k (suc (suc (suc q)))))
+      go (yes i) = subst (λ (z : ℕ). T (finite (e k z))) (sym i) (subst (λ (z : Float). T (finite z)) (wide-clock (rows k) (omega (arith, h .clocks k kb .1))) one-finite)
+      go (no i) = subst (λ (z : Float). T (finite z)) (wide-none (rows k) (suc (suc (suc q))) (omega arith) qb i) zero-finite
 
   weight-fits : (k : ℕ) → T (fits binary64 (w k))
   unfolding weight
   weight-fits k = div-fits binary64 _ _
 
   -- at the clock a row weighs what its weight is
-  clock-finite : (k : ℕ) → k < m → T (finite (w k ⊗ e k (rowAt rows k .clock)))
+  clock-finite : (k : ℕ) → k < m → T (finite (w k ⊗ e k (rows k .clock)))
   clock-finite k kb =
-      subst (λ (z : Float). T (finite (w k ⊗ z))) (wide-clock (rowAt rows k) (omega (arith, h .clocks k kb .1)))
+      subst (λ (z : Float). T (finite (w k ⊗ z))) (wide-clock (rows k) (omega (arith, h .clocks k kb .1)))
       (subst (λ (z : Float). T (finite z)) (sym (times-one (w k) (weight-fits k))) (weight-finite k kb))
 
   -- beside the clock it weighs nothing
-  beside : (k : ℕ) → k < m → (p : ℕ) → 3 ≤ p → p < 9 → (p ≡ rowAt rows k .clock → ⊥) → T (isZero (w k ⊗ e k p))
-  beside k kb p low pb i = times-zero (w k) (e k p) (weight-finite k kb) (subst (λ (z : Float). T (isZero z)) (wide-none (rowAt rows k) p low pb i) zero-zero)
+  beside : (k : ℕ) → k < m → (p : ℕ) → 3 ≤ p → p < 9 → (p ≡ rows k .clock → ⊥) → T (isZero (w k ⊗ e k p))
+  beside k kb p low pb i = times-zero (w k) (e k p) (weight-finite k kb) (subst (λ (z : Float). T (isZero z)) (wide-none (rows k) p low pb i) zero-zero)
 
   cell-zero : (p q : ℕ) → 3 ≤ p → p < n → q ≤ p → (k : ℕ) → k < m → reached c huber rows n p q k ≡ false → T (isZero (weighted c huber rows n p q k))
-  cell-zero p q low pb qb k kb off = go (ℕ-discrete p (rowAt rows k .clock)) (decLt q 3) (ℕ-discrete q (rowAt rows k .clock))
+  cell-zero p q low pb qb k kb off = go (ℕ-discrete p (rows k .clock)) (decLt q 3) (ℕ-discrete q (rows k .clock))
     where
       never : true ≡ false → T (isZero (weighted c huber rows n p q k))
       never z = absurd (let o : _≡_ {A = ℕ} 0 1 = cc in omega arith)
 
-      go : Dec (p ≡ rowAt rows k .clock) → Dec (q < 3) → Dec (q ≡ rowAt rows k .clock) → T (isZero (weighted c huber rows n p q k))
+      go : Dec (p ≡ rows k .clock) → Dec (q < 3) → Dec (q ≡ rows k .clock) → T (isZero (weighted c huber rows n p q k))
       go (no i) dq di = zero-times (w k ⊗ e k p) (e k q) (beside k kb p low (omega arith) i) (entry-finite k kb q (omega arith))
-      go (yes i) (yes l) di = never (rw (eq-eqb p (rowAt rows k .clock) i, lt-ltb q 3 l) at off)
-      go (yes i) (no l) (yes j) = never (rw (eq-eqb p (rowAt rows k .clock) i, le-ltb q 3 (omega arith), eq-eqb q (rowAt rows k .clock) j) at off)
+      go (yes i) (yes l) di = never (rw (eq-eqb p (rows k .clock) i, lt-ltb q 3 l) at off)
+      go (yes i) (no l) (yes j) = never (rw (eq-eqb p (rows k .clock) i, le-ltb q 3 (omega arith), eq-eqb q (rows k .clock) j) at off)
       go (yes i) (no l) (no j) =
           times-zero (w k ⊗ e k p) (e k q) (subst (λ (z : ℕ). T (finite (w k ⊗ e k z))) (sym i) (clock-finite k kb))
-          (subst (λ (z : Float). T (isZero z)) (wide-none (rowAt rows k) q (omega arith) (omega arith) j) zero-zero)
+          (subst (λ (z : Float). T (isZero z)) (wide-none (rows k) q (omega arith) (omega arith) j) zero-zero)
 
-  side-zero : (p : ℕ) → 3 ≤ p → p < n → (k : ℕ) → k < m → eqb p (rowAt rows k .clock) ≡ false → T (isZero (sided c huber rows n p k))
-  side-zero p low pb k kb off = go (ℕ-discrete p (rowAt rows k .clock))
+  side-zero : (p : ℕ) → 3 ≤ p → p < n → (k : ℕ) → k < m → eqb p (rows k .clock) ≡ false → T (isZero (sided c huber rows n p k))
+  side-zero p low pb k kb off = go (ℕ-discrete p (rows k .clock))
     where
-      go : Dec (p ≡ rowAt rows k .clock) → T (isZero (sided c huber rows n p k))
-      go (no i) = zero-times (w k ⊗ e k p) (bits (rowAt rows k .residual)) (beside k kb p low (omega arith) i) (residual-finite k kb)
-      go (yes i) = absurd (let o : true ≡ false = rw (eq-eqb p (rowAt rows k .clock) i) at off in let z : _≡_ {A = ℕ} 0 1 = cc in omega arith)
+      go : Dec (p ≡ rows k .clock) → T (isZero (sided c huber rows n p k))
+      go (no i) = zero-times (w k ⊗ e k p) (bits (rows k .residual)) (beside k kb p low (omega arith) i) (residual-finite k kb)
+      go (yes i) = absurd (let o : true ≡ false = rw (eq-eqb p (rows k .clock) i) at off in let z : _≡_ {A = ℕ} 0 1 = cc in omega arith)
 
   -- the cells of a clock's row are the sums, and no others are added to
   cell-sum : (p q : ℕ) → 3 ≤ p → p < n → q ≤ p → placedCell c huber rows n m p q ≡ cells c huber rows m p q
@@ -144,13 +144,13 @@ module _ (c : CentreScale) (huber : Float) (rows : Rows) (n : ℕ) (few : n ≤ 
 
   -- above the diagonal nothing is added
   above : (p q : ℕ) → p < n → p < q → placedCell c huber rows n m p q ≡ cellIn p q
-  above p q pb qb = cell-idle p q (λ k kb. off k kb (ℕ-discrete p (rowAt rows k .clock))) ∙ rw (lt-ltb p n pb, lt-leb q p qb)
+  above p q pb qb = cell-idle p q (λ k kb. off k kb (ℕ-discrete p (rows k .clock))) ∙ rw (lt-ltb p n pb, lt-leb q p qb)
     where
-      off : (k : ℕ) → k < m → Dec (p ≡ rowAt rows k .clock) → reached c huber rows n p q k ≡ false
-      off k kb (no i) = rw (ne-eqb p (rowAt rows k .clock) i)
+      off : (k : ℕ) → k < m → Dec (p ≡ rows k .clock) → reached c huber rows n p q k ≡ false
+      off k kb (no i) = rw (ne-eqb p (rows k .clock) i)
       off k kb (yes i) =
-          let low : 3 ≤ rowAt rows k .clock = h .clocks k kb .0 in
-          rw (eq-eqb p (rowAt rows k .clock) i, le-ltb q 3 (omega arith), ne-eqb q (rowAt rows k .clock) (omega arith))
+          let low : 3 ≤ rows k .clock = h .clocks k kb .0 in
+          rw (eq-eqb p (rows k .clock) i, le-ltb q 3 (omega arith), ne-eqb q (rows k .clock) (omega arith))
 
   abbrev stored : List (List Float)
   stored = store (store (store (store (store (store a 0 0 xx) 1 0 yx) 1 1 yy) 2 0 zx) 2 1 zy) 2 2 zz
@@ -183,7 +183,7 @@ module _ (c : CentreScale) (huber : Float) (rows : Rows) (n : ℕ) (few : n ≤ 
       go : Dec (p < n) → Dec (p < q) → placedCell c huber rows n m p q ≡ cellIn p q
       go (yes u) (yes g) = above p q u g
       go (yes u) (no g) = let i : q ≤ p = omega arith in below p q _ u i (cell-sum p q l u i)
-      go (no u) g = let i : n ≤ p = omega arith in cell-idle p q (λ k kb. rw (ne-eqb p (rowAt rows k .clock) (omega (arith, h .clocks k kb .1)))) ∙ rw (le-ltb p n i)
+      go (no u) g = let i : n ≤ p = omega arith in cell-idle p q (λ k kb. rw (ne-eqb p (rows k .clock) (omega (arith, h .clocks k kb .1)))) ∙ rw (le-ltb p n i)
 
   matrix-stored : stored ≡ triangleOf n (cells c huber rows m)
   unfolding triangleOf
@@ -217,16 +217,16 @@ module _ (c : CentreScale) (huber : Float) (rows : Rows) (n : ℕ) (few : n ≤ 
       go (suc (suc zero)) pb d = getD-set-same (set (set b 0 sx) 1 sy) 2 sz nan (omega (arith, long-2)) ∙ within 2 sz (omega arith) (h .sz-is)
       go (suc (suc (suc p))) pb (yes u) =
           beyond (suc (suc (suc p))) (omega arith) ∙ h .sides-are (suc (suc (suc p))) pb
-          ∙ some-all (λ k. eqb (suc (suc (suc p))) (rowAt rows k .clock)) (sided c huber rows n (suc (suc (suc p)))) m (λ k. mul-fits binary64 _ _) (side-zero (suc (suc (suc p))) (omega arith) u)
+          ∙ some-all (λ k. eqb (suc (suc (suc p))) (rows k .clock)) (sided c huber rows n (suc (suc (suc p)))) m (λ k. mul-fits binary64 _ _) (side-zero (suc (suc (suc p))) (omega arith) u)
           ∙ sym (sides-sum c huber rows m (suc (suc (suc p)))) ∙ rw (lt-ltb (suc (suc (suc p))) n u)
       go (suc (suc (suc p))) pb (no u) =
           let i : n ≤ suc (suc (suc p)) = omega arith in
           beyond (suc (suc (suc p))) (omega arith) ∙ h .sides-are (suc (suc (suc p))) pb
-          ∙ some-none +0 (λ k. eqb (suc (suc (suc p))) (rowAt rows k .clock)) (sided c huber rows n (suc (suc (suc p)))) m (λ k kb. ne-eqb (suc (suc (suc p))) (rowAt rows k .clock) (omega (arith, h .clocks k kb .1)))
+          ∙ some-none +0 (λ k. eqb (suc (suc (suc p))) (rows k .clock)) (sided c huber rows n (suc (suc (suc p)))) m (λ k kb. ne-eqb (suc (suc (suc p))) (rows k .clock) (omega (arith, h .clocks k kb .1)))
           ∙ rw (le-ltb (suc (suc (suc p))) n i)
 
-  pub formed-by-places : length (rows .row) ≡ 64 → rows .count ≤ 64 → m ≡ rows .count → Formed (weight c huber) (counted rows) n stored sideStored
-  formed-by-places long small last =
-      formed c huber rows long small n stored sideStored
+  pub formed-by-places : (count : ℕ) → m ≡ count → Formed (weight c huber) (places rows count) n stored sideStored
+  formed-by-places count last =
+      formed c huber rows count n stored sideStored
       (subst (λ (z : ℕ). stored ≡ triangleOf n (cells c huber rows z)) last matrix-stored)
       (subst (λ (z : ℕ). sideStored ≡ nine (λ i. cond (ltb i n) (sides c huber rows z i) +0)) last right-stored)

@@ -6,7 +6,6 @@ use mathlib.Core.Bool.{Bool, true, false, cond, _&&_}
 use mathlib.Core.List.{List}
 use lib.Dec.{ltb, leb, eqb}
 use borrow.Author.Tests.{le-ltb, le-leb, eq-eqb, ne-eqb}
-use lib.ListN.{length, getD}
 use lib.Ieee.{Float, nan}
 use Rattle.exact.specs.Float.{_⊕_, _⊗_, +0, 1·0, bits}
 use Rattle.cholesky.specs.Factor.{at, Factored, Refused, Lower, factorOf, solutionOf, Unused, UnusedPlaces}
@@ -15,35 +14,31 @@ use Rattle.cholesky.specs.Answer as factor
 use Rattle.median.specs.declared.centre.CentreScale.{CentreScale}
 use Rattle.robust.specs.Nine.{nine}
 use Rattle.robust.specs.Round.{weight, wide, total, cellOf, sideOf, triangleOf, matrixOf, rightOf, solved, roundBy}
-use Rattle.robust.specs.Step.{counted}
+use Rattle.robust.specs.Columns.{places}
 use Rattle.robust.specs.Normal.{Formed, Solving}
 use Rattle.robust.specs.declared.row.Row.{Row}
-use Rattle.robust.specs.declared.row.Rows.{Rows}
 use Rattle.robust.proofs.NineLaws.{nine-at, cell-at}
-use Rattle.robust.proofs.Sums.{blank, sumTo, sumTo-zero, sumTo-next, sum-total}
-
-abbrev pub rowAt : Rows → ℕ → Row
-rowAt rows k = getD (rows .row) k blank
+use Rattle.robust.proofs.Sums.{sumTo, sumTo-zero, sumTo-next, sum-places}
 
 -- ---- a triangle whose cells sum what f gives of each row
-module _ (f : Row → ℕ → ℕ → Float) (rows : Rows) where
+module _ (f : Row → ℕ → ℕ → Float) (rows : ℕ → Row) where
   pub sums : ℕ → ℕ → ℕ → Float
-  sums k p q = sumTo (λ k. f (rowAt rows k) p q) k
+  sums k p q = sumTo (λ k. f (rows k) p q) k
 
   pub sums-zero : (p q : ℕ) → sums 0 p q ≡ +0
   unfolding sums
   sums-zero p q = sumTo-zero _
 
-  pub sums-next : (k p q : ℕ) (s v : Float) → s ≡ sums k p q → v ≡ f (rowAt rows k) p q → s ⊕ v ≡ sums (k + 1) p q
+  pub sums-next : (k p q : ℕ) (s v : Float) → s ≡ sums k p q → v ≡ f (rows k) p q → s ⊕ v ≡ sums (k + 1) p q
   unfolding sums
   sums-next k p q s v h e = rw (sumTo-next, h, e)
 
-  pub sums-triangle : length (rows .row) ≡ 64 → rows .count ≤ 64 → (n : ℕ) → triangleOf n (sums (rows .count)) ≡ triangleOf n (λ p q. total (λ r. f r p q) (counted rows))
+  pub sums-triangle : (count n : ℕ) → triangleOf n (sums count) ≡ triangleOf n (λ p q. total (λ r. f r p q) (places rows count))
   unfolding sums
-  sums-triangle long few n = ap (triangleOf n) (fun-ext (λ p. fun-ext (λ q. sum-total (λ r. f r p q) (rows .row) (rows .count) (omega arith))))
+  sums-triangle count n = ap (triangleOf n) (fun-ext (λ p. fun-ext (λ q. sum-places (λ r. f r p q) rows count)))
 
 -- ---- the round's own
-module _ (c : CentreScale) (huber : Float) (rows : Rows) where
+module _ (c : CentreScale) (huber : Float) (rows : ℕ → Row) where
   abbrev weighted : Row → ℕ → ℕ → Float
   weighted r p q = weight c huber r ⊗ at (wide r) p ⊗ at (wide r) q
 
@@ -51,13 +46,13 @@ module _ (c : CentreScale) (huber : Float) (rows : Rows) where
   cells = sums weighted rows
 
   pub sides : ℕ → ℕ → Float
-  sides k p = sumTo (λ k. weight c huber (rowAt rows k) ⊗ at (wide (rowAt rows k)) p ⊗ bits (rowAt rows k .residual)) k
+  sides k p = sumTo (λ k. weight c huber (rows k) ⊗ at (wide (rows k)) p ⊗ bits (rows k .residual)) k
 
-  pub cells-sum : (k p q : ℕ) → cells k p q ≡ sumTo (λ k. weighted (rowAt rows k) p q) k
+  pub cells-sum : (k p q : ℕ) → cells k p q ≡ sumTo (λ k. weighted (rows k) p q) k
   unfolding sums
   cells-sum k p q = refl
 
-  pub sides-sum : (k p : ℕ) → sides k p ≡ sumTo (λ k. weight c huber (rowAt rows k) ⊗ at (wide (rowAt rows k)) p ⊗ bits (rowAt rows k .residual)) k
+  pub sides-sum : (k p : ℕ) → sides k p ≡ sumTo (λ k. weight c huber (rows k) ⊗ at (wide (rows k)) p ⊗ bits (rows k .residual)) k
   unfolding sides
   sides-sum k p = refl
 
@@ -69,28 +64,28 @@ module _ (c : CentreScale) (huber : Float) (rows : Rows) where
   sides-zero p = sumTo-zero _
 
   -- what one row more adds, by the weight w and the wide row e that the code has of it
-  module _ (k : ℕ) (w : Float) (e : List Float) (w-is : w ≡ weight c huber (rowAt rows k)) (e-is : e ≡ wide (rowAt rows k)) where
+  module _ (k : ℕ) (w : Float) (e : List Float) (w-is : w ≡ weight c huber (rows k)) (e-is : e ≡ wide (rows k)) where
     pub cells-next : (p q : ℕ) (s : Float) → s ≡ cells k p q → s ⊕ w ⊗ at e p ⊗ at e q ≡ cells (k + 1) p q
     cells-next p q s h = sums-next weighted rows k p q s _ h (rw (w-is, e-is))
 
-    pub sides-next : (p : ℕ) (s y : Float) → s ≡ sides k p → y ≡ bits (rowAt rows k .residual) → s ⊕ w ⊗ at e p ⊗ y ≡ sides (k + 1) p
+    pub sides-next : (p : ℕ) (s y : Float) → s ≡ sides k p → y ≡ bits (rows k .residual) → s ⊕ w ⊗ at e p ⊗ y ≡ sides (k + 1) p
     unfolding sides
     sides-next p s y h y-is = rw (sumTo-next, h, w-is, e-is, y-is)
 
-  module _ (long : length (rows .row) ≡ 64) (few : rows .count ≤ 64) where
-    sides-all : (p : ℕ) → sides (rows .count) p ≡ sideOf (weight c huber) (counted rows) p
+  module _ (count : ℕ) where
+    sides-all : (p : ℕ) → sides count p ≡ sideOf (weight c huber) (places rows count) p
     unfolding sides sideOf
-    sides-all p = sum-total (λ r. weight c huber r ⊗ at (wide r) p ⊗ bits (r .residual)) (rows .row) (rows .count) (omega arith)
+    sides-all p = sum-places (λ r. weight c huber r ⊗ at (wide r) p ⊗ bits (r .residual)) rows count
 
-    matrix-is : (n : ℕ) → triangleOf n (cells (rows .count)) ≡ matrixOf (weight c huber) (counted rows) n
+    matrix-is : (n : ℕ) → triangleOf n (cells count) ≡ matrixOf (weight c huber) (places rows count) n
     unfolding matrixOf cellOf
-    matrix-is n = sums-triangle weighted rows long few n
+    matrix-is n = sums-triangle weighted rows count n
 
-    right-is : (n : ℕ) → nine (λ i. cond (ltb i n) (sides (rows .count) i) +0) ≡ rightOf (weight c huber) (counted rows) n
+    right-is : (n : ℕ) → nine (λ i. cond (ltb i n) (sides count i) +0) ≡ rightOf (weight c huber) (places rows count) n
     unfolding rightOf
     right-is n = ap nine (fun-ext (λ i. ap (λ (z : Float). cond (ltb i n) z +0) (sides-all i)))
 
-    pub formed : (n : ℕ) (a : List (List Float)) (b : List Float) → a ≡ triangleOf n (cells (rows .count)) → b ≡ nine (λ i. cond (ltb i n) (sides (rows .count) i) +0) → Formed (weight c huber) (counted rows) n a b
+    pub formed : (n : ℕ) (a : List (List Float)) (b : List Float) → a ≡ triangleOf n (cells count) → b ≡ nine (λ i. cond (ltb i n) (sides count i) +0) → Formed (weight c huber) (places rows count) n a b
     formed n a b a-is b-is = record { matrix-is = a-is ∙ matrix-is n; right-is = b-is ∙ right-is n }
 
 -- ---- the round, by what factoring the matrix that was formed gives

@@ -4,6 +4,7 @@ pub mod NineLaws
 pub mod RoundSound
 pub mod RowLaws
 pub mod Sums
+pub mod ColumnLaws
 pub mod NormalLaws
 pub mod FormedLaws
 pub mod SomeSums

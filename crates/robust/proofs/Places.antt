@@ -17,9 +17,8 @@ use Rattle.median.specs.declared.centre.CentreScale.{CentreScale}
 use Rattle.robust.specs.Round.{weight, wide}
 use Rattle.robust.specs.Normal.{unused}
 use Rattle.robust.specs.declared.row.Row.{Row}
-use Rattle.robust.specs.declared.row.Rows.{Rows}
 use Rattle.robust.proofs.NineLaws.{cell-at, Square, square-nine, store, square-store, cell-same, cell-other}
-use Rattle.robust.proofs.FormedLaws.{rowAt, cells, sides, cells-zero, sides-zero, cells-next, sides-next}
+use Rattle.robust.proofs.FormedLaws.{cells, sides, cells-zero, sides-zero, cells-next, sides-next}
 use Rattle.robust.proofs.SomeSums.{someTo, some-taken, some-left}
 
 -- ---- a row nine wide whose clock is at 3 or beyond
@@ -115,15 +114,15 @@ module _ (a : List (List Float)) (s : Square a) (i : ℕ) (low : 3 ≤ i) (high 
   cell-rest p q n m = other-4 p q m ∙ other-3 p q (λ x y. n x (omega arith)) ∙ other-2 p q (λ x y. n x (omega arith)) ∙ other-1 p q (λ x y. n x (omega arith))
 
 -- ---- the loop
-module _ (c : CentreScale) (huber : Float) (rows : Rows) (n : ℕ) where
+module _ (c : CentreScale) (huber : Float) (rows : ℕ → Row) (n : ℕ) where
   abbrev pub clock : ℕ → ℕ
-  clock k = rowAt rows k .clock
+  clock k = rows k .clock
 
   abbrev pub weighted : ℕ → ℕ → ℕ → Float
-  weighted p q k = weight c huber (rowAt rows k) ⊗ at (wide (rowAt rows k)) p ⊗ at (wide (rowAt rows k)) q
+  weighted p q k = weight c huber (rows k) ⊗ at (wide (rows k)) p ⊗ at (wide (rows k)) q
 
   abbrev pub sided : ℕ → ℕ → Float
-  sided p k = weight c huber (rowAt rows k) ⊗ at (wide (rowAt rows k)) p ⊗ bits (rowAt rows k .residual)
+  sided p k = weight c huber (rows k) ⊗ at (wide (rows k)) p ⊗ bits (rows k .residual)
 
   abbrev pub idle : ℕ → ℕ → Float
   idle p q = cond (leb n p && eqb p q) 1·0 +0
@@ -177,9 +176,9 @@ module _ (c : CentreScale) (huber : Float) (rows : Rows) (n : ℕ) where
       }
 
   -- one row more, by its weight w and its residual d
-  module _ (few : n ≤ 9) (k : ℕ) (low : 3 ≤ clock k) (high : clock k < n) (w d : Float) (w-is : w ≡ weight c huber (rowAt rows k)) (d-is : d ≡ bits (rowAt rows k .residual)) where
+  module _ (few : n ≤ 9) (k : ℕ) (low : 3 ≤ clock k) (high : clock k < n) (w d : Float) (w-is : w ≡ weight c huber (rows k)) (d-is : d ≡ bits (rows k .residual)) where
     abbrev r : Row
-    r = rowAt rows k
+    r = rows k
 
     cell-more : (p q : ℕ) (u v s : Float) → u ≡ at (wide r) p → v ≡ at (wide r) q → s ≡ cells c huber rows k p q → s ⊕ w ⊗ u ⊗ v ≡ cells c huber rows (k + 1) p q
     cell-more p q u v s eu ev h = rw (eu, ev) (cells-next c huber rows k w (wide r) w-is refl p q s h)

@@ -1,12 +1,11 @@
 -- The round called by itself, by what its parts answer. Assumes nothing.
-use mathlib.Core.Path.{_≡_, refl, ap, _∙_, subst}
+use mathlib.Core.Path.{_≡_, refl, sym, ap, _∙_, subst}
 use Prim.Native.Nat.{ℕ, _≤_, _<_}
 use native.Mathlib.Omega.{arith}
 use mathlib.Core.Bool.{Bool, true, false}
 use mathlib.Core.List.{List}
 use borrow.Author.Tests.{lt-ltb, le-ltb}
-use lib.ListN.{length, length-map}
-use lib.Seq.{length-take-le}
+use lib.ListN.{length}
 use lib.Ieee.{Float}
 use Rattle.walk.specs.Walk.{every}
 use Rattle.numeric.specs.declared.refusal.Refusal.{Refusal}
@@ -15,30 +14,29 @@ use Rattle.median.specs.Centre.{centreAndScaleOf, centreScaleOf}
 use Rattle.median.specs.declared.centre.Centre.the-variants.{Refused as NoCentre, Of}
 use Rattle.median.specs.declared.centre.CentreScale.{CentreScale}
 use Rattle.robust.specs.Round.{weight, Outcome, Refused, Solved, roundBy, roundOf}
-use Rattle.robust.specs.Normal.{Solving, residualsOf}
+use Rattle.robust.specs.Normal.{Solving}
 use Rattle.robust.specs.Step.{counted, indexed, firstOf, refused, outcome, stepOf}
-use Rattle.robust.specs.declared.row.Row.{Row}
+use Rattle.robust.specs.Columns.{Columns, rowsOf}
 use Rattle.robust.specs.declared.row.Rows.{Rows}
 use Rattle.robust.specs.declared.round.Stepping.the-variants as Stepping
+use Rattle.robust.proofs.ColumnLaws.{residuals-of}
 
--- at most 64 rows have a centre
-pub centre-of : (rows : Rows) → length (rows .row) ≡ 64 → rows .count ≤ 64 → centreScaleOf (residualsOf rows) ≡ Of (centreAndScaleOf (residualsOf rows))
+-- at most 64 residuals have a centre
+centre-of : (p : List ℕ) → length p ≤ 64 → centreScaleOf p ≡ Of (centreAndScaleOf p)
 unfolding centreScaleOf
-centre-of rows long few =
-    let h : length (residualsOf rows) ≤ 64 = rw (length-map (counted rows) (λ (r : Row). r .residual), length-take-le (rows .count) (rows .row) (omega arith)) few in
-    rw (le-ltb 64 (length (residualsOf rows)) h)
+centre-of p few = rw (le-ltb 64 (length p) few)
 
--- what the code has of the centre: p are the residuals that it read off the rows
-module _ (rows : Rows) (long : length (rows .row) ≡ 64) (few : rows .count ≤ 64) (p : List ℕ) (p-is : p ≡ residualsOf rows) where
-  pub never-refused : {A : Type 0} (r : Refusal) → NoCentre r ≡ centreScaleOf p → A
-  never-refused r e = absurd (let h = e ∙ ap centreScaleOf p-is ∙ centre-of rows long few in let z : _≡_ {A = ℕ} 0 1 = cc in omega arith)
+-- what the code has of the centre of the columns' residuals
+module _ (columns : Columns) (few : length (columns .residual) ≤ 64) where
+  pub never-refused : {A : Type 0} (r : Refusal) → NoCentre r ≡ centreScaleOf (columns .residual) → A
+  never-refused r e = absurd (let h = e ∙ centre-of (columns .residual) few in let z : _≡_ {A = ℕ} 0 1 = cc in omega arith)
 
-  pub round-solving : (n : ℕ) (huber : Float) (c : CentreScale) (ok : Bool) (x y : List Float) → Of c ≡ centreScaleOf p → Solving (roundBy (weight c huber) (counted rows) n) ok x y → Solving (roundOf (counted rows) n huber) ok x y
+  pub round-solving : (n : ℕ) (huber : Float) (c : CentreScale) (ok : Bool) (x y : List Float) → Of c ≡ centreScaleOf (columns .residual) → Solving (roundBy (weight c huber) (rowsOf columns) n) ok x y → Solving (roundOf (rowsOf columns) n huber) ok x y
   unfolding roundOf
   round-solving n huber c ok x y e s =
-      let h = e ∙ ap centreScaleOf p-is ∙ centre-of rows long few in
-      let q : c ≡ centreAndScaleOf (residualsOf rows) = cc in
-      subst (λ z. Solving (roundBy (weight z huber) (counted rows) n) ok x y) q s
+      let h = e ∙ centre-of (columns .residual) few in
+      let q : c ≡ centreAndScaleOf (columns .residual) = cc in
+      subst (λ z. Solving (roundBy (weight z huber) (rowsOf columns) n) ok x y) (q ∙ ap centreAndScaleOf (sym (residuals-of columns))) s
 
 module _ (rows : Rows) (n : ℕ) (huber : Float) (dx : List Float) where
   pub step-many : 64 < rows .count → refused TooMany dx ≡ stepOf rows n huber dx

@@ -8,6 +8,7 @@ use lib.ListN.{length, getD, set, take}
 use lib.Seq.{take-suc, take-suc-set}
 use lib.Ieee.{Float, nan}
 use Rattle.exact.specs.Float.{_⊕_, +0}
+use Rattle.robust.specs.Columns.{places}
 use Rattle.robust.specs.Round.{total}
 use Rattle.robust.specs.declared.row.Row.{Row}
 
@@ -39,6 +40,13 @@ sum-total g xs zero h = refl
 sum-total g xs (suc n) h =
     ap (λ (z : Float). z ⊕ g (getD xs n blank)) (sum-total g xs n (omega arith))
     ∙ sym (ap (foldl (λ s r. s ⊕ g r) +0) (take-suc xs n blank h) ∙ foldl-append (λ s r. s ⊕ g r) +0 (take n xs) (getD xs n blank ∷ []))
+
+pub sum-places : (g : Row → Float) (f : ℕ → Row) (n : ℕ) → sumTo (λ k. g (f k)) n ≡ total g (places f n)
+unfolding sumTo total places
+sum-places g f zero = refl
+sum-places g f (suc n) =
+    ap (λ (z : Float). z ⊕ g (f n)) (sum-places g f n)
+    ∙ sym (foldl-append (λ s r. s ⊕ g r) +0 (places f n) (f n ∷ []))
 
 -- an array by a list, one element more
 pub mapped-next : {A B : Type 0} (f : A → B) (xs : List A) (a : List B) (d : A) (k : ℕ) (v : B) → k < length a → k < length xs → v ≡ f (getD xs k d)

@@ -2,15 +2,13 @@
 use mathlib.Core.Path.{_≡_}
 use Prim.Native.Nat.{ℕ}
 use mathlib.Core.Bool.{Bool, true, false, cond, _&&_}
-use mathlib.Core.List.{List, map}
+use mathlib.Core.List.{List}
 use lib.Dec.{leb, eqb}
 use lib.Ieee.{Float}
 use Rattle.exact.specs.Float.{+0, 1·0}
 use Rattle.robust.specs.Nine.{nine}
 use Rattle.robust.specs.Round.{matrixOf, rightOf, Outcome, Refused, Solved}
-use Rattle.robust.specs.Step.{counted}
 use Rattle.robust.specs.declared.row.Row.{Row}
-use Rattle.robust.specs.declared.row.Rows.{Rows}
 
 -- the matrix of n unknowns before any row is added: 1 on the diagonal of the unused ones
 unfoldable pub unused : ℕ → List (List Float)
@@ -20,9 +18,6 @@ unused n = nine (λ i. nine (λ j. cond (leb n i && eqb i j) 1·0 +0))
 pub record Formed (w : Row → Float) (rows : List Row) (n : ℕ) (a : List (List Float)) (b : List Float) : Type 0 where
   pub matrix-is : a ≡ matrixOf w rows n
   pub right-is : b ≡ rightOf w rows n
-
-abbrev pub residualsOf : Rows → List ℕ
-residualsOf rows = map (λ (r : Row). r .residual) (counted rows)
 
 -- whether a round has a factor, and the step, or what stood in its place before
 abbrev pub accepted : Outcome → Bool

@@ -3,11 +3,13 @@ ghost use mathlib.Core.Path.{_≡_};
 ghost use mathlib.Core.Bool.{true};
 ghost use mathlib.Core.List.{map};
 ghost use Prim.Native.Nat.{_≤_, _<_};
-ghost use lib.ListN.{take};
+ghost use lib.ListN.{take, length};
 ghost use Rattle.walk.specs.Walk.{every};
 ghost use Rattle.robust.specs.Round as spec;
 ghost use Rattle.robust.specs.Normal as code;
+ghost use Rattle.robust.specs.Columns.{columns, rowsOf};
 ghost use Rattle.robust.specs.Step.{counted, indexed, firstOf, stepOf};
+use crate::row::Row;
 use crate::row::Rows;
 use crate::row::wide;
 use crate::weight::weight;
@@ -19,6 +21,7 @@ use median::centre::centre_scale;
 use numeric::order::float;
 use numeric::real::is_finite;
 use numeric::refusal::Refusal;
+use numeric::vec3::Vec3;
 
 // What the round called by itself answers; the step itself stands in the lent dx.
 pub enum Stepping {
@@ -37,22 +40,46 @@ pub fn unused(n: usize, a: &mut [[f64; 9]; 9])
 }
 
 // Forms the normal equations in a and b, the matrix by its lower triangle: over every place of every row.
-fn form(rows: Rows, n: usize, c: CentreScale, huber: f64, a: &mut [[f64; 9]; 9], b: &mut [f64; 9])
-    requires { ⌜ (rows .count ≤ 64) × (n ≤ 9) ⌝ }
-    ensures { λ _. ⌜ code.Formed (spec.weight c huber) (counted rows) n (now (a .exit)) (now (b .exit)) ⌝ }
+fn form(
+    x: &[f64; 64],
+    y: &[f64; 64],
+    z: &[f64; 64],
+    clock: &[usize; 64],
+    sigma: &[f64; 64],
+    residual: &[u64],
+    n: usize,
+    c: CentreScale,
+    huber: f64,
+    a: &mut [[f64; 9]; 9],
+    b: &mut [f64; 9],
+)
+    requires { ⌜ (length (now residual) ≤ 64) × (n ≤ 9) ⌝ }
+    ensures { λ _. ⌜ code.Formed (spec.weight c huber) (rowsOf (columns (now (x .entry)) (now (y .entry)) (now (z .entry)) (now (clock .entry)) (now (sigma .entry)) (now (residual .entry)))) n (now (a .exit)) (now (b .exit)) ⌝ }
 {
     unused(n, a);
     *b = [0.0; 9];
-    let count = rows.count;
+    let count = residual.len();
     let mut e = [0.0; 9];
     for k in 0..count {
-        let r = rows.row[k];
+        let u = x[k];
+        let v = y[k];
+        let h = z[k];
+        let q = clock[k];
+        let s = sigma[k];
+        let p = residual[k];
+        let unit = Vec3 { x: u, y: v, z: h };
+        let r = Row {
+            unit: unit,
+            clock: q,
+            residual: p,
+            sigma: s,
+        };
         let w = weight(c, huber, r);
-        let y = float(r.residual);
+        let d = float(p);
         wide(r, &mut e);
         for i in 0..n {
             let t = w * e[i];
-            b[i] = b[i] + t * y;
+            b[i] = b[i] + t * d;
             for j in 0..i + 1 {
                 a[i][j] = a[i][j] + t * e[j];
             }
@@ -63,22 +90,27 @@ fn form(rows: Rows, n: usize, c: CentreScale, huber: f64, a: &mut [[f64; 9]; 9],
 // Forms the normal equations over the places of a row that are not 0: x, y, z and the clock. What is 0 adds nothing where every number is finite.
 // False, with a and b of no use, where a clock is below 3 or at n or beyond, or a number is not finite.
 fn form_by_places(
-    rows: Rows,
+    x: &[f64; 64],
+    y: &[f64; 64],
+    z: &[f64; 64],
+    clock: &[usize; 64],
+    sigma: &[f64; 64],
+    residual: &[u64],
     n: usize,
     c: CentreScale,
     huber: f64,
     a: &mut [[f64; 9]; 9],
     b: &mut [f64; 9],
 ) -> bool
-    requires { ⌜ (rows .count ≤ 64) × (n ≤ 9) ⌝ }
-    ensures { λ r. ⌜ (r ≡ true → code.Formed (spec.weight c huber) (counted rows) n (now (a .exit)) (now (b .exit))) ⌝ }
+    requires { ⌜ (length (now residual) ≤ 64) × (n ≤ 9) ⌝ }
+    ensures { λ r. ⌜ (r ≡ true → code.Formed (spec.weight c huber) (rowsOf (columns (now (x .entry)) (now (y .entry)) (now (z .entry)) (now (clock .entry)) (now (sigma .entry)) (now (residual .entry)))) n (now (a .exit)) (now (b .exit))) ⌝ }
 {
     if n < 3 {
         return false;
     }
     unused(n, a);
     *b = [0.0; 9];
-    let count = rows.count;
+    let count = residual.len();
     let mut xx = 0.0;
     let mut yx = 0.0;
     let mut yy = 0.0;
@@ -89,35 +121,43 @@ fn form_by_places(
     let mut sy = 0.0;
     let mut sz = 0.0;
     for k in 0..count {
-        let r = rows.row[k];
-        let i = r.clock;
+        let i = clock[k];
         if i < 3 {
             return false;
         }
         if i >= n {
             return false;
         }
+        let u = x[k];
+        let v = y[k];
+        let h = z[k];
+        let s = sigma[k];
+        let p = residual[k];
+        let unit = Vec3 { x: u, y: v, z: h };
+        let r = Row {
+            unit: unit,
+            clock: i,
+            residual: p,
+            sigma: s,
+        };
         let w = weight(c, huber, r);
-        let d = float(r.residual);
-        let x = r.unit.x;
-        let y = r.unit.y;
-        let z = r.unit.z;
-        let tx = w * x;
-        let ty = w * y;
-        let tz = w * z;
+        let d = float(p);
+        let tx = w * u;
+        let ty = w * v;
+        let tz = w * h;
         let t = w * 1.0;
-        xx = xx + tx * x;
-        yx = yx + ty * x;
-        yy = yy + ty * y;
-        zx = zx + tz * x;
-        zy = zy + tz * y;
-        zz = zz + tz * z;
+        xx = xx + tx * u;
+        yx = yx + ty * u;
+        yy = yy + ty * v;
+        zx = zx + tz * u;
+        zy = zy + tz * v;
+        zz = zz + tz * h;
         sx = sx + tx * d;
         sy = sy + ty * d;
         sz = sz + tz * d;
-        a[i][0] = a[i][0] + t * x;
-        a[i][1] = a[i][1] + t * y;
-        a[i][2] = a[i][2] + t * z;
+        a[i][0] = a[i][0] + t * u;
+        a[i][1] = a[i][1] + t * v;
+        a[i][2] = a[i][2] + t * h;
         a[i][i] = a[i][i] + t * 1.0;
         b[i] = b[i] + t * d;
     }
@@ -134,14 +174,26 @@ fn form_by_places(
 }
 
 // Forms the normal equations over the places that are not 0, or over all where that will not do.
-fn normal(rows: Rows, n: usize, c: CentreScale, huber: f64, a: &mut [[f64; 9]; 9], b: &mut [f64; 9])
-    requires { ⌜ (rows .count ≤ 64) × (n ≤ 9) ⌝ }
-    ensures { λ _. ⌜ code.Formed (spec.weight c huber) (counted rows) n (now (a .exit)) (now (b .exit)) ⌝ }
+fn normal(
+    x: &[f64; 64],
+    y: &[f64; 64],
+    z: &[f64; 64],
+    clock: &[usize; 64],
+    sigma: &[f64; 64],
+    residual: &[u64],
+    n: usize,
+    c: CentreScale,
+    huber: f64,
+    a: &mut [[f64; 9]; 9],
+    b: &mut [f64; 9],
+)
+    requires { ⌜ (length (now residual) ≤ 64) × (n ≤ 9) ⌝ }
+    ensures { λ _. ⌜ code.Formed (spec.weight c huber) (rowsOf (columns (now (x .entry)) (now (y .entry)) (now (z .entry)) (now (clock .entry)) (now (sigma .entry)) (now (residual .entry)))) n (now (a .exit)) (now (b .exit)) ⌝ }
 {
-    if form_by_places(rows, n, c, huber, a, b) {
+    if form_by_places(x, y, z, clock, sigma, residual, n, c, huber, a, b) {
         return;
     }
-    form(rows, n, c, huber, a, b);
+    form(x, y, z, clock, sigma, residual, n, c, huber, a, b);
 }
 
 // How many unknowns a system is factored by: those that are used, and one where none is.
@@ -156,27 +208,31 @@ fn used_of(n: usize) -> usize
 }
 
 // The round of the counted rows: its step in x, or false and x as it was where a pivot is refused.
-pub fn round_step(rows: Rows, n: usize, huber: f64, x: &mut [f64; 9]) -> bool
-    requires { ⌜ (rows .count ≤ 64) × (n ≤ 9) ⌝ }
-    ensures { λ r. ⌜ code.Solving (spec.roundOf (counted rows) n huber) r (now (x .entry)) (now (x .exit)) ⌝ }
+pub fn round_step(
+    x: &[f64; 64],
+    y: &[f64; 64],
+    z: &[f64; 64],
+    clock: &[usize; 64],
+    sigma: &[f64; 64],
+    residual: &[u64],
+    n: usize,
+    huber: f64,
+    dx: &mut [f64; 9],
+) -> bool
+    requires { ⌜ (length (now residual) ≤ 64) × (n ≤ 9) ⌝ }
+    ensures { λ r. ⌜ code.Solving (spec.roundOf (rowsOf (columns (now (x .entry)) (now (y .entry)) (now (z .entry)) (now (clock .entry)) (now (sigma .entry)) (now (residual .entry)))) n huber) r (now (dx .entry)) (now (dx .exit)) ⌝ }
 {
-    let count = rows.count;
-    let mut p = [0u64; 64];
-    for k in 0..count {
-        let r = rows.row[k];
-        p[k] = r.residual;
-    }
-    let Centre::Of(c) = centre_scale(&p[..count]) else {
+    let Centre::Of(c) = centre_scale(residual) else {
         return false;
     };
     let mut a = [[0.0; 9]; 9];
     let mut b = [0.0; 9];
-    normal(rows, n, c, huber, &mut a, &mut b);
+    normal(x, y, z, clock, sigma, residual, n, c, huber, &mut a, &mut b);
     let m = used_of(n);
     let mut l = [[0.0; 9]; 9];
     if factor_used(m, &a, &mut l) {
         let s = solve_used(m, &l, b);
-        *x = s;
+        *dx = s;
         true
     } else {
         false
@@ -206,15 +262,37 @@ pub fn step(rows: Rows, unknowns: usize, huber: f64, dx: &mut [f64; 9]) -> Stepp
         return Stepping::Refused(Refusal::RecordOutOfRange);
     }
     let count = rows.count;
+    let mut x = [0.0; 64];
+    let mut y = [0.0; 64];
+    let mut z = [0.0; 64];
+    let mut clock = [0usize; 64];
+    let mut sigma = [0.0; 64];
+    let mut residual = [0u64; 64];
     for k in 0..count {
         let r = rows.row[k];
         if r.clock > 8 {
             return Stepping::Refused(Refusal::RecordOutOfRange);
         }
+        x[k] = r.unit.x;
+        y[k] = r.unit.y;
+        z[k] = r.unit.z;
+        clock[k] = r.clock;
+        sigma[k] = r.sigma;
+        residual[k] = r.residual;
     }
-    let mut x = [0.0; 9];
-    if round_step(rows, unknowns, huber, &mut x) {
-        let s = first_of(unknowns, x);
+    let mut t = [0.0; 9];
+    if round_step(
+        &x,
+        &y,
+        &z,
+        &clock,
+        &sigma,
+        &residual[..count],
+        unknowns,
+        huber,
+        &mut t,
+    ) {
+        let s = first_of(unknowns, t);
         *dx = s;
         Stepping::Done
     } else {

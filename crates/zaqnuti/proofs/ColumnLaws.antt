@@ -2,20 +2,16 @@
 use mathlib.Core.Path.{_≡_, refl, sym, _∙_}
 use mathlib.Core.Bool.{Bool, true, false, _&&_}
 use mathlib.Core.List.{List}
-use Prim.Native.Nat.{ℕ, zero, suc, _+_, _*_, _≤_, _<_}
+use Prim.Native.Nat.{ℕ, _+_, _*_, _≤_, _<_}
 use native.Mathlib.Numerals.{add-one}
 use native.Mathlib.Omega.{arith}
-use lib.ListN.{length, take, set, length-append, length-set}
+use lib.ListN.{length, take, set, length-set}
 use lib.Seq.{take-all, take-suc-set}
 use borrow.Author.Tests.{leb-true}
 use Rattle.estimator.specs.Record.{Holds}
-use Rattle.zaqnuti.specs.Columns.{places, RowColumns, rowsFit, CarrierColumns, epochFits, ObservationColumns, observationsFit}
-
-module _ {A : Type 0} (f : ℕ → A) where
-  pub places-length : (n : ℕ) → length (places f n) ≡ n
-  unfolding places
-  places-length zero = refl
-  places-length (suc n) = rw (length-append, places-length n) (omega arith)
+use Rattle.robust.specs.Columns.{places}
+use Rattle.robust.proofs.ColumnLaws.{places-length}
+use Rattle.zaqnuti.specs.Columns.{RowColumns, rowsFit, CarrierColumns, epochFits, ObservationColumns, observationsFit}
 
 -- an array of 64 of which the first i of n places have been stored, and its count
 pub record Filling {A : Type 0} (f : ℕ → A) (n : ℕ) (array : List A) (count i : ℕ) : Type 0 where

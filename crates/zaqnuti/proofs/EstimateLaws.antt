@@ -26,7 +26,8 @@ use Rattle.estimator.specs.declared.fix.Settings.{Settings as FixSettings}
 use Rattle.estimator.proofs.DisplacementSound.{displacement-accepted}
 use Rattle.estimator.proofs.FixSound.{fix-accepted}
 use Rattle.estimator.proofs.CountedLaws.{displacement-counted, displacement-many-rounds, fix-counted, fix-many-rounds}
-use Rattle.zaqnuti.specs.Columns.{places, CarrierColumns, carrierAt, carriersOf, epochOf, epochFits, ObservationColumns, observationAt, observationsOf, observationsFit}
+use Rattle.robust.specs.Columns.{places}
+use Rattle.zaqnuti.specs.Columns.{CarrierColumns, carrierAt, carriersOf, epochOf, epochFits, ObservationColumns, observationAt, observationsOf, observationsFit}
 use Rattle.zaqnuti.specs.Estimates.{displacementSettings, displacementInput, columnDisplacementOf, displacementNumber, deltaAfter, countsAfter, DisplacementAnswers, fixSettings, fixInput, columnFixOf, fixNumber, solutionAfter, usedAfter, FixAnswers, positionNumber, positionAfter, PositionAnswers}
 use Rattle.zaqnuti.proofs.ColumnLaws.{held-count, held-all}
 

@@ -1,24 +1,20 @@
 -- The records that a caller hands over as columns of numbers, place by place. Definitions only.
-use Prim.Native.Nat.{ℕ, zero, suc, _+_, _*_}
+use Prim.Native.Nat.{ℕ, _+_, _*_}
 use mathlib.Core.Bool.{Bool, _&&_}
-use mathlib.Core.List.{List, [], _∷_, _++_}
+use mathlib.Core.List.{List}
 use lib.Dec.{leb}
 use lib.ListN.{getD, length}
 use lib.IntN.{ℤ, pos}
 use lib.Ieee.{Float, nan}
 use Rattle.exact.specs.Float.{+0}
 use Rattle.numeric.specs.declared.vec3.Vec3.{Vec3}
+use Rattle.robust.specs.Columns.{places}
 use Rattle.robust.specs.declared.row.Row.{Row}
 use Rattle.robust.specs.declared.row.Rows.{Rows}
 use Rattle.estimator.specs.declared.record.Carrier.{Carrier}
 use Rattle.estimator.specs.declared.record.Epoch.{Epoch}
 use Rattle.estimator.specs.declared.record.Observation.{Observation}
 use Rattle.estimator.specs.declared.record.Observations.{Observations}
-
--- what f gives of the places 0 to n - 1
-unfoldable pub places : {A : Type 0} → (ℕ → A) → ℕ → List A
-places f zero = []
-places f (suc n) = places f n ++ (f n ∷ [])
 
 -- the vector whose coordinates are the floats at k, k + 1 and k + 2
 abbrev pub vectorAt : List Float → ℕ → Vec3

@@ -1,173 +1,252 @@
 -- `estimator::displacement::fit_pairs` meets its contract. Assumes nothing.
 use Prim.Native.Nat.{_+_, _-_, _≤_}
-use mathlib.Core.Path.{_≡_, refl, ap, _∙_}
-use mathlib.Core.List.{map}
-use lib.ListN.{length, getD, take}
+use mathlib.Core.Path.{_≡_, refl, sym, ap, _∙_, subst}
+use mathlib.Core.List.{List, map}
+use lib.ListN.{length, take}
+use lib.Seq.{length-take-le}
 use lib.Ieee.{nan}
 use borrow.Author.Tests.{not-true, not-false}
-use Rattle.walk.proofs.Walk.{length-mapped}
-use Rattle.robust.specs.Step.{counted}
+use Rattle.robust.specs.Columns.{columns, rowsOf}
 use Rattle.estimator.specs.Rounds.{short}
+use Rattle.estimator.specs.Kept.{pairsIn}
 use Rattle.estimator.specs.Displacement.{sigmaOf, rowWith, rowAt, roundAt, limit, fitOver}
-use Rattle.estimator.proofs.RoundsLaws.{five-places, left-end, left-failed, left-stops, left-goes, ended-failed, ended-reached, Rowing, rowing-next, rowing-end}
-use Rattle.estimator.proofs.DisplacementLaws.{blank, Going, going, solving}
-use Rattle.estimator.proofs.KeepLaws.{filled-at}
+use Rattle.estimator.specs.declared.pair.Pair.{Pair}
+use Rattle.estimator.proofs.RoundsLaws.{five-places, left-end, left-failed, left-stops, left-goes, ended-failed, ended-reached}
+use Rattle.estimator.proofs.DisplacementLaws.{Going, going, solving, clockAt, sigmaAt, residualAt, rows-in}
+use Rattle.estimator.proofs.KeepLaws.{Filled, filled-start, filled-more}
 use borrow.Author.Needs.{needs}
 use native.Mathlib.Omega.{arith}
 use Rattle.estimator.proofs.displacement.fit_pairs.Statement.{statement}
 use Rattle.estimator.proofs.displacement.fit_pairs.Tie as tie
 
-abbrev Inv-loop2 : tie.InvT-loop2
-Inv-loop2 settings k x pairs n count sigma rows₀ state i j₀ rows j = (j ≤ count) × Rowing (rowAt settings k state) (pairs .pair) count j rows
-
-abbrev μ-loop2 : tie.MeasureT-loop2
-μ-loop2 settings k x pairs n count sigma rows₀ state i j₀ rows j = count - j
-
 abbrev Inv-loop : tie.InvT-loop
-Inv-loop settings k x₀ pairs n count sigma rows₀ state₀ i₀ x rows state i = (i ≤ settings .rounds) × (n ≡ 3 + k .count) × (x ≡ x₀) × (rows .count ≡ count) × (length (rows .row) ≡ 64) × Going settings k (take (pairs .count) (pairs .pair)) i state
+Inv-loop settings k x y z constellation elevation observed state count clock₀ sigma₀ j₀ clock sigma j = (j ≤ count) × Filled (clockAt settings k x y z constellation elevation observed) 0 j clock × Filled (sigmaAt settings k x y z constellation elevation observed) nan j sigma
 
 abbrev μ-loop : tie.MeasureT-loop
-μ-loop settings k x₀ pairs n count sigma rows₀ state₀ i₀ x rows state i = settings .rounds - i
+μ-loop settings k x y z constellation elevation observed state count clock₀ sigma₀ j₀ clock sigma j = count - j
 
-long : (c : tie.Start Inv-loop2 μ-loop2 Inv-loop μ-loop) → length (c .args .t3 .pair) ≡ 64
-long c = search length-mapped
+abbrev Inv-loop3 : tie.InvT-loop3
+Inv-loop3 settings k x y z constellation elevation observed state count clock sigma residual₀ at i j₀ residual j = (j ≤ count) × Filled (residualAt settings k x y z constellation elevation observed at) 0 j residual
 
--- the rows of a round, all made
-all : (c : tie.After-loop2 Inv-loop2 μ-loop2 Inv-loop μ-loop) → let s = c .before .before .before .before .before .before .before .args in counted (c .before .loop2 .rows) ≡ map (rowAt (s .settings) (s .k) (c .before .before .before .before .loop .state)) (take (s .t3 .count) (s .t3 .pair))
-all c = let h = c .before .loop2 in rowing-end _ _ _ (h .j) (h .rows) (omega arith) (h .inv .1)
+abbrev μ-loop3 : tie.MeasureT-loop3
+μ-loop3 settings k x y z constellation elevation observed state count clock sigma residual₀ at i j₀ residual j = count - j
 
-add-n : tie.Need-add-n Inv-loop2 μ-loop2 Inv-loop μ-loop
+abbrev Inv-loop2 : tie.InvT-loop2
+Inv-loop2 settings k x y z constellation elevation observed state₀ count clock sigma residual₀ at₀ i₀ state residual at i = (i ≤ settings .rounds) × (state ≡ state₀) × (length residual ≡ 64) × Going settings k (pairsIn x y z constellation elevation observed) i at
+
+abbrev μ-loop2 : tie.MeasureT-loop2
+μ-loop2 settings k x y z constellation elevation observed state₀ count clock sigma residual₀ at₀ i₀ state residual at i = settings .rounds - i
+
+-- the pairs of the columns
+abbrev given : tie.Start Inv-loop μ-loop Inv-loop3 μ-loop3 Inv-loop2 μ-loop2 → List Pair
+given c = pairsIn (c .args .x .now) (c .args .y .now) (c .args .z .now) (c .args .constellation .now) (c .args .elevation .now) (c .args .observed .now)
+
+-- the columns of a round, all made
+all : (c : tie.After-loop3 Inv-loop μ-loop Inv-loop3 μ-loop3 Inv-loop2 μ-loop2) → let s = c .before .before .before .before .before .before .before .before in let l = c .before .before .before .before .before .before .loop in rowsOf (columns (s .args .x .now) (s .args .y .now) (s .args .z .now) (l .clock) (l .sigma) (take (length (s .args .observed .now)) (c .before .loop3 .residual))) ≡ map (rowAt (s .args .settings) (s .args .k) (c .before .before .before .before .loop2 .at)) (given s)
+all c =
+    let s = c .before .before .before .before .before .before .before .before .args in
+    let l = c .before .before .before .before .before .before .loop in
+    let h = c .before .loop3 in
+    let first : l .j ≡ length (s .observed .now) = omega arith in
+    let last : h .j ≡ length (s .observed .now) = omega arith in
+    rows-in (s .settings) (s .k) (s .x .now) (s .y .now) (s .z .now) (s .constellation .now) (s .elevation .now) (s .observed .now) (c .before .before .before .before .loop2 .at) (omega arith) (l .clock) (l .sigma) (h .residual)
+    (subst (λ z. Filled (clockAt (s .settings) (s .k) (s .x .now) (s .y .now) (s .z .now) (s .constellation .now) (s .elevation .now) (s .observed .now)) 0 z (l .clock)) first (l .inv .1))
+    (subst (λ z. Filled (sigmaAt (s .settings) (s .k) (s .x .now) (s .y .now) (s .z .now) (s .constellation .now) (s .elevation .now) (s .observed .now)) nan z (l .sigma)) first (l .inv .2))
+    (subst (λ z. Filled (residualAt (s .settings) (s .k) (s .x .now) (s .y .now) (s .z .now) (s .constellation .now) (s .elevation .now) (s .observed .now) (c .before .before .before .before .loop2 .at)) 0 z (h .residual)) last (h .inv .1))
+
+add-n : tie.Need-add-n Inv-loop μ-loop Inv-loop3 μ-loop3 Inv-loop2 μ-loop2
 add-n c = omega arith
 
-sigmas-of-requires : tie.Need-sigmas-of-requires Inv-loop2 μ-loop2 Inv-loop μ-loop
-sigmas-of-requires c κs = search needs
+loop-holds : tie.Need-loop-holds Inv-loop μ-loop Inv-loop3 μ-loop3 Inv-loop2 μ-loop2
+loop-holds c = let s = c .before .args in (omega arith, filled-start (clockAt (s .settings) (s .k) (s .x .now) (s .y .now) (s .z .now) (s .constellation .now) (s .elevation .now) (s .observed .now)) 0 _ refl, filled-start (sigmaAt (s .settings) (s .k) (s .x .now) (s .y .now) (s .z .now) (s .constellation .now) (s .elevation .now) (s .observed .now)) nan _ refl)
 
-loop-holds : tie.Need-loop-holds Inv-loop2 μ-loop2 Inv-loop μ-loop
-loop-holds c = let s = c .before .before .args in (omega arith, refl, refl, refl, refl, going (s .settings) (s .k) (take (s .t3 .count) (s .t3 .pair)))
+element-copy-out-c :
+    tie.Need-element-copy-out-c Inv-loop μ-loop Inv-loop3 μ-loop3 Inv-loop2 μ-loop2
+element-copy-out-c c = omega arith
 
-loop2-holds : tie.Need-loop2-holds Inv-loop2 μ-loop2 Inv-loop μ-loop
-loop2-holds c = let l = c .before .before .loop in (omega arith, record { count-is = l .inv .3; long = l .inv .4; so-far = refl })
+mul-e : tie.Need-mul-e Inv-loop μ-loop Inv-loop3 μ-loop3 Inv-loop2 μ-loop2
+mul-e c = omega arith
 
-mul-p : tie.Need-mul-p Inv-loop2 μ-loop2 Inv-loop μ-loop
-mul-p c = omega arith
+element-copy-out-e :
+    tie.Need-element-copy-out-e Inv-loop μ-loop Inv-loop3 μ-loop3 Inv-loop2 μ-loop2
+element-copy-out-e c = omega arith
 
-element-copy-out-p : tie.Need-element-copy-out-p Inv-loop2 μ-loop2 Inv-loop μ-loop
-element-copy-out-p c = omega arith
+slot-requires : tie.Need-slot-requires Inv-loop μ-loop Inv-loop3 μ-loop3 Inv-loop2 μ-loop2
+slot-requires c κs = search needs
 
-mul-s : tie.Need-mul-s Inv-loop2 μ-loop2 Inv-loop μ-loop
-mul-s c = omega arith
+elevation-sigma-requires :
+    tie.Need-elevation-sigma-requires Inv-loop μ-loop Inv-loop3 μ-loop3 Inv-loop2 μ-loop2
+elevation-sigma-requires c κs = search needs
 
-array-read-s : tie.Need-array-read-s Inv-loop2 μ-loop2 Inv-loop μ-loop
-array-read-s c = omega arith
+mul-clock : tie.Need-mul-clock Inv-loop μ-loop Inv-loop3 μ-loop3 Inv-loop2 μ-loop2
+mul-clock c = omega arith
 
-row-at-requires : tie.Need-row-at-requires Inv-loop2 μ-loop2 Inv-loop μ-loop
-row-at-requires c κs = search needs
+array-write-clock : tie.Need-array-write-clock Inv-loop μ-loop Inv-loop3 μ-loop3 Inv-loop2 μ-loop2
+array-write-clock c = omega arith
 
-mul-r : tie.Need-mul-r Inv-loop2 μ-loop2 Inv-loop μ-loop
-mul-r c = omega arith
+mul-sigma : tie.Need-mul-sigma Inv-loop μ-loop Inv-loop3 μ-loop3 Inv-loop2 μ-loop2
+mul-sigma c = omega arith
 
-element-set-from-r : tie.Need-element-set-from-r Inv-loop2 μ-loop2 Inv-loop μ-loop
-element-set-from-r c = omega arith
+array-write-sigma : tie.Need-array-write-sigma Inv-loop μ-loop Inv-loop3 μ-loop3 Inv-loop2 μ-loop2
+array-write-sigma c = omega arith
 
-add-j : tie.Need-add-j Inv-loop2 μ-loop2 Inv-loop μ-loop
+add-j : tie.Need-add-j Inv-loop μ-loop Inv-loop3 μ-loop3 Inv-loop2 μ-loop2
 add-j c = omega arith
 
-loop2-less : tie.Need-loop2-less Inv-loop2 μ-loop2 Inv-loop μ-loop
-loop2-less c = omega arith
-
-loop2-again : tie.Need-loop2-again Inv-loop2 μ-loop2 Inv-loop μ-loop
-loop2-again c =
-    let s = c .before .before .before .before .before .before .before .before .before in
-    let l = c .before .before .before .before .before .before .loop in
-    let h = c .before .before .before .loop2 in
-    let g = c .before .before .before .before .before .before .before .sigmas-of in
-    (omega arith, rowing-next (rowAt (s .args .settings) (s .args .k) (l .state)) (s .args .t3 .pair) _ (h .j) (h .rows) blank (c .row-at .result) (omega arith) (omega (arith, long s)) (c .row-at .ensures ∙ ap (λ z. rowWith z (s .args .k) (l .state) (getD (s .args .t3 .pair) (h .j) blank)) (filled-at (sigmaOf (s .args .settings)) (s .args .t3 .pair) (g .result) (s .args .t3 .count) (h .j) blank nan (omega (arith, long s)) (omega arith) (g .ensures))) (h .inv .1))
-
-round-step-requires : tie.Need-round-step-requires Inv-loop2 μ-loop2 Inv-loop μ-loop
-round-step-requires c κs = search needs
-
-returns : tie.Need-returns Inv-loop2 μ-loop2 Inv-loop μ-loop
-returns c =
-    let s = c .before .before .before .before .before .before .before .before .before .before .args in
-    let ps = take (s .t3 .count) (s .t3 .pair) in
-    let l = c .before .before .before .before .before .before .before .loop in
-    let t = c .before .before .before in
-    let g = c .before .round-step in
-    let q = solving (s .settings) (s .k) ps (l .state) (counted (t .before .loop2 .rows)) _ (g .result) _ _ (all t) (l .inv .1) (g .ensures) in
-    ended-failed _ _ _ (l .inv .2) (left-failed (roundAt (s .settings) (s .k) ps) (3 + s .k .count) limit (s .settings .rounds) (fitOver (s .settings) (s .k) ps) (l .i) (l .state) (omega arith) (g .result) _ _ q (not-true _ (c .if2 .taken)) (l .inv .5))
-
-move-by-requires : tie.Need-move-by-requires Inv-loop2 μ-loop2 Inv-loop μ-loop
-move-by-requires c κs = search needs
-
-is-short-requires : tie.Need-is-short-requires Inv-loop2 μ-loop2 Inv-loop μ-loop
-is-short-requires c κs = search needs
-
-returns-2 : tie.Need-returns-2 Inv-loop2 μ-loop2 Inv-loop μ-loop
-returns-2 c =
-    let s = c .before .before .before .before .before .before .before .before .before .before .before .before .before .args in
-    let ps = take (s .t3 .count) (s .t3 .pair) in
-    let l = c .before .before .before .before .before .before .before .before .before .before .loop in
-    let t = c .before .before .before .before .before .before in
-    let g = c .before .before .before .before .round-step in
-    let q = solving (s .settings) (s .k) ps (l .state) (counted (t .before .loop2 .rows)) _ (g .result) _ _ (all t) (l .inv .1) (g .ensures) in
-    let m = c .before .before .move-by in
-    let h = c .before .is-short in
-    ended-reached _ _ _ (left-stops (roundAt (s .settings) (s .k) ps) (3 + s .k .count) limit (s .settings .rounds) (fitOver (s .settings) (s .k) ps) (l .i) (l .state) (omega arith) (g .result) _ _ q (not-false _ (c .before .before .before .if2 .left)) (m .result) (h .result) (m .ensures) (h .ensures ∙ ap (λ z. short z (g .last .1 .1 .1 .0)) five-places) (c .if3 .taken) (l .inv .5))
-
-add-i : tie.Need-add-i Inv-loop2 μ-loop2 Inv-loop μ-loop
-add-i c = omega arith
-
-loop-less : tie.Need-loop-less Inv-loop2 μ-loop2 Inv-loop μ-loop
+loop-less : tie.Need-loop-less Inv-loop μ-loop Inv-loop3 μ-loop3 Inv-loop2 μ-loop2
 loop-less c = omega arith
 
-loop-again : tie.Need-loop-again Inv-loop2 μ-loop2 Inv-loop μ-loop
-loop-again c =
-    let s = c .before .before .before .before .before .before .before .before .before .before .before .before .before .args in
-    let ps = take (s .t3 .count) (s .t3 .pair) in
-    let l = c .before .before .before .before .before .before .before .before .before .before .loop in
-    let t = c .before .before .before .before .before .before in
-    let g = c .before .before .before .before .round-step in
-    let q = solving (s .settings) (s .k) ps (l .state) (counted (t .before .loop2 .rows)) _ (g .result) _ _ (all t) (l .inv .1) (g .ensures) in
-    let m = c .before .before .move-by in
-    let h = c .before .is-short in
-    let b = t .before .loop2 .inv .1 in
-    (omega arith, refl, l .inv .2, b .count-is, b .long, left-goes (roundAt (s .settings) (s .k) ps) (3 + s .k .count) limit (s .settings .rounds) (fitOver (s .settings) (s .k) ps) (l .i) (l .state) (omega arith) (g .result) _ _ q (not-false _ (c .before .before .before .if2 .left)) (m .result) (h .result) (m .ensures) (h .ensures ∙ ap (λ z. short z (g .last .1 .1 .1 .0)) five-places) (c .if3 .left) (l .inv .5))
+loop-again : tie.Need-loop-again Inv-loop μ-loop Inv-loop3 μ-loop3 Inv-loop2 μ-loop2
+unfolding sigmaOf
+loop-again c = let s = c .before .before .before .before .before .before .before .args in let h = c .before .before .before .before .before .loop in (omega arith, filled-more (clockAt (s .settings) (s .k) (s .x .now) (s .y .now) (s .z .now) (s .constellation .now) (s .elevation .now) (s .observed .now)) 0 (h .j) (h .clock) _ (omega arith) (c .before .slot .ensures) (h .inv .1), filled-more (sigmaAt (s .settings) (s .k) (s .x .now) (s .y .now) (s .z .now) (s .constellation .now) (s .elevation .now) (s .observed .now)) nan (h .j) (h .sigma) _ (omega arith) (c .elevation-sigma .ensures) (h .inv .2))
 
-returns-3 : tie.Need-returns-3 Inv-loop2 μ-loop2 Inv-loop μ-loop
-returns-3 c =
-    let s = c .before .before .before .before .before .args in
-    let ps = take (s .t3 .count) (s .t3 .pair) in
-    let l = c .before .before .loop in
-    ended-reached _ _ _ (left-end (roundAt (s .settings) (s .k) ps) (3 + s .k .count) limit (s .settings .rounds) (fitOver (s .settings) (s .k) ps) (l .i) (l .state) (omega arith) (l .inv .5))
+loop2-holds : tie.Need-loop2-holds Inv-loop μ-loop Inv-loop3 μ-loop3 Inv-loop2 μ-loop2
+loop2-holds c = let s = c .before .before .before in (omega arith, refl, refl, going (s .args .settings) (s .args .k) (given s))
+
+loop3-holds : tie.Need-loop3-holds Inv-loop μ-loop Inv-loop3 μ-loop3 Inv-loop2 μ-loop2
+loop3-holds c = let s = c .before .before .before .before .before .before .args in let l = c .before .before .loop2 in (omega arith, filled-start (residualAt (s .settings) (s .k) (s .x .now) (s .y .now) (s .z .now) (s .constellation .now) (s .elevation .now) (s .observed .now) (l .at)) 0 _ (l .inv .2))
+
+mul-o : tie.Need-mul-o Inv-loop μ-loop Inv-loop3 μ-loop3 Inv-loop2 μ-loop2
+mul-o c = omega arith
+
+shared-slice-read-o :
+    tie.Need-shared-slice-read-o Inv-loop μ-loop Inv-loop3 μ-loop3 Inv-loop2 μ-loop2
+shared-slice-read-o c = omega arith
+
+mul-u : tie.Need-mul-u Inv-loop μ-loop Inv-loop3 μ-loop3 Inv-loop2 μ-loop2
+mul-u c = omega arith
+
+element-copy-out-u :
+    tie.Need-element-copy-out-u Inv-loop μ-loop Inv-loop3 μ-loop3 Inv-loop2 μ-loop2
+element-copy-out-u c = omega arith
+
+mul-v : tie.Need-mul-v Inv-loop μ-loop Inv-loop3 μ-loop3 Inv-loop2 μ-loop2
+mul-v c = omega arith
+
+element-copy-out-v :
+    tie.Need-element-copy-out-v Inv-loop μ-loop Inv-loop3 μ-loop3 Inv-loop2 μ-loop2
+element-copy-out-v c = omega arith
+
+mul-w : tie.Need-mul-w Inv-loop μ-loop Inv-loop3 μ-loop3 Inv-loop2 μ-loop2
+mul-w c = omega arith
+
+element-copy-out-w :
+    tie.Need-element-copy-out-w Inv-loop μ-loop Inv-loop3 μ-loop3 Inv-loop2 μ-loop2
+element-copy-out-w c = omega arith
+
+mul-s : tie.Need-mul-s Inv-loop μ-loop Inv-loop3 μ-loop3 Inv-loop2 μ-loop2
+mul-s c = omega arith
+
+array-read-s : tie.Need-array-read-s Inv-loop μ-loop Inv-loop3 μ-loop3 Inv-loop2 μ-loop2
+array-read-s c = omega arith
+
+residual-of-requires :
+    tie.Need-residual-of-requires Inv-loop μ-loop Inv-loop3 μ-loop3 Inv-loop2 μ-loop2
+residual-of-requires c κs = search needs
+
+mul-residual : tie.Need-mul-residual Inv-loop μ-loop Inv-loop3 μ-loop3 Inv-loop2 μ-loop2
+mul-residual c = omega arith
+
+array-write-residual :
+    tie.Need-array-write-residual Inv-loop μ-loop Inv-loop3 μ-loop3 Inv-loop2 μ-loop2
+array-write-residual c = omega arith
+
+add-j-2 : tie.Need-add-j-2 Inv-loop μ-loop Inv-loop3 μ-loop3 Inv-loop2 μ-loop2
+add-j-2 c = omega arith
+
+loop3-less : tie.Need-loop3-less Inv-loop μ-loop Inv-loop3 μ-loop3 Inv-loop2 μ-loop2
+loop3-less c = omega arith
+
+loop3-again : tie.Need-loop3-again Inv-loop μ-loop Inv-loop3 μ-loop3 Inv-loop2 μ-loop2
+unfolding rowWith
+loop3-again c = let s = c .before .before .before .before .before .before .before .before .before .before .before .before .before .args in let l = c .before .before .before .before .before .before .before .before .before .loop2 in let h = c .before .before .before .before .before .before .loop3 in let f = c .before .before .before .before .before .before .before .before .before .before .before .loop in (omega arith, filled-more (residualAt (s .settings) (s .k) (s .x .now) (s .y .now) (s .z .now) (s .constellation .now) (s .elevation .now) (s .observed .now) (l .at)) 0 (h .j) (h .residual) _ (omega arith) (c .residual-of .ensures ∙ rw (f .inv .1 .at (h .j) (omega arith))) (h .inv .1))
+
+array-share-prefix-residual :
+    tie.Need-array-share-prefix-residual Inv-loop μ-loop Inv-loop3 μ-loop3 Inv-loop2 μ-loop2
+array-share-prefix-residual c = let h = c .before .before .before .before .loop3 in omega (arith, h .inv .1 .long)
+
+slice-aggregate-round-step :
+    tie.Need-slice-aggregate-round-step Inv-loop μ-loop Inv-loop3 μ-loop3 Inv-loop2 μ-loop2
+slice-aggregate-round-step c = let h = c .before .before .before .before .before .loop3 in sym (length-take-le _ _ (omega (arith, h .inv .1 .long)))
+
+round-step-requires :
+    tie.Need-round-step-requires Inv-loop μ-loop Inv-loop3 μ-loop3 Inv-loop2 μ-loop2
+round-step-requires c κs = let h = c .before .before .before .before .before .before .loop3 in let s = c .before .before .before .before .before .before .before .before .before .before .before .before .before .args in let e = length-take-le (length (s .observed .now)) (h .residual) (omega (arith, h .inv .1 .long)) in (omega (arith, e), omega arith)
+
+returns : tie.Need-returns Inv-loop μ-loop Inv-loop3 μ-loop3 Inv-loop2 μ-loop2
+returns c = let s = c .before .before .before .before .before .before .before .before .before .before .before .before .before .before .before .args in let ps = given (c .before .before .before .before .before .before .before .before .before .before .before .before .before .before .before) in let l = c .before .before .before .before .before .before .before .before .before .before .before .loop2 in let t = c .before .before .before .before .before .before .before in let g = c .before .round-step in let q = solving (s .settings) (s .k) ps (l .at) _ _ (g .result) _ _ (all t) refl (g .ensures) in ended-failed _ _ _ (l .inv .1) (left-failed (roundAt (s .settings) (s .k) ps) (3 + s .k .count) limit (s .settings .rounds) (fitOver (s .settings) (s .k) ps) (l .i) (l .at) (omega arith) (g .result) _ _ q (not-true _ (c .if2 .taken)) (l .inv .3))
+
+move-by-requires : tie.Need-move-by-requires Inv-loop μ-loop Inv-loop3 μ-loop3 Inv-loop2 μ-loop2
+move-by-requires c κs = search needs
+
+is-short-requires : tie.Need-is-short-requires Inv-loop μ-loop Inv-loop3 μ-loop3 Inv-loop2 μ-loop2
+is-short-requires c κs = search needs
+
+returns-2 : tie.Need-returns-2 Inv-loop μ-loop Inv-loop3 μ-loop3 Inv-loop2 μ-loop2
+returns-2 c = let s = c .before .before .before .before .before .before .before .before .before .before .before .before .before .before .before .before .before .before .args in let ps = given (c .before .before .before .before .before .before .before .before .before .before .before .before .before .before .before .before .before .before) in let l = c .before .before .before .before .before .before .before .before .before .before .before .before .before .before .loop2 in let t = c .before .before .before .before .before .before .before .before .before .before in let g = c .before .before .before .before .round-step in let q = solving (s .settings) (s .k) ps (l .at) _ _ (g .result) _ _ (all t) refl (g .ensures) in let m = c .before .before .move-by in let h = c .before .is-short in let u = h .ensures ∙ ap (λ z. short z (g .last .1 .1 .1 .1 .1 .1 .1 .1 .0)) five-places in let v = not-false _ (c .before .before .before .if2 .left) in ended-reached _ _ _ (left-stops (roundAt (s .settings) (s .k) ps) (3 + s .k .count) limit (s .settings .rounds) (fitOver (s .settings) (s .k) ps) (l .i) (l .at) (omega arith) (g .result) _ _ q v (m .result) (h .result) (m .ensures) u (c .if3 .taken) (l .inv .3))
+
+add-i : tie.Need-add-i Inv-loop μ-loop Inv-loop3 μ-loop3 Inv-loop2 μ-loop2
+add-i c = omega arith
+
+loop2-less : tie.Need-loop2-less Inv-loop μ-loop Inv-loop3 μ-loop3 Inv-loop2 μ-loop2
+loop2-less c = omega arith
+
+loop2-again : tie.Need-loop2-again Inv-loop μ-loop Inv-loop3 μ-loop3 Inv-loop2 μ-loop2
+loop2-again c = let s = c .before .before .before .before .before .before .before .before .before .before .before .before .before .before .before .before .before .before .args in let ps = given (c .before .before .before .before .before .before .before .before .before .before .before .before .before .before .before .before .before .before) in let l = c .before .before .before .before .before .before .before .before .before .before .before .before .before .before .loop2 in let t = c .before .before .before .before .before .before .before .before .before .before in let g = c .before .before .before .before .round-step in let q = solving (s .settings) (s .k) ps (l .at) _ _ (g .result) _ _ (all t) refl (g .ensures) in let m = c .before .before .move-by in let h = c .before .is-short in let u = h .ensures ∙ ap (λ z. short z (g .last .1 .1 .1 .1 .1 .1 .1 .1 .0)) five-places in let v = not-false _ (c .before .before .before .if2 .left) in (omega arith, l .inv .1, t .before .loop3 .inv .1 .long, left-goes (roundAt (s .settings) (s .k) ps) (3 + s .k .count) limit (s .settings .rounds) (fitOver (s .settings) (s .k) ps) (l .i) (l .at) (omega arith) (g .result) _ _ q v (m .result) (h .result) (m .ensures) u (c .if3 .left) (l .inv .3))
+
+returns-3 : tie.Need-returns-3 Inv-loop μ-loop Inv-loop3 μ-loop3 Inv-loop2 μ-loop2
+returns-3 c = let s = c .before .before .before .before .before .before .args in let ps = given (c .before .before .before .before .before .before) in let l = c .before .before .loop2 in ended-reached _ _ _ (left-end (roundAt (s .settings) (s .k) ps) (3 + s .k .count) limit (s .settings .rounds) (fitOver (s .settings) (s .k) ps) (l .i) (l .at) (omega arith) (l .inv .3))
 
 pub fit-pairs-spec : {M : Type 1} → statement M
 fit-pairs-spec =
     tie.close
     (tie.spec
-    Inv-loop2
-    μ-loop2
     Inv-loop
     μ-loop
-    add-n
-    sigmas-of-requires
+    Inv-loop3
+    μ-loop3
+    Inv-loop2
+    μ-loop2
     loop-holds
+    element-copy-out-c
+    mul-e
+    element-copy-out-e
+    slot-requires
+    elevation-sigma-requires
+    mul-clock
+    array-write-clock
+    mul-sigma
+    array-write-sigma
+    add-j
+    loop-less
+    loop-again
     loop2-holds
-    mul-p
-    element-copy-out-p
+    loop3-holds
+    mul-o
+    shared-slice-read-o
+    mul-u
+    element-copy-out-u
+    mul-v
+    element-copy-out-v
+    mul-w
+    element-copy-out-w
     mul-s
     array-read-s
-    row-at-requires
-    mul-r
-    element-set-from-r
-    add-j
-    loop2-less
-    loop2-again
+    residual-of-requires
+    mul-residual
+    array-write-residual
+    add-j-2
+    loop3-less
+    loop3-again
+    add-n
+    array-share-prefix-residual
+    slice-aggregate-round-step
     round-step-requires
     returns
     move-by-requires
     is-short-requires
     returns-2
     add-i
-    loop-less
-    loop-again
+    loop2-less
+    loop2-again
     returns-3)

@@ -1,38 +1,31 @@
 -- `estimator::screen::clocks_of` meets its contract: its loop gives the constellations one after the other. Assumes nothing.
-use mathlib.Core.Path.{_≡_, _∙_}
+use mathlib.Core.Path.{_≡_, ap, _∙_}
 use Prim.Native.Nat.{_≤_, _-_}
 use native.Mathlib.Omega.{arith}
 use lib.ListN.{length, drop, take}
+use lib.Seq.{take-all}
 use borrow.Author.Needs.{needs}
 use Rattle.walk.specs.Walk.{fold}
-use Rattle.walk.proofs.Walk.{length-mapped, fold-turn, fold-end}
+use Rattle.walk.proofs.Walk.{fold-turn, fold-end}
 use Rattle.clocks.specs.Clocks.{none, given, clocksOf}
-use Rattle.estimator.specs.Screen.{constellations}
-use Rattle.clocks.proofs.ClocksLaws.{law, fold-map}
-use Rattle.estimator.proofs.PairLaws.{blankPair}
+use Rattle.clocks.proofs.ClocksLaws.{law}
 use Rattle.estimator.proofs.screen.clocks_of.Statement.{statement}
 use Rattle.estimator.proofs.screen.clocks_of.Tie as tie
 
 abbrev Inv-loop : tie.InvT-loop
-Inv-loop p k₀ n i₀ k i = (i ≤ n) × (fold (λ s q. given s (q .constellation)) k (drop i (take n (p .pair))) ≡ clocksOf (constellations (take n (p .pair))))
+Inv-loop constellation k₀ n i₀ k i = (i ≤ n) × (fold given k (drop i (take n constellation)) ≡ clocksOf constellation)
 
 abbrev μ-loop : tie.MeasureT-loop
-μ-loop p k₀ n i₀ k i = n - i
-
-fits : (c : tie.Start Inv-loop μ-loop) → c .args .t1 .count ≤ length (c .args .t1 .pair)
-fits c = let e : length (c .args .t1 .pair) ≡ 64 = search length-mapped in omega arith
+μ-loop constellation k₀ n i₀ k i = n - i
 
 new-requires : tie.Need-new-requires Inv-loop μ-loop
 new-requires c κs = search needs
 
 loop-holds : tie.Need-loop-holds Inv-loop μ-loop
-loop-holds c = (search needs, rw (c .new .ensures) (fold-map given _ none _ ∙ law _))
+loop-holds c = let s = c .before .before .args in (search needs, rw (c .new .ensures) (ap (fold given none) (take-all (length (s .constellation .now)) (s .constellation .now) (omega arith)) ∙ law _))
 
-mul-q : tie.Need-mul-q Inv-loop μ-loop
-mul-q c = search needs
-
-element-copy-out-q : tie.Need-element-copy-out-q Inv-loop μ-loop
-element-copy-out-q c = search needs
+shared-slice-read-given : tie.Need-shared-slice-read-given Inv-loop μ-loop
+shared-slice-read-given c = search needs
 
 given-requires : tie.Need-given-requires Inv-loop μ-loop
 given-requires c κs = search needs
@@ -44,14 +37,10 @@ loop-less : tie.Need-loop-less Inv-loop μ-loop
 loop-less c = search needs
 
 loop-again : tie.Need-loop-again Inv-loop μ-loop
-loop-again c =
-    let h = c .before .before .before .loop in (
-      search needs,
-      rw (c .given .ensures) (fold-turn _ _ (fits (c .before .before .before .before .before)) (h .i) blankPair (c .before .before .loop-test .taken) _ (h .k) (h .inv .1)),
-    )
+loop-again c = let h = c .before .before .before .loop in (search needs, rw (c .given .ensures) (fold-turn _ _ (omega arith) (h .i) 0 (c .before .before .loop-test .taken) given (h .k) (h .inv .1)))
 
 returns : tie.Need-returns Inv-loop μ-loop
-returns c = fold-end _ _ (fits (c .before .before .before)) _ _ (c .before .loop .inv .1) (c .loop-test .left)
+returns c = fold-end _ _ (omega arith) _ given (c .before .loop .inv .1) (c .loop-test .left)
 
 pub clocks-of-spec : {M : Type 1} → statement M
 clocks-of-spec =
@@ -61,8 +50,7 @@ clocks-of-spec =
     μ-loop
     new-requires
     loop-holds
-    mul-q
-    element-copy-out-q
+    shared-slice-read-given
     given-requires
     add-i
     loop-less

@@ -1,13 +1,14 @@
 -- `robust::round::form` meets its contract. Assumes nothing.
-use Prim.Native.Nat.{_*_, _+_, _-_, _≤_, _<_}
+use Prim.Native.Nat.{ℕ, _*_, _+_, _-_, _≤_, _<_}
 use mathlib.Core.Path.{_≡_, subst}
 use mathlib.Core.Bool.{cond}
 use lib.Dec.{ltb}
 use lib.ListN.{length}
 use Rattle.exact.specs.Float.{+0}
-use Rattle.walk.proofs.Walk.{length-mapped}
 use Rattle.robust.specs.Nine.{nine}
 use Rattle.robust.specs.Round.{triangleOf}
+use Rattle.robust.specs.Columns.{columns, rowAt}
+use Rattle.robust.specs.declared.row.Row.{Row}
 use Rattle.robust.proofs.NormalLaws.{Summing, summing-start, summing-next, summing-open, summing-close, summing-more, summing-end, Siding, siding-start, siding-next, siding-more, siding-end}
 use Rattle.robust.proofs.FormedLaws.{cells, sides, cells-zero, sides-zero, cells-next, sides-next, formed}
 use borrow.Author.Needs.{needs}
@@ -16,40 +17,74 @@ use Rattle.robust.proofs.round.form.Statement.{statement}
 use Rattle.robust.proofs.round.form.Tie as tie
 
 abbrev Inv-loop3 : tie.InvT-loop3
-Inv-loop3 n c huber a₀ b rows count e k w y i t j₀ j-end a j = (i < n) × (j ≤ j-end) × Summing (cells c huber rows) n k (i * 10 + j) a
+Inv-loop3 x y z clock sigma residual n c huber a₀ b count e k u v h q s p w d i t j₀ j-end a j = (i < n) × (j ≤ j-end) × Summing (cells c huber (rowAt (columns x y z clock sigma residual))) n k (i * 10 + j) a
 
 abbrev μ-loop3 : tie.MeasureT-loop3
-μ-loop3 n c huber a₀ b rows count e k w y i t j₀ j-end a j = j-end - j
+μ-loop3 x y z clock sigma residual n c huber a₀ b count e k u v h q s p w d i t j₀ j-end a j = j-end - j
 
 abbrev Inv-loop2 : tie.InvT-loop2
-Inv-loop2 n c huber a₀ b₀ rows count e k w y i₀ a b i = (i ≤ n) × Summing (cells c huber rows) n k (i * 10) a × Siding (sides c huber rows) n k i b
+Inv-loop2 x y z clock sigma residual n c huber a₀ b₀ count e k u v h q s p w d i₀ a b i = (i ≤ n) × Summing (cells c huber (rowAt (columns x y z clock sigma residual))) n k (i * 10) a × Siding (sides c huber (rowAt (columns x y z clock sigma residual))) n k i b
 
 abbrev μ-loop2 : tie.MeasureT-loop2
-μ-loop2 n c huber a₀ b₀ rows count e k w y i₀ a b i = n - i
+μ-loop2 x y z clock sigma residual n c huber a₀ b₀ count e k u v h q s p w d i₀ a b i = n - i
 
 abbrev Inv-loop : tie.InvT-loop
-Inv-loop n c huber a₀ b₀ rows count e₀ k₀ a b e k = (k ≤ count) × Summing (cells c huber rows) n k 0 a × Siding (sides c huber rows) n k 0 b
+Inv-loop x y z clock sigma residual n c huber a₀ b₀ count e₀ k₀ a b e k = (k ≤ count) × Summing (cells c huber (rowAt (columns x y z clock sigma residual))) n k 0 a × Siding (sides c huber (rowAt (columns x y z clock sigma residual))) n k 0 b
 
 abbrev μ-loop : tie.MeasureT-loop
-μ-loop n c huber a₀ b₀ rows count e₀ k₀ a b e k = count - k
+μ-loop x y z clock sigma residual n c huber a₀ b₀ count e₀ k₀ a b e k = count - k
 
-long : (c : tie.Start Inv-loop3 μ-loop3 Inv-loop2 μ-loop2 Inv-loop μ-loop) → length (c .args .t1 .row) ≡ 64
-long c = search length-mapped
+-- the rows of the columns
+abbrev given : tie.Start Inv-loop3 μ-loop3 Inv-loop2 μ-loop2 Inv-loop μ-loop → ℕ → Row
+given c = rowAt (columns (c .args .x .now) (c .args .y .now) (c .args .z .now) (c .args .clock .now) (c .args .sigma .now) (c .args .residual .now))
 
 unused-requires : tie.Need-unused-requires Inv-loop3 μ-loop3 Inv-loop2 μ-loop2 Inv-loop μ-loop
 unused-requires c κs = search needs
 
 loop-holds : tie.Need-loop-holds Inv-loop3 μ-loop3 Inv-loop2 μ-loop2 Inv-loop μ-loop
-loop-holds c =
-    let s = c .before .before .before .args in
-    (omega arith, summing-start (cells (s .c) (s .huber) (s .t1)) (s .n) (omega arith) (cells-zero (s .c) (s .huber) (s .t1)) _ (c .before .unused .ensures), siding-start (sides (s .c) (s .huber) (s .t1)) (s .n) (omega arith) (sides-zero (s .c) (s .huber) (s .t1)))
+loop-holds c = let s = c .before .before .before .before .args in let g = given (c .before .before .before .before) in (omega arith, summing-start (cells (s .c) (s .huber) g) (s .n) (omega arith) (cells-zero (s .c) (s .huber) g) _ (c .before .unused .ensures), siding-start (sides (s .c) (s .huber) g) (s .n) (omega arith) (sides-zero (s .c) (s .huber) g))
 
-mul-r : tie.Need-mul-r Inv-loop3 μ-loop3 Inv-loop2 μ-loop2 Inv-loop μ-loop
-mul-r c = omega arith
+mul-u : tie.Need-mul-u Inv-loop3 μ-loop3 Inv-loop2 μ-loop2 Inv-loop μ-loop
+mul-u c = omega arith
 
-element-copy-out-r :
-    tie.Need-element-copy-out-r Inv-loop3 μ-loop3 Inv-loop2 μ-loop2 Inv-loop μ-loop
-element-copy-out-r c = omega arith
+element-copy-out-u :
+    tie.Need-element-copy-out-u Inv-loop3 μ-loop3 Inv-loop2 μ-loop2 Inv-loop μ-loop
+element-copy-out-u c = omega arith
+
+mul-v : tie.Need-mul-v Inv-loop3 μ-loop3 Inv-loop2 μ-loop2 Inv-loop μ-loop
+mul-v c = omega arith
+
+element-copy-out-v :
+    tie.Need-element-copy-out-v Inv-loop3 μ-loop3 Inv-loop2 μ-loop2 Inv-loop μ-loop
+element-copy-out-v c = omega arith
+
+mul-h : tie.Need-mul-h Inv-loop3 μ-loop3 Inv-loop2 μ-loop2 Inv-loop μ-loop
+mul-h c = omega arith
+
+element-copy-out-h :
+    tie.Need-element-copy-out-h Inv-loop3 μ-loop3 Inv-loop2 μ-loop2 Inv-loop μ-loop
+element-copy-out-h c = omega arith
+
+mul-q : tie.Need-mul-q Inv-loop3 μ-loop3 Inv-loop2 μ-loop2 Inv-loop μ-loop
+mul-q c = omega arith
+
+element-copy-out-q :
+    tie.Need-element-copy-out-q Inv-loop3 μ-loop3 Inv-loop2 μ-loop2 Inv-loop μ-loop
+element-copy-out-q c = omega arith
+
+mul-s : tie.Need-mul-s Inv-loop3 μ-loop3 Inv-loop2 μ-loop2 Inv-loop μ-loop
+mul-s c = omega arith
+
+element-copy-out-s :
+    tie.Need-element-copy-out-s Inv-loop3 μ-loop3 Inv-loop2 μ-loop2 Inv-loop μ-loop
+element-copy-out-s c = omega arith
+
+mul-p : tie.Need-mul-p Inv-loop3 μ-loop3 Inv-loop2 μ-loop2 Inv-loop μ-loop
+mul-p c = omega arith
+
+shared-slice-read-p :
+    tie.Need-shared-slice-read-p Inv-loop3 μ-loop3 Inv-loop2 μ-loop2 Inv-loop μ-loop
+shared-slice-read-p c = omega arith
 
 weight-requires : tie.Need-weight-requires Inv-loop3 μ-loop3 Inv-loop2 μ-loop2 Inv-loop μ-loop
 weight-requires c κs = search needs
@@ -61,7 +96,7 @@ wide-requires : tie.Need-wide-requires Inv-loop3 μ-loop3 Inv-loop2 μ-loop2 Inv
 wide-requires c κs = search needs
 
 loop2-holds : tie.Need-loop2-holds Inv-loop3 μ-loop3 Inv-loop2 μ-loop2 Inv-loop μ-loop
-loop2-holds c = let h = c .before .before .before .before .before .before .loop in (omega arith, h .inv .1, h .inv .2)
+loop2-holds c = let h = c .before .before .before .before .before .before .before .before .before .before .before .loop in (omega arith, h .inv .1, h .inv .2)
 
 mul-t : tie.Need-mul-t Inv-loop3 μ-loop3 Inv-loop2 μ-loop2 Inv-loop μ-loop
 mul-t c = omega arith
@@ -86,11 +121,7 @@ add-j-end : tie.Need-add-j-end Inv-loop3 μ-loop3 Inv-loop2 μ-loop2 Inv-loop μ
 add-j-end c = omega arith
 
 loop3-holds : tie.Need-loop3-holds Inv-loop3 μ-loop3 Inv-loop2 μ-loop2 Inv-loop μ-loop
-loop3-holds c =
-    let s = c .before .before .before .before .before .before .before .before .before .before .before .before .before .args in
-    let h = c .before .before .before .before .before .before .before .before .before .loop in
-    let i = c .before .before .loop2 in
-    (omega arith, omega arith, summing-open (cells (s .c) (s .huber) (s .t1)) (s .n) (omega arith) (h .k) (i .i) (i .a) (i .inv .1))
+loop3-holds c = let s = c .before .before .before .before .before .before .before .before .before .before .before .before .before .before .before .before .before .before .before .args in let g = given (c .before .before .before .before .before .before .before .before .before .before .before .before .before .before .before .before .before .before .before) in let h = c .before .before .before .before .before .before .before .before .before .before .before .before .before .before .loop in let i = c .before .before .loop2 in (omega arith, omega arith, summing-open (cells (s .c) (s .huber) g) (s .n) (omega arith) (h .k) (i .i) (i .a) (i .inv .1))
 
 mul-a : tie.Need-mul-a Inv-loop3 μ-loop3 Inv-loop2 μ-loop2 Inv-loop μ-loop
 mul-a c = omega arith
@@ -129,14 +160,7 @@ loop3-less : tie.Need-loop3-less Inv-loop3 μ-loop3 Inv-loop2 μ-loop2 Inv-loop 
 loop3-less c = omega arith
 
 loop3-again : tie.Need-loop3-again Inv-loop3 μ-loop3 Inv-loop2 μ-loop2 Inv-loop μ-loop
-loop3-again c =
-    let s = c .before .before .before .before .before .before .before .before .before .before .before .before .before .before .before .before .args in
-    let h = c .before .before .before .before .before .before .before .before .before .before .before .before .loop in
-    let w = c .before .before .before .before .before .before .before .before .before .weight in
-    let i = c .before .before .before .before .before .loop2 in
-    let j = c .before .before .loop3 in
-    let here = cells-next (s .c) (s .huber) (s .t1) (h .k) (w .result) _ (w .ensures) (c .before .before .before .before .before .before .wide .ensures) (i .i) (j .j) _ (j .inv .2 .todo (i .i) (j .j) (omega arith) (omega arith) (omega arith)) in
-    (omega arith, omega arith, summing-next (cells (s .c) (s .huber) (s .t1)) (s .n) (omega arith) (h .k) (i .i) (j .j) (j .a) _ (omega arith) (omega arith) here (j .inv .2))
+loop3-again c = let s = c .before .before .before .before .before .before .before .before .before .before .before .before .before .before .before .before .before .before .before .before .before .before .args in let g = given (c .before .before .before .before .before .before .before .before .before .before .before .before .before .before .before .before .before .before .before .before .before .before) in let h = c .before .before .before .before .before .before .before .before .before .before .before .before .before .before .before .before .before .loop in let w = c .before .before .before .before .before .before .before .before .before .weight in let i = c .before .before .before .before .before .loop2 in let j = c .before .before .loop3 in let here = cells-next (s .c) (s .huber) g (h .k) (w .result) _ (w .ensures) (c .before .before .before .before .before .before .wide .ensures) (i .i) (j .j) _ (j .inv .2 .todo (i .i) (j .j) (omega arith) (omega arith) (omega arith)) in (omega arith, omega arith, summing-next (cells (s .c) (s .huber) g) (s .n) (omega arith) (h .k) (i .i) (j .j) (j .a) _ (omega arith) (omega arith) here (j .inv .2))
 
 add-i : tie.Need-add-i Inv-loop3 μ-loop3 Inv-loop2 μ-loop2 Inv-loop μ-loop
 add-i c = omega arith
@@ -145,17 +169,7 @@ loop2-less : tie.Need-loop2-less Inv-loop3 μ-loop3 Inv-loop2 μ-loop2 Inv-loop 
 loop2-less c = omega arith
 
 loop2-again : tie.Need-loop2-again Inv-loop3 μ-loop3 Inv-loop2 μ-loop2 Inv-loop μ-loop
-loop2-again c =
-    let s = c .before .before .before .before .before .before .before .before .before .before .before .before .before .before .before .args in
-    let h = c .before .before .before .before .before .before .before .before .before .before .before .loop in
-    let w = c .before .before .before .before .before .before .before .before .weight in
-    let y = c .before .before .before .before .before .before .before .float in
-    let i = c .before .before .before .before .loop2 in
-    let j = c .before .loop3 in
-    let last : j .j ≡ i .i + 1 = omega arith in
-    let row = subst (λ z. Summing (cells (s .c) (s .huber) (s .t1)) (s .n) (h .k) (i .i * 10 + z) (j .a)) last (j .inv .2) in
-    let here = sides-next (s .c) (s .huber) (s .t1) (h .k) (w .result) _ (w .ensures) (c .before .before .before .before .before .wide .ensures) (i .i) _ (y .result) (i .inv .2 .todo (i .i) (omega arith) (omega arith)) (y .ensures) in
-    (omega arith, summing-close (cells (s .c) (s .huber) (s .t1)) (s .n) (omega arith) (h .k) (i .i) (j .a) (omega arith) row, siding-next (sides (s .c) (s .huber) (s .t1)) (s .n) (omega arith) (h .k) (i .i) (i .b) _ (omega arith) here (i .inv .2))
+loop2-again c = let s = c .before .before .before .before .before .before .before .before .before .before .before .before .before .before .before .before .before .before .before .before .before .args in let g = given (c .before .before .before .before .before .before .before .before .before .before .before .before .before .before .before .before .before .before .before .before .before) in let h = c .before .before .before .before .before .before .before .before .before .before .before .before .before .before .before .before .loop in let w = c .before .before .before .before .before .before .before .before .weight in let y = c .before .before .before .before .before .before .before .float in let i = c .before .before .before .before .loop2 in let j = c .before .loop3 in let last : j .j ≡ i .i + 1 = omega arith in let row = subst (λ z. Summing (cells (s .c) (s .huber) g) (s .n) (h .k) (i .i * 10 + z) (j .a)) last (j .inv .2) in let here = sides-next (s .c) (s .huber) g (h .k) (w .result) _ (w .ensures) (c .before .before .before .before .before .wide .ensures) (i .i) _ (y .result) (i .inv .2 .todo (i .i) (omega arith) (omega arith)) (y .ensures) in (omega arith, summing-close (cells (s .c) (s .huber) g) (s .n) (omega arith) (h .k) (i .i) (j .a) (omega arith) row, siding-next (sides (s .c) (s .huber) g) (s .n) (omega arith) (h .k) (i .i) (i .b) _ (omega arith) here (i .inv .2))
 
 add-k : tie.Need-add-k Inv-loop3 μ-loop3 Inv-loop2 μ-loop2 Inv-loop μ-loop
 add-k c = omega arith
@@ -164,23 +178,10 @@ loop-less : tie.Need-loop-less Inv-loop3 μ-loop3 Inv-loop2 μ-loop2 Inv-loop μ
 loop-less c = omega arith
 
 loop-again : tie.Need-loop-again Inv-loop3 μ-loop3 Inv-loop2 μ-loop2 Inv-loop μ-loop
-loop-again c =
-    let s = c .before .before .before .before .before .before .before .before .before .before .before .before .args in
-    let h = c .before .before .before .before .before .before .before .before .loop in
-    let i = c .before .loop2 in
-    let last : i .i ≡ s .n = omega arith in
-    let whole = subst (λ z. Summing (cells (s .c) (s .huber) (s .t1)) (s .n) (h .k) (z * 10) (i .a)) last (i .inv .1) in
-    let side = subst (λ z. Siding (sides (s .c) (s .huber) (s .t1)) (s .n) (h .k) z (i .b)) last (i .inv .2) in
-    (omega arith, summing-more (cells (s .c) (s .huber) (s .t1)) (s .n) (omega arith) (h .k) (i .a) whole, siding-more (sides (s .c) (s .huber) (s .t1)) (s .n) (omega arith) (h .k) (i .b) side)
+loop-again c = let s = c .before .before .before .before .before .before .before .before .before .before .before .before .before .before .before .before .before .before .args in let g = given (c .before .before .before .before .before .before .before .before .before .before .before .before .before .before .before .before .before .before) in let h = c .before .before .before .before .before .before .before .before .before .before .before .before .before .loop in let i = c .before .loop2 in let last : i .i ≡ s .n = omega arith in let whole = subst (λ z. Summing (cells (s .c) (s .huber) g) (s .n) (h .k) (z * 10) (i .a)) last (i .inv .1) in let side = subst (λ z. Siding (sides (s .c) (s .huber) g) (s .n) (h .k) z (i .b)) last (i .inv .2) in (omega arith, summing-more (cells (s .c) (s .huber) g) (s .n) (omega arith) (h .k) (i .a) whole, siding-more (sides (s .c) (s .huber) g) (s .n) (omega arith) (h .k) (i .b) side)
 
 returns : tie.Need-returns Inv-loop3 μ-loop3 Inv-loop2 μ-loop2 Inv-loop μ-loop
-returns c =
-    let s = c .before .before .before .before .before .args in
-    let h = c .before .loop in
-    let last : h .k ≡ s .t1 .count = omega arith in
-    formed (s .c) (s .huber) (s .t1) (long (c .before .before .before .before .before)) (omega arith) (s .n) (h .a) (h .b)
-    (subst (λ z. h .a ≡ triangleOf (s .n) (cells (s .c) (s .huber) (s .t1) z)) last (summing-end (cells (s .c) (s .huber) (s .t1)) (s .n) (omega arith) (h .k) (h .a) (h .inv .1)))
-    (subst (λ z. h .b ≡ nine (λ i. cond (ltb i (s .n)) (sides (s .c) (s .huber) (s .t1) z i) +0)) last (siding-end (sides (s .c) (s .huber) (s .t1)) (s .n) (omega arith) (h .k) (h .b) (h .inv .2)))
+returns c = let s = c .before .before .before .before .before .before .args in let g = given (c .before .before .before .before .before .before) in let h = c .before .loop in let last : h .k ≡ length (s .residual .now) = omega arith in formed (s .c) (s .huber) g (length (s .residual .now)) (s .n) (h .a) (h .b) (subst (λ z. h .a ≡ triangleOf (s .n) (cells (s .c) (s .huber) g z)) last (summing-end (cells (s .c) (s .huber) g) (s .n) (omega arith) (h .k) (h .a) (h .inv .1))) (subst (λ z. h .b ≡ nine (λ i. cond (ltb i (s .n)) (sides (s .c) (s .huber) g z i) +0)) last (siding-end (sides (s .c) (s .huber) g) (s .n) (omega arith) (h .k) (h .b) (h .inv .2)))
 
 pub form-spec : {M : Type 1} → statement M
 form-spec =
@@ -194,8 +195,18 @@ form-spec =
     μ-loop
     unused-requires
     loop-holds
-    mul-r
-    element-copy-out-r
+    mul-u
+    element-copy-out-u
+    mul-v
+    element-copy-out-v
+    mul-h
+    element-copy-out-h
+    mul-q
+    element-copy-out-q
+    mul-s
+    element-copy-out-s
+    mul-p
+    shared-slice-read-p
     weight-requires
     float-requires
     wide-requires

@@ -1,11 +1,12 @@
 -- `robust::round::form_by_places` meets its contract. Assumes nothing.
-use Prim.Native.Nat.{_-_, _≤_}
+use Prim.Native.Nat.{ℕ, _-_, _≤_}
 use mathlib.Core.Path.{_≡_, sym, subst}
 use mathlib.Core.Bool.{Bool, true, false, _&&_}
 use lib.Dec.{T}
 use lib.ListN.{length}
 use lib.Ieee.Fits.{and-l, and-r}
-use Rattle.walk.proofs.Walk.{length-mapped}
+use Rattle.robust.specs.Columns.{columns, rowAt}
+use Rattle.robust.specs.declared.row.Row.{Row}
 use Rattle.robust.proofs.Places.{Placed, placed-start, placed-next}
 use Rattle.robust.proofs.AllPlaces.{formed-by-places}
 use borrow.Author.Needs.{needs}
@@ -14,15 +15,14 @@ use Rattle.robust.proofs.round.form_by_places.Statement.{statement}
 use Rattle.robust.proofs.round.form_by_places.Tie as tie
 
 abbrev Inv-loop : tie.InvT-loop
-Inv-loop n c huber a₀ b₀ rows count xx₀ yx₀ yy₀ zx₀ zy₀ zz₀ sx₀ sy₀ sz₀ k₀ a b xx yx yy zx zy zz sx sy sz k =
-    (k ≤ count) × Placed c huber rows n k xx yx yy zx zy zz sx sy sz a b
+Inv-loop x y z clock sigma residual n c huber a₀ b₀ count xx₀ yx₀ yy₀ zx₀ zy₀ zz₀ sx₀ sy₀ sz₀ k₀ a b xx yx yy zx zy zz sx sy sz k = (k ≤ count) × Placed c huber (rowAt (columns x y z clock sigma residual)) n k xx yx yy zx zy zz sx sy sz a b
 
 abbrev μ-loop : tie.MeasureT-loop
-μ-loop n c huber a₀ b₀ rows count xx₀ yx₀ yy₀ zx₀ zy₀ zz₀ sx₀ sy₀ sz₀ k₀ a b xx yx yy zx zy zz sx sy sz k =
-    count - k
+μ-loop x y z clock sigma residual n c huber a₀ b₀ count xx₀ yx₀ yy₀ zx₀ zy₀ zz₀ sx₀ sy₀ sz₀ k₀ a b xx yx yy zx zy zz sx sy sz k = count - k
 
-long : (c : tie.Start Inv-loop μ-loop) → length (c .args .t1 .row) ≡ 64
-long c = search length-mapped
+-- the rows of the columns
+abbrev given : tie.Start Inv-loop μ-loop → ℕ → Row
+given c = rowAt (columns (c .args .x .now) (c .args .y .now) (c .args .z .now) (c .args .clock .now) (c .args .sigma .now) (c .args .residual .now))
 
 never : {A : Type 0} → false ≡ true → A
 never e = absurd (subst T (sym e) tt)
@@ -41,21 +41,49 @@ unused-requires : tie.Need-unused-requires Inv-loop μ-loop
 unused-requires c κs = search needs
 
 loop-holds : tie.Need-loop-holds Inv-loop μ-loop
-loop-holds c =
-    let s = c .before .before .before .before .args in
-    (omega arith, placed-start (s .c) (s .huber) (s .t1) (s .n) _ (c .before .unused .ensures))
+loop-holds c = let s = c .before .before .before .before .before .args in let g = given (c .before .before .before .before .before) in (omega arith, placed-start (s .c) (s .huber) g (s .n) _ (c .before .unused .ensures))
 
-mul-r : tie.Need-mul-r Inv-loop μ-loop
-mul-r c = omega arith
+mul-i : tie.Need-mul-i Inv-loop μ-loop
+mul-i c = omega arith
 
-element-copy-out-r : tie.Need-element-copy-out-r Inv-loop μ-loop
-element-copy-out-r c = omega arith
+element-copy-out-i : tie.Need-element-copy-out-i Inv-loop μ-loop
+element-copy-out-i c = omega arith
 
 returns-2 : tie.Need-returns-2 Inv-loop μ-loop
 returns-2 c = λ e. never e
 
 returns-3 : tie.Need-returns-3 Inv-loop μ-loop
 returns-3 c = λ e. never e
+
+mul-u : tie.Need-mul-u Inv-loop μ-loop
+mul-u c = omega arith
+
+element-copy-out-u : tie.Need-element-copy-out-u Inv-loop μ-loop
+element-copy-out-u c = omega arith
+
+mul-v : tie.Need-mul-v Inv-loop μ-loop
+mul-v c = omega arith
+
+element-copy-out-v : tie.Need-element-copy-out-v Inv-loop μ-loop
+element-copy-out-v c = omega arith
+
+mul-h : tie.Need-mul-h Inv-loop μ-loop
+mul-h c = omega arith
+
+element-copy-out-h : tie.Need-element-copy-out-h Inv-loop μ-loop
+element-copy-out-h c = omega arith
+
+mul-s : tie.Need-mul-s Inv-loop μ-loop
+mul-s c = omega arith
+
+element-copy-out-s : tie.Need-element-copy-out-s Inv-loop μ-loop
+element-copy-out-s c = omega arith
+
+mul-p : tie.Need-mul-p Inv-loop μ-loop
+mul-p c = omega arith
+
+shared-slice-read-p : tie.Need-shared-slice-read-p Inv-loop μ-loop
+shared-slice-read-p c = omega arith
 
 weight-requires : tie.Need-weight-requires Inv-loop μ-loop
 weight-requires c κs = search needs
@@ -160,12 +188,7 @@ loop-less : tie.Need-loop-less Inv-loop μ-loop
 loop-less c = omega arith
 
 loop-again : tie.Need-loop-again Inv-loop μ-loop
-loop-again c =
-    let s = c .before .before .before .before .before .before .before .before .before .before .before .before .before .before .before .before .args in
-    let h = c .before .before .before .before .before .before .before .before .before .before .before .loop in
-    let w = c .before .before .before .before .before .before .weight in
-    let d = c .before .before .before .before .before .float in
-    (omega arith, placed-next (s .c) (s .huber) (s .t1) (s .n) (omega arith) (h .k) (omega arith) (omega arith) (w .result) (d .result) (w .ensures) (d .ensures) (h .inv .1))
+loop-again c = let s = c .before .before .before .before .before .before .before .before .before .before .before .before .before .before .before .before .before .before .before .before .before .before .args in let g = given (c .before .before .before .before .before .before .before .before .before .before .before .before .before .before .before .before .before .before .before .before .before .before) in let h = c .before .before .before .before .before .before .before .before .before .before .before .before .before .before .before .before .loop in let w = c .before .before .before .before .before .before .weight in let d = c .before .before .before .before .before .float in (omega arith, placed-next (s .c) (s .huber) g (s .n) (omega arith) (h .k) (omega arith) (omega arith) (w .result) (d .result) (w .ensures) (d .ensures) (h .inv .1))
 
 index-1-a-9 : tie.Need-index-1-a-9 Inv-loop μ-loop
 index-1-a-9 c = omega arith
@@ -225,11 +248,7 @@ is-finite-requires-4 : tie.Need-is-finite-requires-4 Inv-loop μ-loop
 is-finite-requires-4 c κs = search needs
 
 returns-4 : tie.Need-returns-4 Inv-loop μ-loop
-returns-4 c =
-    let s = c .before .before .before .before .before .before .before .before .before .before .args in
-    let h = c .before .before .before .before .before .loop in
-    λ e. let f = passed (c .before .before .before .is-finite .result) (c .before .before .is-finite2 .result) (c .before .is-finite3 .result) (c .is-finite4 .result) e in
-    formed-by-places (s .c) (s .huber) (s .t1) (s .n) (omega arith) (omega arith) (h .k) (h .inv .1) (subst T (c .before .before .before .is-finite .ensures) (f .0)) (subst T (c .before .before .is-finite2 .ensures) (f .1)) (subst T (c .before .is-finite3 .ensures) (f .2)) (subst T (c .is-finite4 .ensures) (f .3)) (long (c .before .before .before .before .before .before .before .before .before .before)) (omega arith) (omega arith)
+returns-4 c = let s = c .before .before .before .before .before .before .before .before .before .before .before .args in let g = given (c .before .before .before .before .before .before .before .before .before .before .before) in let h = c .before .before .before .before .before .loop in let last : h .k ≡ length (s .residual .now) = omega arith in λ e. let f = passed (c .before .before .before .is-finite .result) (c .before .before .is-finite2 .result) (c .before .is-finite3 .result) (c .is-finite4 .result) e in formed-by-places (s .c) (s .huber) g (s .n) (omega arith) (omega arith) (h .k) (h .inv .1) (subst T (c .before .before .before .is-finite .ensures) (f .0)) (subst T (c .before .before .is-finite2 .ensures) (f .1)) (subst T (c .before .is-finite3 .ensures) (f .2)) (subst T (c .is-finite4 .ensures) (f .3)) (length (s .residual .now)) last
 
 pub form-by-places-spec : {M : Type 1} → statement M
 form-by-places-spec =
@@ -240,10 +259,20 @@ form-by-places-spec =
     returns
     unused-requires
     loop-holds
-    mul-r
-    element-copy-out-r
+    mul-i
+    element-copy-out-i
     returns-2
     returns-3
+    mul-u
+    element-copy-out-u
+    mul-v
+    element-copy-out-v
+    mul-h
+    element-copy-out-h
+    mul-s
+    element-copy-out-s
+    mul-p
+    shared-slice-read-p
     weight-requires
     float-requires
     mul-a

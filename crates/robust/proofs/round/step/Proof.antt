@@ -1,13 +1,21 @@
 -- `robust::round::step` meets its contract. Assumes nothing.
-use Prim.Native.Nat.{_-_, _≤_}
-use mathlib.Core.Path.{_≡_, refl, sym, ap}
-use mathlib.Core.Bool.{true, false}
-use lib.ListN.{length, drop}
+use Prim.Native.Nat.{ℕ, _-_, _≤_}
+use mathlib.Core.Path.{_≡_, refl, sym, ap, _∙_, subst}
+use mathlib.Core.Bool.{Bool, true, false}
+use mathlib.Core.List.{List, map-id}
+use lib.ListN.{length, drop, take}
+use lib.Seq.{length-take-le}
+use lib.Ieee.{Float}
 use borrow.Author.Tests.{le-leb, lt-leb}
 use Rattle.walk.specs.Walk.{every}
 use Rattle.walk.proofs.Walk.{length-mapped, every-end, every-yes, every-no}
+use Rattle.robust.specs.Round.{roundOf}
+use Rattle.robust.specs.Normal.{Solving}
+use Rattle.robust.specs.Columns.{columns, rowsOf}
 use Rattle.robust.specs.Step.{counted, indexed, Stepped}
+use Rattle.robust.specs.declared.row.Row.{Row}
 use Rattle.robust.proofs.Sums.{blank}
+use Rattle.robust.proofs.ColumnLaws.{Column, column-start, column-next, rows-are}
 use Rattle.robust.proofs.StepLaws.{step-many, step-wide, step-index, step-done, step-failed}
 use borrow.Author.Needs.{needs}
 use native.Mathlib.Omega.{arith}
@@ -15,10 +23,10 @@ use Rattle.robust.proofs.round.step.Statement.{statement}
 use Rattle.robust.proofs.round.step.Tie as tie
 
 abbrev Inv-loop : tie.InvT-loop
-Inv-loop unknowns huber dx rows count k₀ k = (k ≤ count) × (every indexed (drop k (counted rows)) ≡ every indexed (counted rows))
+Inv-loop unknowns huber dx rows count x₀ y₀ z₀ clock₀ sigma₀ residual₀ k₀ x y z clock sigma residual k = (k ≤ count) × (every indexed (drop k (counted rows)) ≡ every indexed (counted rows)) × Column (λ (r : Row). r .unit .x) (rows .row) k x × Column (λ (r : Row). r .unit .y) (rows .row) k y × Column (λ (r : Row). r .unit .z) (rows .row) k z × Column (λ (r : Row). r .clock) (rows .row) k clock × Column (λ (r : Row). r .sigma) (rows .row) k sigma × Column (λ (r : Row). r .residual) (rows .row) k residual
 
 abbrev μ-loop : tie.MeasureT-loop
-μ-loop unknowns huber dx rows count k₀ k = count - k
+μ-loop unknowns huber dx rows count x₀ y₀ z₀ clock₀ sigma₀ residual₀ k₀ x y z clock sigma residual k = count - k
 
 -- the contract's two parts
 both : {u v : Stepped} → u ≡ v → (u .answer ≡ v .answer) × (u .dx ≡ v .dx)
@@ -31,6 +39,19 @@ long c = search length-mapped
 all : (c : tie.After-loop Inv-loop μ-loop) → true ≡ every indexed (counted (c .before .before .before .before .args .t1))
 all c = let h = c .before .loop in let s = c .before .before .before .before in every-end (s .args .t1 .row) (s .args .t1 .count) (omega (arith, long s)) (h .k) indexed (h .inv .1) (omega arith)
 
+-- the columns hold the counted rows
+held : (c : tie.After-loop Inv-loop μ-loop) → let h = c .before .loop in let s = c .before .before .before .before .args .t1 in rowsOf (columns (h .x) (h .y) (h .z) (h .clock) (h .sigma) (take (s .count) (h .residual))) ≡ counted s
+held c =
+    let h = c .before .loop in
+    let s = c .before .before .before .before in
+    let last : h .k ≡ s .args .t1 .count = omega arith in
+    let rows = rows-are (λ (r : Row). r) (s .args .t1 .row) blank (h .k) (omega (arith, long s)) (omega arith) (h .x) (h .y) (h .z) (h .clock) (h .sigma) (h .residual) (h .inv .2 .so-far) (h .inv .3 .so-far) (h .inv .4 .so-far) (h .inv .5 .so-far) (h .inv .6 .so-far) (h .inv .7) in
+    subst (λ (z : ℕ). rowsOf (columns (h .x) (h .y) (h .z) (h .clock) (h .sigma) (take z (h .residual))) ≡ take z (s .args .t1 .row)) last (rows ∙ map-id _)
+
+-- the round of the columns is that of the counted rows
+round : (c : tie.After-loop Inv-loop μ-loop) {ok : Bool} {x y : List Float} → let h = c .before .loop in let s = c .before .before .before .before .args in Solving (roundOf (rowsOf (columns (h .x) (h .y) (h .z) (h .clock) (h .sigma) (take (s .t1 .count) (h .residual)))) (s .unknowns) (s .huber)) ok x y → Solving (roundOf (counted (s .t1)) (s .unknowns) (s .huber)) ok x y
+round c {ok} {x} {y} r = let s = c .before .before .before .before .args in subst (λ (z : List Row). Solving (roundOf z (s .unknowns) (s .huber)) ok x y) (held c) r
+
 returns : tie.Need-returns Inv-loop μ-loop
 returns c = let s = c .before in both (step-many (s .args .t1) (s .args .unknowns) (s .args .huber) (s .args .dx .now) (omega arith))
 
@@ -38,7 +59,7 @@ returns-2 : tie.Need-returns-2 Inv-loop μ-loop
 returns-2 c = let s = c .before .before in both (step-wide (s .args .t1) (s .args .unknowns) (s .args .huber) (s .args .dx .now) (omega arith) (omega arith))
 
 loop-holds : tie.Need-loop-holds Inv-loop μ-loop
-loop-holds c = (omega arith, refl)
+loop-holds c = let s = c .before .before in (omega arith, refl, column-start (λ (r : Row). r .unit .x) (s .args .t1 .row) _ refl, column-start (λ (r : Row). r .unit .y) (s .args .t1 .row) _ refl, column-start (λ (r : Row). r .unit .z) (s .args .t1 .row) _ refl, column-start (λ (r : Row). r .clock) (s .args .t1 .row) _ refl, column-start (λ (r : Row). r .sigma) (s .args .t1 .row) _ refl, column-start (λ (r : Row). r .residual) (s .args .t1 .row) _ refl)
 
 mul-r : tie.Need-mul-r Inv-loop μ-loop
 mul-r c = omega arith
@@ -48,11 +69,43 @@ element-copy-out-r c = omega arith
 
 returns-3 : tie.Need-returns-3 Inv-loop μ-loop
 unfolding indexed
-returns-3 c =
-    let s = c .before .before .before .before .before .before .before in
-    let h = c .before .before .before .before .loop in
-    let e = every-no (s .args .t1 .row) (s .args .t1 .count) (omega (arith, long s)) (h .k) blank (omega arith) indexed (h .inv .1) (sym (lt-leb _ 8 (c .if3 .taken))) refl in
-    both (step-index (s .args .t1) (s .args .unknowns) (s .args .huber) (s .args .dx .now) (omega arith) (omega arith) false e refl)
+returns-3 c = let s = c .before .before .before .before .before .before .before in let h = c .before .before .before .before .loop in let e = every-no (s .args .t1 .row) (s .args .t1 .count) (omega (arith, long s)) (h .k) blank (omega arith) indexed (h .inv .1) (sym (lt-leb _ 8 (c .if3 .taken))) refl in both (step-index (s .args .t1) (s .args .unknowns) (s .args .huber) (s .args .dx .now) (omega arith) (omega arith) false e refl)
+
+mul-x : tie.Need-mul-x Inv-loop μ-loop
+mul-x c = omega arith
+
+array-write-x : tie.Need-array-write-x Inv-loop μ-loop
+array-write-x c = omega arith
+
+mul-y : tie.Need-mul-y Inv-loop μ-loop
+mul-y c = omega arith
+
+array-write-y : tie.Need-array-write-y Inv-loop μ-loop
+array-write-y c = omega arith
+
+mul-z : tie.Need-mul-z Inv-loop μ-loop
+mul-z c = omega arith
+
+array-write-z : tie.Need-array-write-z Inv-loop μ-loop
+array-write-z c = omega arith
+
+mul-clock : tie.Need-mul-clock Inv-loop μ-loop
+mul-clock c = omega arith
+
+array-write-clock : tie.Need-array-write-clock Inv-loop μ-loop
+array-write-clock c = omega arith
+
+mul-sigma : tie.Need-mul-sigma Inv-loop μ-loop
+mul-sigma c = omega arith
+
+array-write-sigma : tie.Need-array-write-sigma Inv-loop μ-loop
+array-write-sigma c = omega arith
+
+mul-residual : tie.Need-mul-residual Inv-loop μ-loop
+mul-residual c = omega arith
+
+array-write-residual : tie.Need-array-write-residual Inv-loop μ-loop
+array-write-residual c = omega arith
 
 add-k : tie.Need-add-k Inv-loop μ-loop
 add-k c = omega arith
@@ -62,28 +115,25 @@ loop-less c = omega arith
 
 loop-again : tie.Need-loop-again Inv-loop μ-loop
 unfolding indexed
-loop-again c =
-    let s = c .before .before .before .before .before .before .before in
-    let h = c .before .before .before .before .loop in
-    (omega arith, every-yes (s .args .t1 .row) (s .args .t1 .count) (omega (arith, long s)) (h .k) blank (omega arith) indexed (h .inv .1) (sym (le-leb _ 8 (c .if3 .left))) refl)
+loop-again c = let s = c .before .before .before .before .before .before .before in let h = c .before .before .before .before .loop in (omega arith, every-yes (s .args .t1 .row) (s .args .t1 .count) (omega (arith, long s)) (h .k) blank (omega arith) indexed (h .inv .1) (sym (le-leb _ 8 (c .if3 .left))) refl, column-next (λ (r : Row). r .unit .x) (s .args .t1 .row) (h .k) (h .x) blank _ (omega arith) (omega (arith, long s)) refl (h .inv .2), column-next (λ (r : Row). r .unit .y) (s .args .t1 .row) (h .k) (h .y) blank _ (omega arith) (omega (arith, long s)) refl (h .inv .3), column-next (λ (r : Row). r .unit .z) (s .args .t1 .row) (h .k) (h .z) blank _ (omega arith) (omega (arith, long s)) refl (h .inv .4), column-next (λ (r : Row). r .clock) (s .args .t1 .row) (h .k) (h .clock) blank _ (omega arith) (omega (arith, long s)) refl (h .inv .5), column-next (λ (r : Row). r .sigma) (s .args .t1 .row) (h .k) (h .sigma) blank _ (omega arith) (omega (arith, long s)) refl (h .inv .6), column-next (λ (r : Row). r .residual) (s .args .t1 .row) (h .k) (h .residual) blank _ (omega arith) (omega (arith, long s)) refl (h .inv .7))
+
+array-share-prefix-residual : tie.Need-array-share-prefix-residual Inv-loop μ-loop
+array-share-prefix-residual c = let h = c .before .before .before .before .before .before .loop in omega (arith, h .inv .7 .long)
+
+slice-aggregate-round-step : tie.Need-slice-aggregate-round-step Inv-loop μ-loop
+slice-aggregate-round-step c = let h = c .before .before .before .before .before .before .before .loop in sym (length-take-le _ _ (omega (arith, h .inv .7 .long)))
 
 round-step-requires : tie.Need-round-step-requires Inv-loop μ-loop
-round-step-requires c κs = search needs
+round-step-requires c κs = let h = c .before .before .before .before .before .before .before .before .loop in let s = c .before .before .before .before .before .before .before .before .before .before .before in let e = length-take-le (s .args .t1 .count) (h .residual) (omega (arith, h .inv .7 .long)) in (omega (arith, e), omega arith)
 
 first-of-requires : tie.Need-first-of-requires Inv-loop μ-loop
 first-of-requires c κs = search needs
 
 returns-4 : tie.Need-returns-4 Inv-loop μ-loop
-returns-4 c =
-    let s = c .before .before .before .before .before .before .before .before in
-    let r = c .before .before .round-step in
-    both (step-done (s .args .t1) (s .args .unknowns) (s .args .huber) (s .args .dx .now) (omega arith) (omega arith) true (all (c .before .before .before .before)) refl (r .result) _ _ (r .ensures) (c .first-of .result) (c .before .if4 .taken) (c .first-of .ensures))
+returns-4 c = let s = c .before .before .before .before .before .before .before .before .before .before .before .before .before .before in let r = c .before .before .round-step in both (step-done (s .args .t1) (s .args .unknowns) (s .args .huber) (s .args .dx .now) (omega arith) (omega arith) true (all (c .before .before .before .before .before .before .before .before .before .before)) refl (r .result) _ _ (round (c .before .before .before .before .before .before .before .before .before .before) (r .ensures)) (c .first-of .result) (c .before .if4 .taken) (c .first-of .ensures))
 
 returns-5 : tie.Need-returns-5 Inv-loop μ-loop
-returns-5 c =
-    let s = c .before .before .before .before .before .before .before in
-    let r = c .before .round-step in
-    both (step-failed (s .args .t1) (s .args .unknowns) (s .args .huber) (s .args .dx .now) (omega arith) (omega arith) true (all (c .before .before .before)) refl (r .result) _ _ (r .ensures) (c .if4 .left))
+returns-5 c = let s = c .before .before .before .before .before .before .before .before .before .before .before .before .before in let r = c .before .round-step in both (step-failed (s .args .t1) (s .args .unknowns) (s .args .huber) (s .args .dx .now) (omega arith) (omega arith) true (all (c .before .before .before .before .before .before .before .before .before)) refl (r .result) _ _ (round (c .before .before .before .before .before .before .before .before .before) (r .ensures)) (c .if4 .left))
 
 pub step-spec : {M : Type 1} → statement M
 step-spec =
@@ -97,9 +147,23 @@ step-spec =
     mul-r
     element-copy-out-r
     returns-3
+    mul-x
+    array-write-x
+    mul-y
+    array-write-y
+    mul-z
+    array-write-z
+    mul-clock
+    array-write-clock
+    mul-sigma
+    array-write-sigma
+    mul-residual
+    array-write-residual
     add-k
     loop-less
     loop-again
+    array-share-prefix-residual
+    slice-aggregate-round-step
     round-step-requires
     first-of-requires
     returns-4
