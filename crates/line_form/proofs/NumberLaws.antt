@@ -8,7 +8,7 @@ use lib.Dec.{T, eqb, ltb}
 use borrow.Author.Tests.{lt-ltb, ltb-true, ltb-false, le-leb, ne-eqb}
 use Rattle.walk.specs.Walk.{every}
 use Rattle.line_form.specs.Field.{isDigit, decimalValue, plain, isNumber, number}
-use Rattle.line_form.specs.Print.{glyph, digitsText, places, decimalText}
+use Rattle.line_form.specs.Print.{glyph, digitsText, digitCount, decimalText}
 use Rattle.line_form.proofs.FloatLaws.{every-append}
 
 -- ---- one digit
@@ -41,14 +41,14 @@ digits-digits (suc k) n = every-append isDigit (digitsText 10 k (n / 10)) (glyph
 
 -- ---- as many digits as the number has
 
-places-enough : (f n : ℕ) → n < 10 ^ suc f → n < 10 ^ places f n
-unfolding places
+places-enough : (f n : ℕ) → n < 10 ^ suc f → n < 10 ^ digitCount f n
+unfolding digitCount
 places-enough zero n l = l
 places-enough (suc f) n l = go (ltb n 10) refl (places-enough f (n / 10) (omega arith))
   where
-    go : (t : Bool) → ltb n 10 ≡ t → n / 10 < 10 ^ places f (n / 10) → n < 10 ^ cond t 1 (suc (places f (n / 10)))
+    go : (t : Bool) → ltb n 10 ≡ t → n / 10 < 10 ^ digitCount f (n / 10) → n < 10 ^ cond t 1 (suc (digitCount f (n / 10)))
     go true e h = omega (arith, ltb-true n 10 e)
-    go false e h = let w : n < 10 ^ suc (places f (n / 10)) = omega arith in w
+    go false e h = let w : n < 10 ^ suc (digitCount f (n / 10)) = omega arith in w
 
 -- the first byte is there and is no 0 (48)
 abbrev leads : List ℕ → Bool
@@ -72,19 +72,19 @@ one n h l =
     let g : glyph (n % 10) ≡ 48 + n = ap glyph r ∙ glyph-below-ten n l in
     ap (λ (b : ℕ). not (eqb b 48)) g ∙ ap not (ne-eqb (48 + n) 48 (λ e. omega (arith, e)))
 
-digits-lead : (f n : ℕ) → 0 < n → n < 10 ^ suc f → leads (digitsText 10 (places f n) n) ≡ true
-unfolding places digitsText
+digits-lead : (f n : ℕ) → 0 < n → n < 10 ^ suc f → leads (digitsText 10 (digitCount f n) n) ≡ true
+unfolding digitCount digitsText
 digits-lead zero n h l = one n h (omega arith)
 digits-lead (suc f) n h l = go (ltb n 10) refl (λ m. digits-lead f (n / 10) m (omega arith))
   where
-    go : (t : Bool) → ltb n 10 ≡ t → (0 < n / 10 → leads (digitsText 10 (places f (n / 10)) (n / 10)) ≡ true) → leads (digitsText 10 (cond t 1 (suc (places f (n / 10)))) n) ≡ true
+    go : (t : Bool) → ltb n 10 ≡ t → (0 < n / 10 → leads (digitsText 10 (digitCount f (n / 10)) (n / 10)) ≡ true) → leads (digitsText 10 (cond t 1 (suc (digitCount f (n / 10)))) n) ≡ true
     go true e q = one n h (ltb-true n 10 e)
     go false e q =
         let m = ltb-false n 10 e in
-        leads-append (digitsText 10 (places f (n / 10)) (n / 10)) (glyph (n % 10) ∷ []) (q (omega arith))
+        leads-append (digitsText 10 (digitCount f (n / 10)) (n / 10)) (glyph (n % 10) ∷ []) (q (omega arith))
 
 digits-plain : (n : ℕ) → n < 10 ^ 21 → plain (decimalText n) ≡ true
-unfolding places digitsText plain
+unfolding digitCount digitsText plain
 digits-plain zero l = refl
 digits-plain (suc n) l = leads-plain (decimalText (suc n)) (digits-lead 20 (suc n) (omega arith) l)
 
@@ -94,11 +94,11 @@ pub printed-number : (limit n : ℕ) → n < limit → n < 2 ^ 64 → isNumber l
 unfolding isNumber
 printed-number limit n l h =
     let w : n < 10 ^ 21 = omega arith in
-    let v = digits-value (places 20 n) n (places-enough 20 n w) in
-    simp (digits-plain n w, digits-digits (places 20 n) n, v, lt-ltb n limit l)
+    let v = digits-value (digitCount 20 n) n (places-enough 20 n w) in
+    simp (digits-plain n w, digits-digits (digitCount 20 n) n, v, lt-ltb n limit l)
 
 pub number-again : (limit n : ℕ) → n < limit → n < 2 ^ 64 → number limit (decimalText n) ≡ n
 unfolding number
 number-again limit n l h =
     let w : n < 10 ^ 21 = omega arith in
-    ap (λ (t : Bool). cond t (decimalValue 0 (decimalText n)) 0) (printed-number limit n l h) ∙ digits-value (places 20 n) n (places-enough 20 n w)
+    ap (λ (t : Bool). cond t (decimalValue 0 (decimalText n)) 0) (printed-number limit n l h) ∙ digits-value (digitCount 20 n) n (places-enough 20 n w)

@@ -8,7 +8,7 @@ use native.Mathlib.Omega.{arith}
 use borrow.Author.Tests.{lt-ltb, le-ltb}
 use lib.ListN.{length, take, drop, set, length-append, length-drop, length-set, take-append-drop}
 use lib.Seq.{take-at, drop-at, drop-drop, take-set-le, set-split, append-snoc, length-take-le}
-use Rattle.line_form.specs.Print.{glyph, digitsText, places, decimalText}
+use Rattle.line_form.specs.Print.{glyph, digitsText, digitCount, decimalText}
 use Rattle.line_form.specs.Written.{written, Put}
 
 pub length-digits : (b k n : ℕ) → length (digitsText b k n) ≡ k
@@ -109,33 +109,33 @@ module _ (d : List ℕ) (at k b n : ℕ) where
 pub record Placing (n j rest : ℕ) : Type 0 where
   pub few : j ≤ 20
   pub small : rest < 10 ^ (20 - j)
-  pub same : j + places (20 - j) rest ≡ places 20 n
+  pub same : j + digitCount (20 - j) rest ≡ digitCount 20 n
 
-places-one : (f m : ℕ) → m < 10 → places f m ≡ 1
-unfolding places
+places-one : (f m : ℕ) → m < 10 → digitCount f m ≡ 1
+unfolding digitCount
 places-one zero m l = refl
 places-one (suc f) m l = simp (lt-ltb m 10 l)
 
-places-more : (f m : ℕ) → 10 ≤ m → places (suc f) m ≡ suc (places f (m / 10))
-unfolding places
+places-more : (f m : ℕ) → 10 ≤ m → digitCount (suc f) m ≡ suc (digitCount f (m / 10))
+unfolding digitCount
 places-more f m l = simp (le-ltb m 10 l)
 
 pub placing-start : (n : ℕ) → n < 2 ^ 64 → Placing n 0 n
 placing-start n h = record { few = omega arith; small = omega arith; same = omega arith }
 
 module _ (n j rest : ℕ) (inv : Placing n j rest) where
-  pub placing-end : rest < 10 → j + 1 ≡ places 20 n
+  pub placing-end : rest < 10 → j + 1 ≡ digitCount 20 n
   placing-end l = omega (arith, inv .same, places-one (20 - j) rest l)
 
   pub placing-more : 10 ≤ rest → Placing n (j + 1) (rest / 10)
   placing-more l = go (20 - j) refl (inv .small) (inv .same)
     where
-      go : (f : ℕ) → 20 - j ≡ f → rest < 10 ^ f → j + places f rest ≡ places 20 n → Placing n (j + 1) (rest / 10)
+      go : (f : ℕ) → 20 - j ≡ f → rest < 10 ^ f → j + digitCount f rest ≡ digitCount 20 n → Placing n (j + 1) (rest / 10)
       go zero e s q = absurd (omega arith)
       go (suc f) e s q =
           let g : f ≡ 20 - (j + 1) = omega arith in
           let small : rest / 10 < 10 ^ f = omega arith in
-          let same : j + 1 + places f (rest / 10) ≡ places 20 n = omega (arith, places-more f rest l) in
+          let same : j + 1 + digitCount f (rest / 10) ≡ digitCount 20 n = omega (arith, places-more f rest l) in
           record {
             few = omega arith;
             small = rw g at small;

@@ -23,7 +23,7 @@ use Rattle.line_form.specs.Field.{decimalValue, plain, isNumber, number,
 use Rattle.line_form.specs.Line.{isPlace, place, settingsForm, isSettings, given, carrierForm, carrier, lineOf}
 use Rattle.line_form.specs.Text.{recordsForm, isText, none, inputOf, displacementIn}
 use Rattle.line_form.specs.Answer.{answerOf}
-use Rattle.line_form.specs.Print.{digitsText, places, answerText}
+use Rattle.line_form.specs.Print.{digitsText, digitCount, answerText}
 use Rattle.line_form.specs.declared.line.Line.the-variants.{Previous}
 
 -- ---- fields
@@ -183,18 +183,18 @@ the-carrier = refl
 
 -- document 01: the example alone gives R,7
 the-answer : answerOf example ≡ 82 ∷ 44 ∷ 55 ∷ 10 ∷ []
-unfolding answerOf displacementIn inputOf given none fold isText recordsForm split isSettings settingsForm lineOf isPlace place number isNumber plain every decimalValue patternIn isFloat hex example displacementOf ruled displacementRules displacementInput displacementCounts settingsPass badInterval placeable abs inRange pairsOf collect digitsText places ofInt ofBits neg le lt isNan
+unfolding answerOf displacementIn inputOf given none fold isText recordsForm split isSettings settingsForm lineOf isPlace place number isNumber plain every decimalValue patternIn isFloat hex example displacementOf ruled displacementRules displacementInput displacementCounts settingsPass badInterval placeable abs inRange pairsOf collect digitsText digitCount ofInt ofBits neg le lt isNan
 the-answer = refl
 
 -- ---- answers
 
 -- R,7 and R,12
 seven : answerText (Refused TooFewPairs) ≡ 82 ∷ 44 ∷ 55 ∷ 10 ∷ []
-unfolding digitsText places
+unfolding digitsText digitCount
 seven = refl
 
 twelve : answerText (Refused NoCorrection) ≡ 82 ∷ 44 ∷ 49 ∷ 50 ∷ 10 ∷ []
-unfolding digitsText places
+unfolding digitsText digitCount
 twelve = refl
 
 zeros : List ℕ
@@ -203,5 +203,5 @@ zeros = replicate 16 48
 -- A,6,0, and three zero floats
 still : answerText (Moved (record { delta = record { x = +0; y = +0; z = +0 }; used = 6; screened = 0 }))
     ≡ 65 ∷ 44 ∷ 54 ∷ 44 ∷ 48 ∷ 44 ∷ (zeros ++ (44 ∷ [])) ++ ((zeros ++ (44 ∷ [])) ++ (zeros ++ (10 ∷ [])))
-unfolding digitsText places ofBits toBits zeros
+unfolding digitsText digitCount ofBits toBits zeros
 still = refl

@@ -18,13 +18,13 @@ digitsText b zero n = []
 digitsText b (suc k) n = digitsText b k (n / b) ++ (glyph (n % b) ∷ [])
 
 -- how many decimal digits n has, if it is below 10 ^ (f + 1)
-unfoldable pub places : ℕ → ℕ → ℕ
-places zero n = 1
-places (suc f) n = let p = places f (n / 10) in cond (ltb n 10) 1 (suc p)
+unfoldable pub digitCount : ℕ → ℕ → ℕ
+digitCount zero n = 1
+digitCount (suc f) n = let p = digitCount f (n / 10) in cond (ltb n 10) 1 (suc p)
 
 -- a number of 64 bits in decimal
 abbrev pub decimalText : ℕ → List ℕ
-decimalText n = digitsText 10 (places 20 n) n
+decimalText n = digitsText 10 (digitCount 20 n) n
 
 -- 64 bits as sixteen hexadecimal digits
 abbrev pub hexText : ℕ → List ℕ

@@ -3,7 +3,7 @@ ghost use mathlib.Core.Path.{_≡_};
 ghost use mathlib.Core.List.{[], _∷_, _++_};
 ghost use Prim.Native.Nat.{_+_, _≤_, _<_};
 ghost use lib.ListN.{length};
-ghost use Rattle.line_form.specs.Print.{glyph, digitsText, places, decimalText, hexText, answerText};
+ghost use Rattle.line_form.specs.Print.{glyph, digitsText, digitCount, decimalText, hexText, answerText};
 ghost use Rattle.line_form.specs.Written.{Numbers, Printable, vectorText, written, Put};
 use estimator::displacement::Displacement;
 use numeric::vec3::Vec3;
@@ -33,7 +33,7 @@ fn spell(out: &mut [u8], at: usize, k: usize, base: u64, n: u64)
 
 // How many decimal digits n has.
 fn places_of(n: u64) -> usize
-    ensures { λ r. ⌜ r ≡ places 20 n ⌝ }
+    ensures { λ r. ⌜ r ≡ digitCount 20 n ⌝ }
     ensures { λ r. ⌜ r ≤ 21 ⌝ }
 {
     let mut j: usize = 0;
