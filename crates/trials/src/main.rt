@@ -1,9 +1,9 @@
 // The marked trials through the code, a line for each.
 mod carriers;
 mod centre;
-mod clocks;
 mod corrections;
 mod numbers;
+mod slots;
 mod track;
 
 use libc::STDOUT_FILENO;
@@ -23,7 +23,7 @@ fn main() {
     report(b"m3", numbers::root_of_least());
     report(b"m4", centre::empty());
     report(b"m5", centre::four());
-    report(b"m6", clocks::five());
+    report(b"m6", slots::five());
     report(b"m7", numbers::identity_factors());
     report(b"m8", numbers::zero_pivot_refused());
     report(b"m9", carriers::states());

@@ -1,5 +1,4 @@
 // The static library for C and Rust: an entry point for each service and each call of its own. None of them keeps any state.
-pub mod clocks;
 mod columns;
 pub mod corrections;
 pub mod estimates;
@@ -7,4 +6,5 @@ pub mod line;
 pub mod matrix;
 pub mod numbers;
 pub mod round;
+pub mod slots;
 pub mod track;

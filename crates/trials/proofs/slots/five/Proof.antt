@@ -4,8 +4,8 @@ use lib.Dec.{eqb}
 use Rattle.clocks.specs.Clocks.{none, given, slot}
 use Rattle.clocks.specs.declared.clocks.Clocks.{Clocks}
 use borrow.Author.Needs.{needs}
-use Rattle.trials.proofs.clocks.five.Statement.{statement}
-use Rattle.trials.proofs.clocks.five.Tie as tie
+use Rattle.trials.proofs.slots.five.Statement.{statement}
+use Rattle.trials.proofs.slots.five.Tie as tie
 
 abbrev test : Clocks → Bool
 test k = ((eqb (slot k 6) 3 && eqb (slot k 1) 4) && eqb (slot k 9) 5) && eqb (slot k 7) 5
