@@ -6,7 +6,7 @@ use crate::sky::start;
 use estimator::displacement::Displacement;
 use estimator::displacement::Settings;
 use estimator::displacement::delta_position;
-use estimator::record::Epoch;
+use records::record::Epoch;
 
 // What comes of two epochs a second apart.
 fn between(previous: Epoch, current: Epoch, rounds: u32) -> Displacement {

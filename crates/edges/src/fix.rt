@@ -4,8 +4,8 @@ use crate::sky::observations;
 use estimator::fix::Fix;
 use estimator::fix::Settings;
 use estimator::fix::solve_full;
-use estimator::record::Observations;
 use numeric::vec3::Vec3;
+use records::record::Observations;
 
 // What comes of the observations, from a guess 100 km off.
 fn from(o: Observations) -> Fix {

@@ -1,10 +1,10 @@
 // One maker of skies: satellites well apart, over a receiver that moves from one place to another between two epochs.
-use estimator::record::Carrier;
-use estimator::record::Epoch;
-use estimator::record::Observation;
-use estimator::record::Observations;
 use numeric::sight::geometry;
 use numeric::vec3::Vec3;
+use records::record::Carrier;
+use records::record::Epoch;
+use records::record::Observation;
+use records::record::Observations;
 use std::num::nearest_u64_to_f64;
 
 // Where the receiver is at the previous epoch, and where a fix finds it.

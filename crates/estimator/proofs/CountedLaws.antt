@@ -11,16 +11,16 @@ use Rattle.cholesky.specs.Factor.{factorOf}
 use Rattle.numeric.specs.declared.vec3.Vec3.{Vec3}
 use Rattle.numeric.specs.declared.refusal.Refusal.the-variants.{TooMany, SettingOutOfRange, FitFailed}
 use Rattle.clocks.specs.Clocks.{clocksOf}
-use Rattle.estimator.specs.Record.{counted, countedObservations}
+use Rattle.records.specs.Record.{counted, countedObservations}
 use Rattle.estimator.specs.Rules.{Rule, ruled}
 use Rattle.estimator.specs.Valid.{settingsPass, displacementInput, fixSettingsPass, fixInput}
-use Rattle.estimator.specs.Screen.{constellations}
-use Rattle.estimator.specs.Mask.{constellations as observedConstellations}
+use Rattle.records.specs.Screen.{constellations}
+use Rattle.records.specs.Mask.{constellations as observedConstellations}
 use Rattle.estimator.specs.Front.{displacementRules, fixRules}
-use Rattle.estimator.specs.declared.record.Epoch.{Epoch}
-use Rattle.estimator.specs.declared.record.Observation.{Observation}
-use Rattle.estimator.specs.declared.record.Observations.{Observations}
-use Rattle.estimator.specs.declared.pair.Pair.{Pair}
+use Rattle.records.specs.declared.record.Epoch.{Epoch}
+use Rattle.records.specs.declared.record.Observation.{Observation}
+use Rattle.records.specs.declared.record.Observations.{Observations}
+use Rattle.records.specs.declared.pair.Pair.{Pair}
 use Rattle.estimator.specs.declared.displacement.Settings.{Settings}
 use Rattle.estimator.specs.declared.fix.Settings.{Settings as FixSettings}
 use Rattle.estimator.specs.Rounds.{lastRows, concluded}

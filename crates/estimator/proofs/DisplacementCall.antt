@@ -10,16 +10,16 @@ use lib.Ieee.{Float}
 use Rattle.cholesky.specs.Factor.{at}
 use Rattle.numeric.specs.declared.refusal.Refusal.{Refusal}
 use Rattle.numeric.specs.declared.refusal.Refusal.the-variants.{FitFailed}
-use Rattle.estimator.specs.Record.{Holds}
+use Rattle.records.specs.Record.{Holds}
 use Rattle.clocks.specs.Clocks.{clocksOf}
-use Rattle.estimator.specs.Screen.{keptOf, constellations}
-use Rattle.estimator.specs.Kept.{pairsIn, Kept}
+use Rattle.records.specs.Screen.{keptOf, constellations}
+use Rattle.records.specs.Kept.{pairsIn, Kept}
 use Rattle.estimator.specs.Valid.{displacementInput, displacementCounts}
 use Rattle.estimator.specs.Rounds.{End, Failed, Reached, Fit, concluded, Ended}
 use Rattle.estimator.specs.Displacement.{Input, fitOver, pairs, kept, fitOf, movedTo, concludedAt, displacementOf}
 use Rattle.clocks.specs.declared.clocks.Clocks.{Clocks}
-use Rattle.estimator.specs.declared.pair.Pair.{Pair}
-use Rattle.estimator.specs.declared.pair.Pairs.{Pairs}
+use Rattle.records.specs.declared.pair.Pair.{Pair}
+use Rattle.records.specs.declared.pair.Pairs.{Pairs}
 use Rattle.estimator.specs.declared.displacement.Settings.{Settings}
 use Rattle.estimator.specs.declared.displacement.Displacement.{Displacement}
 use Rattle.estimator.specs.declared.displacement.Displacement.the-variants.{Refused}

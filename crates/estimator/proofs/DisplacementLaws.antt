@@ -15,13 +15,13 @@ use Rattle.robust.proofs.ColumnLaws.{places-map, places-take, places-ext, fille
 use Rattle.robust.specs.Normal.{Solving}
 use Rattle.robust.specs.declared.row.Row.{Row}
 use Rattle.clocks.specs.declared.clocks.Clocks.{Clocks}
-use Rattle.estimator.specs.declared.pair.Pair.{Pair}
+use Rattle.records.specs.declared.pair.Pair.{Pair}
 use Rattle.estimator.specs.declared.displacement.Settings.{Settings}
 use Rattle.cholesky.specs.Factor.{zeros}
 use Rattle.estimator.specs.Rounds.{fitFrom}
-use Rattle.estimator.specs.Kept.{pairIn, pairsIn, Kept}
+use Rattle.records.specs.Kept.{pairIn, pairsIn, Kept}
 use Rattle.estimator.specs.Displacement.{sigmaOf, rowWith, rowAt, roundAt, limit, fitOver}
-use Rattle.estimator.proofs.KeepLaws.{Filled}
+use Rattle.records.proofs.KeepLaws.{Filled}
 use Rattle.estimator.proofs.RoundsLaws.{Left, left-start}
 
 -- what the logic has for a pair past the end

@@ -14,9 +14,9 @@ use Rattle.robust.specs.Round.{Round, Solved, Sound}
 use Rattle.robust.proofs.RoundSound.{round-sound}
 use Rattle.clocks.specs.Clocks.{clocksOf}
 use Rattle.estimator.specs.Front.{displacementRules}
-use Rattle.estimator.specs.Screen.{constellations}
+use Rattle.records.specs.Screen.{constellations}
 use Rattle.clocks.specs.declared.clocks.Clocks.{Clocks}
-use Rattle.estimator.specs.declared.pair.Pair.{Pair}
+use Rattle.records.specs.declared.pair.Pair.{Pair}
 use Rattle.estimator.specs.declared.displacement.Settings.{Settings}
 use Rattle.estimator.specs.Rounds.{concluded, Each}
 use Rattle.estimator.specs.Displacement.{Input, rowAt, roundAt, limit, fitOver, pairs, kept, fitOf, roundsOf, deltaAt, movedTo, displacementOf, Accepted, Promised}

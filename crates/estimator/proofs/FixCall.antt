@@ -14,15 +14,15 @@ use Rattle.numeric.specs.declared.refusal.Refusal.the-variants.{FitFailed}
 use Rattle.robust.specs.Step.{counted}
 use Rattle.robust.specs.declared.row.Row.{Row}
 use Rattle.robust.specs.declared.row.Rows.{Rows}
-use Rattle.estimator.specs.Record.{Holds, countedObservations}
+use Rattle.records.specs.Record.{Holds, countedObservations}
 use Rattle.clocks.specs.Clocks.{clocksOf}
-use Rattle.estimator.specs.Mask.{constellations}
+use Rattle.records.specs.Mask.{constellations}
 use Rattle.estimator.specs.Valid.{fixInput, fixCounts}
 use Rattle.estimator.specs.Rounds.{End, Failed, Reached, Fit, lastRows, concluded, accepted}
 use Rattle.estimator.specs.Fix.{Input, position, fitOver, kept, clocks, fitOf, roundsOf, chiOf, plainMatrix, pdopOf, judged, positionAt, concludedAt, fixOf, Reaches}
 use Rattle.clocks.specs.declared.clocks.Clocks.{Clocks}
-use Rattle.estimator.specs.declared.record.Observation.{Observation}
-use Rattle.estimator.specs.declared.record.Observations.{Observations}
+use Rattle.records.specs.declared.record.Observation.{Observation}
+use Rattle.records.specs.declared.record.Observations.{Observations}
 use Rattle.estimator.specs.declared.fix.Fix.{Fix}
 use Rattle.estimator.specs.declared.fix.Fix.the-variants.{Refused, At}
 use Rattle.estimator.specs.declared.fix.Fitted.{Fitted}

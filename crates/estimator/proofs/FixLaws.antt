@@ -11,7 +11,7 @@ use Rattle.robust.specs.Step.{counted}
 use Rattle.robust.specs.declared.row.Row.{Row}
 use Rattle.robust.proofs.RoundSound.{round-rows}
 use Rattle.clocks.specs.declared.clocks.Clocks.{Clocks}
-use Rattle.estimator.specs.declared.record.Observation.{Observation}
+use Rattle.records.specs.declared.record.Observation.{Observation}
 use Rattle.estimator.specs.declared.fix.Settings.{Settings}
 use Rattle.estimator.specs.Rounds.{Failed, Reached, Fit, fitFrom, lastRows, accepted}
 use Rattle.estimator.specs.Fix.{rowAt, roundAt, limit, Reaches}

@@ -16,7 +16,7 @@ use Rattle.robust.specs.Round.{Round, Solved, Sound}
 use Rattle.robust.proofs.RoundSound.{round-sound, round-rows}
 use Rattle.estimator.specs.Front.{fixRules}
 use Rattle.clocks.specs.declared.clocks.Clocks.{Clocks}
-use Rattle.estimator.specs.declared.record.Observation.{Observation}
+use Rattle.records.specs.declared.record.Observation.{Observation}
 use Rattle.estimator.specs.declared.fix.Settings.{Settings}
 use Rattle.estimator.specs.Rounds.{lastRows, concluded, Each}
 use Rattle.estimator.specs.Fix.{Input, position, rowAt, roundAt, limit, start, fitOver, kept, clocks, fitOf, roundsOf, chiOf, plainMatrix, pdopOf, judged, positionAt, fixOf, Accepted, Promised}

@@ -8,22 +8,22 @@ use lib.Ieee.{Float}
 use Rattle.numeric.specs.declared.vec3.Vec3.{Vec3}
 use Rattle.numeric.specs.declared.refusal.Refusal.{Refusal}
 use Rattle.estimator.specs.Rules.{Rule, ruled}
-use Rattle.estimator.specs.Record.{Holds, countedObservations}
+use Rattle.records.specs.Record.{Holds, countedObservations}
 use Rattle.clocks.specs.Clocks.{clocksOf}
-use Rattle.estimator.specs.Screen.{centre, within, keptOf, constellations}
-use Rattle.estimator.specs.Mask.{constellations as observedConstellations}
+use Rattle.records.specs.Screen.{centre, within, keptOf, constellations}
+use Rattle.records.specs.Mask.{constellations as observedConstellations}
 use Rattle.estimator.specs.Valid.{displacementInput, displacementCounts, fixInput, fixCounts}
 use Rattle.estimator.specs.Front.{allPairs, keptPairs, displacementRules, fixRows, fixRules}
 use Rattle.clocks.specs.declared.clocks.Clocks.{Clocks}
-use Rattle.estimator.specs.declared.record.Epoch.{Epoch}
-use Rattle.estimator.specs.declared.record.Observation.{Observation}
-use Rattle.estimator.specs.declared.record.Observations.{Observations}
-use Rattle.estimator.specs.declared.pair.Pair.{Pair}
-use Rattle.estimator.specs.declared.pair.Pairs.{Pairs}
+use Rattle.records.specs.declared.record.Epoch.{Epoch}
+use Rattle.records.specs.declared.record.Observation.{Observation}
+use Rattle.records.specs.declared.record.Observations.{Observations}
+use Rattle.records.specs.declared.pair.Pair.{Pair}
+use Rattle.records.specs.declared.pair.Pairs.{Pairs}
 use Rattle.estimator.specs.declared.displacement.Settings.{Settings}
 use Rattle.estimator.specs.declared.fix.Settings.{Settings as FixSettings}
 use Rattle.estimator.specs.declared.valid.Check.the-variants.{Refused, Passed}
-use Rattle.estimator.proofs.KeepLaws.{keep-few}
+use Rattle.records.proofs.KeepLaws.{keep-few}
 use Rattle.estimator.proofs.RulesLaws.{checked, ruled-append, refused-by, passed-by, passed-of, append-passed, append-first, some-rounds, Enough, rows-passed, counts-passed}
 
 -- no more pairs are kept than there are

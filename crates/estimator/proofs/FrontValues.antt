@@ -15,14 +15,14 @@ use Rattle.numeric.specs.declared.refusal.Refusal.the-variants.{TooMany, Settin
 use Rattle.median.specs.Sorted.{insertBy, sortedBy, medianOf}
 use Rattle.median.specs.Centre.{centreOf}
 use Rattle.estimator.specs.Rules.{ruled}
-use Rattle.estimator.specs.Record.{placeable, isElevation, sound, unsigned, bitSet, usable, same}
+use Rattle.records.specs.Record.{placeable, isElevation, sound, unsigned, bitSet, usable, same}
 use Rattle.clocks.specs.Clocks.{none, given, slot, has, appearing, slotFrom, clocksIn, clocksOf}
-use Rattle.estimator.specs.Pair.{pairOf, firstPair, pairAt, pairsOf}
-use Rattle.estimator.specs.Screen.{centre, within, keptOf}
+use Rattle.records.specs.Pair.{pairOf, firstPair, pairAt, pairsOf}
+use Rattle.records.specs.Screen.{centre, within, keptOf}
 use Rattle.estimator.specs.Valid.{settingsPass, badInterval, displacementInput, displacementCounts}
 use Rattle.estimator.specs.Front.{keptPairs, displacementRules}
-use Rattle.estimator.specs.declared.record.Carrier.{Carrier}
-use Rattle.estimator.specs.declared.record.Epoch.{Epoch}
+use Rattle.records.specs.declared.record.Carrier.{Carrier}
+use Rattle.records.specs.declared.record.Epoch.{Epoch}
 use Rattle.estimator.specs.declared.displacement.Settings.{Settings}
 use Rattle.estimator.specs.declared.valid.Check.{Check}
 use Rattle.estimator.specs.declared.valid.Check.the-variants.{Refused, Passed}

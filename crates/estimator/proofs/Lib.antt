@@ -8,10 +8,6 @@ pub mod FixSound
 pub mod DisplacementCall
 pub mod QualityLaws
 pub mod FixCall
-pub mod RecordLaws
-pub mod PairLaws
-pub mod KeepLaws
-pub mod ScreenLaws
 pub mod RulesLaws
 pub mod FrontLaws
 pub mod FrontValues

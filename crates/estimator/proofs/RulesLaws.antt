@@ -13,8 +13,8 @@ use Rattle.numeric.specs.declared.vec3.Vec3.{Vec3}
 use Rattle.numeric.specs.declared.refusal.Refusal.{Refusal}
 use Rattle.estimator.specs.Rules.{Rule, ruled}
 use Rattle.estimator.specs.Valid.{displacementInput, displacementCounts, fixSettingsPass, fixInput, fixCounts}
-use Rattle.estimator.specs.declared.record.Epoch.{Epoch}
-use Rattle.estimator.specs.declared.record.Observations.{Observations}
+use Rattle.records.specs.declared.record.Epoch.{Epoch}
+use Rattle.records.specs.declared.record.Observations.{Observations}
 use Rattle.estimator.specs.declared.displacement.Settings.{Settings}
 use Rattle.estimator.specs.declared.fix.Settings.{Settings as FixSettings}
 use Rattle.estimator.specs.declared.valid.Check.{Check}

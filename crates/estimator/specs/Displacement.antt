@@ -16,11 +16,11 @@ use Rattle.robust.specs.Sigma.{elevationSigma}
 use Rattle.robust.specs.declared.row.Row.{Row}
 use Rattle.clocks.specs.Clocks.{slot, clocksOf}
 use Rattle.estimator.specs.Rules.{ruled}
-use Rattle.estimator.specs.Screen.{constellations}
+use Rattle.records.specs.Screen.{constellations}
 use Rattle.estimator.specs.Front.{allPairs, keptPairs, displacementRules}
 use Rattle.clocks.specs.declared.clocks.Clocks.{Clocks}
-use Rattle.estimator.specs.declared.record.Epoch.{Epoch}
-use Rattle.estimator.specs.declared.pair.Pair.{Pair}
+use Rattle.records.specs.declared.record.Epoch.{Epoch}
+use Rattle.records.specs.declared.pair.Pair.{Pair}
 use Rattle.estimator.specs.declared.displacement.Settings.{Settings}
 use Rattle.estimator.specs.Rounds.{Reached, Fit, fitFrom, concluded, Each}
 use Rattle.estimator.specs.declared.displacement.Delta.{Delta}

@@ -23,11 +23,11 @@ use Rattle.robust.specs.Step.{counted}
 use Rattle.robust.specs.declared.row.Row.{Row}
 use Rattle.clocks.specs.Clocks.{slot, clocksOf}
 use Rattle.estimator.specs.Rules.{ruled}
-use Rattle.estimator.specs.Mask.{constellations}
+use Rattle.records.specs.Mask.{constellations}
 use Rattle.estimator.specs.Front.{fixRows, fixRules}
 use Rattle.clocks.specs.declared.clocks.Clocks.{Clocks}
-use Rattle.estimator.specs.declared.record.Observation.{Observation}
-use Rattle.estimator.specs.declared.record.Observations.{Observations}
+use Rattle.records.specs.declared.record.Observation.{Observation}
+use Rattle.records.specs.declared.record.Observations.{Observations}
 use Rattle.estimator.specs.declared.fix.Settings.{Settings}
 use Rattle.estimator.specs.Rounds.{Reached, Fit, fitFrom, lastRows, concluded, accepted, Each}
 use Rattle.estimator.specs.declared.fix.Solution.{Solution}

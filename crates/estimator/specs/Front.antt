@@ -5,17 +5,17 @@ use lib.ListN.{length}
 use lib.Ieee.{Float}
 use Rattle.numeric.specs.declared.vec3.Vec3.{Vec3}
 use Rattle.estimator.specs.Rules.{Rule}
-use Rattle.estimator.specs.Record.{counted, countedObservations}
+use Rattle.records.specs.Record.{counted, countedObservations}
 use Rattle.clocks.specs.Clocks.{clocksOf}
-use Rattle.estimator.specs.Pair.{pairsOf}
-use Rattle.estimator.specs.Screen.{keptOf, constellations}
-use Rattle.estimator.specs.Mask.{aboveMask}
-use Rattle.estimator.specs.Mask.{constellations as observedConstellations}
+use Rattle.records.specs.Pair.{pairsOf}
+use Rattle.records.specs.Screen.{keptOf, constellations}
+use Rattle.records.specs.Mask.{aboveMask}
+use Rattle.records.specs.Mask.{constellations as observedConstellations}
 use Rattle.estimator.specs.Valid.{displacementInput, displacementCounts, fixInput, fixCounts}
-use Rattle.estimator.specs.declared.record.Epoch.{Epoch}
-use Rattle.estimator.specs.declared.record.Observation.{Observation}
-use Rattle.estimator.specs.declared.record.Observations.{Observations}
-use Rattle.estimator.specs.declared.pair.Pair.{Pair}
+use Rattle.records.specs.declared.record.Epoch.{Epoch}
+use Rattle.records.specs.declared.record.Observation.{Observation}
+use Rattle.records.specs.declared.record.Observations.{Observations}
+use Rattle.records.specs.declared.pair.Pair.{Pair}
 use Rattle.estimator.specs.declared.displacement.Settings.{Settings}
 use Rattle.estimator.specs.declared.fix.Settings.{Settings as FixSettings}
 

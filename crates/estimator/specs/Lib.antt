@@ -1,10 +1,5 @@
-pub mod Record
 pub mod Rules
 pub mod Valid
-pub mod Pair
-pub mod Screen
-pub mod Kept
-pub mod Mask
 pub mod Front
 pub mod Rounds
 pub mod Displacement

@@ -2,19 +2,19 @@
 ghost use mathlib.Core.Path.{_≡_};
 ghost use Prim.Native.Nat.{_≤_};
 ghost use Rattle.walk.specs.Walk.{every};
-ghost use Rattle.estimator.specs.Record.{sound, soundObservation, counted, countedObservations};
+ghost use Rattle.records.specs.Record.{sound, soundObservation, counted, countedObservations};
 ghost use Rattle.estimator.specs.Rules.{ruled};
 ghost use Rattle.estimator.specs.Valid as spec;
 use crate::displacement::Settings;
-use crate::record::Epoch;
-use crate::record::Observations;
-use crate::record::is_placeable;
-use crate::record::is_sound;
-use crate::record::is_sound_observation;
 use numeric::real::in_range;
 use numeric::real::is_finite;
 use numeric::refusal::Refusal;
 use numeric::vec3::Vec3;
+use records::record::Epoch;
+use records::record::Observations;
+use records::record::is_placeable;
+use records::record::is_sound;
+use records::record::is_sound_observation;
 
 // What rules find: the first that applies, or none.
 pub enum Check {

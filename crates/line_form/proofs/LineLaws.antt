@@ -6,7 +6,7 @@ use Prim.Native.Nat.{ℕ, _+_, _^_}
 use lib.IntN.{ℤ}
 use borrow.Author.Tests.{eq-eqb, ne-eqb}
 use Rattle.exact.specs.Float.{+0}
-use Rattle.estimator.specs.declared.record.Carrier.{Carrier}
+use Rattle.records.specs.declared.record.Carrier.{Carrier}
 use Rattle.line_form.specs.Split.{field}
 use Rattle.line_form.specs.Line.{eleven, tag, isPlace, place, settingsForm, isSettings, given, firstOf, carrierForm, carrier, lineOf}
 use Rattle.line_form.specs.Reads.{ReadsNumber, ReadsState, ReadsFloat, ReadsPlace, ReadsCarrier, ReadsGiven}

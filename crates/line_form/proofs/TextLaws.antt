@@ -13,8 +13,8 @@ use lib.Ieee.Scale.{finite}
 use Rattle.walk.specs.Walk.{fold}
 use Rattle.numeric.specs.declared.refusal.Refusal.the-variants.{BrokenForm}
 use Rattle.estimator.specs.Displacement.{Input, input, displacementOf, Promised}
-use Rattle.estimator.specs.declared.record.Carrier.{Carrier}
-use Rattle.estimator.specs.declared.record.Epoch.{Epoch}
+use Rattle.records.specs.declared.record.Carrier.{Carrier}
+use Rattle.records.specs.declared.record.Epoch.{Epoch}
 use Rattle.estimator.specs.declared.displacement.Displacement.{Displacement}
 use Rattle.estimator.specs.declared.displacement.Displacement.the-variants.{Refused, Moved}
 use Rattle.line_form.specs.Split.{split, countBefore}

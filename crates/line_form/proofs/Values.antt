@@ -10,13 +10,13 @@ use Rattle.exact.specs.Float.{+0, bits}
 use Rattle.walk.specs.Walk.{every, collect, fold}
 use Rattle.numeric.specs.Real.{abs, inRange}
 use Rattle.estimator.specs.Rules.{ruled}
-use Rattle.estimator.specs.Record.{placeable}
-use Rattle.estimator.specs.Pair.{pairsOf}
+use Rattle.records.specs.Record.{placeable}
+use Rattle.records.specs.Pair.{pairsOf}
 use Rattle.estimator.specs.Valid.{settingsPass, badInterval, displacementInput, displacementCounts}
 use Rattle.estimator.specs.Front.{displacementRules}
 use Rattle.estimator.specs.Displacement.{displacementOf}
 use Rattle.numeric.specs.declared.refusal.Refusal.the-variants.{BrokenForm, TooFewPairs, NoCorrection}
-use Rattle.estimator.specs.declared.record.Carrier.{Carrier}
+use Rattle.records.specs.declared.record.Carrier.{Carrier}
 use Rattle.estimator.specs.declared.displacement.Displacement.the-variants.{Refused, Moved}
 use Rattle.line_form.specs.Split.{split}
 use Rattle.line_form.specs.Field.{decimalValue, plain, isNumber, number, isState, state, hex, isFloat, patternIn}

@@ -6,7 +6,7 @@ use lib.Dec.{eqb}
 use lib.ListN.{length}
 use Rattle.exact.specs.Float.{+0}
 use Rattle.numeric.specs.declared.vec3.Vec3.{Vec3}
-use Rattle.estimator.specs.declared.record.Carrier.{Carrier}
+use Rattle.records.specs.declared.record.Carrier.{Carrier}
 use Rattle.line_form.specs.Split.{fields, field}
 use Rattle.line_form.specs.Field.{isNumber, number, isState, state, isFloat, floatIn}
 use Rattle.line_form.specs.declared.line.Given.{Given}

@@ -9,8 +9,8 @@ use Rattle.exact.specs.Float.{+0}
 use Rattle.walk.specs.Walk.{fold}
 use Rattle.numeric.specs.declared.refusal.Refusal.the-variants.{BrokenForm}
 use Rattle.estimator.specs.Displacement.{Input, input, displacementOf}
-use Rattle.estimator.specs.declared.record.Carrier.{Carrier}
-use Rattle.estimator.specs.declared.record.Epoch.{Epoch}
+use Rattle.records.specs.declared.record.Carrier.{Carrier}
+use Rattle.records.specs.declared.record.Epoch.{Epoch}
 use Rattle.estimator.specs.declared.displacement.Displacement.{Displacement}
 use Rattle.estimator.specs.declared.displacement.Displacement.the-variants.{Refused}
 use Rattle.line_form.specs.Split.{split}

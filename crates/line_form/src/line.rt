@@ -11,8 +11,8 @@ use crate::field::state_of;
 use crate::split::field_at;
 use crate::split::fields_of;
 use estimator::displacement::Settings;
-use estimator::record::Carrier;
 use numeric::vec3::Vec3;
+use records::record::Carrier;
 
 pub(crate) struct Place {
     pub formed: bool,

@@ -9,10 +9,10 @@ use crate::line::line_of;
 use crate::split::find;
 use estimator::displacement::Displacement;
 use estimator::displacement::delta_position;
-use estimator::record::Carrier;
-use estimator::record::Epoch;
 use numeric::refusal::Refusal;
 use numeric::vec3::Vec3;
+use records::record::Carrier;
+use records::record::Epoch;
 
 fn no_carriers() -> Epoch
     ensures { λ r. ⌜ r ≡ none ⌝ }

@@ -13,7 +13,7 @@ use Rattle.walk.specs.Walk.{every}
 use Rattle.median.specs.Sorted.{insertBy, sortedBy, medianOf}
 use Rattle.median.specs.Centre.{centreOf, deviationOf, centreAndScaleOf, centreScaleOf}
 use Rattle.clocks.specs.Clocks.{has, appearing, slotFrom, clocksIn, clocksOf}
-use Rattle.estimator.specs.Record.{unsigned, bitSet, usable}
+use Rattle.records.specs.Record.{unsigned, bitSet, usable}
 use Rattle.table.specs.Table.{timeKey, rises, ranged, sound}
 use Rattle.table.specs.Query.{near, firstOf, lastOf, line, bridged, between, answerAt, queryOf}
 use Rattle.smooth.proofs.Trials.{one-point, not-held}

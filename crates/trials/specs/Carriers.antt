@@ -6,8 +6,8 @@ use lib.Ieee.{Float}
 use Rattle.exact.specs.Float.{+0, 1·0, bits}
 use Rattle.numeric.specs.declared.vec3.Vec3.{Vec3}
 use Rattle.estimator.specs.Displacement.{Input, input}
-use Rattle.estimator.specs.declared.record.Carrier.{Carrier}
-use Rattle.estimator.specs.declared.record.Epoch.{Epoch}
+use Rattle.records.specs.declared.record.Carrier.{Carrier}
+use Rattle.records.specs.declared.record.Epoch.{Epoch}
 use Rattle.estimator.specs.declared.displacement.Settings.{Settings}
 use Rattle.estimator.specs.declared.displacement.Displacement.{Displacement}
 use Rattle.estimator.specs.declared.displacement.Displacement.the-variants.{Refused, Moved}

@@ -16,8 +16,8 @@ use Rattle.median.specs.Sorted.{medianOf}
 use Rattle.median.specs.Centre.{centreOf, deviationsOf, centreScaleOf}
 use Rattle.median.specs.declared.centre.Centre.the-variants.{Of}
 use Rattle.clocks.specs.Clocks.{slot, clocksOf}
-use Rattle.estimator.specs.Record.{usable}
-use Rattle.estimator.specs.declared.record.Carrier.{Carrier}
+use Rattle.records.specs.Record.{usable}
+use Rattle.records.specs.declared.record.Carrier.{Carrier}
 use Rattle.table.specs.Query.{queryOf}
 use Rattle.table.specs.declared.sample.Sample.{Sample}
 use Rattle.table.specs.declared.query.Correction.the-variants as Correction

@@ -6,9 +6,9 @@ ghost use Rattle.trials.specs.Carriers.{sixIn, usedOf};
 use estimator::displacement::Displacement;
 use estimator::displacement::Settings;
 use estimator::displacement::delta_position;
-use estimator::record::Carrier;
-use estimator::record::Epoch;
 use numeric::vec3::Vec3;
+use records::record::Carrier;
+use records::record::Epoch;
 
 // How many pairs a displacement of zero rounds uses of six carriers in this state at either epoch, 0 where it is refused.
 fn used_in(state: i32) -> usize

@@ -19,10 +19,10 @@ use estimator::displacement::delta_position;
 use estimator::fix::Fix;
 use estimator::fix::Settings as FixSettings;
 use estimator::fix::solve_full;
-use estimator::record::Carrier;
-use estimator::record::Epoch;
-use estimator::record::Observation;
-use estimator::record::Observations;
+use records::record::Carrier;
+use records::record::Epoch;
+use records::record::Observation;
+use records::record::Observations;
 
 fn next_carrier() -> Carrier {
     let constellation = byte();

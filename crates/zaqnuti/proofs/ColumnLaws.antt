@@ -8,7 +8,7 @@ use native.Mathlib.Omega.{arith}
 use lib.ListN.{length, take, set, length-set}
 use lib.Seq.{take-all, take-suc-set}
 use borrow.Author.Tests.{leb-true}
-use Rattle.estimator.specs.Record.{Holds}
+use Rattle.records.specs.Record.{Holds}
 use Rattle.robust.specs.Columns.{places}
 use Rattle.robust.proofs.ColumnLaws.{places-length}
 use Rattle.zaqnuti.specs.Columns.{RowColumns, rowsFit, CarrierColumns, epochFits, ObservationColumns, observationsFit}

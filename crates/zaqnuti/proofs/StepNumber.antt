@@ -7,7 +7,7 @@ use lib.Ieee.{Float}
 use Rattle.numeric.specs.declared.refusal.Refusal.the-variants.{TooMany}
 use Rattle.robust.specs.Step.{Stepped, counted, refused, stepOf}
 use Rattle.robust.specs.declared.row.Rows.{Rows}
-use Rattle.estimator.specs.Record.{Holds}
+use Rattle.records.specs.Record.{Holds}
 use Rattle.robust.specs.Columns.{places}
 use Rattle.zaqnuti.specs.Columns.{RowColumns, rowAt, rowsOf, rowsFit}
 use Rattle.zaqnuti.specs.Numbers.{stepNumber, StepAnswers, columnStepOf}

@@ -11,10 +11,10 @@ use Rattle.numeric.specs.declared.vec3.Vec3.{Vec3}
 use Rattle.robust.specs.Columns.{places}
 use Rattle.robust.specs.declared.row.Row.{Row}
 use Rattle.robust.specs.declared.row.Rows.{Rows}
-use Rattle.estimator.specs.declared.record.Carrier.{Carrier}
-use Rattle.estimator.specs.declared.record.Epoch.{Epoch}
-use Rattle.estimator.specs.declared.record.Observation.{Observation}
-use Rattle.estimator.specs.declared.record.Observations.{Observations}
+use Rattle.records.specs.declared.record.Carrier.{Carrier}
+use Rattle.records.specs.declared.record.Epoch.{Epoch}
+use Rattle.records.specs.declared.record.Observation.{Observation}
+use Rattle.records.specs.declared.record.Observations.{Observations}
 
 -- the vector whose coordinates are the floats at k, k + 1 and k + 2
 abbrev pub vectorAt : List Float → ℕ → Vec3

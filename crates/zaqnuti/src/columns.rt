@@ -3,13 +3,13 @@ ghost use mathlib.Core.Path.{_≡_};
 ghost use mathlib.Core.Bool.{true};
 ghost use Prim.Native.Nat.{_+_, _*_, _<_};
 ghost use lib.ListN.{length};
-ghost use Rattle.estimator.specs.Record.{Holds};
+ghost use Rattle.records.specs.Record.{Holds};
 ghost use Rattle.zaqnuti.specs.Columns as spec;
-use estimator::record::Carrier;
-use estimator::record::Epoch;
-use estimator::record::Observation;
-use estimator::record::Observations;
 use numeric::vec3::Vec3;
+use records::record::Carrier;
+use records::record::Epoch;
+use records::record::Observation;
+use records::record::Observations;
 use robust::row::Row;
 use robust::row::Rows;
 

@@ -8,12 +8,12 @@ use lib.Ieee.{nan}
 use borrow.Author.Tests.{not-true, not-false}
 use Rattle.robust.specs.Columns.{columns, rowsOf}
 use Rattle.estimator.specs.Rounds.{short}
-use Rattle.estimator.specs.Kept.{pairsIn}
+use Rattle.records.specs.Kept.{pairsIn}
 use Rattle.estimator.specs.Displacement.{sigmaOf, rowWith, rowAt, roundAt, limit, fitOver}
-use Rattle.estimator.specs.declared.pair.Pair.{Pair}
+use Rattle.records.specs.declared.pair.Pair.{Pair}
 use Rattle.estimator.proofs.RoundsLaws.{five-places, left-end, left-failed, left-stops, left-goes, ended-failed, ended-reached}
 use Rattle.estimator.proofs.DisplacementLaws.{Going, going, solving, clockAt, sigmaAt, residualAt, rows-in}
-use Rattle.estimator.proofs.KeepLaws.{Filled, filled-start, filled-more}
+use Rattle.records.proofs.KeepLaws.{Filled, filled-start, filled-more}
 use borrow.Author.Needs.{needs}
 use native.Mathlib.Omega.{arith}
 use Rattle.estimator.proofs.displacement.fit_pairs.Statement.{statement}

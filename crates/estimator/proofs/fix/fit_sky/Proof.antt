@@ -13,7 +13,7 @@ use Rattle.robust.specs.declared.row.Row.{Row}
 use Rattle.robust.proofs.ColumnLaws.{filled-at, Column, column-start, column-next, rows-are}
 use Rattle.estimator.specs.Rounds.{short}
 use Rattle.estimator.specs.Fix.{sigmaOf, rowWith, rowAt, roundAt, limit, start, fitOver}
-use Rattle.estimator.specs.declared.record.Observation.{Observation}
+use Rattle.records.specs.declared.record.Observation.{Observation}
 use Rattle.estimator.proofs.RoundsLaws.{three-places, left-end, rows-end, left-failed, left-stops, left-goes, rows-stop, rows-go, Rowing, rowing-next, rowing-end}
 use Rattle.estimator.proofs.FixLaws.{blank, fit, Going, GoingRows, going, going-rows, solving, made-rows, reaches-no, reaches-yes}
 use borrow.Author.Needs.{needs}

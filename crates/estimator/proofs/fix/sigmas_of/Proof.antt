@@ -8,7 +8,7 @@ use borrow.Author.Needs.{needs}
 use Rattle.walk.proofs.Walk.{length-mapped}
 use Rattle.robust.proofs.Sums.{mapped-next}
 use Rattle.estimator.specs.Fix.{sigmaOf}
-use Rattle.estimator.proofs.RecordLaws.{blankObservation}
+use Rattle.records.proofs.RecordLaws.{blankObservation}
 use Rattle.estimator.proofs.fix.sigmas_of.Statement.{statement}
 use Rattle.estimator.proofs.fix.sigmas_of.Tie as tie
 

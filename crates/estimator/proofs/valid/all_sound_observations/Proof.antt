@@ -4,12 +4,12 @@ use native.Mathlib.Omega.{arith}
 use lib.ListN.{length}
 use borrow.Author.Tests.{not-true, not-false}
 use Rattle.walk.proofs.Walk.{length-mapped, every-yes, every-no, every-end}
-use Rattle.estimator.proofs.RecordLaws.{blankObservation}
+use Rattle.records.proofs.RecordLaws.{blankObservation}
 use mathlib.Core.Path.{_≡_, refl}
 use Prim.Native.Nat.{_≤_, _-_}
 use lib.ListN.{drop, take}
 use borrow.Author.Needs.{needs}
-use Rattle.estimator.specs.Record.{soundObservation}
+use Rattle.records.specs.Record.{soundObservation}
 use Rattle.estimator.proofs.valid.all_sound_observations.Statement.{statement}
 use Rattle.estimator.proofs.valid.all_sound_observations.Tie as tie
 

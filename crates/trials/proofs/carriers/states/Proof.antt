@@ -7,10 +7,10 @@ use Rattle.numeric.specs.Order.{sign, exponent, digits, isNaN, isQuiet, payload
 use Rattle.median.specs.Sorted.{insertBy, sortedBy, medianOf}
 use Rattle.median.specs.Centre.{centreOf}
 use Rattle.estimator.specs.Rules.{ruled}
-use Rattle.estimator.specs.Record.{placeable, isElevation, sound, unsigned, bitSet, usable, same}
+use Rattle.records.specs.Record.{placeable, isElevation, sound, unsigned, bitSet, usable, same}
 use Rattle.clocks.specs.Clocks.{has, appearing, slotFrom, clocksIn, clocksOf}
-use Rattle.estimator.specs.Pair.{pairOf, firstPair, pairAt, pairsOf}
-use Rattle.estimator.specs.Screen.{centre, within, keptOf}
+use Rattle.records.specs.Pair.{pairOf, firstPair, pairAt, pairsOf}
+use Rattle.records.specs.Screen.{centre, within, keptOf}
 use Rattle.estimator.specs.Valid.{settingsPass, badInterval, displacementInput, displacementCounts}
 use Rattle.estimator.specs.Front.{displacementRules}
 use Rattle.estimator.specs.Rounds.{fitFrom}

@@ -1,0 +1,5 @@
+-- What the proofs of more than one function use, and the laws.
+pub mod RecordLaws
+pub mod PairLaws
+pub mod KeepLaws
+pub mod ScreenLaws

@@ -1,0 +1,5 @@
+pub mod Record
+pub mod Pair
+pub mod Screen
+pub mod Mask
+pub mod Kept

@@ -1,0 +1,150 @@
+// The carrier pairs of two epochs.
+ghost use mathlib.Core.Path.{_≡_};
+ghost use mathlib.Core.Bool.{_&&_};
+ghost use Prim.Native.Nat.{_≤_};
+ghost use Rattle.numeric.specs.Sight.{geometry};
+ghost use Rattle.records.specs.Record.{counted, same, usable, Holds};
+ghost use Rattle.records.specs.Pair as spec;
+use crate::record::Carrier;
+use crate::record::Epoch;
+use crate::record::is_same;
+use crate::record::is_usable;
+use numeric::sight::Sight;
+use numeric::sight::travel_angle;
+use numeric::sight::turned;
+use numeric::vec3::Vec3;
+use root::sqrt::sqrt;
+
+// What a current carrier and its previous one give: `observed` is the phase change less the geometric one, which is the measurement,
+// and `detector` the phase change less what the rates predict, by which a slip is found.
+pub struct Pair {
+    pub unit: Vec3,
+    pub constellation: u8,
+    pub elevation: f64,
+    pub observed: f64,
+    pub detector: f64,
+}
+
+// The first `count` of the pairs count.
+pub struct Pairs {
+    pub count: usize,
+    pub pair: [Pair; 64],
+}
+
+// No pairs.
+pub fn no_pairs() -> Pairs
+    ensures { λ r. ⌜ r .count ≡ 0 ⌝ }
+{
+    let zero = Vec3 {
+        x: 0.0,
+        y: 0.0,
+        z: 0.0,
+    };
+    let nothing = Pair {
+        unit: zero,
+        constellation: 0,
+        elevation: 0.0,
+        observed: 0.0,
+        detector: 0.0,
+    };
+    let none = [nothing; 64];
+    Pairs {
+        count: 0,
+        pair: none,
+    }
+}
+
+// Whether the previous carrier p is c's: usable, and of one satellite and signal with it. Most carriers are of another satellite, so that is asked first.
+pub fn is_partner(p: Carrier, c: Carrier) -> bool
+    ensures { λ r. ⌜ r ≡ (same p c && usable p) ⌝ }
+{
+    if !is_same(p, c) {
+        return false;
+    }
+    is_usable(p)
+}
+
+// The lines of sight of a pair's two satellite places.
+pub struct Sights {
+    pub now: Sight,
+    pub then: Sight,
+}
+
+// Both lines of sight, step by step side by side: neither waits for the other's roots, which take most of the time. The root is handed a float
+// and not a vector: what lies in memory field by field is slow to read back whole.
+pub fn sights_of(now: Vec3, then: Vec3, receiver: Vec3) -> Sights
+    ensures { λ r. ⌜ (r .now ≡ geometry now receiver) × (r .then ≡ geometry then receiver) ⌝ }
+{
+    let u = now.sub(receiver);
+    let v = then.sub(receiver);
+    let a = travel_angle(sqrt(u.x * u.x + u.y * u.y + u.z * u.z));
+    let b = travel_angle(sqrt(v.x * v.x + v.y * v.y + v.z * v.z));
+    let d = receiver.sub(turned(now, a));
+    let e = receiver.sub(turned(then, b));
+    let g = sqrt(d.x * d.x + d.y * d.y + d.z * d.z);
+    let h = sqrt(e.x * e.x + e.y * e.y + e.z * e.z);
+    let s = Sight {
+        x: d.x / g,
+        y: d.y / g,
+        z: d.z / g,
+        range: g,
+    };
+    let t = Sight {
+        x: e.x / h,
+        y: e.y / h,
+        z: e.z / h,
+        range: h,
+    };
+    Sights { now: s, then: t }
+}
+
+// The pair of the current carrier c and the previous carrier p.
+pub fn pair_of(receiver: Vec3, dt: f64, c: Carrier, p: Carrier) -> Pair
+    ensures { λ r. ⌜ r ≡ spec.pairOf receiver dt c p ⌝ }
+{
+    let sights = sights_of(c.satellite, p.satellite, receiver);
+    let now = sights.now;
+    let then = sights.then;
+    let phase = c.adr - p.adr;
+    let unit = Vec3 {
+        x: now.x,
+        y: now.y,
+        z: now.z,
+    };
+    Pair {
+        unit: unit,
+        constellation: c.constellation,
+        elevation: c.elevation,
+        observed: phase - (now.range - then.range),
+        detector: phase - 0.5 * (c.rate + p.rate) * dt,
+    }
+}
+
+// The pairs of two epochs.
+pub fn pairs_of(previous: Epoch, current: Epoch, receiver: Vec3, mask: f64, dt: f64) -> Pairs
+    requires { ⌜ previous .count ≤ 64 ⌝ }
+    requires { ⌜ current .count ≤ 64 ⌝ }
+    ensures { λ r. ⌜ Holds (r .count) (r .pair) (spec.pairsOf receiver mask dt (counted previous) (counted current)) ⌝ }
+{
+    let mut out = no_pairs();
+    let mut i: usize = 0;
+    while i < current.count {
+        let c = current.carriers[i];
+        if is_usable(c) & (mask <= c.elevation) {
+            let mut j: usize = 0;
+            while j < previous.count {
+                let p = previous.carriers[j];
+                if is_partner(p, c) {
+                    let k = out.count;
+                    let q = pair_of(receiver, dt, c, p);
+                    out.pair[k] = q;
+                    out.count = k + 1;
+                    break;
+                }
+                j += 1;
+            }
+        }
+        i += 1;
+    }
+    out
+}
