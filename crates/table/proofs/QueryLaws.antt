@@ -1,5 +1,5 @@
 -- The search in a sound table. Assumes nothing.
-use mathlib.Core.Path.{_≡_, refl, sym, ap, _∙_}
+use mathlib.Core.Path.{_≡_, refl, sym, ap, _∙_, subst}
 use mathlib.Core.List.{List}
 use mathlib.Core.Bool.{Bool, true, false, not, _&&_, _||_}
 use mathlib.Core.Logic.{_⊎_, inl, inr, ⊎-elim}
@@ -19,7 +19,7 @@ use Rattle.table.specs.Query.{bridged, Parted, ahead, answerAt, between,
 use Rattle.table.specs.Add.{spotOf}
 use Rattle.table.specs.declared.sample.Sample.{Sample}
 use Rattle.table.specs.declared.query.Correction.the-variants.{Refused, Metres}
-use Rattle.table.proofs.TableLaws.{Sound, first-at, first-none, last-at, last-none, spot-is}
+use Rattle.table.proofs.TableLaws.{Sound, and-left, and-right, first-at, first-none, last-at, last-none, spot-is}
 use Rattle.table.proofs.ColumnLaws.{rows-at, rows-within}
 use Rattle.table.proofs.UnitLaws.{key-lt, earlier-of}
 
@@ -243,6 +243,78 @@ module _ (g : ℕ) (t : Float) (l : List Sample) (n : ℕ) where
           front = i .front;
           back = λ j h k. ahead-up l s f g t ft m j h (omega (arith, i .whole)) e;
         }
+
+-- the sample before lo is of the signal
+pub record Above (g : ℕ) (t : Float) (l : List Sample) (n lo hi : ℕ) : Type 0 where
+  pub search : Searching g t l n lo hi
+  pub low : 0 < lo
+  pub mine : signalOf (getD l (lo - 1) blank) ≡ g
+
+-- the sample at hi is of the signal too
+pub record Between (g : ℕ) (t : Float) (l : List Sample) (n lo hi : ℕ) : Type 0 where
+  pub above : Above g t l n lo hi
+  pub high : hi < n
+  pub mine : signalOf (getD l hi blank) ≡ g
+
+module _ (g : ℕ) (t : Float) (l : List Sample) (n : ℕ) (s : Sound l) (f : Held l) (ft : T (fits binary64 t)) (lo hi : ℕ) where
+  pub above-start : length l ≡ n → 0 < lo → lo ≤ hi → hi ≤ n → earlier g t (getD l (lo - 1) blank) ≡ true → (hi < n → ahead g t (getD l hi blank) ≡ false) → Above g t l n lo hi
+  above-start w p o q e b =
+      let a = getD l (lo - 1) blank in
+      let mine : signalOf a ≡ g = eqb-true _ _ (and-left _ _ e) in
+      let first : ahead g t a ≡ true = ahead-here g t a mine ∙ and-right (eqb (signalOf a) g) _ e in
+      record {
+        search = record {
+          ordered = o;
+          within = q;
+          whole = w;
+          front = λ j h. ahead-down l s f g t ft j (lo - 1) (omega arith) (omega arith) first;
+          back = λ j h k. ahead-up l s f g t ft hi j h (omega arith) (b (omega arith));
+        };
+        low = p;
+        mine = mine;
+      }
+
+  pub between-start : length l ≡ n → 0 < lo → lo ≤ hi → hi < n → earlier g t (getD l (lo - 1) blank) ≡ true → later g t (getD l hi blank) ≡ true → Between g t l n lo hi
+  between-start w p o q e d =
+      let a = getD l hi blank in
+      let mine : signalOf a ≡ g = eqb-true _ _ (and-left _ _ d) in
+      record {
+        above = above-start w p o (omega arith) e (λ h. ahead-here g t a mine ∙ not-true _ (and-right (eqb (signalOf a) g) _ d));
+        high = q;
+        mine = mine;
+      }
+
+  pub above-earlier : Above g t l n lo hi → earlier g t (getD l (lo - 1) blank) ≡ true
+  above-earlier i = let p : 0 < lo = i .low in earlier-front g t (getD l (lo - 1) blank) (i .mine) (i .search .front (lo - 1) (omega arith))
+
+  module _ (m : ℕ) (a : lo ≤ m) (b : m < hi) where
+    low-at : Above g t l n lo hi → g ≤ signalOf (getD l m blank)
+    low-at i = omega (arith, i .mine, signal-at l s f g t ft (lo - 1) m (omega arith) (omega (arith, i .search .within, i .search .whole)))
+
+    pub above-up : Above g t l n lo hi → ahead g t (getD l m blank) ≡ true → Above g t l n (m + 1) hi
+    above-up i e =
+        let z : m ≡ m + 1 - 1 = omega arith in
+        let up : g ≤ signalOf (getD l m blank) = low-at i in
+        let mine : signalOf (getD l m blank) ≡ g = ⊎-elim (λ (w : signalOf (getD l m blank) < g). absurd (omega arith)) (λ (w : (signalOf (getD l m blank) ≡ g) × (lt (getD l m blank .time) t ≡ true)). w .0) (ahead-parts g t (getD l m blank) e) in
+        record {
+          search = searching-up g t l n s f ft lo hi m (i .search) a b e;
+          low = omega arith;
+          mine = subst (λ (k : ℕ). signalOf (getD l k blank) ≡ g) z mine;
+        }
+
+    pub above-down : Above g t l n lo hi → ahead g t (getD l m blank) ≡ false → Above g t l n lo m
+    above-down i e = record { search = searching-down g t l n s f ft lo hi m (i .search) a b e; low = i .low; mine = i .mine }
+
+    module _ (i : Between g t l n lo hi) where
+      mine-at : signalOf (getD l m blank) ≡ g
+      mine-at = omega (arith, low-at (i .above), i .mine, signal-at l s f g t ft m hi (omega arith) (omega (arith, i .high, i .above .search .whole)))
+
+      pub between-up : lt (getD l m blank .time) t ≡ true → Between g t l n (m + 1) hi
+      between-up e = record { above = above-up (i .above) (ahead-here g t (getD l m blank) mine-at ∙ e); high = i .high; mine = i .mine }
+
+      pub between-down : lt (getD l m blank .time) t ≡ false → Between g t l n lo m
+      between-down e =
+          record { above = above-down (i .above) (ahead-here g t (getD l m blank) mine-at ∙ e); high = omega (arith, i .high); mine = mine-at }
 
 -- ---- the spot of a sample, from the end of the table down
 pub record Spotting (s : Sample) (l : List Sample) (n p : ℕ) : Type 0 where

@@ -1,16 +1,15 @@
 -- `table::query::first_from` meets its contract. Assumes nothing.
-use Prim.Native.Nat.{_/_}
-use mathlib.Core.Path.{subst}
-use lib.Dec.{T}
-use lib.Seq.{length-take-le, getD-take}
-use mathlib.Core.Path.{sym}
-use Prim.Native.Nat.{_<_, _-_, _+_}
+use Prim.Native.Nat.{_<_, _-_, _+_, _/_}
+use mathlib.Core.Path.{_≡_, sym, ap, _∙_, subst}
 use native.Mathlib.Omega.{arith}
 use borrow.Author.Needs.{needs}
-use lib.ListN.{take}
-use Rattle.table.specs.Table.{blank, rows, signal}
+use borrow.Author.Tests.{eqb-true}
+use lib.Dec.{T}
+use lib.ListN.{take, getD}
+use lib.Seq.{length-take-le, getD-take}
+use Rattle.table.specs.Table.{blank, rows, signal, signalOf}
 use Rattle.table.proofs.TableLaws.{sound-at}
-use Rattle.table.proofs.QueryLaws.{Searching, searching-start, searching-up, searching-down, searching-end, held, Held}
+use Rattle.table.proofs.QueryLaws.{Searching, searching-start, searching-up, searching-down, searching-end, earlier-front, held, Held}
 use Rattle.table.proofs.query.first_from.Statement.{statement}
 use Rattle.table.proofs.query.first_from.Tie as tie
 
@@ -38,6 +37,29 @@ sample-at-requires c κs = omega arith
 is-ahead-requires : tie.Need-is-ahead-requires Inv-loop μ-loop
 is-ahead-requires c κs = search needs
 
+is-of-requires : tie.Need-is-of-requires Inv-loop μ-loop
+is-of-requires c κs = search needs
+
+add-first-above : tie.Need-add-first-above Inv-loop μ-loop
+add-first-above c = omega arith
+
+first-above-requires : tie.Need-first-above-requires Inv-loop μ-loop
+first-above-requires c κs =
+    let s = c .before .before .before .before .before .before .before .before .before .before .before .before in
+    let a = s .args in
+    let h = c .before .before .before .before .before .before .loop in
+    let m = h .lo + (h .hi - h .lo) / 2 in
+    let b : m < a .n = omega arith in
+    let at = getD-take (a .n) (rows (a .cs .now) (a .vs .now) (a .bs .now) (a .ts .now) (a .xs .now)) m blank b in
+    let g = signal (a .c) (a .v) (a .b) in
+    let q = getD (take (a .n) (rows (a .cs .now) (a .vs .now) (a .bs .now) (a .ts .now) (a .xs .now))) m blank in
+    let mine : signalOf q ≡ g = ap signalOf (at ∙ sym (c .before .before .before .before .sample-at .ensures)) ∙ eqb-true _ _ (sym (c .before .is-of .ensures) ∙ c .if2 .taken) in
+    let next : m + 1 - 1 ≡ m = omega arith in
+    (s .pre .0, (s .pre .1, ((omega arith, omega arith, omega arith), (rw next (earlier-front g (a .t) q mine (cc at)), λ z. h .inv .back (h .hi) (omega arith) z))))
+
+returns : tie.Need-returns Inv-loop μ-loop
+returns c = c .first-above .ensures
+
 add-lo : tie.Need-add-lo Inv-loop μ-loop
 add-lo c = omega arith
 
@@ -46,13 +68,13 @@ loop-less c = omega arith
 
 loop-again : tie.Need-loop-again Inv-loop μ-loop
 loop-again c =
-    let s = c .before .before .before .before .before .before .before .before .before .before in
+    let s = c .before .before .before .before .before .before .before .before .before .before .before .before in
     let a = s .args in
-    let h = c .before .before .before .before .loop in
+    let h = c .before .before .before .before .before .before .loop in
     let m = h .lo + (h .hi - h .lo) / 2 in
     let b : m < a .n = omega arith in
     let at = getD-take (a .n) (rows (a .cs .now) (a .vs .now) (a .bs .now) (a .ts .now) (a .xs .now)) m blank b in
-    searching-up _ _ _ _ (sound-at _ (s .pre .1)) (known (c .before .before .before .before .before)) (subst T (sym (s .good .1 .1 .1 .1 .1 .1 .1 .1 .1 .0 .1)) tt) _ _ _ (h .inv) (omega arith) (omega arith) (cc at)
+    searching-up _ _ _ _ (sound-at _ (s .pre .1)) (known (c .before .before .before .before .before .before .before)) (subst T (sym (s .good .1 .1 .1 .1 .1 .1 .1 .1 .1 .0 .1)) tt) _ _ _ (h .inv) (omega arith) (omega arith) (cc at)
 
 loop-less-2 : tie.Need-loop-less-2 Inv-loop μ-loop
 loop-less-2 c = omega arith
@@ -67,8 +89,8 @@ loop-again-2 c =
     let at = getD-take (a .n) (rows (a .cs .now) (a .vs .now) (a .bs .now) (a .ts .now) (a .xs .now)) m blank b in
     searching-down _ _ _ _ (sound-at _ (s .pre .1)) (known (c .before .before .before .before .before)) (subst T (sym (s .good .1 .1 .1 .1 .1 .1 .1 .1 .1 .0 .1)) tt) _ _ _ (h .inv) (omega arith) (omega arith) (cc at)
 
-returns : tie.Need-returns Inv-loop μ-loop
-returns c = searching-end _ _ _ _ _ _ (c .before .loop .inv) (c .loop-test .left)
+returns-2 : tie.Need-returns-2 Inv-loop μ-loop
+returns-2 c = searching-end _ _ _ _ _ _ (c .before .loop .inv) (c .loop-test .left)
 
 pub first-from-spec : {M : Type 1} → statement M
 first-from-spec =
@@ -81,9 +103,13 @@ first-from-spec =
     add-mid
     sample-at-requires
     is-ahead-requires
+    is-of-requires
+    add-first-above
+    first-above-requires
+    returns
     add-lo
     loop-less
     loop-again
     loop-less-2
     loop-again-2
-    returns)
+    returns-2)
