@@ -47,18 +47,18 @@
  * recurses. Each page is touched in order, so that a stack that is too small
  * ends at its guard page.
  *
- *     fix             30,976
- *     position        30,976
- *     displacement    41,472
- *     line            41,728
+ *     fix             26,624
+ *     position        26,624
+ *     displacement    33,536
+ *     line            34,048
  *     add_epoch       17,408
  *     query              256
  *     smooth             768
- *     round           12,544
+ *     round            8,704
  *     centre             768
  *     geometry           256
  *     factor           1,024
- *     solve              512
+ *     solve              256
  *     clocks             256
  *     numbers            256
  */
