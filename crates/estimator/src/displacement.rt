@@ -1,10 +1,12 @@
 // The displacement between two epochs.
 ghost use mathlib.Core.Path.{_≡_};
+ghost use mathlib.Core.Bool.{true};
 ghost use lib.ListN.{length};
 ghost use Prim.Native.Nat.{ℕ, _≤_};
 ghost use Rattle.exact.specs.Float.{_⊕_, _⊖_, _⊗_};
 ghost use Rattle.cholesky.specs.Factor.{at};
 ghost use Rattle.numeric.specs.Order.{patternOf};
+ghost use Rattle.records.specs.Carriers.{carrierColumns, epochOf, epochFits};
 ghost use Rattle.records.specs.Kept.{pairsIn};
 ghost use Rattle.estimator.specs.Rounds.{Ended};
 ghost use Rattle.estimator.specs.Displacement as spec;
@@ -13,12 +15,14 @@ use crate::rounds::move_by;
 use crate::rounds::state_at;
 use crate::valid::Check;
 use crate::valid::check_displacement;
+use crate::valid::check_in;
 use crate::valid::check_pairs;
 use clocks::clocks::Clocks;
 use numeric::order::pattern;
 use numeric::real::is_finite;
 use numeric::refusal::Refusal;
 use numeric::vec3::Vec3;
+use records::pair::pairs_in;
 use records::pair::pairs_of;
 use records::record::Epoch;
 use records::screen::clocks_of;
@@ -155,6 +159,103 @@ pub fn delta_position(
         return Displacement::Refused(r);
     }
     let all = pairs_of(previous, current, receiver, settings.mask, dt);
+    let mut x = [0.0; 64];
+    let mut y = [0.0; 64];
+    let mut z = [0.0; 64];
+    let mut constellation = [0u8; 64];
+    let mut elevation = [0.0; 64];
+    let mut observed = [0.0; 64];
+    let used = keep_into(
+        all,
+        settings.screen,
+        &mut x,
+        &mut y,
+        &mut z,
+        &mut constellation,
+        &mut elevation,
+        &mut observed,
+    );
+    let clocks = clocks_of(&constellation[..used]);
+    let pairs = all.count;
+    if let Check::Refused(r) = check_pairs(pairs, used, clocks.count) {
+        return Displacement::Refused(r);
+    }
+    let screened = pairs - used;
+    let mut state = [0.0; 9];
+    if fit_pairs(
+        settings,
+        clocks,
+        &x,
+        &y,
+        &z,
+        &constellation,
+        &elevation,
+        &observed[..used],
+        &mut state,
+    ) {
+        return moved_to(state, used, screened);
+    }
+    Displacement::Refused(Refusal::FitFailed)
+}
+
+// The same of two epochs' columns: nothing of them is copied.
+pub fn delta_in(
+    previous_constellation: &[u8],
+    previous_svid: &[u16],
+    previous_band: &[u32],
+    previous_state: &[i32],
+    previous_floats: &[f64],
+    previous_count: usize,
+    current_constellation: &[u8],
+    current_svid: &[u16],
+    current_band: &[u32],
+    current_state: &[i32],
+    current_floats: &[f64],
+    current_count: usize,
+    dt: f64,
+    receiver: Vec3,
+    settings: Settings,
+) -> Displacement
+    requires { ⌜ epochFits (carrierColumns (now «previous_constellation») (now «previous_svid») (now «previous_band») (now «previous_state») (now «previous_floats»)) «previous_count» ≡ true ⌝ }
+    requires { ⌜ epochFits (carrierColumns (now «current_constellation») (now «current_svid») (now «current_band») (now «current_state») (now «current_floats»)) «current_count» ≡ true ⌝ }
+    ensures { λ r. ⌜ spec.Promised (spec.input (epochOf (carrierColumns (now («previous_constellation» .entry)) (now («previous_svid» .entry)) (now («previous_band» .entry)) (now («previous_state» .entry)) (now («previous_floats» .entry))) «previous_count») (epochOf (carrierColumns (now («current_constellation» .entry)) (now («current_svid» .entry)) (now («current_band» .entry)) (now («current_state» .entry)) (now («current_floats» .entry))) «current_count») dt receiver settings) r ⌝ }
+{
+    if let Check::Refused(r) = check_in(
+        previous_constellation,
+        previous_svid,
+        previous_band,
+        previous_state,
+        previous_floats,
+        previous_count,
+        current_constellation,
+        current_svid,
+        current_band,
+        current_state,
+        current_floats,
+        current_count,
+        dt,
+        receiver,
+        settings,
+    ) {
+        return Displacement::Refused(r);
+    }
+    let all = pairs_in(
+        previous_constellation,
+        previous_svid,
+        previous_band,
+        previous_state,
+        previous_floats,
+        previous_count,
+        current_constellation,
+        current_svid,
+        current_band,
+        current_state,
+        current_floats,
+        current_count,
+        receiver,
+        settings.mask,
+        dt,
+    );
     let mut x = [0.0; 64];
     let mut y = [0.0; 64];
     let mut z = [0.0; 64];

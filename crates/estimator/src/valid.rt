@@ -1,8 +1,10 @@
 // The rules on what is handed over, and on how many pairs, rows and slots it gives.
 ghost use mathlib.Core.Path.{_≡_};
+ghost use mathlib.Core.Bool.{true};
 ghost use Prim.Native.Nat.{_≤_};
 ghost use Rattle.walk.specs.Walk.{every};
 ghost use Rattle.records.specs.Record.{sound, soundObservation, counted, countedObservations};
+ghost use Rattle.records.specs.Carriers.{carrierColumns, epochOf, epochFits};
 ghost use Rattle.estimator.specs.Rules.{ruled};
 ghost use Rattle.estimator.specs.Valid as spec;
 use crate::displacement::Settings;
@@ -10,6 +12,7 @@ use numeric::real::in_range;
 use numeric::real::is_finite;
 use numeric::refusal::Refusal;
 use numeric::vec3::Vec3;
+use records::carriers::sound_in;
 use records::record::Epoch;
 use records::record::Observations;
 use records::record::is_placeable;
@@ -107,6 +110,56 @@ pub(crate) fn check_displacement(
         return Check::Refused(Refusal::SettingOutOfRange);
     }
     if !(all_sound(previous) & all_sound(current) & is_placeable(receiver)) {
+        return Check::Refused(Refusal::RecordOutOfRange);
+    }
+    if is_bad_interval(dt) {
+        return Check::Refused(Refusal::BadInterval);
+    }
+    Check::Passed
+}
+
+// Rules 2 to 5 of a displacement between two epochs' columns: they fit, so that 2 does not apply.
+pub(crate) fn check_in(
+    previous_constellation: &[u8],
+    previous_svid: &[u16],
+    previous_band: &[u32],
+    previous_state: &[i32],
+    previous_floats: &[f64],
+    previous_count: usize,
+    current_constellation: &[u8],
+    current_svid: &[u16],
+    current_band: &[u32],
+    current_state: &[i32],
+    current_floats: &[f64],
+    current_count: usize,
+    dt: f64,
+    receiver: Vec3,
+    settings: Settings,
+) -> Check
+    requires { ⌜ epochFits (carrierColumns (now «previous_constellation») (now «previous_svid») (now «previous_band») (now «previous_state») (now «previous_floats»)) «previous_count» ≡ true ⌝ }
+    requires { ⌜ epochFits (carrierColumns (now «current_constellation») (now «current_svid») (now «current_band») (now «current_state») (now «current_floats»)) «current_count» ≡ true ⌝ }
+    ensures { λ r. ⌜ r ≡ ruled Check.Refused (spec.displacementInput (epochOf (carrierColumns (now («previous_constellation» .entry)) (now («previous_svid» .entry)) (now («previous_band» .entry)) (now («previous_state» .entry)) (now («previous_floats» .entry))) «previous_count») (epochOf (carrierColumns (now («current_constellation» .entry)) (now («current_svid» .entry)) (now («current_band» .entry)) (now («current_state» .entry)) (now («current_floats» .entry))) «current_count») dt receiver settings) Check.Passed ⌝ }
+{
+    if !settings_pass(settings) {
+        return Check::Refused(Refusal::SettingOutOfRange);
+    }
+    if !(sound_in(
+        previous_constellation,
+        previous_svid,
+        previous_band,
+        previous_state,
+        previous_floats,
+        previous_count,
+    )
+        & sound_in(
+            current_constellation,
+            current_svid,
+            current_band,
+            current_state,
+            current_floats,
+            current_count,
+        )
+        & is_placeable(receiver)) {
         return Check::Refused(Refusal::RecordOutOfRange);
     }
     if is_bad_interval(dt) {

@@ -1,5 +1,6 @@
 -- What the proofs of more than one function use, and the laws.
 pub mod RecordLaws
+pub mod CarrierLaws
 pub mod PairLaws
 pub mod KeepLaws
 pub mod ScreenLaws

@@ -3,3 +3,4 @@ pub mod Pair
 pub mod Screen
 pub mod Mask
 pub mod Kept
+pub mod Carriers

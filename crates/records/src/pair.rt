@@ -1,10 +1,12 @@
 // The carrier pairs of two epochs.
 ghost use mathlib.Core.Path.{_≡_};
-ghost use mathlib.Core.Bool.{_&&_};
+ghost use mathlib.Core.Bool.{true, _&&_};
 ghost use Prim.Native.Nat.{_≤_};
 ghost use Rattle.numeric.specs.Sight.{geometry};
 ghost use Rattle.records.specs.Record.{counted, same, usable, Holds};
+ghost use Rattle.records.specs.Carriers.{carrierColumns, epochOf, epochFits};
 ghost use Rattle.records.specs.Pair as spec;
+use crate::carriers::carrier_at;
 use crate::record::Carrier;
 use crate::record::Epoch;
 use crate::record::is_same;
@@ -134,6 +136,65 @@ pub fn pairs_of(previous: Epoch, current: Epoch, receiver: Vec3, mask: f64, dt: 
             let mut j: usize = 0;
             while j < previous.count {
                 let p = previous.carriers[j];
+                if is_partner(p, c) {
+                    let k = out.count;
+                    let q = pair_of(receiver, dt, c, p);
+                    out.pair[k] = q;
+                    out.count = k + 1;
+                    break;
+                }
+                j += 1;
+            }
+        }
+        i += 1;
+    }
+    out
+}
+
+// The pairs of two epochs' columns.
+pub fn pairs_in(
+    previous_constellation: &[u8],
+    previous_svid: &[u16],
+    previous_band: &[u32],
+    previous_state: &[i32],
+    previous_floats: &[f64],
+    previous_count: usize,
+    current_constellation: &[u8],
+    current_svid: &[u16],
+    current_band: &[u32],
+    current_state: &[i32],
+    current_floats: &[f64],
+    current_count: usize,
+    receiver: Vec3,
+    mask: f64,
+    dt: f64,
+) -> Pairs
+    requires { ⌜ epochFits (carrierColumns (now «previous_constellation») (now «previous_svid») (now «previous_band») (now «previous_state») (now «previous_floats»)) «previous_count» ≡ true ⌝ }
+    requires { ⌜ epochFits (carrierColumns (now «current_constellation») (now «current_svid») (now «current_band») (now «current_state») (now «current_floats»)) «current_count» ≡ true ⌝ }
+    ensures { λ r. ⌜ Holds (r .count) (r .pair) (spec.pairsOf receiver mask dt (counted (epochOf (carrierColumns (now («previous_constellation» .entry)) (now («previous_svid» .entry)) (now («previous_band» .entry)) (now («previous_state» .entry)) (now («previous_floats» .entry))) «previous_count»)) (counted (epochOf (carrierColumns (now («current_constellation» .entry)) (now («current_svid» .entry)) (now («current_band» .entry)) (now («current_state» .entry)) (now («current_floats» .entry))) «current_count»))) ⌝ }
+{
+    let mut out = no_pairs();
+    let mut i: usize = 0;
+    while i < current_count {
+        let c = carrier_at(
+            current_constellation,
+            current_svid,
+            current_band,
+            current_state,
+            current_floats,
+            i,
+        );
+        if is_usable(c) & (mask <= c.elevation) {
+            let mut j: usize = 0;
+            while j < previous_count {
+                let p = carrier_at(
+                    previous_constellation,
+                    previous_svid,
+                    previous_band,
+                    previous_state,
+                    previous_floats,
+                    j,
+                );
                 if is_partner(p, c) {
                     let k = out.count;
                     let q = pair_of(receiver, dt, c, p);

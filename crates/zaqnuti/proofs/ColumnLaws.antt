@@ -11,7 +11,8 @@ use borrow.Author.Tests.{leb-true}
 use Rattle.records.specs.Record.{Holds}
 use Rattle.robust.specs.Columns.{places}
 use Rattle.robust.proofs.ColumnLaws.{places-length}
-use Rattle.zaqnuti.specs.Columns.{RowColumns, rowsFit, CarrierColumns, epochFits, ObservationColumns, observationsFit}
+use Rattle.records.proofs.CarrierLaws.{both}
+use Rattle.zaqnuti.specs.Columns.{RowColumns, rowsFit, ObservationColumns, observationsFit}
 
 -- an array of 64 of which the first i of n places have been stored, and its count
 pub record Filling {A : Type 0} (f : ℕ → A) (n : ℕ) (array : List A) (count i : ℕ) : Type 0 where
@@ -51,10 +52,6 @@ module _ {A : Type 0} (f : ℕ → A) (n : ℕ) {count : ℕ} {array : List A} (
 
 -- ---- what the tests of lengths tell
 
-both : (a b : Bool) → (a && b) ≡ true → (a ≡ true) × (b ≡ true)
-both true b e = (refl, e)
-both false b e = (e, absurd (let z : _≡_ {A = ℕ} 0 1 = cc in omega arith))
-
 pub record RowRoom (c : RowColumns) (n : ℕ) : Type 0 where
   pub few : n ≤ 64
   pub units : 3 * n ≤ length (c .units)
@@ -75,31 +72,6 @@ rows-room c n e =
       clocks = leb-true _ _ (r .1);
       residuals = leb-true _ _ (q .1);
       sigmas = leb-true _ _ (p .1);
-    }
-
-pub record CarrierRoom (c : CarrierColumns) (n : ℕ) : Type 0 where
-  pub few : n ≤ 64
-  pub constellation : n ≤ length (c .constellation)
-  pub svid : n ≤ length (c .svid)
-  pub band : n ≤ length (c .band)
-  pub state : n ≤ length (c .state)
-  pub floats : 6 * n ≤ length (c .floats)
-
-pub carriers-room : (c : CarrierColumns) (n : ℕ) → epochFits c n ≡ true → CarrierRoom c n
-unfolding epochFits
-carriers-room c n e =
-    let p = both _ _ e in
-    let q = both _ _ (p .0) in
-    let r = both _ _ (q .0) in
-    let s = both _ _ (r .0) in
-    let t = both _ _ (s .0) in
-    record {
-      few = leb-true _ _ (t .0);
-      constellation = leb-true _ _ (t .1);
-      svid = leb-true _ _ (s .1);
-      band = leb-true _ _ (r .1);
-      state = leb-true _ _ (q .1);
-      floats = leb-true _ _ (p .1);
     }
 
 pub record ObservationRoom (c : ObservationColumns) (n : ℕ) : Type 0 where

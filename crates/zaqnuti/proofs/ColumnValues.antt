@@ -9,7 +9,8 @@ use Rattle.exact.specs.Float.{+0}
 use Rattle.numeric.specs.declared.refusal.Refusal.the-variants.{TooMany}
 use Rattle.robust.specs.Step.{refused}
 use Rattle.robust.specs.Columns.{places}
-use Rattle.zaqnuti.specs.Columns.{RowColumns, rowColumns, rowAt, rowsOf, rowsFit, carrierColumns, carrierAt, carriersOf, epochFits, observationColumns, observationAt, observationsOf, observationsFit}
+use Rattle.records.specs.Carriers.{carrierColumns, carrierAt, carriersOf, epochFits}
+use Rattle.zaqnuti.specs.Columns.{RowColumns, rowColumns, rowAt, rowsOf, rowsFit, observationColumns, observationAt, observationsOf, observationsFit}
 use Rattle.zaqnuti.specs.Numbers.{columnStepOf}
 
 module _ (a b c d e f : Float) where

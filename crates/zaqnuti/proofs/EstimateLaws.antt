@@ -25,9 +25,10 @@ use Rattle.estimator.specs.declared.fix.Solution.{Solution}
 use Rattle.estimator.specs.declared.fix.Settings.{Settings as FixSettings}
 use Rattle.estimator.proofs.DisplacementSound.{displacement-accepted}
 use Rattle.estimator.proofs.FixSound.{fix-accepted}
-use Rattle.estimator.proofs.CountedLaws.{displacement-counted, displacement-many-rounds, fix-counted, fix-many-rounds}
+use Rattle.estimator.proofs.CountedLaws.{displacement-many-rounds, fix-counted, fix-many-rounds}
 use Rattle.robust.specs.Columns.{places}
-use Rattle.zaqnuti.specs.Columns.{CarrierColumns, carrierAt, carriersOf, epochOf, epochFits, ObservationColumns, observationAt, observationsOf, observationsFit}
+use Rattle.records.specs.Carriers.{CarrierColumns, epochOf, epochFits}
+use Rattle.zaqnuti.specs.Columns.{ObservationColumns, observationAt, observationsOf, observationsFit}
 use Rattle.zaqnuti.specs.Estimates.{displacementSettings, displacementInput, columnDisplacementOf, displacementNumber, deltaAfter, countsAfter, DisplacementAnswers, fixSettings, fixInput, columnFixOf, fixNumber, solutionAfter, usedAfter, FixAnswers, positionNumber, positionAfter, PositionAnswers}
 use Rattle.zaqnuti.proofs.ColumnLaws.{held-count, held-all}
 
@@ -55,13 +56,9 @@ module _ (p : CarrierColumns) (m : ℕ) (c : CarrierColumns) (n : ℕ) (dt : Flo
     unfolding columnDisplacementOf
     current-short f = rw (← a-is, t, ← b-is, f)
 
-    pub displacement-fit : (previous current : Epoch) → b ≡ true → Holds (previous .count) (previous .carriers) (carriersOf p m) → Holds (current .count) (current .carriers) (carriersOf c n)
-        → displacementOf (record { previous = previous; current = current; dt = dt; receiver = receiver; settings = displacementSettings s (min rounds 51) }) ≡ columnDisplacementOf p m c n dt receiver (displacementSettings s rounds)
+    pub displacement-fit : b ≡ true → displacementOf (input (min rounds 51)) ≡ columnDisplacementOf p m c n dt receiver (displacementSettings s rounds)
     unfolding columnDisplacementOf
-    displacement-fit previous current u h k =
-        rw (← a-is, t, ← b-is, u)
-        (displacement-counted previous (epochOf p m) current (epochOf c n) dt receiver (displacementSettings s (min rounds 51)) (held-count (carrierAt p) m h) (held-all (carrierAt p) m h) (held-count (carrierAt c) n k) (held-all (carrierAt c) n k)
-        ∙ rounds-capped)
+    displacement-fit u = rw (← a-is, t, ← b-is, u) rounds-capped
 
 not-moved : (v : Delta) → Displacement.Refused TooMany ≡ Displacement.Moved v → ⊥
 not-moved v e = let z : _≡_ {A = ℕ} 0 1 = cc in omega arith

@@ -9,7 +9,8 @@ use Rattle.estimator.specs.declared.displacement.Settings.{Settings as Displace
 use Rattle.estimator.specs.declared.fix.Settings.{Settings as FixSettings}
 use Rattle.estimator.specs.declared.displacement.Displacement.the-variants as Displacement
 use Rattle.estimator.specs.declared.fix.Fix.the-variants as Fix
-use Rattle.zaqnuti.specs.Columns.{CarrierColumns, carrierColumns, epochFits, ObservationColumns, observationColumns, observationsFit}
+use Rattle.records.specs.Carriers.{CarrierColumns, carrierColumns, epochFits}
+use Rattle.zaqnuti.specs.Columns.{ObservationColumns, observationColumns, observationsFit}
 use Rattle.zaqnuti.specs.Estimates.{columnDisplacementOf, displacementNumber, deltaAfter, countsAfter, columnFixOf, fixNumber}
 
 module _ (p c : CarrierColumns) (n : ℕ) (dt : Float) (receiver : Vec3) (settings : DisplacementSettings) where

@@ -23,7 +23,8 @@ use Rattle.estimator.specs.declared.fix.Fix.{Fix}
 use Rattle.estimator.specs.declared.fix.Fix.the-variants as Fix
 use Rattle.estimator.specs.declared.fix.Position.{Position}
 use Rattle.estimator.specs.declared.fix.Position.the-variants as Position
-use Rattle.zaqnuti.specs.Columns.{CarrierColumns, epochOf, epochFits, ObservationColumns, observationsOf, observationsFit}
+use Rattle.records.specs.Carriers.{CarrierColumns, epochOf, epochFits}
+use Rattle.zaqnuti.specs.Columns.{ObservationColumns, observationsOf, observationsFit}
 
 -- ---- a displacement
 

@@ -3,31 +3,19 @@ ghost use mathlib.Core.Path.{_≡_};
 ghost use mathlib.Core.Bool.{true};
 ghost use Prim.Native.Nat.{_+_, _*_, _<_};
 ghost use lib.ListN.{length};
+ghost use Rattle.records.specs.Carriers.{vectorAt, carrierColumns, epochFits};
 ghost use Rattle.records.specs.Record.{Holds};
 ghost use Rattle.zaqnuti.specs.Columns as spec;
 use numeric::vec3::Vec3;
-use records::record::Carrier;
-use records::record::Epoch;
+use records::carriers::vector_at;
 use records::record::Observation;
 use records::record::Observations;
 use robust::row::Row;
 use robust::row::Rows;
 
-// The vector of the three floats from k on.
-pub(crate) fn vector_at(v: &[f64], k: usize) -> Vec3
-    requires { ⌜ k + 2 < length (now v) ⌝ }
-    ensures { λ r. ⌜ r ≡ spec.vectorAt (now (v .entry)) k ⌝ }
-{
-    Vec3 {
-        x: v[k],
-        y: v[k + 1],
-        z: v[k + 2],
-    }
-}
-
 // Three floats as a vector.
 pub(crate) fn vector(v: &[f64; 3]) -> Vec3
-    ensures { λ r. ⌜ r ≡ spec.vectorAt (now (v .entry)) 0 ⌝ }
+    ensures { λ r. ⌜ r ≡ vectorAt (now (v .entry)) 0 ⌝ }
 {
     Vec3 {
         x: v[0],
@@ -107,7 +95,7 @@ pub(crate) fn epoch_fits(
     floats: &[f64],
     n: usize,
 ) -> bool
-    ensures { λ r. ⌜ r ≡ spec.epochFits (spec.carrierColumns (now (constellation .entry)) (now (svid .entry)) (now (band .entry)) (now (state .entry)) (now (floats .entry))) n ⌝ }
+    ensures { λ r. ⌜ r ≡ epochFits (carrierColumns (now (constellation .entry)) (now (svid .entry)) (now (band .entry)) (now (state .entry)) (now (floats .entry))) n ⌝ }
 {
     if n > 64 {
         return false;
@@ -117,73 +105,6 @@ pub(crate) fn epoch_fits(
         & (n <= band.len())
         & (n <= state.len())
         & (6 * n <= floats.len())
-}
-
-// Carrier i of the columns.
-fn carrier_at(
-    constellation: &[u8],
-    svid: &[u16],
-    band: &[u32],
-    state: &[i32],
-    floats: &[f64],
-    i: usize,
-) -> Carrier
-    requires { ⌜ (i < length (now constellation)) × (i < length (now svid)) × (i < length (now band)) × (i < length (now state)) ⌝ }
-    requires { ⌜ 6 * i + 5 < length (now floats) ⌝ }
-    ensures { λ r. ⌜ r ≡ spec.carrierAt (spec.carrierColumns (now (constellation .entry)) (now (svid .entry)) (now (band .entry)) (now (state .entry)) (now (floats .entry))) i ⌝ }
-{
-    let at = 6 * i;
-    let satellite = vector_at(floats, at + 1);
-    let bits = state[i];
-    Carrier {
-        constellation: constellation[i],
-        svid: svid[i],
-        band: band[i],
-        adr: floats[at],
-        state: bits,
-        satellite: satellite,
-        elevation: floats[at + 4],
-        rate: floats[at + 5],
-    }
-}
-
-// The first n carriers of the columns.
-pub(crate) fn epoch_of(
-    constellation: &[u8],
-    svid: &[u16],
-    band: &[u32],
-    state: &[i32],
-    floats: &[f64],
-    n: usize,
-) -> Epoch
-    requires { ⌜ spec.epochFits (spec.carrierColumns (now constellation) (now svid) (now band) (now state) (now floats)) n ≡ true ⌝ }
-    ensures { λ r. ⌜ Holds (r .count) (r .carriers) (spec.carriersOf (spec.carrierColumns (now (constellation .entry)) (now (svid .entry)) (now (band .entry)) (now (state .entry)) (now (floats .entry))) n) ⌝ }
-{
-    let zero = Vec3 {
-        x: 0.0,
-        y: 0.0,
-        z: 0.0,
-    };
-    let nothing = Carrier {
-        constellation: 0,
-        svid: 0,
-        band: 0,
-        adr: 0.0,
-        state: 0,
-        satellite: zero,
-        elevation: 0.0,
-        rate: 0.0,
-    };
-    let carriers = [nothing; 64];
-    let mut out = Epoch {
-        count: n,
-        carriers: carriers,
-    };
-    for i in 0..n {
-        let c = carrier_at(constellation, svid, band, state, floats, i);
-        out.carriers[i] = c;
-    }
-    out
 }
 
 // Whether there are at most 64 observations and no column is shorter than they need.

@@ -1,16 +1,16 @@
 // Entry points of the displacement and the fix.
 ghost use mathlib.Core.Path.{_≡_};
 ghost use Prim.Native.Nat.{min};
-ghost use Rattle.zaqnuti.specs.Columns.{vectorAt, carrierColumns, observationColumns};
+ghost use Rattle.records.specs.Carriers.{vectorAt, carrierColumns};
+ghost use Rattle.zaqnuti.specs.Columns.{observationColumns};
 ghost use Rattle.zaqnuti.specs.Estimates as spec;
 use crate::columns::epoch_fits;
-use crate::columns::epoch_of;
 use crate::columns::observations_fit;
 use crate::columns::observations_of;
 use crate::columns::vector;
 use estimator::displacement::Displacement;
 use estimator::displacement::Settings as DisplacementSettings;
-use estimator::displacement::delta_position;
+use estimator::displacement::delta_in;
 use estimator::fix::Fix;
 use estimator::fix::Settings as FixSettings;
 use estimator::fix::solve_full;
@@ -100,25 +100,25 @@ pub extern "C" fn zaqnuti_displacement(
     ) {
         return Refusal::TooMany.number();
     }
-    let previous = epoch_of(
+    let at = vector(receiver);
+    let s = displacement_settings(settings, rounds);
+    let answer = delta_in(
         previous_constellation,
         previous_svid,
         previous_band,
         previous_state,
         previous_floats,
         previous_count,
-    );
-    let current = epoch_of(
         current_constellation,
         current_svid,
         current_band,
         current_state,
         current_floats,
         current_count,
+        dt,
+        at,
+        s,
     );
-    let at = vector(receiver);
-    let s = displacement_settings(settings, rounds);
-    let answer = delta_position(previous, current, dt, at, s);
     match answer {
         Displacement::Moved(d) => {
             let v = d.delta;

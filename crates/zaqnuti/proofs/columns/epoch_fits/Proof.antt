@@ -1,6 +1,6 @@
 -- `zaqnuti::columns::epoch_fits` meets its contract. Assumes nothing.
 use borrow.Author.Tests.{le-leb, lt-leb}
-use Rattle.zaqnuti.specs.Columns.{epochFits}
+use Rattle.records.specs.Carriers.{epochFits}
 use borrow.Author.Needs.{needs}
 use Rattle.zaqnuti.proofs.columns.epoch_fits.Statement.{statement}
 use Rattle.zaqnuti.proofs.columns.epoch_fits.Tie as tie

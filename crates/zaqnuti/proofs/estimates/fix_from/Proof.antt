@@ -1,7 +1,8 @@
 -- `zaqnuti::estimates::fix_from` meets its contract. Assumes nothing.
 use mathlib.Core.Path.{_≡_, sym, _∙_}
 use borrow.Author.Tests.{not-true, not-false}
-use Rattle.zaqnuti.specs.Columns.{vectorAt, ObservationColumns, observationColumns}
+use Rattle.records.specs.Carriers.{vectorAt}
+use Rattle.zaqnuti.specs.Columns.{ObservationColumns, observationColumns}
 use Rattle.zaqnuti.proofs.EstimateLaws.{fix-short, fix-fit}
 use borrow.Author.Needs.{needs}
 use Rattle.zaqnuti.proofs.estimates.fix_from.Statement.{statement}

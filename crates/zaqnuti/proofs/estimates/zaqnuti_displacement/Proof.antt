@@ -2,7 +2,7 @@
 use mathlib.Core.Path.{_≡_, refl, sym, _∙_}
 use borrow.Author.Tests.{not-true, not-false}
 use Rattle.estimator.specs.declared.displacement.Displacement.{Displacement}
-use Rattle.zaqnuti.specs.Columns.{vectorAt, CarrierColumns, carrierColumns}
+use Rattle.records.specs.Carriers.{vectorAt, CarrierColumns, carrierColumns}
 use Rattle.zaqnuti.specs.Estimates.{displacementSettings, columnDisplacementOf}
 use Rattle.zaqnuti.proofs.EstimateLaws.{previous-short, current-short, displacement-fit, displacement-answers}
 use borrow.Author.Needs.{needs}
@@ -19,14 +19,12 @@ current s = carrierColumns (s .args .current-constellation .now) (s .args .curre
 abbrev wanted : tie.Start → Displacement
 wanted s = columnDisplacementOf (previous s) (s .args .previous-count) (current s) (s .args .current-count) (s .args .dt) (vectorAt (s .args .receiver .now) 0) (displacementSettings (s .args .settings .now) (s .args .rounds))
 
-made : (c : tie.After-delta-position) → c .delta-position .result ≡ wanted (c .before .before .before .before .before .before .before .before .before .before .before .before .before .before .before .before .before)
+made : (c : tie.After-delta-in) → c .delta-in .result ≡ wanted (c .before .before .before .before .before .before .before .before .before .before .before .before .before .before .before)
 made c =
-    let s = c .before .before .before .before .before .before .before .before .before .before .before .before .before .before .before .before .before in
-    let p = c .before .before .before .before .epoch-of in
-    let q = c .before .before .before .epoch-of2 in
-    c .delta-position .ensures .answer
+    let s = c .before .before .before .before .before .before .before .before .before .before .before .before .before .before .before in
+    c .delta-in .ensures .answer
     ∙ rw (c .before .before .vector .ensures, c .before .displacement-settings .ensures)
-    (displacement-fit (previous s) (s .args .previous-count) (current s) (s .args .current-count) (s .args .dt) (vectorAt (s .args .receiver .now) 0) (s .args .settings .now) (s .args .rounds) (c .before .before .before .before .before .before .before .before .epoch-fits .ensures) (not-false _ (c .before .before .before .before .before .before .before .if1 .left)) (c .before .before .before .before .before .before .epoch-fits2 .ensures) (p .result) (q .result) (not-false _ (c .before .before .before .before .before .if2 .left)) (p .ensures) (q .ensures))
+    (displacement-fit (previous s) (s .args .previous-count) (current s) (s .args .current-count) (s .args .dt) (vectorAt (s .args .receiver .now) 0) (s .args .settings .now) (s .args .rounds) (c .before .before .before .before .before .before .epoch-fits .ensures) (not-false _ (c .before .before .before .before .before .if1 .left)) (c .before .before .before .before .epoch-fits2 .ensures) (not-false _ (c .before .before .before .if2 .left)))
 
 epoch-fits-requires : tie.Need-epoch-fits-requires
 epoch-fits-requires c κs = search needs
@@ -58,20 +56,14 @@ returns-2 c =
     refl
     refl
 
-epoch-of-requires : tie.Need-epoch-of-requires
-epoch-of-requires c κs = sym (c .before .before .before .epoch-fits .ensures) ∙ not-false _ (c .before .before .if1 .left)
-
-epoch-of-requires-2 : tie.Need-epoch-of-requires-2
-epoch-of-requires-2 c κs = sym (c .before .before .epoch-fits2 .ensures) ∙ not-false _ (c .before .if2 .left)
-
 vector-requires : tie.Need-vector-requires
 vector-requires c κs = search needs
 
 displacement-settings-requires : tie.Need-displacement-settings-requires
 displacement-settings-requires c κs = search needs
 
-delta-position-requires : tie.Need-delta-position-requires
-delta-position-requires c κs = search needs
+delta-in-requires : tie.Need-delta-in-requires
+delta-in-requires c κs = (sym (c .before .before .before .before .before .epoch-fits .ensures) ∙ not-false _ (c .before .before .before .before .if1 .left), sym (c .before .before .before .epoch-fits2 .ensures) ∙ not-false _ (c .before .before .if2 .left))
 
 enum-known-answer : tie.Need-enum-known-answer
 enum-known-answer c = search needs
@@ -98,11 +90,9 @@ zaqnuti-displacement-spec =
     epoch-fits-requires-2
     number-requires-2
     returns-2
-    epoch-of-requires
-    epoch-of-requires-2
     vector-requires
     displacement-settings-requires
-    delta-position-requires
+    delta-in-requires
     enum-known-answer
     enum-known-answer-2
     number-requires-3

@@ -1,9 +1,9 @@
--- `zaqnuti::columns::carrier_at` meets its contract. Assumes nothing.
+-- `records::carriers::carrier_at` meets its contract. Assumes nothing.
 use mir.Facts.{toZ-ofZ}
 use borrow.Author.Needs.{needs, sfits-of}
-use Rattle.zaqnuti.specs.Columns.{carrierAt}
-use Rattle.zaqnuti.proofs.columns.carrier_at.Statement.{statement}
-use Rattle.zaqnuti.proofs.columns.carrier_at.Tie as tie
+use Rattle.records.specs.Carriers.{carrierAt}
+use Rattle.records.proofs.carriers.carrier_at.Statement.{statement}
+use Rattle.records.proofs.carriers.carrier_at.Tie as tie
 
 mul-at : tie.Need-mul-at
 mul-at c = search needs

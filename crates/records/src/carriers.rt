@@ -1,0 +1,74 @@
+// The carriers of an epoch as columns of numbers.
+ghost use mathlib.Core.Path.{_≡_};
+ghost use mathlib.Core.Bool.{true};
+ghost use Prim.Native.Nat.{_+_, _*_, _<_};
+ghost use lib.ListN.{length};
+ghost use Rattle.walk.specs.Walk.{every};
+ghost use Rattle.records.specs.Record.{sound, counted};
+ghost use Rattle.records.specs.Carriers as spec;
+use crate::record::Carrier;
+use crate::record::is_sound;
+use numeric::vec3::Vec3;
+
+// The vector of the three floats from k on.
+pub fn vector_at(v: &[f64], k: usize) -> Vec3
+    requires { ⌜ k + 2 < length (now v) ⌝ }
+    ensures { λ r. ⌜ r ≡ spec.vectorAt (now (v .entry)) k ⌝ }
+{
+    Vec3 {
+        x: v[k],
+        y: v[k + 1],
+        z: v[k + 2],
+    }
+}
+
+// Carrier i of the columns.
+pub fn carrier_at(
+    constellation: &[u8],
+    svid: &[u16],
+    band: &[u32],
+    state: &[i32],
+    floats: &[f64],
+    i: usize,
+) -> Carrier
+    requires { ⌜ (i < length (now constellation)) × (i < length (now svid)) × (i < length (now band)) × (i < length (now state)) ⌝ }
+    requires { ⌜ 6 * i + 5 < length (now floats) ⌝ }
+    ensures { λ r. ⌜ r ≡ spec.carrierAt (spec.carrierColumns (now (constellation .entry)) (now (svid .entry)) (now (band .entry)) (now (state .entry)) (now (floats .entry))) i ⌝ }
+{
+    let at = 6 * i;
+    let satellite = vector_at(floats, at + 1);
+    let bits = state[i];
+    Carrier {
+        constellation: constellation[i],
+        svid: svid[i],
+        band: band[i],
+        adr: floats[at],
+        state: bits,
+        satellite: satellite,
+        elevation: floats[at + 4],
+        rate: floats[at + 5],
+    }
+}
+
+// Whether rule 4 lets each of the first n carriers pass.
+pub fn sound_in(
+    constellation: &[u8],
+    svid: &[u16],
+    band: &[u32],
+    state: &[i32],
+    floats: &[f64],
+    n: usize,
+) -> bool
+    requires { ⌜ spec.epochFits (spec.carrierColumns (now constellation) (now svid) (now band) (now state) (now floats)) n ≡ true ⌝ }
+    ensures { λ r. ⌜ r ≡ every sound (counted (spec.epochOf (spec.carrierColumns (now (constellation .entry)) (now (svid .entry)) (now (band .entry)) (now (state .entry)) (now (floats .entry))) n)) ⌝ }
+{
+    let mut i: usize = 0;
+    while i < n {
+        let c = carrier_at(constellation, svid, band, state, floats, i);
+        if !is_sound(c) {
+            return false;
+        }
+        i += 1;
+    }
+    true
+}
