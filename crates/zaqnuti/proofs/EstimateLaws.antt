@@ -9,7 +9,6 @@ use lib.Ieee.{Float}
 use Rattle.numeric.specs.declared.refusal.Refusal.the-variants.{TooMany}
 use Rattle.numeric.specs.declared.vec3.Vec3.{Vec3}
 use Rattle.records.specs.Record.{Holds}
-use Rattle.records.specs.declared.record.Epoch.{Epoch}
 use Rattle.records.specs.declared.record.Observations.{Observations}
 use Rattle.estimator.specs.Displacement as displacement
 use Rattle.estimator.specs.Displacement.{displacementOf}
@@ -27,7 +26,7 @@ use Rattle.estimator.proofs.DisplacementSound.{displacement-accepted}
 use Rattle.estimator.proofs.FixSound.{fix-accepted}
 use Rattle.estimator.proofs.CountedLaws.{displacement-many-rounds, fix-counted, fix-many-rounds}
 use Rattle.robust.specs.Columns.{places}
-use Rattle.records.specs.Carriers.{CarrierColumns, epochOf, epochFits}
+use Rattle.records.specs.Carriers.{CarrierColumns, epochFits}
 use Rattle.zaqnuti.specs.Columns.{ObservationColumns, observationAt, observationsOf, observationsFit}
 use Rattle.zaqnuti.specs.Estimates.{displacementSettings, displacementInput, columnDisplacementOf, displacementNumber, deltaAfter, countsAfter, DisplacementAnswers, fixSettings, fixInput, columnFixOf, fixNumber, solutionAfter, usedAfter, FixAnswers, positionNumber, positionAfter, PositionAnswers}
 use Rattle.zaqnuti.proofs.ColumnLaws.{held-count, held-all}

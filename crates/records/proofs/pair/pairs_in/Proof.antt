@@ -6,11 +6,11 @@ use mathlib.Core.Bool.{_&&_}
 use mathlib.Core.List.{[], _∷_}
 use Prim.Native.Nat.{_≤_, _-_}
 use native.Mathlib.Omega.{arith}
-use lib.ListN.{length, drop}
+use lib.ListN.{drop}
 use borrow.Author.Needs.{needs}
 use Rattle.walk.proofs.Walk.{length-mapped, first-yes, first-no, first-end, Collecting, collecting-start, collecting-none, collecting-one, collecting-end}
 use Rattle.records.specs.Record.{counted, same, usable}
-use Rattle.records.specs.Carriers.{CarrierColumns, carrierColumns, carriersOf, epochOf}
+use Rattle.records.specs.Carriers.{CarrierColumns, carrierColumns, epochOf}
 use Rattle.records.specs.Pair.{pairOf, firstPair, pairAt, pairsOf}
 use Rattle.records.specs.declared.record.Carrier.{Carrier}
 use Rattle.records.specs.declared.pair.Pair.{Pair}

@@ -1,5 +1,5 @@
 -- `zaqnuti::estimates::fix_from` meets its contract. Assumes nothing.
-use mathlib.Core.Path.{_≡_, sym, _∙_}
+use mathlib.Core.Path.{sym, _∙_}
 use borrow.Author.Tests.{not-true, not-false}
 use Rattle.records.specs.Carriers.{vectorAt}
 use Rattle.zaqnuti.specs.Columns.{ObservationColumns, observationColumns}
