@@ -49,8 +49,8 @@
  *
  *     fix             26,624
  *     position        26,624
- *     displacement    33,536
- *     line            34,048
+ *     displacement    15,104
+ *     line            36,096
  *     add_epoch       17,408
  *     query              256
  *     smooth             768
