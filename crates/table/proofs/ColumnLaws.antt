@@ -28,6 +28,9 @@ rows-length (c ∷ cs) (v ∷ vs) (b ∷ bs) [] xs = omega arith
 rows-length (c ∷ cs) (v ∷ vs) (b ∷ bs) (t ∷ ts) [] = omega arith
 rows-length (c ∷ cs) (v ∷ vs) (b ∷ bs) (t ∷ ts) (x ∷ xs) = simp both-suc (ap suc (rows-length cs vs bs ts xs))
 
+pub rows-times : (cs vs bs : List ℕ) (ts xs : List Float) (n : ℕ) → n ≤ length (rows cs vs bs ts xs) → n ≤ length ts
+rows-times cs vs bs ts xs n h = omega (arith, rows-length cs vs bs ts xs)
+
 pub record Within (i : ℕ) (cs vs bs : List ℕ) (ts xs : List Float) : Type 0 where
   pub in-c : i < length cs
   pub in-v : i < length vs

@@ -1,5 +1,5 @@
 -- The search in a sound table. Assumes nothing.
-use mathlib.Core.Path.{_≡_, refl, sym, ap, _∙_, subst}
+use mathlib.Core.Path.{_≡_, refl, sym, ap, _∙_}
 use mathlib.Core.List.{List}
 use mathlib.Core.Bool.{Bool, true, false, not, _&&_, _||_}
 use mathlib.Core.Logic.{_⊎_, inl, inr, ⊎-elim}
@@ -15,11 +15,12 @@ use Rattle.exact.specs.Float.{_⊖_}
 use Rattle.numeric.specs.Real.{inRange}
 use Rattle.numeric.specs.declared.refusal.Refusal.the-variants.{NoCorrection, RecordOutOfRange, SettingOutOfRange, TooMany}
 use Rattle.table.specs.Table.{blank, placeOf, rows, signal, signalOf, sound, timeKey}
-use Rattle.table.specs.Query.{bridged, Parted, ahead, answerAt, between, earlier, firstOf, lastOf, later, line, missing, near, queryOf, the}
+use Rattle.table.specs.Query.{bridged, answerAt, between, earlier, firstOf, lastOf, later, line, missing, near, queryOf, the}
+use Rattle.table.specs.Search.{ahead, Leading, Searching}
 use Rattle.table.specs.Add.{spotOf}
 use Rattle.table.specs.declared.sample.Sample.{Sample}
 use Rattle.table.specs.declared.query.Correction.the-variants.{Refused, Metres}
-use Rattle.table.proofs.TableLaws.{Sound, and-left, and-right, first-at, first-none, last-at, last-none, spot-is}
+use Rattle.table.proofs.TableLaws.{Sound, first-at, first-none, last-at, last-none, spot-is}
 use Rattle.table.proofs.ColumnLaws.{rows-at, rows-within}
 use Rattle.table.proofs.UnitLaws.{key-lt, earlier-of}
 
@@ -59,7 +60,7 @@ module _ (g : ℕ) (t : Float) (a : Sample) where
       go false true p q e = inr (eqb-true _ _ q, e)
       go false false p q e = absurd (let z : _≡_ {A = ℕ} 0 1 = cc in omega arith)
 
-  ahead-low : signalOf a < g → ahead g t a ≡ true
+  pub ahead-low : signalOf a < g → ahead g t a ≡ true
   unfolding ahead
   ahead-low h = rw (lt-ltb _ _ h)
 
@@ -67,7 +68,7 @@ module _ (g : ℕ) (t : Float) (a : Sample) where
   unfolding ahead
   ahead-here e = rw (le-ltb (signalOf a) g (omega arith), eq-eqb _ _ e)
 
-  ahead-high : g < signalOf a → ahead g t a ≡ false
+  pub ahead-high : g < signalOf a → ahead g t a ≡ false
   unfolding ahead
   ahead-high h = rw (le-ltb (signalOf a) g (omega arith), ne-eqb (signalOf a) g (λ (e : signalOf a ≡ g). omega arith))
 
@@ -160,7 +161,7 @@ module _ (l : List Sample) (s : Sound l) (f : Held l) (g : ℕ) (t : Float) (ft 
       go true q = sym (ahead-down i j h b q) ∙ e
 
   -- ---- the sample at or after the time, and the one before
-  module _ (r : ℕ) (p : Parted g t l r) where
+  module _ (r : ℕ) (p : Leading g t l r) where
     pub later-is : r < length l → signalOf (getD l r blank) ≡ g → firstOf (later g t) l ≡ the (getD l r blank)
     later-is b q =
         first-at (later g t) l r b (λ j h. later-front g t (getD l j blank) (p .front j h)) (later-back g t (getD l r blank) q (p .back r (omega arith) b))
@@ -208,18 +209,11 @@ module _ (l : List Sample) (s : Sound l) (f : Held l) (g : ℕ) (t : Float) (ft 
         go j h false q = earlier-back g t (getD l j blank) (p .back j (ltb-false _ _ q) h)
 
 -- ---- the halving
-pub record Searching (g : ℕ) (t : Float) (l : List Sample) (n lo hi : ℕ) : Type 0 where
-  pub ordered : lo ≤ hi
-  pub within : hi ≤ n
-  pub whole : length l ≡ n
-  pub front : (j : ℕ) → j < lo → ahead g t (getD l j blank) ≡ true
-  pub back : (j : ℕ) → hi ≤ j → j < n → ahead g t (getD l j blank) ≡ false
-
 module _ (g : ℕ) (t : Float) (l : List Sample) (n : ℕ) where
-  pub searching-start : length l ≡ n → Searching g t l n 0 n
-  searching-start e = record { ordered = omega arith; within = omega arith; whole = e; front = λ j h. absurd (omega arith); back = λ j h k. absurd (omega arith) }
+  pub searching-start : (hi : ℕ) → hi ≡ n → length l ≡ n → Searching g t l n 0 hi
+  searching-start hi h e = record { ordered = omega arith; within = omega arith; whole = e; front = λ j k. absurd (omega arith); back = λ j k b. absurd (omega arith) }
 
-  pub searching-end : (lo hi : ℕ) → Searching g t l n lo hi → hi ≤ lo → Parted g t l lo
+  pub searching-end : (lo hi : ℕ) → Searching g t l n lo hi → hi ≤ lo → Leading g t l lo
   searching-end lo hi i h =
       record { within = omega (arith, i); front = i .front; back = λ j k b. i .back j (omega (arith, i .ordered)) (omega (arith, i .whole)) }
 
@@ -244,77 +238,27 @@ module _ (g : ℕ) (t : Float) (l : List Sample) (n : ℕ) where
           back = λ j h k. ahead-up l s f g t ft m j h (omega (arith, i .whole)) e;
         }
 
--- the sample before lo is of the signal
-pub record Above (g : ℕ) (t : Float) (l : List Sample) (n lo hi : ℕ) : Type 0 where
-  pub search : Searching g t l n lo hi
-  pub low : 0 < lo
-  pub mine : signalOf (getD l (lo - 1) blank) ≡ g
+    -- by the signal alone, where half of the samples are left: the sample at m is still between where it is above
+    module _ (h : ℕ) (at : lo + h ≡ m) (rest : h ≤ hi - m) where
+      pub searching-below : signalOf (getD l m blank) < g → Searching g t l n m hi
+      searching-below e =
+          record {
+            ordered = omega arith;
+            within = i .within;
+            whole = i .whole;
+            front = λ j k. ahead-down l s f g t ft j m (omega arith) (omega (arith, i)) (ahead-low g t (getD l m blank) e);
+            back = i .back;
+          }
 
--- the sample at hi is of the signal too
-pub record Between (g : ℕ) (t : Float) (l : List Sample) (n lo hi : ℕ) : Type 0 where
-  pub above : Above g t l n lo hi
-  pub high : hi < n
-  pub mine : signalOf (getD l hi blank) ≡ g
-
-module _ (g : ℕ) (t : Float) (l : List Sample) (n : ℕ) (s : Sound l) (f : Held l) (ft : T (fits binary64 t)) (lo hi : ℕ) where
-  pub above-start : length l ≡ n → 0 < lo → lo ≤ hi → hi ≤ n → earlier g t (getD l (lo - 1) blank) ≡ true → (hi < n → ahead g t (getD l hi blank) ≡ false) → Above g t l n lo hi
-  above-start w p o q e b =
-      let a = getD l (lo - 1) blank in
-      let mine : signalOf a ≡ g = eqb-true _ _ (and-left _ _ e) in
-      let first : ahead g t a ≡ true = ahead-here g t a mine ∙ and-right (eqb (signalOf a) g) _ e in
-      record {
-        search = record {
-          ordered = o;
-          within = q;
-          whole = w;
-          front = λ j h. ahead-down l s f g t ft j (lo - 1) (omega arith) (omega arith) first;
-          back = λ j h k. ahead-up l s f g t ft hi j h (omega arith) (b (omega arith));
-        };
-        low = p;
-        mine = mine;
-      }
-
-  pub between-start : length l ≡ n → 0 < lo → lo ≤ hi → hi < n → earlier g t (getD l (lo - 1) blank) ≡ true → later g t (getD l hi blank) ≡ true → Between g t l n lo hi
-  between-start w p o q e d =
-      let a = getD l hi blank in
-      let mine : signalOf a ≡ g = eqb-true _ _ (and-left _ _ d) in
-      record {
-        above = above-start w p o (omega arith) e (λ h. ahead-here g t a mine ∙ not-true _ (and-right (eqb (signalOf a) g) _ d));
-        high = q;
-        mine = mine;
-      }
-
-  pub above-earlier : Above g t l n lo hi → earlier g t (getD l (lo - 1) blank) ≡ true
-  above-earlier i = let p : 0 < lo = i .low in earlier-front g t (getD l (lo - 1) blank) (i .mine) (i .search .front (lo - 1) (omega arith))
-
-  module _ (m : ℕ) (a : lo ≤ m) (b : m < hi) where
-    low-at : Above g t l n lo hi → g ≤ signalOf (getD l m blank)
-    low-at i = omega (arith, i .mine, signal-at l s f g t ft (lo - 1) m (omega arith) (omega (arith, i .search .within, i .search .whole)))
-
-    pub above-up : Above g t l n lo hi → ahead g t (getD l m blank) ≡ true → Above g t l n (m + 1) hi
-    above-up i e =
-        let z : m ≡ m + 1 - 1 = omega arith in
-        let up : g ≤ signalOf (getD l m blank) = low-at i in
-        let mine : signalOf (getD l m blank) ≡ g = ⊎-elim (λ (w : signalOf (getD l m blank) < g). absurd (omega arith)) (λ (w : (signalOf (getD l m blank) ≡ g) × (lt (getD l m blank .time) t ≡ true)). w .0) (ahead-parts g t (getD l m blank) e) in
-        record {
-          search = searching-up g t l n s f ft lo hi m (i .search) a b e;
-          low = omega arith;
-          mine = subst (λ (k : ℕ). signalOf (getD l k blank) ≡ g) z mine;
-        }
-
-    pub above-down : Above g t l n lo hi → ahead g t (getD l m blank) ≡ false → Above g t l n lo m
-    above-down i e = record { search = searching-down g t l n s f ft lo hi m (i .search) a b e; low = i .low; mine = i .mine }
-
-    module _ (i : Between g t l n lo hi) where
-      mine-at : signalOf (getD l m blank) ≡ g
-      mine-at = omega (arith, low-at (i .above), i .mine, signal-at l s f g t ft m hi (omega arith) (omega (arith, i .high, i .above .search .whole)))
-
-      pub between-up : lt (getD l m blank .time) t ≡ true → Between g t l n (m + 1) hi
-      between-up e = record { above = above-up (i .above) (ahead-here g t (getD l m blank) mine-at ∙ e); high = i .high; mine = i .mine }
-
-      pub between-down : lt (getD l m blank .time) t ≡ false → Between g t l n lo m
-      between-down e =
-          record { above = above-down (i .above) (ahead-here g t (getD l m blank) mine-at ∙ e); high = omega (arith, i .high); mine = mine-at }
+      pub searching-above : g < signalOf (getD l m blank) → Searching g t l n lo (hi - h)
+      searching-above e =
+          record {
+            ordered = omega arith;
+            within = omega (arith, i);
+            whole = i .whole;
+            front = i .front;
+            back = λ j k w. ahead-up l s f g t ft m j (omega arith) (omega (arith, i .whole)) (ahead-high g t (getD l m blank) e);
+          }
 
 -- ---- the spot of a sample, from the end of the table down
 pub record Spotting (s : Sample) (l : List Sample) (n p : ℕ) : Type 0 where
@@ -346,19 +290,19 @@ module _ (s : Sample) (l : List Sample) (n : ℕ) where
           go j b true q k = let w : j < p = ltb-true _ _ q in let z : j ≡ p - 1 = omega arith in rw z e
 
 -- ---- what the code answers, way by way
-module _ (l : List Sample) (s : Sound l) (f : Held l) (gap : Float) (c v b : ℕ) (t : Float) (ft : T (fits binary64 t)) (r : ℕ) (parted : Parted (signal c v b) t l r) where
+module _ (l : List Sample) (s : Sound l) (f : Held l) (gap : Float) (c v b : ℕ) (t : Float) (ft : T (fits binary64 t)) (r : ℕ) (leading : Leading (signal c v b) t l r) where
   pub answer-end : r ≡ length l → Refused NoCorrection ≡ answerAt l gap c v b t
   unfolding answerAt between bridged
-  answer-end e = rw (later-end l s f (signal c v b) t ft r parted e)
+  answer-end e = rw (later-end l s f (signal c v b) t ft r leading e)
 
   module _ (p : Sample) (is : p ≡ getD l r blank) (h : r < length l) where
     pub answer-other : (signalOf p ≡ signal c v b → ⊥) → Refused NoCorrection ≡ answerAt l gap c v b t
     unfolding answerAt between bridged
-    answer-other ne = rw (later-other l s f (signal c v b) t ft r parted h (λ (e : signalOf (getD l r blank) ≡ signal c v b). ne (ap signalOf is ∙ e)))
+    answer-other ne = rw (later-other l s f (signal c v b) t ft r leading h (λ (e : signalOf (getD l r blank) ≡ signal c v b). ne (ap signalOf is ∙ e)))
 
     module _ (mine : signalOf p ≡ signal c v b) where
       after : firstOf (later (signal c v b) t) l ≡ the p
-      after = later-is l s f (signal c v b) t ft r parted h (sym (ap signalOf is) ∙ mine) ∙ ap the (sym is)
+      after = later-is l s f (signal c v b) t ft r leading h (sym (ap signalOf is) ∙ mine) ∙ ap the (sym is)
 
       pub answer-near : near (p .time) t ≡ true → Metres (p .correction) ≡ answerAt l gap c v b t
       unfolding answerAt between bridged
@@ -367,17 +311,17 @@ module _ (l : List Sample) (s : Sound l) (f : Held l) (gap : Float) (c v b : ℕ
       module _ (far : near (p .time) t ≡ false) where
         pub answer-start : r ≡ 0 → Refused NoCorrection ≡ answerAt l gap c v b t
         unfolding answerAt between bridged
-        answer-start e = rw (after, far, earlier-start l s f (signal c v b) t ft r parted e)
+        answer-start e = rw (after, far, earlier-start l s f (signal c v b) t ft r leading e)
 
         module _ (q : Sample) (k : ℕ) (next : r ≡ suc k) (is′ : q ≡ getD l k blank) where
           pub answer-other-before : (signalOf q ≡ signal c v b → ⊥) → Refused NoCorrection ≡ answerAt l gap c v b t
           unfolding answerAt between bridged
           answer-other-before ne =
-              rw (after, far, earlier-other l s f (signal c v b) t ft r parted k next (λ (e : signalOf (getD l k blank) ≡ signal c v b). ne (ap signalOf is′ ∙ e)))
+              rw (after, far, earlier-other l s f (signal c v b) t ft r leading k next (λ (e : signalOf (getD l k blank) ≡ signal c v b). ne (ap signalOf is′ ∙ e)))
 
           module _ (mine′ : signalOf q ≡ signal c v b) where
             before : lastOf (earlier (signal c v b) t) missing l ≡ the q
-            before = earlier-is l s f (signal c v b) t ft r parted k next (sym (ap signalOf is′) ∙ mine′) ∙ ap the (sym is′)
+            before = earlier-is l s f (signal c v b) t ft r leading k next (sym (ap signalOf is′) ∙ mine′) ∙ ap the (sym is′)
 
             pub answer-near-before : near (q .time) t ≡ true → Metres (q .correction) ≡ answerAt l gap c v b t
             unfolding answerAt between bridged

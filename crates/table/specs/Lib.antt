@@ -1,4 +1,5 @@
 pub mod Table
 pub mod Query
+pub mod Search
 pub mod Add
 pub mod Build

@@ -1,16 +1,15 @@
 -- The correction of a signal at a time (document 01, "Corrections"; `Corrections::at` of differential.rs). Definitions only.
-use Prim.Native.Nat.{ℕ, _≤_, _<_}
+use Prim.Native.Nat.{ℕ}
 use mathlib.Core.Path.{_≡_}
-use mathlib.Core.Bool.{Bool, true, false, cond, not, _&&_, _||_}
+use mathlib.Core.Bool.{Bool, true, cond, not, _&&_, _||_}
 use mathlib.Core.List.{List, [], _∷_}
-use lib.ListN.{length, getD}
 use lib.Dec.{eqb, ltb}
 use lib.Ieee.{Float, lt}
 use lib.Ieee.Scale.{finite}
 use Rattle.exact.specs.Float.{_⊕_, _⊖_, _⊗_, _⊘_, bits}
 use Rattle.numeric.specs.Real.{abs, inRange}
 use Rattle.numeric.specs.declared.refusal.Refusal.the-variants.{TooMany, SettingOutOfRange, RecordOutOfRange, NoCorrection}
-use Rattle.table.specs.Table.{signal, signalOf, sound, blank}
+use Rattle.table.specs.Table.{signal, signalOf, sound}
 use Rattle.table.specs.declared.sample.Sample.{Sample}
 use Rattle.table.specs.declared.query.Correction.{Correction}
 use Rattle.table.specs.declared.query.Correction.the-variants.{Refused, Metres}
@@ -80,15 +79,3 @@ queryOf n room ss gap c v b t =
 abbrev pub GivesFinite : Correction → Type 0
 GivesFinite (Refused n) = Unit {0}
 GivesFinite (Metres x) = finite x ≡ true
-
--- ---- what the contract of the halving says
-
--- the samples that stand before the signal g at the time t
-unfoldable pub ahead : ℕ → Float → Sample → Bool
-ahead g t s = ltb (signalOf s) g || (eqb (signalOf s) g && lt (s .time) t)
-
--- those samples are the first r
-pub record Parted (g : ℕ) (t : Float) (ss : List Sample) (r : ℕ) : Type 0 where
-  pub within : r ≤ length ss
-  pub front : (j : ℕ) → j < r → ahead g t (getD ss j blank) ≡ true
-  pub back : (j : ℕ) → r ≤ j → j < length ss → ahead g t (getD ss j blank) ≡ false

@@ -3,3 +3,4 @@
 pub mod add;
 pub mod query;
 pub mod sample;
+mod search;

@@ -1,15 +1,16 @@
 // The correction of a signal at a time: `Corrections::at` of differential.rs.
 ghost use mathlib.Core.Path.{_≡_};
-ghost use mathlib.Core.Bool.{true, false};
-ghost use Prim.Native.Nat.{_-_, _≤_, _<_};
-ghost use lib.ListN.{length, getD};
+ghost use mathlib.Core.Bool.{true};
+ghost use Prim.Native.Nat.{_≤_};
+ghost use lib.ListN.{length};
 ghost use lib.Dec.{eqb};
-ghost use Rattle.table.specs.Table.{rows, blank, capacity, tableOf, signal, signalOf, sound};
-ghost use Rattle.table.specs.Query.{near, line, earlier, later, ahead, Parted, answerAt, queryOf, GivesFinite};
+ghost use Rattle.table.specs.Table.{rows, capacity, tableOf, signal, signalOf, sound};
+ghost use Rattle.table.specs.Query.{near, line, answerAt, queryOf, GivesFinite};
 use crate::sample::Sample;
 use crate::sample::capacity_of;
 use crate::sample::is_sound;
 use crate::sample::sample_at;
+use crate::search::first_from;
 use numeric::real::abs;
 use numeric::real::in_range;
 use numeric::real::is_finite;
@@ -46,131 +47,6 @@ fn is_of(a: Sample, c: u8, v: u16, b: u8) -> bool
         return false;
     }
     a.band == b
-}
-
-// Whether the sample stands before the signal c, v, b at the time t. A column is read only where those before it are equal.
-fn is_ahead(a: Sample, c: u8, v: u16, b: u8, t: f64) -> bool
-    ensures { λ r. ⌜ r ≡ ahead (signal c v b) t a ⌝ }
-{
-    if a.constellation != c {
-        return a.constellation < c;
-    }
-    if a.svid != v {
-        return a.svid < v;
-    }
-    if a.band != b {
-        return a.band < b;
-    }
-    a.time < t
-}
-
-// As `first_from`, between samples of the signal at start - 1 and at end: all between are of it too, so times alone tell.
-fn first_between(
-    cs: &[u8],
-    vs: &[u16],
-    bs: &[u8],
-    ts: &[f64],
-    xs: &[f64],
-    n: usize,
-    c: u8,
-    v: u16,
-    b: u8,
-    t: f64,
-    start: usize,
-    end: usize,
-) -> usize
-    requires { ⌜ n ≤ length (rows (now cs) (now vs) (now bs) (now ts) (now xs)) ⌝ }
-    requires { ⌜ sound (tableOf n (now cs) (now vs) (now bs) (now ts) (now xs)) ≡ true ⌝ }
-    requires { ⌜ (0 < start) × (start ≤ end) × (end < n) ⌝ }
-    requires { ⌜ earlier (signal c v b) t (getD (tableOf n (now cs) (now vs) (now bs) (now ts) (now xs)) (start - 1) blank) ≡ true ⌝ }
-    requires { ⌜ later (signal c v b) t (getD (tableOf n (now cs) (now vs) (now bs) (now ts) (now xs)) end blank) ≡ true ⌝ }
-    ensures { λ r. ⌜ Parted (signal c v b) t (tableOf n (now (cs .entry)) (now (vs .entry)) (now (bs .entry)) (now (ts .entry)) (now (xs .entry))) r ⌝ }
-{
-    let mut lo = start;
-    let mut hi = end;
-    while lo < hi {
-        let mid = lo + (hi - lo) / 2;
-        let a = sample_at(cs, vs, bs, ts, xs, mid);
-        if a.time < t {
-            lo = mid + 1;
-        } else {
-            hi = mid;
-        }
-    }
-    lo
-}
-
-// As `first_from`, after a sample of the signal at start - 1 and below end, from where on none stands before.
-fn first_above(
-    cs: &[u8],
-    vs: &[u16],
-    bs: &[u8],
-    ts: &[f64],
-    xs: &[f64],
-    n: usize,
-    c: u8,
-    v: u16,
-    b: u8,
-    t: f64,
-    start: usize,
-    end: usize,
-) -> usize
-    requires { ⌜ n ≤ length (rows (now cs) (now vs) (now bs) (now ts) (now xs)) ⌝ }
-    requires { ⌜ sound (tableOf n (now cs) (now vs) (now bs) (now ts) (now xs)) ≡ true ⌝ }
-    requires { ⌜ (0 < start) × (start ≤ end) × (end ≤ n) ⌝ }
-    requires { ⌜ earlier (signal c v b) t (getD (tableOf n (now cs) (now vs) (now bs) (now ts) (now xs)) (start - 1) blank) ≡ true ⌝ }
-    requires { ⌜ (end < n → ahead (signal c v b) t (getD (tableOf n (now cs) (now vs) (now bs) (now ts) (now xs)) end blank) ≡ false) ⌝ }
-    ensures { λ r. ⌜ Parted (signal c v b) t (tableOf n (now (cs .entry)) (now (vs .entry)) (now (bs .entry)) (now (ts .entry)) (now (xs .entry))) r ⌝ }
-{
-    let mut lo = start;
-    let mut hi = end;
-    while lo < hi {
-        let mid = lo + (hi - lo) / 2;
-        let a = sample_at(cs, vs, bs, ts, xs, mid);
-        if is_ahead(a, c, v, b, t) {
-            lo = mid + 1;
-        } else {
-            if is_of(a, c, v, b) {
-                return first_between(cs, vs, bs, ts, xs, n, c, v, b, t, lo, mid);
-            }
-            hi = mid;
-        }
-    }
-    lo
-}
-
-// How many samples of a sound table stand before the signal c, v, b at the time t, by halving.
-fn first_from(
-    cs: &[u8],
-    vs: &[u16],
-    bs: &[u8],
-    ts: &[f64],
-    xs: &[f64],
-    n: usize,
-    c: u8,
-    v: u16,
-    b: u8,
-    t: f64,
-) -> usize
-    requires { ⌜ n ≤ length (rows (now cs) (now vs) (now bs) (now ts) (now xs)) ⌝ }
-    requires { ⌜ sound (tableOf n (now cs) (now vs) (now bs) (now ts) (now xs)) ≡ true ⌝ }
-    ensures { λ r. ⌜ Parted (signal c v b) t (tableOf n (now (cs .entry)) (now (vs .entry)) (now (bs .entry)) (now (ts .entry)) (now (xs .entry))) r ⌝ }
-{
-    let mut lo: usize = 0;
-    let mut hi = n;
-    while lo < hi {
-        let mid = lo + (hi - lo) / 2;
-        let a = sample_at(cs, vs, bs, ts, xs, mid);
-        if is_ahead(a, c, v, b, t) {
-            if is_of(a, c, v, b) {
-                return first_above(cs, vs, bs, ts, xs, n, c, v, b, t, mid + 1, hi);
-            }
-            lo = mid + 1;
-        } else {
-            hi = mid;
-        }
-    }
-    lo
 }
 
 // The correction that a sound table gives.

@@ -1,8 +1,8 @@
--- `table::query::is_ahead` meets its contract. Assumes nothing.
+-- `table::search::is_ahead` meets its contract. Assumes nothing.
 use native.Mathlib.Omega.{arith}
 use Rattle.table.proofs.QueryLaws.{ahead-constellation, ahead-svid, ahead-band, ahead-time}
-use Rattle.table.proofs.query.is_ahead.Statement.{statement}
-use Rattle.table.proofs.query.is_ahead.Tie as tie
+use Rattle.table.proofs.search.is_ahead.Statement.{statement}
+use Rattle.table.proofs.search.is_ahead.Tie as tie
 
 returns : tie.Need-returns
 returns c =

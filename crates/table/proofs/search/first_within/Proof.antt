@@ -1,18 +1,20 @@
--- `table::query::first_between` meets its contract. Assumes nothing.
+-- `table::search::first_within` meets its contract. Assumes nothing.
 use Prim.Native.Nat.{_<_, _-_, _+_, _/_}
 use mathlib.Core.Path.{sym, subst}
 use native.Mathlib.Omega.{arith}
 use lib.Dec.{T}
 use lib.ListN.{take}
-use lib.Seq.{length-take-le, getD-take}
+use lib.Seq.{getD-take}
+use borrow.Author.Needs.{needs}
 use Rattle.table.specs.Table.{blank, rows, signal}
+use Rattle.table.specs.Search.{Searching}
 use Rattle.table.proofs.TableLaws.{sound-at}
-use Rattle.table.proofs.QueryLaws.{Between, between-start, between-up, between-down, searching-end, held, Held}
-use Rattle.table.proofs.query.first_between.Statement.{statement}
-use Rattle.table.proofs.query.first_between.Tie as tie
+use Rattle.table.proofs.QueryLaws.{searching-up, searching-down, searching-end, held, Held}
+use Rattle.table.proofs.search.first_within.Statement.{statement}
+use Rattle.table.proofs.search.first_within.Tie as tie
 
 abbrev Inv-loop : tie.InvT-loop
-Inv-loop cs vs bs ts xs n c v b t start end lo₀ hi₀ lo hi = Between (signal c v b) t (take n (rows cs vs bs ts xs)) n lo hi
+Inv-loop cs vs bs ts xs n c v b t start end lo₀ hi₀ lo hi = Searching (signal c v b) t (take n (rows cs vs bs ts xs)) n lo hi
 
 abbrev μ-loop : tie.MeasureT-loop
 μ-loop cs vs bs ts xs n c v b t start end lo₀ hi₀ lo hi = hi - lo
@@ -21,9 +23,7 @@ known : (c : tie.After-shared-slice-known5 Inv-loop μ-loop) → Held (take (c .
 known c = held _ _ _ _ _ _ (c .before .before .before .before .before .pre .0) (λ i h. c .before .shared-slice-known4 .given i)
 
 loop-holds : tie.Need-loop-holds Inv-loop μ-loop
-loop-holds c =
-    let s = c .before .before .before .before .before in
-    between-start _ _ _ _ (sound-at _ (s .pre .1 .0)) (known c) (subst T (sym (s .good .1 .1 .1 .1 .1 .1 .1 .1 .1 .0 .1)) tt) _ _ (length-take-le _ _ (s .pre .0)) (s .pre .1 .1 .0 .0) (s .pre .1 .1 .0 .1) (s .pre .1 .1 .0 .2) (s .pre .1 .1 .1 .0) (s .pre .1 .1 .1 .1)
+loop-holds c = c .before .before .before .before .before .pre .1 .1
 
 sub-mid : tie.Need-sub-mid Inv-loop μ-loop
 sub-mid c = omega arith
@@ -33,6 +33,9 @@ add-mid c = omega arith
 
 sample-at-requires : tie.Need-sample-at-requires Inv-loop μ-loop
 sample-at-requires c κs = omega arith
+
+is-ahead-requires : tie.Need-is-ahead-requires Inv-loop μ-loop
+is-ahead-requires c κs = search needs
 
 add-lo : tie.Need-add-lo Inv-loop μ-loop
 add-lo c = omega arith
@@ -48,7 +51,7 @@ loop-again c =
     let m = h .lo + (h .hi - h .lo) / 2 in
     let b : m < a .n = omega arith in
     let at = getD-take (a .n) (rows (a .cs .now) (a .vs .now) (a .bs .now) (a .ts .now) (a .xs .now)) m blank b in
-    between-up _ _ _ _ (sound-at _ (s .pre .1 .0)) (known (c .before .before .before .before .before)) (subst T (sym (s .good .1 .1 .1 .1 .1 .1 .1 .1 .1 .0 .1)) tt) _ _ _ (omega arith) (omega arith) (h .inv) (cc at)
+    searching-up _ _ _ _ (sound-at _ (s .pre .1 .0)) (known (c .before .before .before .before .before)) (subst T (sym (s .good .1 .1 .1 .1 .1 .1 .1 .1 .1 .0 .1)) tt) _ _ _ (h .inv) (omega arith) (omega arith) (cc at)
 
 loop-less-2 : tie.Need-loop-less-2 Inv-loop μ-loop
 loop-less-2 c = omega arith
@@ -61,13 +64,13 @@ loop-again-2 c =
     let m = h .lo + (h .hi - h .lo) / 2 in
     let b : m < a .n = omega arith in
     let at = getD-take (a .n) (rows (a .cs .now) (a .vs .now) (a .bs .now) (a .ts .now) (a .xs .now)) m blank b in
-    between-down _ _ _ _ (sound-at _ (s .pre .1 .0)) (known (c .before .before .before .before .before)) (subst T (sym (s .good .1 .1 .1 .1 .1 .1 .1 .1 .1 .0 .1)) tt) _ _ _ (omega arith) (omega arith) (h .inv) (cc at)
+    searching-down _ _ _ _ (sound-at _ (s .pre .1 .0)) (known (c .before .before .before .before .before)) (subst T (sym (s .good .1 .1 .1 .1 .1 .1 .1 .1 .1 .0 .1)) tt) _ _ _ (h .inv) (omega arith) (omega arith) (cc at)
 
 returns : tie.Need-returns Inv-loop μ-loop
-returns c = searching-end _ _ _ _ _ _ (c .before .loop .inv .above .search) (c .loop-test .left)
+returns c = searching-end _ _ _ _ _ _ (c .before .loop .inv) (c .loop-test .left)
 
-pub first-between-spec : {M : Type 1} → statement M
-first-between-spec =
+pub first-within-spec : {M : Type 1} → statement M
+first-within-spec =
     tie.close
     (tie.spec
     Inv-loop
@@ -76,6 +79,7 @@ first-between-spec =
     sub-mid
     add-mid
     sample-at-requires
+    is-ahead-requires
     add-lo
     loop-less
     loop-again
