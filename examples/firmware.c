@@ -250,9 +250,25 @@ static uint8_t query(const struct table *t, double time, double *metres)
         90.0, 1, 2, 1, time, metres);
 }
 
+/* The same signal at several times: the table is tested once. */
+static uint8_t queries(const struct table *t, const double *times, size_t count, uint8_t *numbers, double *metres)
+{
+    static const uint8_t constellation[3] = {1, 1, 1};
+    static const uint16_t svid[3] = {2, 2, 2};
+    static const uint8_t band[3] = {1, 1, 1};
+
+    return zaqnuti_queries(
+        t->constellation, ZAQNUTI_SAMPLES, t->svid, ZAQNUTI_SAMPLES, t->band, ZAQNUTI_SAMPLES,
+        t->time, ZAQNUTI_SAMPLES, t->metres, ZAQNUTI_SAMPLES, t->count,
+        90.0, constellation, 3, svid, 3, band, 3, times, count, count, numbers, count, metres, count);
+}
+
 static void corrections(void)
 {
     static struct table table;
+    const double times[3] = {15.0, 60.0, 30.0};
+    uint8_t numbers[3] = {9, 9, 9};
+    double each[3] = {0.0, 7.0, 0.0};
     double metres = 0.0;
 
     printf("corrections\n");
@@ -263,6 +279,12 @@ static void corrections(void)
     expect("correction, m", metres, 3.0, 1e-6);
     expect_number("query at 60 s", query(&table, 60.0, &metres), ZAQNUTI_NO_CORRECTION);
     expect("kept, m", metres, 3.0, 1e-6);
+    expect_number("three queries in one call", queries(&table, times, 3, numbers, each), 0);
+    expect_number("of them at 15 s", numbers[0], 0);
+    expect_number("of them at 60 s", numbers[1], ZAQNUTI_NO_CORRECTION);
+    expect("at 15 s, m", each[0], 3.0, 1e-6);
+    expect("kept at 60 s, m", each[1], 7.0, 0.0);
+    expect("at 30 s, m", each[2], 4.0, 1e-6);
 }
 
 /* Three epochs, the first and the last anchored, with a link of a metre between neighbours. */

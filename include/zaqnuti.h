@@ -49,10 +49,11 @@
  *
  *     fix             26,624
  *     position        26,624
- *     displacement    15,104
- *     line            36,096
+ *     displacement    14,080
+ *     line            38,144
  *     add_epoch       17,408
- *     query              256
+ *     query              512
+ *     queries            512
  *     smooth             768
  *     round            8,704
  *     centre             768
@@ -280,6 +281,35 @@ uint8_t zaqnuti_query(
     uint8_t b,
     double t,
     double *metres);
+
+/*
+ * The corrections of `count` signals and times, c, v, b and t, from a table
+ * that is tested once for all of them: testing it costs about a hundred times
+ * what finding a correction does, so an epoch's signals are best asked in one
+ * call.
+ *
+ * numbers        for each place 0, or the number of its refusal: 4 or 12
+ * metres         for each place its correction; as it was where it is refused
+ *
+ * Each place has what zaqnuti_query would answer for it. The call itself
+ * refuses by 2 (n above the capacity, or one of the last six columns shorter
+ * than count), 3 (gap) and 4 (the table): then every place is as it was.
+ */
+uint8_t zaqnuti_queries(
+    const uint8_t *cs, size_t cs_length,
+    const uint16_t *vs, size_t vs_length,
+    const uint8_t *bs, size_t bs_length,
+    const double *ts, size_t ts_length,
+    const double *xs, size_t xs_length,
+    size_t n,
+    double gap,
+    const uint8_t *c, size_t c_length,
+    const uint16_t *v, size_t v_length,
+    const uint8_t *b, size_t b_length,
+    const double *t, size_t t_length,
+    size_t count,
+    uint8_t *numbers, size_t numbers_length,
+    double *metres, size_t metres_length);
 
 /* ---- the track */
 

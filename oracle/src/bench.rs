@@ -29,7 +29,7 @@ pub fn row(
     mut rust: impl FnMut(),
 ) {
     if instructions::counted() {
-        instructions::tell("row", service, size, calls);
+        instructions::tell(service, size, calls);
         instructions::count(&mut rattle);
         instructions::count(&mut rust);
         return;
@@ -40,38 +40,6 @@ pub fn row(
         .map(|_| (one(ours, &mut rattle), one(theirs, &mut rust)))
         .collect();
     print(service, size, &pairs);
-}
-
-/// A row for what is left of a cost without the part that grows with the size: twice the cost at
-/// half the size, less the cost at the size.
-pub fn row_less(
-    service: &str,
-    size: usize,
-    calls: usize,
-    mut half: impl FnMut(),
-    mut whole: impl FnMut(),
-    mut rust: impl FnMut(),
-) {
-    if instructions::counted() {
-        instructions::tell("less", service, size, calls);
-        instructions::count(&mut half);
-        instructions::count(&mut whole);
-        instructions::count(&mut rust);
-        return;
-    }
-    let n = [repeats(&mut half), repeats(&mut whole), repeats(&mut rust)];
-    let one = |n: u32, f: &mut dyn FnMut()| batch(n, f) / (calls as f64 * f64::from(n));
-    let times: Vec<[f64; 3]> = (0..BATCHES)
-        .map(|_| {
-            [
-                one(n[0], &mut half),
-                one(n[1], &mut whole),
-                one(n[2], &mut rust),
-            ]
-        })
-        .collect();
-    let of = |k: usize| middle(times.iter().map(|t| t[k]));
-    print(service, size, &[(2.0 * of(0) - of(1), of(2))]);
 }
 
 /// Prints the middle of each side, and of the ratios.

@@ -58,8 +58,8 @@ pub fn count(f: &mut dyn FnMut()) {
 }
 
 /// Tells the run that reads the dumps which ones come next.
-pub fn tell(kind: &str, service: &str, size: usize, calls: usize) {
-    println!("{kind}\t{service}\t{size}\t{calls}");
+pub fn tell(service: &str, size: usize, calls: usize) {
+    println!("{service}\t{size}\t{calls}");
 }
 
 /// The total of dump number n.
@@ -99,7 +99,7 @@ pub fn table(words: &[String]) -> Result<bool, String> {
     );
     let mut dumps = 0;
     for line in String::from_utf8_lossy(&output.stdout).lines() {
-        let [kind, service, size, calls] = line.split('\t').collect::<Vec<_>>()[..] else {
+        let [service, size, calls] = line.split('\t').collect::<Vec<_>>()[..] else {
             continue;
         };
         let calls: f64 = calls.parse().map_err(|_| "a row without calls")?;
@@ -107,11 +107,7 @@ pub fn table(words: &[String]) -> Result<bool, String> {
             dumps += 1;
             total(&folder, dumps).map(|t| t / calls)
         };
-        let ours = match kind {
-            "less" => 2.0 * next()? - next()?,
-            _ => next()?,
-        };
-        let theirs = next()?;
+        let (ours, theirs) = (next()?, next()?);
         println!(
             "{service:<30} {size:>5} {ours:>10.0} {theirs:>10.0} {:>6.2}",
             ours / theirs

@@ -77,6 +77,19 @@ impl Default for Settings {
     }
 }
 
+/// A signal at a time, of which [`Corrections::at_each`] tells the correction.
+#[derive(Clone, Copy, Debug, PartialEq)]
+pub struct Signal {
+    /// Constellation.
+    pub constellation: u8,
+    /// Satellite id within its constellation.
+    pub svid: u16,
+    /// Band code.
+    pub band: u8,
+    /// Time of week, seconds.
+    pub tow: f64,
+}
+
 /// Correction time series, in metres, to be **subtracted** from a rover pseudorange.
 #[derive(Clone, Debug)]
 pub struct Corrections {
@@ -201,6 +214,53 @@ impl Corrections {
         };
         answered(number)?;
         Ok(metres)
+    }
+
+    /// As [`Corrections::at`] for each signal and time, where the table is tested only once: an
+    /// epoch's signals are best asked together.
+    ///
+    /// The refusal outside is one of the table; those inside are of their own places.
+    pub fn at_each(&self, asked: &[Signal]) -> Result<Vec<Result<f64, Refusal>>, Refusal> {
+        let (c, v) = (
+            column(asked, |s| s.constellation),
+            column(asked, |s| s.svid),
+        );
+        let (b, t) = (column(asked, |s| s.band), column(asked, |s| s.tow));
+        let mut numbers = vec![0; asked.len()];
+        let mut metres = vec![0.0; asked.len()];
+        // SAFETY: each column has its length beside it, and the last two are ours alone.
+        let number = unsafe {
+            sys::zaqnuti_queries(
+                self.constellation.as_ptr(),
+                self.constellation.len(),
+                self.svid.as_ptr(),
+                self.svid.len(),
+                self.band.as_ptr(),
+                self.band.len(),
+                self.time.as_ptr(),
+                self.time.len(),
+                self.correction.as_ptr(),
+                self.correction.len(),
+                self.samples,
+                self.set.max_gap,
+                c.as_ptr(),
+                c.len(),
+                v.as_ptr(),
+                v.len(),
+                b.as_ptr(),
+                b.len(),
+                t.as_ptr(),
+                t.len(),
+                asked.len(),
+                numbers.as_mut_ptr(),
+                numbers.len(),
+                metres.as_mut_ptr(),
+                metres.len(),
+            )
+        };
+        answered(number)?;
+        let places = numbers.into_iter().zip(metres);
+        Ok(places.map(|(n, x)| answered(n).map(|()| x)).collect())
     }
 
     /// How many correction samples in total.

@@ -125,6 +125,34 @@ extern "C" {
         t: f64,
         metres: *mut f64,
     ) -> u8;
+    /// Corrections from a table that is tested once.
+    pub fn zaqnuti_queries(
+        cs: *const u8,
+        cs_length: usize,
+        vs: *const u16,
+        vs_length: usize,
+        bs: *const u8,
+        bs_length: usize,
+        ts: *const f64,
+        ts_length: usize,
+        xs: *const f64,
+        xs_length: usize,
+        n: usize,
+        gap: f64,
+        c: *const u8,
+        c_length: usize,
+        v: *const u16,
+        v_length: usize,
+        b: *const u8,
+        b_length: usize,
+        t: *const f64,
+        t_length: usize,
+        count: usize,
+        numbers: *mut u8,
+        numbers_length: usize,
+        metres: *mut f64,
+        metres_length: usize,
+    ) -> u8;
     /// The smoothed track.
     pub fn zaqnuti_smooth(
         n: usize,

@@ -3,7 +3,9 @@
 mod common;
 
 use common::{carriers, observations, text, AT};
-use zaqnuti::differential::{build, Base, BaseEpoch, BaseRange, Corrections, SatelliteState};
+use zaqnuti::differential::{
+    build, Base, BaseEpoch, BaseRange, Corrections, SatelliteState, Signal,
+};
 use zaqnuti::math::{self, Cholesky};
 use zaqnuti::robust::{centre_scale, elevation_sigma, geometry, step, Clocks, Row};
 use zaqnuti::smooth::{smooth, Anchor, Link};
@@ -211,6 +213,26 @@ fn corrections() {
     assert_eq!(c.at(1, 0, 1, 31.0), Err(Refusal::NoCorrection));
     assert_eq!(c.at(1, 0, 1, f64::NAN), Err(Refusal::NoCorrection));
     assert_eq!(c.at(1, 0, 1, 2e9), Err(Refusal::RecordOutOfRange));
+    let ask = |svid, tow| Signal {
+        constellation: 1,
+        svid,
+        band: 1,
+        tow,
+    };
+    let asked = [
+        ask(0, 15.0),
+        ask(99, 15.0),
+        ask(7, 30.0),
+        ask(0, 2e9),
+        ask(0, f64::NAN),
+    ];
+    let each = c.at_each(&asked).unwrap();
+    for (s, x) in asked.iter().zip(&each) {
+        assert_eq!(*x, c.at(s.constellation, s.svid, s.band, s.tow));
+    }
+    assert_eq!(each[1], Err(Refusal::NoCorrection));
+    assert_eq!(each[3], Err(Refusal::RecordOutOfRange));
+    assert_eq!(c.at_each(&[]), Ok(Vec::new()));
     let none = build(&base, place, |_| None, &set).unwrap();
     assert_eq!(none.samples(), 0);
 }

@@ -341,6 +341,49 @@ fn query(n: usize, time: f64) -> usize {
     })
 }
 
+fn queries(n: usize, count: usize) -> usize {
+    let (cs, vs, bs) = (vec![1u8; 2048], vec![1u16; 2048], vec![1u8; 2048]);
+    let ts: Vec<f64> = (0..2048).map(f64::from).collect();
+    let xs = vec![1.0; 2048];
+    let (c, v, b) = (vec![1u8; 64], vec![1u16; 64], vec![1u8; 64]);
+    let t: Vec<f64> = (0..64).map(|i| f64::from(i) * 40.5 - 9.0).collect();
+    let (mut numbers, mut metres) = (vec![0u8; 64], vec![0.0; 64]);
+    measured(move || {
+        let frame = top();
+        // SAFETY: each column has its length beside it, and the last two are ours alone.
+        unsafe {
+            sys::zaqnuti_queries(
+                cs.as_ptr(),
+                2048,
+                vs.as_ptr(),
+                2048,
+                bs.as_ptr(),
+                2048,
+                ts.as_ptr(),
+                2048,
+                xs.as_ptr(),
+                2048,
+                n,
+                90.0,
+                c.as_ptr(),
+                64,
+                v.as_ptr(),
+                64,
+                b.as_ptr(),
+                64,
+                t.as_ptr(),
+                64,
+                count,
+                numbers.as_mut_ptr(),
+                64,
+                metres.as_mut_ptr(),
+                64,
+            );
+        }
+        frame
+    })
+}
+
 fn smooth(n: usize, links: usize, iterations: usize) -> usize {
     let index: Vec<usize> = (0..1024).collect();
     let value: Vec<f64> = (0..3072).map(|i| f64::from(i % 97)).collect();
@@ -561,6 +604,16 @@ fn no_more_than_the_header_says() {
                 query(2049, 1.0),
                 query(0, 1.0),
                 query(1000, 5e3),
+            ]),
+        ),
+        (
+            "queries",
+            most([
+                queries(2048, 64),
+                queries(2048, 65),
+                queries(2049, 64),
+                queries(0, 64),
+                queries(2048, 0),
             ]),
         ),
         (

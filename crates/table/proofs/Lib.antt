@@ -4,6 +4,7 @@ pub mod TableLaws
 pub mod ColumnLaws
 pub mod QueryLaws
 pub mod FiniteLaws
+pub mod QueriesLaws
 pub mod SeriesLaws
 pub mod BuiltLaws
 pub mod InsertLaws

@@ -15,7 +15,7 @@ use Rattle.exact.specs.Float.{_⊖_}
 use Rattle.numeric.specs.Real.{inRange}
 use Rattle.numeric.specs.declared.refusal.Refusal.the-variants.{NoCorrection, RecordOutOfRange, SettingOutOfRange, TooMany}
 use Rattle.table.specs.Table.{blank, placeOf, rows, signal, signalOf, sound, timeKey}
-use Rattle.table.specs.Query.{bridged, answerAt, between, earlier, firstOf, lastOf, later, line, missing, near, queryOf, the}
+use Rattle.table.specs.Query.{bridged, answerAt, between, earlier, firstOf, lastOf, later, line, missing, near, queryOf, the, Passed}
 use Rattle.table.specs.Search.{ahead, Leading, Searching}
 use Rattle.table.specs.Add.{spotOf}
 use Rattle.table.specs.declared.sample.Sample.{Sample}
@@ -355,11 +355,15 @@ module _ (n room r : ℕ) (e : r ≡ room) (l : List Sample) (gap : Float) (c v 
       unfolding queryOf
       rule-4 u = rw (few, sym eq ∙ not-false q w, sym ey ∙ not-true y u)
 
-      module _ (u : not y ≡ false) {i k : Bool} (ei : i ≡ inRange t) (ek : k ≡ finite t) where
-        pub rule-4-time : not (i || not k) ≡ true → Refused RecordOutOfRange ≡ queryOf n room l gap c v b t
-        unfolding queryOf
-        rule-4-time z = rw (few, sym eq ∙ not-false q w, sym ey ∙ not-false y u, ← ei, ← ek, not-true (i || not k) z)
+      pub no-rule : not y ≡ false → Passed n room l gap
+      no-rule u = record { few = omega arith; in-range = sym eq ∙ not-false q w; steady = sym ey ∙ not-false y u }
 
-        pub no-rule : not (i || not k) ≡ false → answerAt l gap c v b t ≡ queryOf n room l gap c v b t
-        unfolding queryOf
-        no-rule z = rw (few, sym eq ∙ not-false q w, sym ey ∙ not-false y u, ← ei, ← ek, not-false (i || not k) z)
+-- ---- the time of a query that has passed them
+module _ (n room : ℕ) (l : List Sample) (gap : Float) (p : Passed n room l gap) (c v b : ℕ) (t : Float) {i k : Bool} (ei : i ≡ inRange t) (ek : k ≡ finite t) where
+  pub time-refused : not (i || not k) ≡ true → Refused RecordOutOfRange ≡ queryOf n room l gap c v b t
+  unfolding queryOf
+  time-refused z = rw (le-ltb room n (p .few), p .in-range, p .steady, ← ei, ← ek, not-true (i || not k) z)
+
+  pub time-passed : not (i || not k) ≡ false → answerAt l gap c v b t ≡ queryOf n room l gap c v b t
+  unfolding queryOf
+  time-passed z = rw (le-ltb room n (p .few), p .in-range, p .steady, ← ei, ← ek, not-false (i || not k) z)

@@ -1,5 +1,5 @@
 -- The correction of a signal at a time (document 01, "Corrections"; `Corrections::at` of differential.rs). Definitions only.
-use Prim.Native.Nat.{ℕ}
+use Prim.Native.Nat.{ℕ, _≤_}
 use mathlib.Core.Path.{_≡_}
 use mathlib.Core.Bool.{Bool, true, cond, not, _&&_, _||_}
 use mathlib.Core.List.{List, [], _∷_}
@@ -8,6 +8,7 @@ use lib.Ieee.{Float, lt}
 use lib.Ieee.Scale.{finite}
 use Rattle.exact.specs.Float.{_⊕_, _⊖_, _⊗_, _⊘_, bits}
 use Rattle.numeric.specs.Real.{abs, inRange}
+use Rattle.numeric.specs.Refusal.{numberOf}
 use Rattle.numeric.specs.declared.refusal.Refusal.the-variants.{TooMany, SettingOutOfRange, RecordOutOfRange, NoCorrection}
 use Rattle.table.specs.Table.{signal, signalOf, sound}
 use Rattle.table.specs.declared.sample.Sample.{Sample}
@@ -75,7 +76,25 @@ queryOf n room ss gap c v b t =
     (cond (not (sound ss && (inRange t || not (finite t)))) (Refused RecordOutOfRange)
     (answerAt ss gap c v b t)))
 
+-- 0, or the number of the refusal
+abbrev pub queryNumber : Correction → ℕ
+queryNumber (Refused r) = numberOf r
+queryNumber (Metres x) = 0
+
+-- a lent float afterwards: the correction, and as it was where the query is refused
+abbrev pub metresAfter : Correction → Float → Float
+metresAfter (Refused r) old = old
+metresAfter (Metres x) old = x
+
 -- every correction given is finite
 abbrev pub GivesFinite : Correction → Type 0
 GivesFinite (Refused n) = Unit {0}
 GivesFinite (Metres x) = finite x ≡ true
+
+-- ---- what the contract of the answer says
+
+-- rules 2 to 4 let the table and the gap pass
+pub record Passed (n room : ℕ) (ss : List Sample) (gap : Float) : Type 0 where
+  pub few : n ≤ room
+  pub in-range : inRange gap ≡ true
+  pub steady : sound ss ≡ true

@@ -5,7 +5,7 @@ ghost use Prim.Native.Nat.{_≤_};
 ghost use lib.ListN.{length};
 ghost use lib.Dec.{eqb};
 ghost use Rattle.table.specs.Table.{rows, capacity, tableOf, signal, signalOf, sound};
-ghost use Rattle.table.specs.Query.{near, line, answerAt, queryOf, GivesFinite};
+ghost use Rattle.table.specs.Query.{near, line, answerAt, queryOf, GivesFinite, Passed};
 use crate::sample::Sample;
 use crate::sample::capacity_of;
 use crate::sample::is_sound;
@@ -94,6 +94,30 @@ fn look_up(
     Correction::Metres(line_of(t, q, p))
 }
 
+// The answer of one query, where the table and the gap have passed their tests.
+pub(crate) fn answer_of(
+    cs: &[u8],
+    vs: &[u16],
+    bs: &[u8],
+    ts: &[f64],
+    xs: &[f64],
+    n: usize,
+    gap: f64,
+    c: u8,
+    v: u16,
+    b: u8,
+    t: f64,
+) -> Correction
+    requires { ⌜ Passed n (capacity (now cs) (now vs) (now bs) (now ts) (now xs)) (tableOf n (now cs) (now vs) (now bs) (now ts) (now xs)) gap ⌝ }
+    ensures { λ r. ⌜ (r ≡ queryOf n (capacity (now (cs .entry)) (now (vs .entry)) (now (bs .entry)) (now (ts .entry)) (now (xs .entry)))
+        (tableOf n (now (cs .entry)) (now (vs .entry)) (now (bs .entry)) (now (ts .entry)) (now (xs .entry))) gap c v b t) × GivesFinite r ⌝ }
+{
+    if !(in_range(t) | !is_finite(t)) {
+        return Correction::Refused(Refusal::RecordOutOfRange);
+    }
+    look_up(cs, vs, bs, ts, xs, n, gap, c, v, b, t)
+}
+
 // The correction of the signal c, v, b at the time t, or the refusal. Every correction given is finite.
 pub fn query(
     cs: &[u8],
@@ -120,8 +144,5 @@ pub fn query(
     if !is_sound(cs, vs, bs, ts, xs, n) {
         return Correction::Refused(Refusal::RecordOutOfRange);
     }
-    if !(in_range(t) | !is_finite(t)) {
-        return Correction::Refused(Refusal::RecordOutOfRange);
-    }
-    look_up(cs, vs, bs, ts, xs, n, gap, c, v, b, t)
+    answer_of(cs, vs, bs, ts, xs, n, gap, c, v, b, t)
 }

@@ -1,24 +1,29 @@
 -- Columns read into records, and the outcome of an entry. Assumes nothing.
 use mathlib.Core.Path.{_≡_, refl, sym, ap, _∙_}
-use mathlib.Core.List.{List, [], _∷_}
+use mathlib.Core.List.{List}
 use mathlib.Core.Bool.{Bool, true, false, cond, _||_}
-use Prim.Native.Nat.{ℕ, suc, _+_, _*_, _≤_, _<_}
+use Prim.Native.Nat.{ℕ, _+_, _*_, _≤_, _<_}
 use native.Mathlib.Numerals.{add-one}
 use native.Mathlib.Omega.{arith}
 use borrow.Author.Tests.{ltb-false}
 use lib.Dec.{ltb}
 use lib.ListN.{length, take, set, length-set}
-use lib.Seq.{take-suc-set, take-all}
+use lib.Seq.{take-suc-set}
 use lib.Ieee.{Float}
+use Rattle.walk.specs.Walk.{firsts}
+use Rattle.walk.proofs.Walk.{firsts-all}
 use Rattle.numeric.specs.Refusal.{numberOf}
 use Rattle.numeric.specs.declared.vec3.Vec3.{Vec3}
 use Rattle.numeric.specs.declared.refusal.Refusal.{Refusal}
 use Rattle.numeric.specs.declared.refusal.Refusal.the-variants.{TooMany}
 use Rattle.table.specs.Add.{Outcome, refused, added, Adds}
-use Rattle.table.specs.Query.{GivesFinite}
+use Rattle.table.specs.Query.{queryNumber, metresAfter, GivesFinite}
+use Rattle.table.specs.Queries.{Reply, refusal, answers, Replies}
 use Rattle.table.specs.declared.sample.Sample.{Sample}
 use Rattle.table.specs.declared.add.Adding.{Adding}
 use Rattle.table.specs.declared.add.Adding.the-variants as Adding
+use Rattle.table.specs.declared.queries.Asking.{Asking}
+use Rattle.table.specs.declared.queries.Asking.the-variants as Asking
 use Rattle.table.specs.declared.query.Correction.{Correction}
 use Rattle.table.specs.declared.query.Correction.the-variants as Correction
 use Rattle.differential.specs.Record.{statesCount}
@@ -27,7 +32,7 @@ use Rattle.differential.specs.declared.record.BaseEpoch.{BaseEpoch}
 use Rattle.differential.specs.declared.record.States.{States}
 use Rattle.differential.specs.declared.record.Settings.{Settings}
 use Rattle.differential.proofs.EpochLaws.{added-same}
-use Rattle.zaqnuti.specs.Corrections.{queryNumber, metresAfter, firsts, rangeAt, epochOf, stateAt, statesOf, short, entryOf, Enters, EpochRead, StatesRead}
+use Rattle.zaqnuti.specs.Corrections.{rangeAt, epochOf, stateAt, statesOf, short, entryOf, Answers, Enters, EpochRead, StatesRead}
 
 -- ---- the loops that read columns
 pub record Reading {A : Type 0} (f : ℕ → A) (k : ℕ) (array : List A) (i : ℕ) : Type 0 where
@@ -52,14 +57,6 @@ module _ {A : Type 0} (f : ℕ → A) (k : ℕ) (array : List A) where
 
     pub reading-end : k ≤ i → take k array ≡ firsts f k
     reading-end h = let e : i ≡ k = omega (arith, r .within) in rw (← e) (r .so-far)
-
-firsts-length : {A : Type 0} (f : ℕ → A) (k : ℕ) → length (firsts f k) ≡ k
-unfolding firsts
-firsts-length f Prim.Native.Nat.zero = refl
-firsts-length f (suc k) = lib.ListN.length-append (firsts f k) (f k ∷ []) ∙ rw (firsts-length f k) (native.Mathlib.Numerals.add-one k)
-
-firsts-all : {A : Type 0} (f : ℕ → A) (k : ℕ) → take k (firsts f k) ≡ firsts f k
-firsts-all f k = take-all k (firsts f k) (omega (arith, firsts-length f k))
 
 -- ---- columns that are long enough
 or-no : (a b : Bool) → (a || b) ≡ false → (a ≡ false) × (b ≡ false)
@@ -164,3 +161,15 @@ query-refused q r x e h f = rw (← h) (e, refl, f)
 
 pub query-metres : (q : Correction) (y x : Float) → Correction.Metres y ≡ q → GivesFinite (Correction.Metres y) → (0 ≡ queryNumber q) × (y ≡ metresAfter q x) × GivesFinite q
 query-metres q y x h f = rw (← h) (refl, refl, f)
+
+pub queries-refused : {o : Reply} {numbers : List ℕ} {metres : List Float} {numbers′ : List ℕ} {metres′ : List Float} (r : Refusal) {a : ℕ} {x : Asking} → a ≡ numberOf r → x ≡ Asking.Refused r
+    → Replies o x numbers metres numbers′ metres′ → Answers o a numbers metres numbers′ metres′
+queries-refused {o = refusal q} r e i h =
+    let z : r ≡ q = let y = h .answer in cc in
+    record { number = e ∙ ap numberOf z; numbers-after = h .numbers-after; metres-after = h .metres-after; all-finite = h .all-finite }
+queries-refused {o = answers l} r e i h = absurd (let y = h .answer in let z : _≡_ {A = ℕ} 0 1 = cc in omega arith)
+
+pub queries-answered : {o : Reply} {numbers : List ℕ} {metres : List Float} {numbers′ : List ℕ} {metres′ : List Float} {x : Asking} → x ≡ Asking.Answered
+    → Replies o x numbers metres numbers′ metres′ → Answers o 0 numbers metres numbers′ metres′
+queries-answered {o = refusal q} i h = absurd (let y = h .answer in let z : _≡_ {A = ℕ} 0 1 = cc in omega arith)
+queries-answered {o = answers l} i h = record { number = refl; numbers-after = h .numbers-after; metres-after = h .metres-after; all-finite = h .all-finite }

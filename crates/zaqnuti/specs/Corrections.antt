@@ -1,18 +1,19 @@
 -- What the entry points of the corrections read from lent columns, and what they answer. Definitions only.
-use Prim.Native.Nat.{ℕ, zero, suc, _+_, _*_}
+use Prim.Native.Nat.{ℕ, _+_, _*_}
 use mathlib.Core.Bool.{Bool, cond, _||_}
-use mathlib.Core.List.{List, [], _∷_, _++_}
+use mathlib.Core.List.{List}
 use lib.Dec.{ltb}
 use mathlib.Core.Path.{_≡_}
 use lib.ListN.{length, getD, take}
 use lib.Ieee.{Float, nan}
+use Rattle.walk.specs.Walk.{firsts}
 use Rattle.numeric.specs.Refusal.{numberOf}
 use Rattle.numeric.specs.declared.vec3.Vec3.{Vec3}
 use Rattle.numeric.specs.declared.refusal.Refusal.the-variants.{TooMany}
+use Rattle.table.specs.Query.{metresAfter}
+use Rattle.table.specs.Queries.{Reply, refusal, answers, placesAfter, numberAfter, AllFinite}
 use Rattle.table.specs.Add.{Outcome, refused, added, columnAfter}
 use Rattle.table.specs.declared.sample.Sample.{Sample}
-use Rattle.table.specs.declared.query.Correction.{Correction}
-use Rattle.table.specs.declared.query.Correction.the-variants.{Refused, Metres}
 use Rattle.differential.specs.AddEpoch.{addedOf}
 use Rattle.differential.specs.declared.record.Range.{Range}
 use Rattle.differential.specs.declared.record.BaseEpoch.{BaseEpoch}
@@ -20,24 +21,21 @@ use Rattle.differential.specs.declared.record.State.{State}
 use Rattle.differential.specs.declared.record.States.{States}
 use Rattle.differential.specs.declared.record.Settings.{Settings}
 
--- ---- a query
+-- ---- many queries
 
--- 0, or the number of the refusal
-abbrev pub queryNumber : Correction → ℕ
-queryNumber (Refused r) = numberOf r
-queryNumber (Metres x) = 0
+-- 0, or the number of the refusal of the whole call
+abbrev pub replyNumber : Reply → ℕ
+replyNumber (refusal r) = numberOf r
+replyNumber (answers l) = 0
 
--- the lent float afterwards: the correction, and as it was where the query is refused
-abbrev pub metresAfter : Correction → Float → Float
-metresAfter (Refused r) old = old
-metresAfter (Metres x) old = x
+-- the number and the columns of numbers and metres afterwards are those of the reply, and every correction given is finite
+pub record Answers (o : Reply) (r : ℕ) (numbers : List ℕ) (metres : List Float) (numbers′ : List ℕ) (metres′ : List Float) : Type 0 where
+  pub number : r ≡ replyNumber o
+  pub numbers-after : numbers′ ≡ placesAfter numberAfter o numbers
+  pub metres-after : metres′ ≡ placesAfter metresAfter o metres
+  pub all-finite : AllFinite o
 
 -- ---- an epoch
-
--- f of each number below k
-unfoldable pub firsts : {A : Type 0} → (ℕ → A) → ℕ → List A
-firsts f zero = []
-firsts f (suc k) = firsts f k ++ (f k ∷ [])
 
 -- the range at i of columns of constellations, svids, bands and pseudoranges
 abbrev pub rangeAt : List ℕ → List ℕ → List ℕ → List Float → ℕ → Range

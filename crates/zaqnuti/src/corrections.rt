@@ -1,12 +1,14 @@
-// Entry points of the corrections: one base epoch added to a table, and one query.
+// Entry points of the corrections: one base epoch added to a table, one query, and many.
 ghost use mathlib.Core.Path.{_≡_};
 ghost use mathlib.Core.Bool.{cond};
 ghost use Prim.Native.Nat.{_*_, _≤_};
 ghost use lib.ListN.{length, take};
+ghost use Rattle.walk.specs.Walk.{firsts};
 ghost use Rattle.table.specs.Table.{capacity, tableOf};
-ghost use Rattle.table.specs.Query.{queryOf, GivesFinite};
+ghost use Rattle.table.specs.Query.{queryOf, queryNumber, metresAfter, GivesFinite};
+ghost use Rattle.table.specs.Queries.{queriesOf};
 ghost use Rattle.table.specs.Add.{Adds};
-ghost use Rattle.zaqnuti.specs.Corrections.{queryNumber, metresAfter, firsts, rangeAt, stateAt, placeOf, settingsOf, short, entryOf, EpochRead, StatesRead, Enters};
+ghost use Rattle.zaqnuti.specs.Corrections.{rangeAt, stateAt, placeOf, settingsOf, short, entryOf, EpochRead, StatesRead, Answers, Enters};
 use differential::add_epoch::add_epoch;
 use differential::record::BaseEpoch;
 use differential::record::Range;
@@ -16,6 +18,8 @@ use differential::record::States;
 use numeric::refusal::Refusal;
 use numeric::vec3::Vec3;
 use table::add::Adding;
+use table::queries::Asking;
+use table::queries::queries;
 use table::query::Correction;
 use table::query::query;
 
@@ -49,6 +53,52 @@ pub extern "C" fn zaqnuti_query(
             *metres = x;
             0
         }
+    }
+}
+
+// The queries at the first count places of c, v, b and t, of a table that is tested once: 0, and at each place its number and, where it is given, its
+// correction in metres; or the number of the refusal of the whole call, which leaves numbers and metres as they were.
+#[no_mangle]
+pub extern "C" fn zaqnuti_queries(
+    cs: &[u8],
+    vs: &[u16],
+    bs: &[u8],
+    ts: &[f64],
+    xs: &[f64],
+    n: usize,
+    gap: f64,
+    c: &[u8],
+    v: &[u16],
+    b: &[u8],
+    t: &[f64],
+    count: usize,
+    numbers: &mut [u8],
+    metres: &mut [f64],
+) -> u8
+    ensures { λ r. ⌜ Answers (queriesOf n (capacity (now (cs .entry)) (now (vs .entry)) (now (bs .entry)) (now (ts .entry)) (now (xs .entry)))
+        (tableOf n (now (cs .entry)) (now (vs .entry)) (now (bs .entry)) (now (ts .entry)) (now (xs .entry))) gap
+        (now (c .entry)) (now (v .entry)) (now (b .entry)) (now (t .entry)) count (now (numbers .entry)) (now (metres .entry))) r
+        (now (numbers .entry)) (now (metres .entry)) (now (numbers .exit)) (now (metres .exit)) ⌝ }
+{
+    let answer = queries(
+        cs,
+        vs,
+        bs,
+        ts,
+        xs,
+        n,
+        gap,
+        c,
+        v,
+        b,
+        t,
+        count,
+        numbers,
+        metres,
+    );
+    match answer {
+        Asking::Refused(r) => r.number(),
+        Asking::Answered => 0,
     }
 }
 

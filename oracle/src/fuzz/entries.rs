@@ -21,6 +21,7 @@ pub const ENTRIES: &[Entry] = &[
     ("line", line::line),
     ("add_epoch", corrections::add_epoch),
     ("query", corrections::query),
+    ("queries", corrections::queries),
     ("smooth", track::smooth),
     ("round", pieces::a_round),
     ("centre", pieces::centre),

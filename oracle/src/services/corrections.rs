@@ -2,7 +2,7 @@
 
 pub mod lent;
 
-use self::lent::{floats, in_range, Columns, Epoch, Table};
+use self::lent::{floats, in_range, Asked, Columns, Epoch, Out, Table};
 use super::Service;
 use crate::bench;
 use crate::random::{pattern, Random};
@@ -10,6 +10,7 @@ use crate::tally::Tally;
 use crate::vectors::{raw, Vectors};
 use drifters_gnss::differential::{build, Corrections, SatelliteState, Settings};
 use drifters_gnss::rinex::{Base, BaseEpoch, BaseRange};
+use std::collections::BTreeMap;
 use std::hint::black_box;
 
 pub const SERVICE: Service = Service {
@@ -277,16 +278,45 @@ fn compare(tally: &mut Tally, random: &mut Random, count: u64) {
             if damaged || !same {
                 table = whole;
             }
+            let c = reference(&epochs, base, rover, &set);
             queries(
                 tally,
                 random,
                 &table,
-                &reference(&epochs, base, rover, &set),
+                &c,
+                &mut done,
+                &mut refused,
+                &mut found,
+            );
+            many(
+                tally,
+                random,
+                &table,
+                &c,
                 &mut done,
                 &mut refused,
                 &mut found,
             );
         }
+        let (table, c) = long(random);
+        queries(
+            tally,
+            random,
+            &table,
+            &c,
+            &mut done,
+            &mut refused,
+            &mut found,
+        );
+        many(
+            tally,
+            random,
+            &table,
+            &c,
+            &mut done,
+            &mut refused,
+            &mut found,
+        );
     }
     tally.note(format!(
         "{accepted} epochs accepted, {found} corrections found, by number {:?}",
@@ -387,6 +417,117 @@ fn queries(
     }
 }
 
+/// A table of long series, mostly at even times, and what the Rust has of it.
+fn long(random: &mut Random) -> (Table, Corrections) {
+    let mut series = BTreeMap::<_, Vec<(f64, f64)>>::new();
+    let mut left = random.place(2048);
+    while left > 0 {
+        let key = (
+            random.below(4) as u8,
+            random.below(40) as u16,
+            random.below(3) as u8,
+        );
+        let most = random.pick(&[3, 20, 200, 2048]);
+        let n = 1 + random.place(left.min(most));
+        let step = random.pick(&[30.0, 30.0, 1.0, 0.1, 1e-7, 0.0]);
+        let missing = random.pick(&[0, 0, 3, 30]);
+        let start = random.pick(&[0.0, -3e4, 5e5]);
+        let samples: Vec<(f64, f64)> = (0..n)
+            .filter(|_| random.below(100) >= missing)
+            .map(|i| (start + i as f64 * step, (i % 97) as f64 - 40.0))
+            .collect();
+        if !samples.is_empty() && !series.contains_key(&key) {
+            series.insert(key, samples);
+        }
+        left -= n;
+    }
+    let c = Corrections {
+        series,
+        max_gap: 90.0,
+    };
+    (Table::lent([2048; 5]).with(&c.series), c)
+}
+
+/// Many queries of one call, each place against `at`, and what no place is for against what was there.
+fn many(
+    tally: &mut Tally,
+    random: &mut Random,
+    whole: &Table,
+    c: &Corrections,
+    done: &mut u64,
+    refused: &mut [u64; 13],
+    found: &mut u64,
+) {
+    let mut table = whole.clone();
+    if table.n > 0 && random.below(20) == 0 {
+        let i = random.place(table.n);
+        match random.below(3) {
+            0 => table.ts[i] = random.pick(&[f64::NAN, 2e9]),
+            1 => table.xs[i] = random.pick(&[f64::NAN, -2e9]),
+            _ => table.cs.swap(i, 0),
+        }
+    }
+    let (_, _, gap) = question(random, whole);
+    let each: Vec<_> = (0..random.place(40))
+        .map(|_| question(random, whole))
+        .map(|(key, t, _)| (key, t))
+        .collect();
+    let mut asked = Asked::of(&each);
+    let count = each.len();
+    let mut out = Out::room(count + random.place(3));
+    let short = count > 0 && random.below(20) == 0;
+    if short {
+        match random.below(6) {
+            0 => drop(asked.c.pop()),
+            1 => drop(asked.v.pop()),
+            2 => drop(asked.b.pop()),
+            3 => drop(asked.t.pop()),
+            4 => out.numbers.truncate(count - 1),
+            _ => out.metres.truncate(count - 1),
+        }
+    }
+    let n = if random.below(40) == 0 {
+        table.capacity() + 1
+    } else {
+        table.n
+    };
+    let damaged = table.bits() != whole.bits();
+    let number = match () {
+        () if n > table.capacity() || short => 2,
+        () if !in_range(gap) => 3,
+        () if !table.sound() => 4,
+        () if damaged => return,
+        () => 0,
+    };
+    let mut expected = out.clone();
+    if number == 0 {
+        let c = Corrections {
+            max_gap: gap,
+            ..c.clone()
+        };
+        for (i, &((k, v, b), t)) in each.iter().enumerate() {
+            let theirs = c.at(k, v, b, t);
+            expected.numbers[i] = match theirs {
+                _ if t.is_finite() && !in_range(t) => 4,
+                None => 12,
+                Some(x) => {
+                    expected.metres[i] = x;
+                    *found += 1;
+                    0
+                }
+            };
+            refused[usize::from(expected.numbers[i])] += 1;
+            *done += 1;
+        }
+    }
+    let ours = table.queries(n, gap, &asked, count, &mut out);
+    refused[usize::from(number)] += 1;
+    *done += 1;
+    tally.judge(ours == number && out.bits() == expected.bits(), || {
+        format!("{count} queries of {n} samples with the gap {gap}: our number {ours}, expected {number}; {:?}", out.numbers)
+    });
+}
+
 fn time(random: &mut Random) {
     let base = [-2.7e6, -4.3e6, 3.85e6];
     let rover = [-2.69e6, -4.3e6, 3.85e6];
@@ -464,50 +605,50 @@ fn time(random: &mut Random) {
         Columns::of(e).add(&mut full, &base, &rover, &set);
     }
     let c = reference(&epochs, base, rover, &set);
-    let asked: Vec<((u8, u16, u8), f64)> = (0..64)
+    // Signals and times that no predictor of branches learns.
+    let each: Vec<((u8, u16, u8), f64)> = (0..4096)
         .map(|_| {
+            let svid = random.below(32) as u16;
             (
-                (1, random.below(16) as u16, 1),
-                435.0 + random.unit() * 400.0,
+                (if svid < 16 { 1 } else { 6 }, svid, 1),
+                885.0 + random.unit() * 884.0,
             )
         })
         .collect();
-    let mut half = Table::lent([2048; 5]);
-    for e in &epochs {
-        let part = Epoch {
-            ranges: e.ranges[..16].to_vec(),
-            states: e.states[..16].to_vec(),
-            ..*e
-        };
-        Columns::of(&part).add(&mut half, &base, &rover, &set);
-    }
-    let ask = |table: &Table| {
-        for (key, t) in &asked {
-            black_box(table.query(table.n, 90.0, *key, *t));
-        }
-    };
-    let theirs = || {
-        for (key, t) in &asked {
-            black_box(c.at(key.0, key.1, key.2, *t));
-        }
-    };
-    let n = asked.len();
+    let single = &each[..64];
     bench::row(
-        "query with the table's test",
+        "query",
         full.n,
-        n,
-        || ask(&full),
-        theirs,
+        single.len(),
+        || {
+            for (key, t) in single {
+                black_box(full.query(full.n, 90.0, *key, *t));
+            }
+        },
+        || {
+            for (key, t) in single {
+                black_box(c.at(key.0, key.1, key.2, *t));
+            }
+        },
     );
-    // Half of the samples and of the signals: the test costs half as much there, so this is left of it.
-    bench::row_less(
-        "query without the test",
-        full.n,
-        n,
-        || ask(&half),
-        || ask(&full),
-        theirs,
-    );
+    for count in [32, 4096] {
+        let each = &each[..count];
+        let asked = Asked::of(each);
+        let mut out = Out::room(count);
+        bench::row(
+            "queries of one call",
+            count,
+            count,
+            || {
+                black_box(full.queries(full.n, 90.0, &asked, count, &mut out));
+            },
+            || {
+                for (key, t) in each {
+                    black_box(c.at(key.0, key.1, key.2, *t));
+                }
+            },
+        );
+    }
 }
 
 /// How many samples a lent table of a case has room for.

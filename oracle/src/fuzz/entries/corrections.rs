@@ -1,4 +1,4 @@
-//! A base epoch and a query.
+//! A base epoch, a query, and many of them.
 
 use super::{column, count, floats, signal, sys};
 use crate::fuzz::lent::{Lender, Lent};
@@ -21,8 +21,13 @@ fn table(b: &mut Bytes) -> base::Table {
     let n = b.below(40);
     let sorted = b.byte() > 20;
     b.plain_above(40);
+    // Series of so many samples, so far apart, as a base station has them.
+    let even = (b.byte() < 100).then(|| (1 + b.below(20), f64::from(b.byte()) / 8.0));
     let mut samples: Vec<Sample> = (0..n)
-        .map(|_| {
+        .map(|i| {
+            if let Some((run, step)) = even {
+                return (1, (i / run) as u16, 0, (i % run) as f64 * step, b.float());
+            }
             let (c, v) = signal(b);
             let band = b.byte() & 1;
             let time = if b.byte() < 200 {
@@ -269,8 +274,8 @@ pub fn add_epoch(b: &mut Bytes) {
     on.kept();
 }
 
-pub fn query(b: &mut Bytes) {
-    let t = table(b);
+/// A signal and a time that may be asked of the table.
+fn question(b: &mut Bytes, t: &base::Table) -> (u8, u16, u8, f64) {
     let known = t.cs.len().min(t.n);
     let picked = (known > 0 && b.byte() < 230).then(|| b.below(known));
     let (c, v, band) = match picked {
@@ -283,36 +288,58 @@ pub fn query(b: &mut Bytes) {
         150..=199 => f64::from(b.u16()) / 256.0,
         _ => b.float(),
     };
-    let gap = if b.flag() {
+    (c, v, band, time)
+}
+
+fn gap_limit(b: &mut Bytes) -> f64 {
+    if b.flag() {
         f64::from(b.byte())
     } else {
         b.float()
-    };
-    let number;
-    let mut metres = None;
-    if t.n > t.capacity() {
-        number = 2;
-    } else if !base::in_range(gap) {
-        number = 3;
-    } else if !t.sound() || (time.is_finite() && !base::in_range(time)) {
-        number = 4;
-    } else {
-        let mut series = std::collections::BTreeMap::<_, Vec<(f64, f64)>>::new();
-        for (c, v, b, time, x) in samples(&t) {
-            series.entry((c, v, b)).or_default().push((time, x));
-        }
-        metres = Corrections {
-            series,
-            max_gap: gap,
-        }
-        .at(c, v, band, time);
-        number = if metres.is_some() { 0 } else { 12 };
-        // A query's time that is not finite meets 12.
-        assert!(time.is_finite() || number == 12);
     }
+}
+
+/// The corrections that the Rust has of a sound table.
+fn series(t: &base::Table, gap: f64) -> Corrections {
+    let mut series = std::collections::BTreeMap::<_, Vec<(f64, f64)>>::new();
+    for (c, v, b, time, x) in samples(t) {
+        series.entry((c, v, b)).or_default().push((time, x));
+    }
+    Corrections {
+        series,
+        max_gap: gap,
+    }
+}
+
+/// The number of a query of a sound table, and its metres.
+fn answer(c: &Corrections, (k, v, band, time): (u8, u16, u8, f64)) -> (u8, Option<f64>) {
+    if time.is_finite() && !base::in_range(time) {
+        return (4, None);
+    }
+    let metres = c.at(k, v, band, time);
+    // A query's time that is not finite meets 12.
+    assert!(time.is_finite() || metres.is_none());
+    assert!(metres.is_none_or(f64::is_finite));
+    (if metres.is_some() { 0 } else { 12 }, metres)
+}
+
+pub fn query(b: &mut Bytes) {
+    let t = table(b);
+    let asked = question(b, &t);
+    let gap = gap_limit(b);
+    let (number, metres) = if t.n > t.capacity() {
+        (2, None)
+    } else if !base::in_range(gap) {
+        (3, None)
+    } else if !t.sound() {
+        (4, None)
+    } else {
+        answer(&series(&t, gap), asked)
+    };
     let mut lender = Lender::new();
     let cols = Columns::lend(&mut lender, &t);
     let out = lender.lend(&[f64::from_bits(b.u64())]);
+    let (c, v, band, time) = asked;
     // SAFETY: each pointer leads to what its length or its type says.
     let ours = unsafe {
         sys::zaqnuti_query(
@@ -338,10 +365,78 @@ pub fn query(b: &mut Bytes) {
     assert_eq!(ours, number);
     cols.hold(&t);
     match metres {
-        Some(x) => {
-            assert!(x.is_finite());
-            out.holds(&[x]);
-        }
+        Some(x) => out.holds(&[x]),
         None => out.kept(),
     }
+}
+
+pub fn queries(b: &mut Bytes) {
+    let t = table(b);
+    let gap = gap_limit(b);
+    let each: Vec<_> = (0..b.below(24)).map(|_| question(b, &t)).collect();
+    let (c, v) = (column(b, &each, |q| q.0), column(b, &each, |q| q.1));
+    let (band, time) = (column(b, &each, |q| q.2), column(b, &each, |q| q.3));
+    let mut numbers = column(b, &each, |_| 77u8);
+    let mut metres = column(b, &each, |_| -1.5e300);
+    let count = count(b, each.len());
+    let room = c.len().min(v.len()).min(band.len()).min(time.len());
+    let room = room.min(numbers.len()).min(metres.len());
+    let mut lender = Lender::new();
+    let cols = Columns::lend(&mut lender, &t);
+    let (lc, lv) = (lender.lend(&c), lender.lend(&v));
+    let (lb, lt) = (lender.lend(&band), lender.lend(&time));
+    let (ln, lm) = (lender.lend(&numbers), lender.lend(&metres));
+    let number = if t.n > t.capacity() || count > room {
+        2
+    } else if !base::in_range(gap) {
+        3
+    } else if !t.sound() {
+        4
+    } else {
+        let known = series(&t, gap);
+        for i in 0..count {
+            let (number, found) = answer(&known, (c[i], v[i], band[i], time[i]));
+            numbers[i] = number;
+            metres[i] = found.unwrap_or(metres[i]);
+        }
+        0
+    };
+    // SAFETY: each pointer leads to what its length says.
+    let ours = unsafe {
+        sys::zaqnuti_queries(
+            cols.cs.at(),
+            cols.cs.len(),
+            cols.vs.at(),
+            cols.vs.len(),
+            cols.bs.at(),
+            cols.bs.len(),
+            cols.ts.at(),
+            cols.ts.len(),
+            cols.xs.at(),
+            cols.xs.len(),
+            t.n,
+            gap,
+            lc.at(),
+            lc.len(),
+            lv.at(),
+            lv.len(),
+            lb.at(),
+            lb.len(),
+            lt.at(),
+            lt.len(),
+            count,
+            ln.at(),
+            ln.len(),
+            lm.at(),
+            lm.len(),
+        )
+    };
+    assert_eq!(ours, number);
+    cols.hold(&t);
+    lc.kept();
+    lv.kept();
+    lb.kept();
+    lt.kept();
+    ln.holds(&numbers);
+    lm.holds(&metres);
 }

@@ -3,7 +3,7 @@
 use drifters_gnss::differential::{SatelliteState, Settings};
 use drifters_gnss::rinex::BaseRange;
 use std::collections::BTreeMap;
-use zaqnuti::sys::{zaqnuti_add_epoch, zaqnuti_query};
+use zaqnuti::sys::{zaqnuti_add_epoch, zaqnuti_queries, zaqnuti_query};
 
 /// The lent columns and the count.
 #[derive(Clone)]
@@ -112,6 +112,83 @@ impl Table {
             )
         };
         (number, metres)
+    }
+
+    /// Many queries by one call, whose answers go to the columns of `out`.
+    pub fn queries(&self, n: usize, gap: f64, asked: &Asked, count: usize, out: &mut Out) -> u8 {
+        // SAFETY: each pointer comes with its length, and the last two are ours alone.
+        unsafe {
+            zaqnuti_queries(
+                self.cs.as_ptr(),
+                self.cs.len(),
+                self.vs.as_ptr(),
+                self.vs.len(),
+                self.bs.as_ptr(),
+                self.bs.len(),
+                self.ts.as_ptr(),
+                self.ts.len(),
+                self.xs.as_ptr(),
+                self.xs.len(),
+                n,
+                gap,
+                asked.c.as_ptr(),
+                asked.c.len(),
+                asked.v.as_ptr(),
+                asked.v.len(),
+                asked.b.as_ptr(),
+                asked.b.len(),
+                asked.t.as_ptr(),
+                asked.t.len(),
+                count,
+                out.numbers.as_mut_ptr(),
+                out.numbers.len(),
+                out.metres.as_mut_ptr(),
+                out.metres.len(),
+            )
+        }
+    }
+}
+
+/// Signals and times as the entry point takes them.
+pub struct Asked {
+    pub c: Vec<u8>,
+    pub v: Vec<u16>,
+    pub b: Vec<u8>,
+    pub t: Vec<f64>,
+}
+
+impl Asked {
+    pub fn of(each: &[((u8, u16, u8), f64)]) -> Self {
+        Self {
+            c: each.iter().map(|e| e.0 .0).collect(),
+            v: each.iter().map(|e| e.0 .1).collect(),
+            b: each.iter().map(|e| e.0 .2).collect(),
+            t: each.iter().map(|e| e.1).collect(),
+        }
+    }
+}
+
+/// Where the answers of many queries go.
+#[derive(Clone)]
+pub struct Out {
+    pub numbers: Vec<u8>,
+    pub metres: Vec<f64>,
+}
+
+impl Out {
+    /// Room for so many, none of it written yet.
+    pub fn room(places: usize) -> Self {
+        Self {
+            numbers: vec![77; places],
+            metres: vec![-1.5e300; places],
+        }
+    }
+
+    pub fn bits(&self) -> (&[u8], Vec<u64>) {
+        (
+            &self.numbers,
+            self.metres.iter().map(|x| x.to_bits()).collect(),
+        )
     }
 }
 
