@@ -2,19 +2,22 @@
 use mathlib.Core.Path.{_≡_, refl, sym, ap, ap₂, _∙_, subst}
 use Prim.Native.Nat.{ℕ, _-_, _≤_}
 use native.Mathlib.Omega.{arith}
-use mathlib.Core.Bool.{Bool, true, false}
+use mathlib.Core.Bool.{Bool, true, false, _||_}
 use mathlib.Core.List.{List}
+use lib.Dec.{ltb}
 use lib.ListN.{length, take}
 use lib.Seq.{take-all}
 use lib.Ieee.{Float}
 use Rattle.cholesky.specs.Factor.{at}
 use Rattle.numeric.specs.declared.refusal.Refusal.{Refusal}
-use Rattle.numeric.specs.declared.refusal.Refusal.the-variants.{FitFailed}
+use Rattle.numeric.specs.declared.refusal.Refusal.the-variants.{TooMany, FitFailed}
 use Rattle.records.specs.Record.{Holds}
 use Rattle.clocks.specs.Clocks.{clocksOf}
 use Rattle.records.specs.Screen.{keptOf, constellations}
 use Rattle.records.specs.Kept.{pairsIn, Kept}
+use Rattle.estimator.specs.Rules.{ruled}
 use Rattle.estimator.specs.Valid.{displacementInput, displacementCounts}
+use Rattle.estimator.specs.Front.{displacementRules}
 use Rattle.estimator.specs.Rounds.{End, Failed, Reached, Fit, concluded, Ended}
 use Rattle.estimator.specs.Displacement.{Input, fitOver, pairs, kept, fitOf, movedTo, concludedAt, displacementOf}
 use Rattle.clocks.specs.declared.clocks.Clocks.{Clocks}
@@ -61,6 +64,10 @@ module _ (i : Input) where
   pub refused-input : {r : Refusal} → Stops r ≡ checked (displacementInput (i .previous) (i .current) (i .dt) (i .receiver) (i .settings)) → Refused r ≡ displacementOf i
   unfolding displacementOf
   refused-input e = input-refused Refused a (i .previous) (i .current) (i .dt) (i .receiver) (i .settings) e
+
+  pub too-many : (ltb 64 (i .previous .count) || ltb 64 (i .current .count)) ≡ true → Refused TooMany ≡ displacementOf i
+  unfolding displacementOf displacementRules displacementInput ruled
+  too-many e = rw e
 
   -- what the code has once it has screened
   module _ (passed : Passed ≡ checked (displacementInput (i .previous) (i .current) (i .dt) (i .receiver) (i .settings))) (p q : Pairs) (k : Clocks) (has : Holds (p .count) (p .pair) (pairs i))

@@ -1,21 +1,18 @@
 -- Rules in checking order: what a call that tests them in parts knows. Assumes nothing.
 use mathlib.Core.Path.{_≡_, refl, sym, ap, _∙_, subst}
 use mathlib.Core.List.{List, [], _∷_, _++_}
-use mathlib.Core.Bool.{Bool, true, false, not, cond, _&&_, _||_}
+use mathlib.Core.Bool.{Bool, true, false, not, cond, _&&_}
 use Prim.Native.Nat.{ℕ, zero, suc, _+_, _≤_, _<_}
 use native.Mathlib.Omega.{arith}
 use lib.Dec.{T, ltb, eqb}
 use borrow.Author.Tests.{ltb-false, not-false}
-use lib.Ieee.{Float}
 use lib.Ieee.Fits.{and-r}
 use Rattle.numeric.specs.Real.{inRange}
 use Rattle.numeric.specs.declared.vec3.Vec3.{Vec3}
 use Rattle.numeric.specs.declared.refusal.Refusal.{Refusal}
 use Rattle.estimator.specs.Rules.{Rule, ruled}
-use Rattle.estimator.specs.Valid.{displacementInput, displacementCounts, fixSettingsPass, fixInput, fixCounts}
-use Rattle.records.specs.declared.record.Epoch.{Epoch}
+use Rattle.estimator.specs.Valid.{displacementCounts, fixSettingsPass, fixInput, fixCounts}
 use Rattle.records.specs.declared.record.Observations.{Observations}
-use Rattle.estimator.specs.declared.displacement.Settings.{Settings}
 use Rattle.estimator.specs.declared.fix.Settings.{Settings as FixSettings}
 use Rattle.estimator.specs.declared.valid.Check.{Check}
 use Rattle.estimator.specs.declared.valid.Check.the-variants.{Refused, Passed}
@@ -80,17 +77,6 @@ pub append-first : (rs ss : List Rule) → Passed ≡ checked (rs ++ ss) → Pas
 unfolding ruled
 append-first [] ss e = refl
 append-first (r ∷ rs) ss e = let h = head-passed r (rs ++ ss) e in rw (h .0) (append-first rs ss (h .1))
-
-or-no : (a b : Bool) → (a || b) ≡ false → (a ≡ false) × (b ≡ false)
-or-no true b e = (e, cc)
-or-no false b e = (refl, e)
-
-pub epochs-fit : (previous current : Epoch) (dt : Float) (receiver : Vec3) (settings : Settings) → Passed ≡ checked (displacementInput previous current dt receiver settings)
-    → (previous .count ≤ 64) × (current .count ≤ 64)
-unfolding displacementInput
-epochs-fit previous current dt receiver settings e =
-    let n = or-no (ltb 64 (previous .count)) (ltb 64 (current .count)) (head-passed _ _ e .0) in
-    (ltb-false 64 (previous .count) (n .0), ltb-false 64 (current .count) (n .1))
 
 pub observations-fit : (observations : Observations) (guess : Vec3) (settings : FixSettings) → Passed ≡ checked (fixInput observations guess settings)
     → observations .count ≤ 64

@@ -14,7 +14,6 @@ use crate::rounds::is_short;
 use crate::rounds::move_by;
 use crate::rounds::state_at;
 use crate::valid::Check;
-use crate::valid::check_displacement;
 use crate::valid::check_in;
 use crate::valid::check_pairs;
 use clocks::clocks::Clocks;
@@ -22,8 +21,8 @@ use numeric::order::pattern;
 use numeric::real::is_finite;
 use numeric::refusal::Refusal;
 use numeric::vec3::Vec3;
+use records::carriers::columns_into;
 use records::pair::pairs_in;
-use records::pair::pairs_of;
 use records::record::Epoch;
 use records::screen::clocks_of;
 use records::screen::keep_into;
@@ -146,6 +145,7 @@ fn moved_to(x: [f64; 9], used: usize, screened: usize) -> Displacement
 }
 
 // The receiver's position change between two epochs, dt seconds apart. The receiver's position sets the geometry only.
+// Each epoch is written into columns once, so that one form of the tests and the pairs serves both calls.
 pub fn delta_position(
     previous: Epoch,
     current: Epoch,
@@ -155,47 +155,55 @@ pub fn delta_position(
 ) -> Displacement
     ensures { λ r. ⌜ spec.Promised (spec.input previous current dt receiver settings) r ⌝ }
 {
-    if let Check::Refused(r) = check_displacement(previous, current, dt, receiver, settings) {
-        return Displacement::Refused(r);
+    if 64 < previous.count {
+        return Displacement::Refused(Refusal::TooMany);
     }
-    let all = pairs_of(previous, current, receiver, settings.mask, dt);
-    let mut x = [0.0; 64];
-    let mut y = [0.0; 64];
-    let mut z = [0.0; 64];
-    let mut constellation = [0u8; 64];
-    let mut elevation = [0.0; 64];
-    let mut observed = [0.0; 64];
-    let used = keep_into(
-        all,
-        settings.screen,
-        &mut x,
-        &mut y,
-        &mut z,
-        &mut constellation,
-        &mut elevation,
-        &mut observed,
+    if 64 < current.count {
+        return Displacement::Refused(Refusal::TooMany);
+    }
+    let mut previous_constellation = [0u8; 64];
+    let mut previous_svid = [0u16; 64];
+    let mut previous_band = [0u32; 64];
+    let mut previous_state = [0i32; 64];
+    let mut previous_floats = [0.0; 384];
+    columns_into(
+        previous,
+        &mut previous_constellation,
+        &mut previous_svid,
+        &mut previous_band,
+        &mut previous_state,
+        &mut previous_floats,
     );
-    let clocks = clocks_of(&constellation[..used]);
-    let pairs = all.count;
-    if let Check::Refused(r) = check_pairs(pairs, used, clocks.count) {
-        return Displacement::Refused(r);
-    }
-    let screened = pairs - used;
-    let mut state = [0.0; 9];
-    if fit_pairs(
+    let mut current_constellation = [0u8; 64];
+    let mut current_svid = [0u16; 64];
+    let mut current_band = [0u32; 64];
+    let mut current_state = [0i32; 64];
+    let mut current_floats = [0.0; 384];
+    columns_into(
+        current,
+        &mut current_constellation,
+        &mut current_svid,
+        &mut current_band,
+        &mut current_state,
+        &mut current_floats,
+    );
+    delta_in(
+        &previous_constellation,
+        &previous_svid,
+        &previous_band,
+        &previous_state,
+        &previous_floats,
+        previous.count,
+        &current_constellation,
+        &current_svid,
+        &current_band,
+        &current_state,
+        &current_floats,
+        current.count,
+        dt,
+        receiver,
         settings,
-        clocks,
-        &x,
-        &y,
-        &z,
-        &constellation,
-        &elevation,
-        &observed[..used],
-        &mut state,
-    ) {
-        return moved_to(state, used, screened);
-    }
-    Displacement::Refused(Refusal::FitFailed)
+    )
 }
 
 // The same of two epochs' columns: nothing of them is copied.

@@ -3,7 +3,7 @@ ghost use mathlib.Core.Path.{_≡_};
 ghost use mathlib.Core.Bool.{true};
 ghost use Prim.Native.Nat.{_≤_};
 ghost use Rattle.walk.specs.Walk.{every};
-ghost use Rattle.records.specs.Record.{sound, soundObservation, counted, countedObservations};
+ghost use Rattle.records.specs.Record.{soundObservation, countedObservations};
 ghost use Rattle.records.specs.Carriers.{carrierColumns, epochOf, epochFits};
 ghost use Rattle.estimator.specs.Rules.{ruled};
 ghost use Rattle.estimator.specs.Valid as spec;
@@ -13,33 +13,14 @@ use numeric::real::is_finite;
 use numeric::refusal::Refusal;
 use numeric::vec3::Vec3;
 use records::carriers::sound_in;
-use records::record::Epoch;
 use records::record::Observations;
 use records::record::is_placeable;
-use records::record::is_sound;
 use records::record::is_sound_observation;
 
 // What rules find: the first that applies, or none.
 pub enum Check {
     Refused(Refusal),
     Passed,
-}
-
-// Whether rule 4 lets each counted carrier pass.
-pub(crate) fn all_sound(e: Epoch) -> bool
-    requires { ⌜ e .count ≤ 64 ⌝ }
-    ensures { λ r. ⌜ r ≡ every sound (counted e) ⌝ }
-{
-    let n = e.count;
-    let mut i: usize = 0;
-    while i < n {
-        let c = e.carriers[i];
-        if !is_sound(c) {
-            return false;
-        }
-        i += 1;
-    }
-    true
 }
 
 // Whether rule 4 lets each counted observation pass.
@@ -88,34 +69,6 @@ pub(crate) fn is_bad_interval(dt: f64) -> bool
     ensures { λ r. ⌜ r ≡ spec.badInterval dt ⌝ }
 {
     !is_finite(dt) | !(0.0 < dt) | (604800.0 < dt)
-}
-
-// Rules 2 to 5 of a displacement.
-pub(crate) fn check_displacement(
-    previous: Epoch,
-    current: Epoch,
-    dt: f64,
-    receiver: Vec3,
-    settings: Settings,
-) -> Check
-    ensures { λ r. ⌜ r ≡ ruled Check.Refused (spec.displacementInput previous current dt receiver settings) Check.Passed ⌝ }
-{
-    if 64 < previous.count {
-        return Check::Refused(Refusal::TooMany);
-    }
-    if 64 < current.count {
-        return Check::Refused(Refusal::TooMany);
-    }
-    if !settings_pass(settings) {
-        return Check::Refused(Refusal::SettingOutOfRange);
-    }
-    if !(all_sound(previous) & all_sound(current) & is_placeable(receiver)) {
-        return Check::Refused(Refusal::RecordOutOfRange);
-    }
-    if is_bad_interval(dt) {
-        return Check::Refused(Refusal::BadInterval);
-    }
-    Check::Passed
 }
 
 // Rules 2 to 5 of a displacement between two epochs' columns: they fit, so that 2 does not apply.

@@ -1,12 +1,13 @@
 // The carriers of an epoch as columns of numbers.
 ghost use mathlib.Core.Path.{_≡_};
 ghost use mathlib.Core.Bool.{true};
-ghost use Prim.Native.Nat.{_+_, _*_, _<_};
+ghost use Prim.Native.Nat.{_+_, _*_, _<_, _≤_};
 ghost use lib.ListN.{length};
 ghost use Rattle.walk.specs.Walk.{every};
 ghost use Rattle.records.specs.Record.{sound, counted};
 ghost use Rattle.records.specs.Carriers as spec;
 use crate::record::Carrier;
+use crate::record::Epoch;
 use crate::record::is_sound;
 use numeric::vec3::Vec3;
 
@@ -23,7 +24,7 @@ pub fn vector_at(v: &[f64], k: usize) -> Vec3
 }
 
 // Carrier i of the columns.
-pub fn carrier_at(
+pub(crate) fn carrier_at(
     constellation: &[u8],
     svid: &[u16],
     band: &[u32],
@@ -71,4 +72,42 @@ pub fn sound_in(
         i += 1;
     }
     true
+}
+
+// Writes the counted carriers of an epoch as columns.
+pub fn columns_into(
+    e: Epoch,
+    constellation: &mut [u8; 64],
+    svid: &mut [u16; 64],
+    band: &mut [u32; 64],
+    state: &mut [i32; 64],
+    floats: &mut [f64; 384],
+)
+    requires { ⌜ e .count ≤ 64 ⌝ }
+    ensures { λ r. ⌜ spec.Laid (e .carriers) (e .count) (spec.carrierColumns (now (constellation .exit)) (now (svid .exit)) (now (band .exit)) (now (state .exit)) (now (floats .exit))) ⌝ }
+{
+    *constellation = [0; 64];
+    *svid = [0; 64];
+    *band = [0; 64];
+    *state = [0; 64];
+    *floats = [0.0; 384];
+    let n = e.count;
+    let mut i: usize = 0;
+    while i < n {
+        let c = e.carriers[i];
+        let v = c.satellite;
+        let bits = c.state;
+        let at = 6 * i;
+        constellation[i] = c.constellation;
+        svid[i] = c.svid;
+        band[i] = c.band;
+        state[i] = bits;
+        floats[at] = c.adr;
+        floats[at + 1] = v.x;
+        floats[at + 2] = v.y;
+        floats[at + 3] = v.z;
+        floats[at + 4] = c.elevation;
+        floats[at + 5] = c.rate;
+        i += 1;
+    }
 }

@@ -1,14 +1,12 @@
 // The carrier pairs of two epochs.
 ghost use mathlib.Core.Path.{_≡_};
 ghost use mathlib.Core.Bool.{true, _&&_};
-ghost use Prim.Native.Nat.{_≤_};
 ghost use Rattle.numeric.specs.Sight.{geometry};
 ghost use Rattle.records.specs.Record.{counted, same, usable, Holds};
 ghost use Rattle.records.specs.Carriers.{carrierColumns, epochOf, epochFits};
 ghost use Rattle.records.specs.Pair as spec;
 use crate::carriers::carrier_at;
 use crate::record::Carrier;
-use crate::record::Epoch;
 use crate::record::is_same;
 use crate::record::is_usable;
 use numeric::sight::Sight;
@@ -120,35 +118,6 @@ pub fn pair_of(receiver: Vec3, dt: f64, c: Carrier, p: Carrier) -> Pair
         observed: phase - (now.range - then.range),
         detector: phase - 0.5 * (c.rate + p.rate) * dt,
     }
-}
-
-// The pairs of two epochs.
-pub fn pairs_of(previous: Epoch, current: Epoch, receiver: Vec3, mask: f64, dt: f64) -> Pairs
-    requires { ⌜ previous .count ≤ 64 ⌝ }
-    requires { ⌜ current .count ≤ 64 ⌝ }
-    ensures { λ r. ⌜ Holds (r .count) (r .pair) (spec.pairsOf receiver mask dt (counted previous) (counted current)) ⌝ }
-{
-    let mut out = no_pairs();
-    let mut i: usize = 0;
-    while i < current.count {
-        let c = current.carriers[i];
-        if is_usable(c) & (mask <= c.elevation) {
-            let mut j: usize = 0;
-            while j < previous.count {
-                let p = previous.carriers[j];
-                if is_partner(p, c) {
-                    let k = out.count;
-                    let q = pair_of(receiver, dt, c, p);
-                    out.pair[k] = q;
-                    out.count = k + 1;
-                    break;
-                }
-                j += 1;
-            }
-        }
-        i += 1;
-    }
-    out
 }
 
 // The pairs of two epochs' columns.

@@ -1,103 +1,85 @@
--- `estimator::displacement::delta_position` meets its contract. Assumes nothing.
-use mathlib.Core.Path.{_≡_, sym, _∙_}
-use mathlib.Core.Bool.{true, false}
-use lib.ListN.{length-take}
-use lib.Seq.{length-take-le}
-use Rattle.estimator.specs.Valid.{displacementInput}
-use Rattle.estimator.specs.declared.valid.Check.the-variants.{Passed}
-use Rattle.estimator.proofs.RulesLaws.{checked, epochs-fit}
+-- `estimator::displacement::delta_position` meets its contract: the columns count what the epochs count. Assumes nothing.
+use mathlib.Core.Path.{refl, _∙_}
+use borrow.Author.Tests.{lt-ltb, le-ltb}
+use Rattle.records.proofs.CarrierLaws.{laid-fits, laid-counted}
+use Rattle.estimator.proofs.CountedLaws.{displacement-counted}
 use Rattle.estimator.proofs.DisplacementSound.{promised}
-use Rattle.estimator.proofs.DisplacementCall.{as-pairs, as-held, as-clocks, as-fit, refused-input, no-more, refused-counts, few-clocks, failed, reached}
+use Rattle.estimator.proofs.DisplacementCall.{too-many}
 use borrow.Author.Needs.{needs}
-use native.Mathlib.Omega.{arith}
 use Rattle.estimator.proofs.displacement.delta_position.Statement.{statement}
 use Rattle.estimator.proofs.displacement.delta_position.Tie as tie
 
--- what the first check said, where it refused nothing
-passed : (c : tie.After-enum-told) → let a = c .before .before .before .args in Passed ≡ checked (displacementInput (a .previous) (a .current) (a .dt) (a .receiver) (a .settings))
-passed c = sym (c .enum-told .given .1) ∙ c .before .before .check-displacement .ensures
-
-check-displacement-requires : tie.Need-check-displacement-requires
-check-displacement-requires c κs = search needs
-
-enum-known-r : tie.Need-enum-known-r
-enum-known-r c = search needs
-
 returns : tie.Need-returns
-returns c = promised _ _ (refused-input _ (sym (c .before .r .given .1) ∙ c .before .before .before .check-displacement .ensures))
-
-enum-told : tie.Need-enum-told
-enum-told c = search needs
-
-pairs-of-requires : tie.Need-pairs-of-requires
-pairs-of-requires c κs = epochs-fit _ _ _ _ _ (passed c)
-
-keep-into-requires : tie.Need-keep-into-requires
-keep-into-requires c κs = search needs
-
-array-share-prefix-constellation : tie.Need-array-share-prefix-constellation
-array-share-prefix-constellation c = search needs
-
-slice-aggregate-clocks-of : tie.Need-slice-aggregate-clocks-of
-slice-aggregate-clocks-of c = let k = c .before .keep-into .ensures in sym (length-take-le _ _ (omega (arith, k .room, k .constellation-long)))
-
-clocks-of-requires : tie.Need-clocks-of-requires
-clocks-of-requires c κs = search needs
-
-check-pairs-requires : tie.Need-check-pairs-requires
-check-pairs-requires c κs = search needs
-
-enum-known-r-2 : tie.Need-enum-known-r-2
-enum-known-r-2 c = search needs
+returns c = promised _ _ (too-many _ (rw (lt-ltb _ _ (c .if1 .taken))))
 
 returns-2 : tie.Need-returns-2
-returns-2 c = let k = c .before .before .before .before .before .before .keep-into .ensures in promised _ _ (refused-counts _ (passed (c .before .before .before .before .before .before .before .before .before .before .before .before .before .before)) _ (as-pairs k) _ (c .before .before .before .before .before .before .before .before .before .before .before .before .before .pairs-of .ensures) (as-held k) (as-clocks k (c .before .before .before .before .clocks-of .ensures)) (sym (c .before .r2 .given .1) ∙ c .before .before .before .check-pairs .ensures))
+returns-2 c = promised _ _ (too-many _ (rw (le-ltb _ _ (c .before .before .if1 .left), lt-ltb _ _ (c .if2 .taken))))
 
-enum-told-2 : tie.Need-enum-told-2
-enum-told-2 c = search needs
+columns-into-requires : tie.Need-columns-into-requires
+columns-into-requires c κs = search needs
 
-sub-screened : tie.Need-sub-screened
-sub-screened c = let k = c .before .before .before .before .before .keep-into .ensures in no-more _ (passed (c .before .before .before .before .before .before .before .before .before .before .before .before .before)) _ (as-pairs k) _ (c .before .before .before .before .before .before .before .before .before .before .before .before .pairs-of .ensures) (as-held k) (as-clocks k (c .before .before .before .clocks-of .ensures))
+columns-into-requires-2 : tie.Need-columns-into-requires-2
+columns-into-requires-2 c κs = search needs
 
-array-share-prefix-observed : tie.Need-array-share-prefix-observed
-array-share-prefix-observed c = search needs
+slice-aggregate-delta-in : tie.Need-slice-aggregate-delta-in
+slice-aggregate-delta-in c = search needs
 
-slice-aggregate-fit-pairs : tie.Need-slice-aggregate-fit-pairs
-slice-aggregate-fit-pairs c = let k = c .before .before .before .before .before .before .before .before .before .before .before .keep-into .ensures in sym (length-take-le _ _ (omega (arith, k .room, k .observed-long)))
+slice-aggregate-delta-in-2 : tie.Need-slice-aggregate-delta-in-2
+slice-aggregate-delta-in-2 c = search needs
 
-fit-pairs-requires : tie.Need-fit-pairs-requires
-fit-pairs-requires c κs = let k = c .before .before .before .before .before .before .before .before .before .before .before .before .keep-into .ensures in (simp length-take (omega (arith, k .room)), few-clocks _ (passed (c .before .before .before .before .before .before .before .before .before .before .before .before .before .before .before .before .before .before .before .before)) _ (as-pairs k) _ (c .before .before .before .before .before .before .before .before .before .before .before .before .before .before .before .before .before .before .before .pairs-of .ensures) (as-held k) (as-clocks k (c .before .before .before .before .before .before .before .before .before .before .clocks-of .ensures)) (sym (c .before .before .before .before .before .before .before .enum-told2 .given .1) ∙ c .before .before .before .before .before .before .before .before .before .check-pairs .ensures))
+slice-aggregate-delta-in-3 : tie.Need-slice-aggregate-delta-in-3
+slice-aggregate-delta-in-3 c = search needs
 
-moved-to-requires : tie.Need-moved-to-requires
-moved-to-requires c κs = search needs
+slice-aggregate-delta-in-4 : tie.Need-slice-aggregate-delta-in-4
+slice-aggregate-delta-in-4 c = search needs
+
+slice-aggregate-delta-in-5 : tie.Need-slice-aggregate-delta-in-5
+slice-aggregate-delta-in-5 c = search needs
+
+slice-aggregate-delta-in-6 : tie.Need-slice-aggregate-delta-in-6
+slice-aggregate-delta-in-6 c = search needs
+
+slice-aggregate-delta-in-7 : tie.Need-slice-aggregate-delta-in-7
+slice-aggregate-delta-in-7 c = search needs
+
+slice-aggregate-delta-in-8 : tie.Need-slice-aggregate-delta-in-8
+slice-aggregate-delta-in-8 c = search needs
+
+slice-aggregate-delta-in-9 : tie.Need-slice-aggregate-delta-in-9
+slice-aggregate-delta-in-9 c = search needs
+
+slice-aggregate-delta-in-10 : tie.Need-slice-aggregate-delta-in-10
+slice-aggregate-delta-in-10 c = search needs
+
+delta-in-requires : tie.Need-delta-in-requires
+delta-in-requires c κs =
+    let q = c .before .before .before .before .before .before .before .before .before .before in
+    let p = q .before .before .before .before .before .before in
+    (laid-fits (p .columns-into .ensures) (p .before .before .before .before .before .before .before .before .if1 .left), laid-fits (q .columns-into2 .ensures) (p .before .before .before .before .before .before .if2 .left))
 
 returns-3 : tie.Need-returns-3
-returns-3 c = let k = c .before .before .before .before .before .before .before .before .before .before .before .before .before .before .before .keep-into .ensures in promised _ _ (c .moved-to .ensures ∙ reached _ (passed (c .before .before .before .before .before .before .before .before .before .before .before .before .before .before .before .before .before .before .before .before .before .before .before)) _ (as-pairs k) _ (c .before .before .before .before .before .before .before .before .before .before .before .before .before .before .before .before .before .before .before .before .before .before .pairs-of .ensures) (as-held k) (as-clocks k (c .before .before .before .before .before .before .before .before .before .before .before .before .before .clocks-of .ensures)) (sym (c .before .before .before .before .before .before .before .before .before .before .enum-told2 .given .1) ∙ c .before .before .before .before .before .before .before .before .before .before .before .before .check-pairs .ensures) _ _ (as-fit k _ _ true _ _ (rw (c .before .if1 .taken) at (c .before .before .fit-pairs .ensures))))
-
-returns-4 : tie.Need-returns-4
-returns-4 c = let k = c .before .before .before .before .before .before .before .before .before .before .before .before .before .before .keep-into .ensures in promised _ _ (failed _ (passed (c .before .before .before .before .before .before .before .before .before .before .before .before .before .before .before .before .before .before .before .before .before .before)) _ (as-pairs k) _ (c .before .before .before .before .before .before .before .before .before .before .before .before .before .before .before .before .before .before .before .before .before .pairs-of .ensures) (as-held k) (as-clocks k (c .before .before .before .before .before .before .before .before .before .before .before .before .clocks-of .ensures)) (sym (c .before .before .before .before .before .before .before .before .before .enum-told2 .given .1) ∙ c .before .before .before .before .before .before .before .before .before .before .before .check-pairs .ensures) _ _ (as-fit k _ _ false _ _ (rw (c .if1 .left) at (c .before .fit-pairs .ensures))))
+returns-3 c =
+    let q = c .before .before .before .before .before .before .before .before .before .before .before in
+    let p = q .before .before .before .before .before .before in
+    promised _ _ (c .delta-in .ensures .answer ∙ displacement-counted _ _ _ _ _ _ _ refl (laid-counted (p .columns-into .ensures)) refl (laid-counted (q .columns-into2 .ensures)))
 
 pub delta-position-spec : {M : Type 1} → statement M
 delta-position-spec =
     tie.close
     (tie.spec
-    check-displacement-requires
-    enum-known-r
     returns
-    enum-told
-    pairs-of-requires
-    keep-into-requires
-    array-share-prefix-constellation
-    slice-aggregate-clocks-of
-    clocks-of-requires
-    check-pairs-requires
-    enum-known-r-2
     returns-2
-    enum-told-2
-    sub-screened
-    array-share-prefix-observed
-    slice-aggregate-fit-pairs
-    fit-pairs-requires
-    moved-to-requires
-    returns-3
-    returns-4)
+    columns-into-requires
+    columns-into-requires-2
+    slice-aggregate-delta-in
+    slice-aggregate-delta-in-2
+    slice-aggregate-delta-in-3
+    slice-aggregate-delta-in-4
+    slice-aggregate-delta-in-5
+    slice-aggregate-delta-in-6
+    slice-aggregate-delta-in-7
+    slice-aggregate-delta-in-8
+    slice-aggregate-delta-in-9
+    slice-aggregate-delta-in-10
+    delta-in-requires
+    returns-3)
