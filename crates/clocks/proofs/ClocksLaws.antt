@@ -9,15 +9,12 @@ use native.Mathlib.Omega.{arith}
 use lib.Dec.{eqb, ltb}
 use borrow.Author.Tests.{eq-eqb, ne-eqb, le-ltb}
 use lib.ListN.{length, getD, set, length-append}
+use Rattle.walk.proofs.Walk.{or-no}
 use Rattle.walk.specs.Walk.{fold}
 use Rattle.clocks.specs.Clocks.{place, notGiven, none, slot, given, has, appearing, slotFrom, clocksIn, clocksOf}
 use Rattle.clocks.specs.declared.clocks.Clocks.{Clocks}
 
 -- ---- a place in a list, and one more at its end
-or-no : (a b : Bool) → (a || b) ≡ false → (a ≡ false) × (b ≡ false)
-or-no true b e = (e, cc)
-or-no false b e = (refl, e)
-
 has-more : (js : List ℕ) (k j : ℕ) → has (js ++ (k ∷ [])) j ≡ (has js j || eqb k j)
 unfolding has
 has-more [] k j = or-false (eqb k j)

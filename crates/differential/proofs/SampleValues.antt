@@ -1,6 +1,6 @@
 -- Worked values of the samples of an epoch. Assumes nothing.
 use mathlib.Core.Path.{_≡_, refl}
-use mathlib.Core.List.{List, [], _∷_}
+use mathlib.Core.List.{[], _∷_}
 use Prim.Native.Nat.{ℕ}
 use lib.Ieee.{Float, neg, lt, eq, add, sub, ofBits, ofInt, toBits, isNan}
 use Rattle.exact.specs.Float.{+0, whole}

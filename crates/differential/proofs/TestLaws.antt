@@ -6,6 +6,7 @@ use native.Mathlib.Omega.{arith}
 use borrow.Author.Tests.{ltb-false, not-true, not-false}
 use lib.Dec.{ltb}
 use lib.ListN.{take}
+use Rattle.walk.proofs.Walk.{or-no}
 use Rattle.walk.specs.Walk.{every}
 use Rattle.numeric.specs.Real.{inRange}
 use Rattle.numeric.specs.declared.vec3.Vec3.{Vec3}
@@ -17,10 +18,6 @@ use Rattle.differential.specs.AddEpoch.{tooMany, settingsInRange, record
 use Rattle.differential.specs.declared.record.BaseEpoch.{BaseEpoch}
 use Rattle.differential.specs.declared.record.States.{States}
 use Rattle.differential.specs.declared.record.Settings.{Settings}
-
-or-no : (a b : Bool) → (a || b) ≡ false → (a ≡ false) × (b ≡ false)
-or-no false b e = (refl, e)
-or-no true b e = absurd (let z : _≡_ {A = ℕ} 0 1 = cc in omega arith)
 
 module _ (n room : ℕ) (e : BaseEpoch) (s : States) (base rover : Vec3) (set : Settings) (m : ℕ) (em : m ≡ statesCount s) where
   many : (ltb room n || ltb 64 (e .count) || ltb 64 m) ≡ tooMany n room e s

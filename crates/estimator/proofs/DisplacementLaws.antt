@@ -7,11 +7,13 @@ use mathlib.Core.List.{List, map}
 use lib.ListN.{length, getD, take}
 use lib.Seq.{take-all, getD-take, length-take-le}
 use lib.Ieee.{Float, nan}
+use Rattle.walk.proofs.Walk.{places-map, places-take, places-ext}
+use Rattle.walk.specs.Walk.{places}
 use Rattle.robust.specs.Round.{roundOf}
 use Rattle.clocks.specs.Clocks.{slot}
-use Rattle.robust.specs.Columns.{places, Columns, columns, rowsOf}
+use Rattle.robust.specs.Columns.{Columns, columns, rowsIn}
 use Rattle.robust.specs.Columns as round
-use Rattle.robust.proofs.ColumnLaws.{places-map, places-take, places-ext, filled-at}
+use Rattle.robust.proofs.ColumnLaws.{filled-at}
 use Rattle.robust.specs.Normal.{Solving}
 use Rattle.robust.specs.declared.row.Row.{Row}
 use Rattle.clocks.specs.declared.clocks.Clocks.{Clocks}
@@ -59,7 +61,7 @@ module _ (settings : Settings) (k : Clocks) (x y z : List Float) (constellation 
     abbrev all : Columns
     all = columns x y z clock sigma (take (length observed) residual)
 
-    row-is : (i : ℕ) → i < length observed → round.rowAt all i ≡ rowAt settings k s (pair i)
+    row-is : (i : ℕ) → i < length observed → round.rowIn all i ≡ rowAt settings k s (pair i)
     unfolding rowWith
     row-is i h =
         let c = clocks .at i h in
@@ -67,10 +69,10 @@ module _ (settings : Settings) (k : Clocks) (x y z : List Float) (constellation 
         let r = getD-take (length observed) residual i 0 h ∙ residuals .at i h in
         rw (c, g, r)
 
-    pub rows-in : rowsOf all ≡ map (rowAt settings k s) (pairsIn x y z constellation elevation observed)
+    pub rows-in : rowsIn all ≡ map (rowAt settings k s) (pairsIn x y z constellation elevation observed)
     rows-in =
         let e : length (take (length observed) residual) ≡ length observed = length-take-le (length observed) residual (omega (arith, residuals .long)) in
-        ap (places (round.rowAt all)) e ∙ places-ext (round.rowAt all) (λ i. rowAt settings k s (pair i)) (length observed) row-is ∙ sym (places-map (rowAt settings k s) pair (length observed))
+        ap (places (round.rowIn all)) e ∙ places-ext (round.rowIn all) (λ i. rowAt settings k s (pair i)) (length observed) row-is ∙ sym (places-map (rowAt settings k s) pair (length observed))
 
 -- a fit over the columns of the pairs ps is the fit over ps
 module _ (settings : Settings) (k : Clocks) {ps : List Pair} {n : ℕ} {x y z : List Float} {constellation : List ℕ} {elevation observed : List Float} (h : Kept ps n x y z constellation elevation observed) where

@@ -10,6 +10,7 @@ use borrow.Author.Tests.{eq-eqb, ne-eqb}
 use lib.ListN.{getD, length, set, length-set, getD-replicate}
 use lib.Seq.{getD-set-same, getD-set-other, length-take-le}
 use lib.Ieee.{Float, nan, ofInt, ofBits}
+use Rattle.walk.proofs.Walk.{places-take}
 use Rattle.exact.specs.Float.{_⊕_, _⊗_, _⊘_, +0, 1·0, bits, whole}
 use Rattle.cholesky.specs.Factor.{at, zeros, solutionOf}
 use Rattle.numeric.specs.Real.{square}
@@ -21,7 +22,6 @@ use Rattle.robust.specs.declared.row.Row.{Row}
 use Rattle.robust.specs.declared.row.Rows.{Rows}
 use Rattle.robust.proofs.NineLaws.{nine-is}
 use Rattle.robust.proofs.Sums.{blank, sumTo, sumTo-zero, sumTo-next, sum-total}
-use Rattle.robust.proofs.ColumnLaws.{places-take}
 use Rattle.robust.proofs.FormedLaws.{sums, sums-next, sums-triangle}
 use Rattle.estimator.specs.Fix.{freedomOf, chiOf, plainMatrix, pdopOf}
 
@@ -39,8 +39,8 @@ pub freedom-least : (count n : ℕ) → count ≤ n → 1·0 ≡ freedomOf count
 unfolding freedomOf
 freedom-least count n h = let e : max 1 (count - n) ≡ 1 = omega arith in rw e one
 
-abbrev pub rowAt : Rows → ℕ → Row
-rowAt rows k = getD (rows .row) k blank
+abbrev pub rowNth : Rows → ℕ → Row
+rowNth rows k = getD (rows .row) k blank
 
 -- ---- the reduced chi-squared
 
@@ -51,13 +51,13 @@ scaled r = square (bits (r .residual) ⊘ r .sigma)
 module _ (rows : Rows) where
   -- the sum over the first k rows
   pub squares : ℕ → Float
-  squares k = sumTo (λ k. scaled (rowAt rows k)) k
+  squares k = sumTo (λ k. scaled (rowNth rows k)) k
 
   pub squares-zero : +0 ≡ squares 0
   unfolding squares
   squares-zero = sym (sumTo-zero _)
 
-  pub squares-next : (k : ℕ) (s y z : Float) → s ≡ squares k → y ≡ bits (rowAt rows k .residual) → z ≡ square (y ⊘ rowAt rows k .sigma) → s ⊕ z ≡ squares (k + 1)
+  pub squares-next : (k : ℕ) (s y z : Float) → s ≡ squares k → y ≡ bits (rowNth rows k .residual) → z ≡ square (y ⊘ rowNth rows k .sigma) → s ⊕ z ≡ squares (k + 1)
   unfolding squares
   squares-next k s y z h y-is z-is = rw (sumTo-next, h, z-is, y-is)
 
@@ -71,16 +71,16 @@ module _ (rows : Rows) where
 
     -- ---- the unweighted matrix
 
-    pub plain-is : (n : ℕ) → triangleOf n (sums (λ r p q. at (wide r) p ⊗ at (wide r) q) (rowAt rows) (rows .count)) ≡ plainMatrix n (counted rows)
+    pub plain-is : (n : ℕ) → triangleOf n (sums (λ r p q. at (wide r) p ⊗ at (wide r) q) (rowNth rows) (rows .count)) ≡ plainMatrix n (counted rows)
     unfolding plainMatrix
-    plain-is n = sums-triangle (λ r p q. at (wide r) p ⊗ at (wide r) q) (rowAt rows) (rows .count) n ∙ ap (λ (z : List Row). triangleOf n (λ i j. total (λ r. at (wide r) i ⊗ at (wide r) j) z)) (places-take (rows .row) blank (rows .count) (omega arith))
+    plain-is n = sums-triangle (λ r p q. at (wide r) p ⊗ at (wide r) q) (rowNth rows) (rows .count) n ∙ ap (λ (z : List Row). triangleOf n (λ i j. total (λ r. at (wide r) i ⊗ at (wide r) j) z)) (places-take (rows .row) blank (rows .count) (omega arith))
 
   -- the sums of its cells over the first k rows, and what one row more adds, by the wide row e that the code has of it
   abbrev pub plain : ℕ → ℕ → ℕ → Float
-  plain = sums (λ r p q. at (wide r) p ⊗ at (wide r) q) (rowAt rows)
+  plain = sums (λ r p q. at (wide r) p ⊗ at (wide r) q) (rowNth rows)
 
-  pub plain-next : (k : ℕ) (e : List Float) → e ≡ wide (rowAt rows k) → (p q : ℕ) (s : Float) → s ≡ plain k p q → s ⊕ at e p ⊗ at e q ≡ plain (k + 1) p q
-  plain-next k e e-is p q s h = sums-next (λ r p q. at (wide r) p ⊗ at (wide r) q) (rowAt rows) k p q s _ h (rw e-is)
+  pub plain-next : (k : ℕ) (e : List Float) → e ≡ wide (rowNth rows k) → (p q : ℕ) (s : Float) → s ≡ plain k p q → s ⊕ at e p ⊗ at e q ≡ plain (k + 1) p q
+  plain-next k e e-is p q s h = sums-next (λ r p q. at (wide r) p ⊗ at (wide r) q) (rowNth rows) k p q s _ h (rw e-is)
 
 -- ---- the inverse's diagonal
 

@@ -5,7 +5,7 @@ use mathlib.Core.List.{List, [], _∷_}
 use lib.ListN.{set, replicate}
 use lib.Ieee.{Float, add, sub, mul, div, ofInt, ofBits}
 use Rattle.exact.specs.Products.{lessProducts}
-use Rattle.exact.specs.Float.{+0, 1·0, bits, whole, decimal}
+use Rattle.exact.specs.Float.{+0, 1·0, whole, decimal}
 use Rattle.root.specs.Root.{rootOf}
 use Rattle.numeric.specs.Real.{square}
 use Rattle.cholesky.specs.Factor.{zeros, withForward, forwardTo, withBack, backTo, solutionOf}

@@ -1,5 +1,4 @@
 -- What comes before the rounds: the rows, their clocks, and the rules in document 01's order. Definitions only.
-use Prim.Native.Nat.{_-_}
 use mathlib.Core.List.{List, _++_}
 use lib.ListN.{length}
 use lib.Ieee.{Float}

@@ -1,14 +1,15 @@
 -- Sixty-four bits that are printed are read again, and sixteen digits that were read are printed as they stood. Assumes nothing.
-use mathlib.Core.Path.{_≡_, refl, sym, ap, subst, _∙_}
+use mathlib.Core.Path.{_≡_, refl, sym, ap, _∙_}
 use mathlib.Core.Bool.{Bool, true, false, cond, _&&_}
 use mathlib.Core.List.{List, [], _∷_, _++_, append-nil}
 use Prim.Native.Nat.{ℕ, zero, suc, _+_, _-_, _*_, _/_, _%_, _^_, _<_}
 use native.Mathlib.Nat.{add-zero}
 use native.Mathlib.Omega.{arith}
-use lib.Dec.{T, eqb, ltb, leb}
+use lib.Dec.{eqb, ltb, leb}
 use borrow.Author.Tests.{lt-ltb, le-ltb, ltb-true, ltb-false, leb-true, leb-false, le-leb, lt-leb, eqb-true}
 use lib.ListN.{length}
 use lib.Seq.{append-snoc}
+use Rattle.walk.proofs.Walk.{and-both}
 use Rattle.walk.specs.Walk.{every}
 use Rattle.line_form.specs.Field.{isHexDigit, hexValue, hex, isFloat, patternIn}
 use Rattle.line_form.specs.Print.{glyph, digitsText, hexText}
@@ -53,10 +54,6 @@ hex-append : (n : ℕ) (s : List ℕ) (b : ℕ) → hex n (s ++ (b ∷ [])) ≡ 
 unfolding hex
 hex-append n [] b = refl
 hex-append n (x ∷ s) b = hex-append (n * 16 + hexValue x) s b
-
-and-both : (t u : Bool) → (t && u) ≡ true → (t ≡ true) × (u ≡ true)
-and-both true u e = (refl, e)
-and-both false u e = absurd (subst T (sym e) tt)
 
 pub every-append : (test : ℕ → Bool) (s : List ℕ) (b : ℕ) → every test s ≡ true → test b ≡ true → every test (s ++ (b ∷ [])) ≡ true
 unfolding every

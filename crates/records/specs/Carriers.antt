@@ -7,8 +7,8 @@ use lib.Dec.{leb}
 use lib.ListN.{getD, length, take}
 use lib.IntN.{ℤ, pos}
 use lib.Ieee.{Float, nan}
+use Rattle.walk.specs.Walk.{places}
 use Rattle.numeric.specs.declared.vec3.Vec3.{Vec3}
-use Rattle.robust.specs.Columns.{places}
 use Rattle.records.specs.declared.record.Carrier.{Carrier}
 use Rattle.records.specs.declared.record.Epoch.{Epoch}
 

@@ -4,7 +4,7 @@ use Prim.Native.Nat.{ℕ, _≤_}
 use mathlib.Core.List.{List, map}
 use lib.ListN.{getD, length, take}
 use lib.Ieee.{Float, nan}
-use Rattle.robust.specs.Columns.{places}
+use Rattle.walk.specs.Walk.{places}
 use Rattle.records.specs.declared.pair.Pair.{Pair}
 
 -- pair i of the columns, without a detector, which no round asks for

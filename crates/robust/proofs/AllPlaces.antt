@@ -12,6 +12,7 @@ use lib.Seq.{getD-set-same, getD-set-other}
 use lib.Ieee.{Float, nan, binary64, ofBits, fits}
 use lib.Ieee.Fits.{mul-fits, div-fits}
 use lib.Ieee.Scale.{finite}
+use Rattle.walk.specs.Walk.{places}
 use Rattle.exact.specs.Float.{_⊗_, +0, 1·0, bits}
 use Rattle.exact.proofs.Ops.{mul-finite}
 use Rattle.cholesky.specs.Factor.{at, row, cell}
@@ -19,7 +20,6 @@ use Rattle.median.specs.declared.centre.CentreScale.{CentreScale}
 use Rattle.robust.specs.Nine.{nine}
 use Rattle.robust.specs.Round.{weight, wide, triangleOf}
 use Rattle.robust.specs.Normal.{Formed}
-use Rattle.robust.specs.Columns.{places}
 use Rattle.numeric.proofs.Zeros.{isZero, zero-times}
 use Rattle.robust.proofs.Zeros.{times-zero, times-one}
 use Rattle.robust.specs.declared.row.Row.{Row}

@@ -3,40 +3,20 @@ use mathlib.Core.Path.{_≡_, refl, sym, ap, _∙_}
 use Prim.Native.Nat.{ℕ, zero, suc, _+_, _≤_, _<_}
 use native.Mathlib.Nat.{not-suc-le-zero, le-of-suc-le-suc}
 use native.Mathlib.Omega.{arith}
-use mathlib.Core.List.{List, [], _∷_, map, map-append}
-use lib.ListN.{length, getD, set, take, length-append, length-set}
-use lib.Seq.{take-suc, take-all, getD-take, length-take-le}
+use mathlib.Core.List.{List, [], _∷_, map}
+use lib.ListN.{length, getD, set, take, length-set}
+use lib.Seq.{take-all, getD-take, length-take-le}
 use lib.Ieee.{Float, nan}
-use Rattle.robust.specs.Columns.{places, Columns, columns, rowAt, rowsOf}
+use Rattle.walk.specs.Walk.{places}
+use Rattle.walk.proofs.Walk.{places-map, places-take, places-ext}
+use Rattle.robust.specs.Columns.{Columns, columns, rowIn, rowsIn}
 use Rattle.robust.specs.declared.row.Row.{Row}
 use Rattle.robust.proofs.Sums.{mapped-next}
 
--- ---- the list of what f gives of the first places
-module _ {A : Type 0} where
-  pub places-length : (f : ℕ → A) (n : ℕ) → length (places f n) ≡ n
-  unfolding places
-  places-length f zero = refl
-  places-length f (suc n) = rw (length-append, places-length f n) (omega arith)
-
-  pub places-map : {B : Type 0} (g : A → B) (f : ℕ → A) (n : ℕ) → map g (places f n) ≡ places (λ k. g (f k)) n
-  unfolding places
-  places-map g f zero = refl
-  places-map g f (suc n) = rw (map-append, places-map g f n)
-
-  pub places-take : (xs : List A) (d : A) (n : ℕ) → n ≤ length xs → places (λ k. getD xs k d) n ≡ take n xs
-  unfolding places
-  places-take xs d zero h = refl
-  places-take xs d (suc n) h = rw (take-suc xs n d h, places-take xs d n (omega arith))
-
-  pub places-ext : (f g : ℕ → A) (n : ℕ) → ((k : ℕ) → k < n → f k ≡ g k) → places f n ≡ places g n
-  unfolding places
-  places-ext f g zero e = refl
-  places-ext f g (suc n) e = rw (places-ext f g n (λ k h. e k (omega arith)), e n (omega arith))
-
 -- the residuals of the columns' rows
-pub residuals-of : (c : Columns) → map (λ (r : Row). r .residual) (rowsOf c) ≡ c .residual
+pub residuals-of : (c : Columns) → map (λ (r : Row). r .residual) (rowsIn c) ≡ c .residual
 residuals-of c =
-    places-map (λ (r : Row). r .residual) (rowAt c) (length (c .residual))
+    places-map (λ (r : Row). r .residual) (rowIn c) (length (c .residual))
     ∙ places-take (c .residual) 0 (length (c .residual)) (omega arith) ∙ take-all (length (c .residual)) (c .residual) (omega arith)
 
 -- ---- an array that is filled with what f gives of each element
@@ -70,7 +50,7 @@ module _ {A : Type 0} (f : A → Row) (xs : List A) (d : A) (n : ℕ) (fits : n 
   abbrev all : Columns
   all = columns x y z clock sigma (take n residual)
 
-  row-is : (k : ℕ) → k < n → rowAt all k ≡ f (getD xs k d)
+  row-is : (k : ℕ) → k < n → rowIn all k ≡ f (getD xs k d)
   row-is k h =
       let ex = filled-at (λ a. f a .unit .x) xs x n k d nan fits h xs-are in
       let ey = filled-at (λ a. f a .unit .y) xs y n k d nan fits h ys-are in
@@ -80,7 +60,7 @@ module _ {A : Type 0} (f : A → Row) (xs : List A) (d : A) (n : ℕ) (fits : n 
       let er = getD-take n residual k 0 h ∙ filled-at (λ a. f a .residual) xs residual n k d 0 fits h (residuals-are .so-far) in
       rw (ex, ey, ez, ec, es, er)
 
-  pub rows-are : rowsOf all ≡ map f (take n xs)
+  pub rows-are : rowsIn all ≡ map f (take n xs)
   rows-are =
       let e : length (take n residual) ≡ n = length-take-le n residual (omega (arith, residuals-are .long)) in
-      ap (places (rowAt all)) e ∙ places-ext (rowAt all) (λ k. f (getD xs k d)) n row-is ∙ sym (places-map f (λ k. getD xs k d) n) ∙ ap (map f) (places-take xs d n fits)
+      ap (places (rowIn all)) e ∙ places-ext (rowIn all) (λ k. f (getD xs k d)) n row-is ∙ sym (places-map f (λ k. getD xs k d) n) ∙ ap (map f) (places-take xs d n fits)

@@ -7,6 +7,7 @@ use mathlib.Core.List.{List}
 use lib.Dec.{ltb, leb, eqb}
 use borrow.Author.Tests.{le-ltb, le-leb, eq-eqb, ne-eqb}
 use lib.Ieee.{Float, nan}
+use Rattle.walk.specs.Walk.{places}
 use Rattle.exact.specs.Float.{_⊕_, _⊗_, +0, 1·0, bits}
 use Rattle.cholesky.specs.Factor.{at, Factored, Refused, Lower, factorOf, solutionOf, Unused, UnusedPlaces}
 use Rattle.cholesky.specs.Answer.{rowsAfter}
@@ -14,7 +15,6 @@ use Rattle.cholesky.specs.Answer as factor
 use Rattle.median.specs.declared.centre.CentreScale.{CentreScale}
 use Rattle.robust.specs.Nine.{nine}
 use Rattle.robust.specs.Round.{weight, wide, total, cellOf, sideOf, triangleOf, matrixOf, rightOf, solved, roundBy}
-use Rattle.robust.specs.Columns.{places}
 use Rattle.robust.specs.Normal.{Formed, Solving}
 use Rattle.robust.specs.declared.row.Row.{Row}
 use Rattle.robust.proofs.NineLaws.{nine-at, cell-at}

@@ -16,7 +16,7 @@ use Rattle.median.specs.declared.centre.CentreScale.{CentreScale}
 use Rattle.robust.specs.Round.{weight, Outcome, Refused, Solved, roundBy, roundOf}
 use Rattle.robust.specs.Normal.{Solving}
 use Rattle.robust.specs.Step.{counted, indexed, firstOf, refused, outcome, stepOf}
-use Rattle.robust.specs.Columns.{Columns, rowsOf}
+use Rattle.robust.specs.Columns.{Columns, rowsIn}
 use Rattle.robust.specs.declared.row.Rows.{Rows}
 use Rattle.robust.specs.declared.round.Stepping.the-variants as Stepping
 use Rattle.robust.proofs.ColumnLaws.{residuals-of}
@@ -31,12 +31,12 @@ module _ (columns : Columns) (few : length (columns .residual) ≤ 64) where
   pub never-refused : {A : Type 0} (r : Refusal) → NoCentre r ≡ centreScaleOf (columns .residual) → A
   never-refused r e = absurd (let h = e ∙ centre-of (columns .residual) few in let z : _≡_ {A = ℕ} 0 1 = cc in omega arith)
 
-  pub round-solving : (n : ℕ) (huber : Float) (c : CentreScale) (ok : Bool) (x y : List Float) → Of c ≡ centreScaleOf (columns .residual) → Solving (roundBy (weight c huber) (rowsOf columns) n) ok x y → Solving (roundOf (rowsOf columns) n huber) ok x y
+  pub round-solving : (n : ℕ) (huber : Float) (c : CentreScale) (ok : Bool) (x y : List Float) → Of c ≡ centreScaleOf (columns .residual) → Solving (roundBy (weight c huber) (rowsIn columns) n) ok x y → Solving (roundOf (rowsIn columns) n huber) ok x y
   unfolding roundOf
   round-solving n huber c ok x y e s =
       let h = e ∙ centre-of (columns .residual) few in
       let q : c ≡ centreAndScaleOf (columns .residual) = cc in
-      subst (λ z. Solving (roundBy (weight z huber) (rowsOf columns) n) ok x y) (q ∙ ap centreAndScaleOf (sym (residuals-of columns))) s
+      subst (λ z. Solving (roundBy (weight z huber) (rowsIn columns) n) ok x y) (q ∙ ap centreAndScaleOf (sym (residuals-of columns))) s
 
 module _ (rows : Rows) (n : ℕ) (huber : Float) (dx : List Float) where
   pub step-many : 64 < rows .count → refused TooMany dx ≡ stepOf rows n huber dx

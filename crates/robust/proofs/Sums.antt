@@ -7,8 +7,8 @@ use mathlib.Core.List.{List, [], _∷_, _++_, map, map-append, foldl}
 use lib.ListN.{length, getD, set, take}
 use lib.Seq.{take-suc, take-suc-set}
 use lib.Ieee.{Float, nan}
+use Rattle.walk.specs.Walk.{places}
 use Rattle.exact.specs.Float.{_⊕_, +0}
-use Rattle.robust.specs.Columns.{places}
 use Rattle.robust.specs.Round.{total}
 use Rattle.robust.specs.declared.row.Row.{Row}
 

@@ -1,14 +1,10 @@
 -- The rows of a round as columns of numbers, place by place. Definitions only.
-use Prim.Native.Nat.{ℕ, zero, suc}
-use mathlib.Core.List.{List, [], _∷_, _++_}
+use Prim.Native.Nat.{ℕ}
+use mathlib.Core.List.{List}
 use lib.ListN.{getD, length}
 use lib.Ieee.{Float, nan}
+use Rattle.walk.specs.Walk.{places}
 use Rattle.robust.specs.declared.row.Row.{Row}
-
--- what f gives of the places 0 to n - 1
-unfoldable pub places : {A : Type 0} → (ℕ → A) → ℕ → List A
-places f zero = []
-places f (suc n) = places f n ++ (f n ∷ [])
 
 -- the coordinates of the lines of sight, and the rows' other numbers
 pub record Columns : Type 0 where
@@ -23,8 +19,8 @@ abbrev pub columns : List Float → List Float → List Float → List ℕ → L
 columns x y z clock sigma residual = record { x = x; y = y; z = z; clock = clock; sigma = sigma; residual = residual }
 
 -- row k
-abbrev pub rowAt : Columns → ℕ → Row
-rowAt c k =
+abbrev pub rowIn : Columns → ℕ → Row
+rowIn c k =
     record {
       unit = record { x = getD (c .x) k nan; y = getD (c .y) k nan; z = getD (c .z) k nan };
       clock = getD (c .clock) k 0;
@@ -33,5 +29,5 @@ rowAt c k =
     }
 
 -- as many rows as there are residuals
-abbrev pub rowsOf : Columns → List Row
-rowsOf c = places (rowAt c) (length (c .residual))
+abbrev pub rowsIn : Columns → List Row
+rowsIn c = places (rowIn c) (length (c .residual))

@@ -7,7 +7,7 @@ ghost use lib.ListN.{take, length};
 ghost use Rattle.walk.specs.Walk.{every};
 ghost use Rattle.robust.specs.Round as spec;
 ghost use Rattle.robust.specs.Normal as code;
-ghost use Rattle.robust.specs.Columns.{columns, rowsOf};
+ghost use Rattle.robust.specs.Columns.{columns, rowsIn};
 ghost use Rattle.robust.specs.Step.{counted, indexed, firstOf, stepOf};
 use crate::row::Row;
 use crate::row::Rows;
@@ -54,7 +54,7 @@ fn form(
     b: &mut [f64; 9],
 )
     requires { ⌜ (length (now residual) ≤ 64) × (n ≤ 9) ⌝ }
-    ensures { λ _. ⌜ code.Formed (spec.weight c huber) (rowsOf (columns (now (x .entry)) (now (y .entry)) (now (z .entry)) (now (clock .entry)) (now (sigma .entry)) (now (residual .entry)))) n (now (a .exit)) (now (b .exit)) ⌝ }
+    ensures { λ _. ⌜ code.Formed (spec.weight c huber) (rowsIn (columns (now (x .entry)) (now (y .entry)) (now (z .entry)) (now (clock .entry)) (now (sigma .entry)) (now (residual .entry)))) n (now (a .exit)) (now (b .exit)) ⌝ }
 {
     unused(n, a);
     *b = [0.0; 9];
@@ -103,7 +103,7 @@ fn form_by_places(
     b: &mut [f64; 9],
 ) -> bool
     requires { ⌜ (length (now residual) ≤ 64) × (n ≤ 9) ⌝ }
-    ensures { λ r. ⌜ (r ≡ true → code.Formed (spec.weight c huber) (rowsOf (columns (now (x .entry)) (now (y .entry)) (now (z .entry)) (now (clock .entry)) (now (sigma .entry)) (now (residual .entry)))) n (now (a .exit)) (now (b .exit))) ⌝ }
+    ensures { λ r. ⌜ (r ≡ true → code.Formed (spec.weight c huber) (rowsIn (columns (now (x .entry)) (now (y .entry)) (now (z .entry)) (now (clock .entry)) (now (sigma .entry)) (now (residual .entry)))) n (now (a .exit)) (now (b .exit))) ⌝ }
 {
     if n < 3 {
         return false;
@@ -188,7 +188,7 @@ fn normal(
     b: &mut [f64; 9],
 )
     requires { ⌜ (length (now residual) ≤ 64) × (n ≤ 9) ⌝ }
-    ensures { λ _. ⌜ code.Formed (spec.weight c huber) (rowsOf (columns (now (x .entry)) (now (y .entry)) (now (z .entry)) (now (clock .entry)) (now (sigma .entry)) (now (residual .entry)))) n (now (a .exit)) (now (b .exit)) ⌝ }
+    ensures { λ _. ⌜ code.Formed (spec.weight c huber) (rowsIn (columns (now (x .entry)) (now (y .entry)) (now (z .entry)) (now (clock .entry)) (now (sigma .entry)) (now (residual .entry)))) n (now (a .exit)) (now (b .exit)) ⌝ }
 {
     if form_by_places(x, y, z, clock, sigma, residual, n, c, huber, a, b) {
         return;
@@ -220,7 +220,7 @@ pub fn round_step(
     dx: &mut [f64; 9],
 ) -> bool
     requires { ⌜ (length (now residual) ≤ 64) × (n ≤ 9) ⌝ }
-    ensures { λ r. ⌜ code.Solving (spec.roundOf (rowsOf (columns (now (x .entry)) (now (y .entry)) (now (z .entry)) (now (clock .entry)) (now (sigma .entry)) (now (residual .entry)))) n huber) r (now (dx .entry)) (now (dx .exit)) ⌝ }
+    ensures { λ r. ⌜ code.Solving (spec.roundOf (rowsIn (columns (now (x .entry)) (now (y .entry)) (now (z .entry)) (now (clock .entry)) (now (sigma .entry)) (now (residual .entry)))) n huber) r (now (dx .entry)) (now (dx .exit)) ⌝ }
 {
     let Centre::Of(c) = centre_scale(residual) else {
         return false;

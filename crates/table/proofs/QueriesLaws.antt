@@ -10,8 +10,8 @@ use lib.Dec.{ltb}
 use borrow.Author.Tests.{ltb-false, lt-ltb, le-ltb, not-true, not-false}
 use lib.Ieee.{Float, nan}
 use lib.Ieee.Scale.{finite}
-use Rattle.walk.specs.Walk.{firsts}
-use Rattle.walk.proofs.Walk.{firsts-length, firsts-at}
+use Rattle.walk.specs.Walk.{places}
+use Rattle.walk.proofs.Walk.{places-length, places-at, or-no}
 use Rattle.numeric.specs.Real.{inRange}
 use Rattle.numeric.specs.declared.refusal.Refusal.{Refusal}
 use Rattle.numeric.specs.declared.refusal.Refusal.the-variants.{TooMany, SettingOutOfRange, RecordOutOfRange}
@@ -47,13 +47,13 @@ module _ {A : Type 0} (f : Correction → A → A) where
   more (b ∷ l) a [] d = refl
   more (b ∷ l) a (x ∷ xs) d = ap (λ (z : List A). f b x ∷ z) (more l a xs d)
 
-  pub written-next : (a : ℕ → Correction) (i : ℕ) (xs₀ xs : List A) (d : A) (r : Correction) (x : A) → xs ≡ written f (firsts a i) xs₀ → r ≡ a i → x ≡ f r (getD xs i d)
-      → set xs i x ≡ written f (firsts a (i + 1)) xs₀
-  unfolding firsts
-  written-next a i xs₀ xs d r x h e k = rw (add-one i, k, e, h) (at i (firsts-length a i))
+  pub written-next : (a : ℕ → Correction) (i : ℕ) (xs₀ xs : List A) (d : A) (r : Correction) (x : A) → xs ≡ written f (places a i) xs₀ → r ≡ a i → x ≡ f r (getD xs i d)
+      → set xs i x ≡ written f (places a (i + 1)) xs₀
+  unfolding places
+  written-next a i xs₀ xs d r x h e k = rw (add-one i, k, e, h) (at i (places-length a i))
     where
-      at : (n : ℕ) → length (firsts a i) ≡ n → set (written f (firsts a i) xs₀) n (f (a i) (getD (written f (firsts a i) xs₀) n d)) ≡ written f (firsts a i ++ (a i ∷ [])) xs₀
-      at n q = rw (← q) (more (firsts a i) (a i) xs₀ d)
+      at : (n : ℕ) → length (places a i) ≡ n → set (written f (places a i) xs₀) n (f (a i) (getD (written f (places a i) xs₀) n d)) ≡ written f (places a i ++ (a i ∷ [])) xs₀
+      at n q = rw (← q) (more (places a i) (a i) xs₀ d)
 
 finite-more : (l : List Correction) (a : Correction) → EachFinite l → GivesFinite a → EachFinite (l ++ (a ∷ []))
 unfolding EachFinite
@@ -69,43 +69,39 @@ finite-at (a ∷ l) (suc i) d k h = finite-at l i d (omega arith) (h .1)
 -- ---- the loop: a is the answer at each place, of which i are written
 pub record Filling (a : ℕ → Correction) (count : ℕ) (numbers₀ : List ℕ) (metres₀ : List Float) (numbers : List ℕ) (metres : List Float) (i : ℕ) : Type 0 where
   pub within : i ≤ count
-  pub numbers-so-far : numbers ≡ written numberAfter (firsts a i) numbers₀
-  pub metres-so-far : metres ≡ written metresAfter (firsts a i) metres₀
-  pub finite-so-far : EachFinite (firsts a i)
+  pub numbers-so-far : numbers ≡ written numberAfter (places a i) numbers₀
+  pub metres-so-far : metres ≡ written metresAfter (places a i) metres₀
+  pub finite-so-far : EachFinite (places a i)
 
 module _ (a : ℕ → Correction) (count : ℕ) (numbers₀ : List ℕ) (metres₀ : List Float) where
   pub filling-start : Filling a count numbers₀ metres₀ numbers₀ metres₀ 0
-  unfolding firsts written EachFinite
+  unfolding places written EachFinite
   filling-start = record { within = omega arith; numbers-so-far = refl; metres-so-far = refl; finite-so-far = tt }
 
   module _ (numbers : List ℕ) (metres : List Float) (i : ℕ) (s : Filling a count numbers₀ metres₀ numbers metres i) where
     pub filling-numbers : length numbers ≡ length numbers₀
-    filling-numbers = ap length (s .numbers-so-far) ∙ written-length numberAfter (firsts a i) numbers₀
+    filling-numbers = ap length (s .numbers-so-far) ∙ written-length numberAfter (places a i) numbers₀
 
     pub filling-metres : length metres ≡ length metres₀
-    filling-metres = ap length (s .metres-so-far) ∙ written-length metresAfter (firsts a i) metres₀
+    filling-metres = ap length (s .metres-so-far) ∙ written-length metresAfter (places a i) metres₀
 
     pub filling-next : i < count → (r : Correction) (x : ℕ) (y : Float) → r ≡ a i → GivesFinite r → x ≡ queryNumber r → y ≡ metresAfter r (getD metres i nan)
         → Filling a count numbers₀ metres₀ (set numbers i x) (set metres i y) (i + 1)
-    unfolding firsts
+    unfolding places
     filling-next h r x y e g p q =
         record {
           within = omega arith;
           numbers-so-far = written-next numberAfter a i numbers₀ numbers 0 r x (s .numbers-so-far) e p;
           metres-so-far = written-next metresAfter a i metres₀ metres nan r y (s .metres-so-far) e q;
-          finite-so-far = rw (add-one i) (finite-more (firsts a i) (a i) (s .finite-so-far) (rw e at g));
+          finite-so-far = rw (add-one i) (finite-more (places a i) (a i) (s .finite-so-far) (rw e at g));
         }
 
-    pub filling-end : count ≤ i → Replies (answers (firsts a count)) Answered numbers₀ metres₀ numbers metres
+    pub filling-end : count ≤ i → Replies (answers (places a count)) Answered numbers₀ metres₀ numbers metres
     filling-end h =
         let z : i ≡ count = omega (arith, s .within) in
         rw (← z) (record { answer = refl; numbers-after = s .numbers-so-far; metres-after = s .metres-so-far; all-finite = s .finite-so-far })
 
 -- ---- columns that are long enough
-or-no : (a b : Bool) → (a || b) ≡ false → (a ≡ false) × (b ≡ false)
-or-no false b e = (refl, e)
-or-no true b e = absurd (let z : _≡_ {A = ℕ} 0 1 = cc in omega arith)
-
 pub record Long (count : ℕ) (c v b : List ℕ) (t : List Float) (numbers : List ℕ) (metres : List Float) : Type 0 where
   pub in-c : count ≤ length c
   pub in-v : count ≤ length v
@@ -165,7 +161,7 @@ module _ (n room r : ℕ) (e : r ≡ room) (l : List Sample) (gap : Float) (c v 
           pub passes : Passed n room l gap
           passes = record { few = omega arith; in-range = sym eq ∙ not-false q u; steady = sym ey ∙ not-false y z }
 
-          pub all-answered : queriesOf n room l gap c v b t count numbers metres ≡ answers (firsts (queryAt n room l gap c v b t) count)
+          pub all-answered : queriesOf n room l gap c v b t count numbers metres ≡ answers (places (queryAt n room l gap c v b t) count)
           unfolding queriesOf
           all-answered = rw (few, sym es ∙ w, sym eq ∙ not-false q u, sym ey ∙ not-false y z)
 
@@ -173,12 +169,12 @@ module _ (n room r : ℕ) (e : r ≡ room) (l : List Sample) (gap : Float) (c v 
 module _ (n room : ℕ) (l : List Sample) (gap : Float) (c v b : List ℕ) (t : List Float) (count : ℕ) (numbers : List ℕ) (metres : List Float) where
   -- where the call answers, its columns are long enough and its reply has the query at each place
   answering : askingOf (queriesOf n room l gap c v b t count numbers metres) ≡ Answered
-      → (short count c v b t numbers metres ≡ false) × (queriesOf n room l gap c v b t count numbers metres ≡ answers (firsts (queryAt n room l gap c v b t) count))
+      → (short count c v b t numbers metres ≡ false) × (queriesOf n room l gap c v b t count numbers metres ≡ answers (places (queryAt n room l gap c v b t) count))
   unfolding queriesOf
   answering = go (ltb room n) (short count c v b t numbers metres) (not (inRange gap)) (not (sound l))
     where
       all : Reply
-      all = answers (firsts (queryAt n room l gap c v b t) count)
+      all = answers (places (queryAt n room l gap c v b t) count)
 
       go : (w x y z : Bool) → askingOf (cond (w || x) (refusal TooMany) (cond y (refusal SettingOutOfRange) (cond z (refusal RecordOutOfRange) all))) ≡ Answered
           → (x ≡ false) × (cond (w || x) (refusal TooMany) (cond y (refusal SettingOutOfRange) (cond z (refusal RecordOutOfRange) all)) ≡ all)
@@ -189,35 +185,35 @@ module _ (n room : ℕ) (l : List Sample) (gap : Float) (c v b : List ℕ) (t : 
       go false false false false e = (refl, refl)
 
   module _ (numbers′ : List ℕ) (metres′ : List Float) (h : Replies (queriesOf n room l gap c v b t count numbers metres) Answered numbers metres numbers′ metres′) (i : ℕ) (k : i < count) where
-    is : Replies (answers (firsts (queryAt n room l gap c v b t) count)) Answered numbers metres numbers′ metres′
+    is : Replies (answers (places (queryAt n room l gap c v b t) count)) Answered numbers metres numbers′ metres′
     is = same-reply (sym (answering (sym (h .answer)) .1)) h
 
     long : Long count c v b t numbers metres
     long = not-short count c v b t numbers metres (answering (sym (h .answer)) .0)
 
-    answer : (d : Correction) → getD (firsts (queryAt n room l gap c v b t) count) i d ≡ queryAt n room l gap c v b t i
-    answer d = firsts-at (queryAt n room l gap c v b t) count i d k
+    answer : (d : Correction) → getD (places (queryAt n room l gap c v b t) count) i d ≡ queryAt n room l gap c v b t i
+    answer d = places-at (queryAt n room l gap c v b t) count i d k
 
     nothing : Correction
     nothing = Correction.Refused TooMany
 
-    inside : i < length (firsts (queryAt n room l gap c v b t) count)
-    inside = omega (arith, firsts-length (queryAt n room l gap c v b t) count)
+    inside : i < length (places (queryAt n room l gap c v b t) count)
+    inside = omega (arith, places-length (queryAt n room l gap c v b t) count)
 
     -- the number of each place is that of the query there
     pub number-at : getD numbers′ i 0 ≡ queryNumber (queryAt n room l gap c v b t i)
     number-at =
-        ap (λ (x : List ℕ). getD x i 0) (is .numbers-after) ∙ written-at numberAfter (firsts (queryAt n room l gap c v b t) count) numbers i nothing 0 inside (omega (arith, long .in-numbers)) ∙ ap queryNumber (answer nothing)
+        ap (λ (x : List ℕ). getD x i 0) (is .numbers-after) ∙ written-at numberAfter (places (queryAt n room l gap c v b t) count) numbers i nothing 0 inside (omega (arith, long .in-numbers)) ∙ ap queryNumber (answer nothing)
 
     -- its metres are those of the query there, and as they were where that is refused
     pub metres-at : getD metres′ i nan ≡ metresAfter (queryAt n room l gap c v b t i) (getD metres i nan)
     metres-at =
-        ap (λ (x : List Float). getD x i nan) (is .metres-after) ∙ written-at metresAfter (firsts (queryAt n room l gap c v b t) count) metres i nothing nan inside (omega (arith, long .in-metres))
+        ap (λ (x : List Float). getD x i nan) (is .metres-after) ∙ written-at metresAfter (places (queryAt n room l gap c v b t) count) metres i nothing nan inside (omega (arith, long .in-metres))
         ∙ ap (λ (a : Correction). metresAfter a (getD metres i nan)) (answer nothing)
 
     -- and every correction given is finite
     pub finite-there : GivesFinite (queryAt n room l gap c v b t i)
-    finite-there = subst GivesFinite (answer nothing) (finite-at (firsts (queryAt n room l gap c v b t) count) i nothing inside (is .all-finite))
+    finite-there = subst GivesFinite (answer nothing) (finite-at (places (queryAt n room l gap c v b t) count) i nothing inside (is .all-finite))
 
   -- where the samples are too many or the lent columns are long enough, and the call is refused, every query of the table is refused by the same number
   pub each-refused : (ltb room n || not (short count c v b t numbers metres)) ≡ true → (r : Refusal) → queriesOf n room l gap c v b t count numbers metres ≡ refusal r
@@ -225,7 +221,7 @@ module _ (n room : ℕ) (l : List Sample) (gap : Float) (c v b : List ℕ) (t : 
   unfolding queriesOf queryOf
   each-refused h r e c′ v′ b′ t′ = go (ltb room n) (short count c v b t numbers metres) (not (inRange gap)) (sound l) h e
     where
-      go : (w x y z : Bool) → (w || not x) ≡ true → cond (w || x) (refusal TooMany) (cond y (refusal SettingOutOfRange) (cond (not z) (refusal RecordOutOfRange) (answers (firsts (queryAt n room l gap c v b t) count)))) ≡ refusal r
+      go : (w x y z : Bool) → (w || not x) ≡ true → cond (w || x) (refusal TooMany) (cond y (refusal SettingOutOfRange) (cond (not z) (refusal RecordOutOfRange) (answers (places (queryAt n room l gap c v b t) count)))) ≡ refusal r
           → cond w (Correction.Refused TooMany) (cond y (Correction.Refused SettingOutOfRange) (cond (not (z && (inRange t′ || not (finite t′)))) (Correction.Refused RecordOutOfRange) (answerAt l gap c′ v′ b′ t′))) ≡ Correction.Refused r
       go true x y z p q = let k : TooMany ≡ r = cc in ap Correction.Refused k
       go false true y z p q = absurd (let k : _≡_ {A = ℕ} 0 1 = cc in omega arith)

@@ -6,7 +6,7 @@ use mathlib.Core.List.{List, [], _∷_}
 use lib.ListN.{length, getD}
 use lib.Dec.{ltb}
 use lib.Ieee.{Float, nan}
-use Rattle.walk.specs.Walk.{firsts}
+use Rattle.walk.specs.Walk.{places}
 use Rattle.numeric.specs.Real.{inRange}
 use Rattle.numeric.specs.declared.refusal.Refusal.{Refusal}
 use Rattle.numeric.specs.declared.refusal.Refusal.the-variants.{TooMany, SettingOutOfRange, RecordOutOfRange}
@@ -39,7 +39,7 @@ queriesOf n room ss gap c v b t count numbers metres =
     cond (ltb room n || short count c v b t numbers metres) (refusal TooMany)
     (cond (not (inRange gap)) (refusal SettingOutOfRange)
     (cond (not (sound ss)) (refusal RecordOutOfRange)
-    (answers (firsts (queryAt n room ss gap c v b t) count))))
+    (answers (places (queryAt n room ss gap c v b t) count))))
 
 -- ---- what a call leaves
 

@@ -1,7 +1,7 @@
 // Many queries of one table, which is tested once.
 ghost use mathlib.Core.Path.{_≡_};
 ghost use mathlib.Core.Bool.{false};
-ghost use Rattle.walk.specs.Walk.{firsts};
+ghost use Rattle.walk.specs.Walk.{places};
 ghost use Rattle.table.specs.Table.{capacity, tableOf};
 ghost use Rattle.table.specs.Query.{queryNumber, metresAfter, Passed};
 ghost use Rattle.table.specs.declared.queries.Asking.the-variants.{Answered};
@@ -78,7 +78,7 @@ fn fill(
 )
     requires { ⌜ Passed n (capacity (now cs) (now vs) (now bs) (now ts) (now xs)) (tableOf n (now cs) (now vs) (now bs) (now ts) (now xs)) gap ⌝ }
     requires { ⌜ short count (now c) (now v) (now b) (now t) (now numbers) (now metres) ≡ false ⌝ }
-    ensures { λ _. ⌜ Replies (answers (firsts (queryAt n (capacity (now (cs .entry)) (now (vs .entry)) (now (bs .entry)) (now (ts .entry)) (now (xs .entry)))
+    ensures { λ _. ⌜ Replies (answers (places (queryAt n (capacity (now (cs .entry)) (now (vs .entry)) (now (bs .entry)) (now (ts .entry)) (now (xs .entry)))
         (tableOf n (now (cs .entry)) (now (vs .entry)) (now (bs .entry)) (now (ts .entry)) (now (xs .entry))) gap
         (now (c .entry)) (now (v .entry)) (now (b .entry)) (now (t .entry))) count)) Answered
         (now (numbers .entry)) (now (metres .entry)) (now (numbers .exit)) (now (metres .exit)) ⌝ }

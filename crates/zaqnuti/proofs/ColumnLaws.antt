@@ -8,10 +8,9 @@ use native.Mathlib.Omega.{arith}
 use lib.ListN.{length, take, set, length-set}
 use lib.Seq.{take-all, take-suc-set}
 use borrow.Author.Tests.{leb-true}
+use Rattle.walk.proofs.Walk.{places-length, and-both}
+use Rattle.walk.specs.Walk.{places}
 use Rattle.records.specs.Record.{Holds}
-use Rattle.robust.specs.Columns.{places}
-use Rattle.robust.proofs.ColumnLaws.{places-length}
-use Rattle.records.proofs.CarrierLaws.{both}
 use Rattle.zaqnuti.specs.Columns.{RowColumns, rowsFit, ObservationColumns, observationsFit}
 
 -- an array of 64 of which the first i of n places have been stored, and its count
@@ -26,6 +25,9 @@ module _ {A : Type 0} (f : ℕ → A) (n : ℕ) (array : List A) where
   unfolding places
   filling-start long = record { within = omega arith; long = long; count-is = refl; so-far = refl }
 
+  pub filled : {count i : ℕ} → Filling f n array count i → n ≤ i → take n array ≡ places f n
+  filled {count} {i} h t = let q : i ≡ n = omega (arith, h .within) in rw q at (h .so-far)
+
   module _ (few : n ≤ 64) {count i : ℕ} (h : Filling f n array count i) where
     pub filling-next : i < n → Filling f n (set array i (f i)) count (i + 1)
     unfolding places
@@ -38,9 +40,7 @@ module _ {A : Type 0} (f : ℕ → A) (n : ℕ) (array : List A) where
         }
 
     pub filling-end : n ≤ i → Holds count array (places f n)
-    filling-end t =
-        let q : i ≡ n = omega (arith, h .within) in
-        rw (h .count-is) (record { room = few; count = sym (places-length f n); all = rw q at (h .so-far) })
+    filling-end t = rw (h .count-is) (record { room = few; count = sym (places-length f n); all = filled h t })
 
 -- an array that holds the first n places counts what the list of them counts
 module _ {A : Type 0} (f : ℕ → A) (n : ℕ) {count : ℕ} {array : List A} (h : Holds count array (places f n)) where
@@ -62,10 +62,10 @@ pub record RowRoom (c : RowColumns) (n : ℕ) : Type 0 where
 pub rows-room : (c : RowColumns) (n : ℕ) → rowsFit c n ≡ true → RowRoom c n
 unfolding rowsFit
 rows-room c n e =
-    let p = both _ _ e in
-    let q = both _ _ (p .0) in
-    let r = both _ _ (q .0) in
-    let s = both _ _ (r .0) in
+    let p = and-both _ _ e in
+    let q = and-both _ _ (p .0) in
+    let r = and-both _ _ (q .0) in
+    let s = and-both _ _ (r .0) in
     record {
       few = leb-true _ _ (s .0);
       units = leb-true _ _ (s .1);
@@ -82,6 +82,6 @@ pub record ObservationRoom (c : ObservationColumns) (n : ℕ) : Type 0 where
 pub observations-room : (c : ObservationColumns) (n : ℕ) → observationsFit c n ≡ true → ObservationRoom c n
 unfolding observationsFit
 observations-room c n e =
-    let p = both _ _ e in
-    let q = both _ _ (p .0) in
+    let p = and-both _ _ e in
+    let q = and-both _ _ (p .0) in
     record { few = leb-true _ _ (q .0); constellation = leb-true _ _ (q .1); floats = leb-true _ _ (p .1) }

@@ -5,12 +5,12 @@ use mathlib.Core.Bool.{true, false}
 use Prim.Native.Nat.{ℕ}
 use lib.IntN.{pos}
 use lib.Ieee.{Float}
+use Rattle.walk.specs.Walk.{places}
 use Rattle.exact.specs.Float.{+0}
 use Rattle.numeric.specs.declared.refusal.Refusal.the-variants.{TooMany}
 use Rattle.robust.specs.Step.{refused}
-use Rattle.robust.specs.Columns.{places}
 use Rattle.records.specs.Carriers.{carrierColumns, carrierAt, carriersOf, epochFits}
-use Rattle.zaqnuti.specs.Columns.{RowColumns, rowColumns, rowAt, rowsOf, rowsFit, observationColumns, observationAt, observationsOf, observationsFit}
+use Rattle.zaqnuti.specs.Columns.{RowColumns, rowColumns, rowFrom, rowsFrom, rowsFit, observationColumns, observationAt, observationsOf, observationsFit}
 use Rattle.zaqnuti.specs.Numbers.{columnStepOf}
 
 module _ (a b c d e f : Float) where
@@ -18,11 +18,11 @@ module _ (a b c d e f : Float) where
   abbrev rows : RowColumns
   rows = rowColumns (a ∷ b ∷ c ∷ d ∷ e ∷ f ∷ []) (3 ∷ 4 ∷ []) (7 ∷ 8 ∷ []) (e ∷ f ∷ [])
 
-  pub both-rows : rowsOf rows 2 .row
+  pub both-rows : rowsFrom rows 2 .row
       ≡ record { unit = record { x = a; y = b; z = c }; clock = 3; residual = 7; sigma = e }
       ∷ record { unit = record { x = d; y = e; z = f }; clock = 4; residual = 8; sigma = f }
       ∷ []
-  unfolding places rowAt
+  unfolding places rowFrom
   both-rows = refl
 
   -- each column has two rows, and none a third

@@ -2,16 +2,14 @@
 use mathlib.Core.Path.{_≡_, refl, sym, ap, _∙_}
 use mathlib.Core.List.{List}
 use mathlib.Core.Bool.{Bool, true, false, cond, _||_}
-use Prim.Native.Nat.{ℕ, _+_, _*_, _≤_, _<_}
-use native.Mathlib.Numerals.{add-one}
+use Prim.Native.Nat.{ℕ, _*_, _≤_}
 use native.Mathlib.Omega.{arith}
 use borrow.Author.Tests.{ltb-false}
 use lib.Dec.{ltb}
-use lib.ListN.{length, take, set, length-set}
-use lib.Seq.{take-suc-set}
+use lib.ListN.{length, take, set}
 use lib.Ieee.{Float}
-use Rattle.walk.specs.Walk.{firsts}
-use Rattle.walk.proofs.Walk.{firsts-all}
+use Rattle.walk.specs.Walk.{places}
+use Rattle.walk.proofs.Walk.{places-all, or-no}
 use Rattle.numeric.specs.Refusal.{numberOf}
 use Rattle.numeric.specs.declared.vec3.Vec3.{Vec3}
 use Rattle.numeric.specs.declared.refusal.Refusal.{Refusal}
@@ -34,35 +32,7 @@ use Rattle.differential.specs.declared.record.Settings.{Settings}
 use Rattle.differential.proofs.EpochLaws.{added-same}
 use Rattle.zaqnuti.specs.Corrections.{rangeAt, epochOf, stateAt, statesOf, short, entryOf, Answers, Enters, EpochRead, StatesRead}
 
--- ---- the loops that read columns
-pub record Reading {A : Type 0} (f : ℕ → A) (k : ℕ) (array : List A) (i : ℕ) : Type 0 where
-  pub within : i ≤ k
-  pub long : length array ≡ 64
-  pub so-far : take i array ≡ firsts f i
-
-module _ {A : Type 0} (f : ℕ → A) (k : ℕ) (array : List A) where
-  pub reading-start : length array ≡ 64 → Reading f k array 0
-  unfolding firsts
-  reading-start e = record { within = omega arith; long = e; so-far = refl }
-
-  module _ (i : ℕ) (r : Reading f k array i) where
-    pub reading-next : i < k → k ≤ 64 → Reading f k (set array i (f i)) (i + 1)
-    unfolding firsts
-    reading-next h few =
-        record {
-          within = omega arith;
-          long = length-set array i (f i) ∙ r .long;
-          so-far = rw (add-one i, take-suc-set array i (f i) (omega (arith, r .long)), r .so-far);
-        }
-
-    pub reading-end : k ≤ i → take k array ≡ firsts f k
-    reading-end h = let e : i ≡ k = omega (arith, r .within) in rw (← e) (r .so-far)
-
 -- ---- columns that are long enough
-or-no : (a b : Bool) → (a || b) ≡ false → (a ≡ false) × (b ≡ false)
-or-no false b e = (refl, e)
-or-no true b e = absurd (let z : _≡_ {A = ℕ} 0 1 = cc in omega arith)
-
 pub few : (k w : ℕ) → (ltb 64 k || ltb 64 w) ≡ false → (k ≤ 64) × (w ≤ 64)
 few k w e = let p = or-no (ltb 64 k) (ltb 64 w) e in (ltb-false 64 k (p .0), ltb-false 64 w (p .1))
 
@@ -120,13 +90,13 @@ module _ (n room : ℕ) (t : List Sample) (time : Float) (k : ℕ) (rc rv rb : L
     unfolding entryOf
     entry-short h = rw (← ew, sym eb ∙ h)
 
-    pub entry-added : (e : BaseEpoch) (s : States) → b ≡ false → EpochRead time k (firsts (rangeAt rc rv rb rp) k) e → StatesRead present w (firsts (stateAt sc sv sb sf) w) s
+    pub entry-added : (e : BaseEpoch) (s : States) → b ≡ false → EpochRead time k (places (rangeAt rc rv rb rp) k) e → StatesRead present w (places (stateAt sc sv sb sf) w) s
         → addedOf n room t e s base rover set ≡ entryOf n room t time k rc rv rb rp present m sc sv sb sf base rover set
     unfolding entryOf
     entry-added e s h er sr =
         rw (← ew, sym eb ∙ h)
         (added-same n room t e (epochOf time k rc rv rb rp) s (statesOf present m sc sv sb sf) base rover set (er .count) (er .time-is)
-        (ap (λ (j : ℕ). take j (e .ranges)) (er .count) ∙ er .ranges ∙ sym (firsts-all (rangeAt rc rv rb rp) k))
+        (ap (λ (j : ℕ). take j (e .ranges)) (er .count) ∙ er .ranges ∙ sym (places-all (rangeAt rc rv rb rp) k))
         count
         (ap (λ (j : ℕ). take j (s .states)) (count ∙ sym ew) ∙ sr .states-are ∙ states present refl ew))
       where
@@ -137,9 +107,9 @@ module _ (n room : ℕ) (t : List Sample) (time : Float) (k : ℕ) (rc rv rb : L
             go true q = q
             go false q = refl
 
-        states : (p : Bool) → present ≡ p → w ≡ cond p m 0 → firsts (stateAt sc sv sb sf) w ≡ take (cond p m 0) (firsts (stateAt sc sv sb sf) m)
-        states true _ q = rw q (sym (firsts-all (stateAt sc sv sb sf) m))
-        states false _ q = rw q (unfold firsts in refl)
+        states : (p : Bool) → present ≡ p → w ≡ cond p m 0 → places (stateAt sc sv sb sf) w ≡ take (cond p m 0) (places (stateAt sc sv sb sf) m)
+        states true _ q = rw q (sym (places-all (stateAt sc sv sb sf) m))
+        states false _ q = rw q (unfold places in refl)
 
 -- ---- the answers
 pub enters-refused : {o : Outcome} {cs vs bs : List ℕ} {ts xs : List Float} {cs′ vs′ bs′ : List ℕ} {ts′ xs′ : List Float} (r : Refusal) (n : ℕ) {a : ℕ} {x : Adding} → a ≡ numberOf r → x ≡ Adding.Refused r

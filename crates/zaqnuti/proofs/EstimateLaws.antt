@@ -6,6 +6,7 @@ use Prim.Native.Nat.{ℕ, min, _<_}
 use native.Mathlib.Decide.{decLt}
 use native.Mathlib.Omega.{arith}
 use lib.Ieee.{Float}
+use Rattle.walk.specs.Walk.{places}
 use Rattle.numeric.specs.declared.refusal.Refusal.the-variants.{TooMany}
 use Rattle.numeric.specs.declared.vec3.Vec3.{Vec3}
 use Rattle.records.specs.Record.{Holds}
@@ -25,7 +26,6 @@ use Rattle.estimator.specs.declared.fix.Settings.{Settings as FixSettings}
 use Rattle.estimator.proofs.DisplacementSound.{displacement-accepted}
 use Rattle.estimator.proofs.FixSound.{fix-accepted}
 use Rattle.estimator.proofs.CountedLaws.{displacement-many-rounds, fix-counted, fix-many-rounds}
-use Rattle.robust.specs.Columns.{places}
 use Rattle.records.specs.Carriers.{CarrierColumns, epochFits}
 use Rattle.zaqnuti.specs.Columns.{ObservationColumns, observationAt, observationsOf, observationsFit}
 use Rattle.zaqnuti.specs.Estimates.{displacementSettings, displacementInput, columnDisplacementOf, displacementNumber, deltaAfter, countsAfter, DisplacementAnswers, fixSettings, fixInput, columnFixOf, fixNumber, solutionAfter, usedAfter, FixAnswers, positionNumber, positionAfter, PositionAnswers}

@@ -4,12 +4,12 @@ use mathlib.Core.Bool.{Bool, true, false}
 use mathlib.Core.List.{List}
 use Prim.Native.Nat.{ℕ}
 use lib.Ieee.{Float}
+use Rattle.walk.specs.Walk.{places}
 use Rattle.numeric.specs.declared.refusal.Refusal.the-variants.{TooMany}
 use Rattle.robust.specs.Step.{Stepped, counted, refused, stepOf}
 use Rattle.robust.specs.declared.row.Rows.{Rows}
 use Rattle.records.specs.Record.{Holds}
-use Rattle.robust.specs.Columns.{places}
-use Rattle.zaqnuti.specs.Columns.{RowColumns, rowAt, rowsOf, rowsFit}
+use Rattle.zaqnuti.specs.Columns.{RowColumns, rowFrom, rowsFrom, rowsFit}
 use Rattle.zaqnuti.specs.Numbers.{stepNumber, StepAnswers, columnStepOf}
 use Rattle.zaqnuti.proofs.ColumnLaws.{held-count, held-all}
 
@@ -24,9 +24,9 @@ module _ (unknowns : ℕ) (huber : Float) (dx : List Float) where
     unfolding columnStepOf
     step-short is t = rw (← is, t)
 
-    pub step-fit : (rows : Rows) {b : Bool} → b ≡ rowsFit c n → b ≡ true → Holds (rows .count) (rows .row) (places (rowAt c) n) → stepOf rows unknowns huber dx ≡ columnStepOf c n unknowns huber dx
+    pub step-fit : (rows : Rows) {b : Bool} → b ≡ rowsFit c n → b ≡ true → Holds (rows .count) (rows .row) (places (rowFrom c) n) → stepOf rows unknowns huber dx ≡ columnStepOf c n unknowns huber dx
     unfolding columnStepOf
-    step-fit rows is t h = rw (← is, t) (step-counted rows (rowsOf c n) (held-count (rowAt c) n h) (held-all (rowAt c) n h))
+    step-fit rows is t h = rw (← is, t) (step-counted rows (rowsFrom c n) (held-count (rowFrom c) n h) (held-all (rowFrom c) n h))
 
 -- the contract's two parts, from the step that was made
 pub step-answers : {s t : Stepped} {number : ℕ} {dx : List Float} → s ≡ t → number ≡ stepNumber (s .answer) → dx ≡ s .dx → StepAnswers t number dx

@@ -5,8 +5,8 @@ use mathlib.Core.List.{List}
 use lib.Dec.{leb}
 use lib.ListN.{getD, length}
 use lib.Ieee.{Float, nan}
+use Rattle.walk.specs.Walk.{places}
 use Rattle.exact.specs.Float.{+0}
-use Rattle.robust.specs.Columns.{places}
 use Rattle.robust.specs.declared.row.Row.{Row}
 use Rattle.robust.specs.declared.row.Rows.{Rows}
 use Rattle.records.specs.Carriers.{vectorAt}
@@ -26,8 +26,8 @@ abbrev pub rowColumns : List Float → List ℕ → List ℕ → List Float → 
 rowColumns units clocks residuals sigmas = record { units = units; clocks = clocks; residuals = residuals; sigmas = sigmas }
 
 -- row i
-unfoldable pub rowAt : RowColumns → ℕ → Row
-rowAt c i =
+unfoldable pub rowFrom : RowColumns → ℕ → Row
+rowFrom c i =
     record {
       unit = vectorAt (c .units) (3 * i);
       clock = getD (c .clocks) i 0;
@@ -36,8 +36,8 @@ rowAt c i =
     }
 
 -- the first n rows
-abbrev pub rowsOf : RowColumns → ℕ → Rows
-rowsOf c n = record { count = n; row = places (rowAt c) n }
+abbrev pub rowsFrom : RowColumns → ℕ → Rows
+rowsFrom c n = record { count = n; row = places (rowFrom c) n }
 
 -- n is at most 64, and no column is shorter than n rows need
 unfoldable pub rowsFit : RowColumns → ℕ → Bool

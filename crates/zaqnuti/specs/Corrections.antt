@@ -6,7 +6,7 @@ use lib.Dec.{ltb}
 use mathlib.Core.Path.{_≡_}
 use lib.ListN.{length, getD, take}
 use lib.Ieee.{Float, nan}
-use Rattle.walk.specs.Walk.{firsts}
+use Rattle.walk.specs.Walk.{places}
 use Rattle.numeric.specs.Refusal.{numberOf}
 use Rattle.numeric.specs.declared.vec3.Vec3.{Vec3}
 use Rattle.numeric.specs.declared.refusal.Refusal.the-variants.{TooMany}
@@ -42,7 +42,7 @@ abbrev pub rangeAt : List ℕ → List ℕ → List ℕ → List Float → ℕ �
 rangeAt cs vs bs ps i = record { constellation = getD cs i 0; svid = getD vs i 0; band = getD bs i 0; pseudorange = getD ps i nan }
 
 abbrev pub epochOf : Float → ℕ → List ℕ → List ℕ → List ℕ → List Float → BaseEpoch
-epochOf time k cs vs bs ps = record { count = k; time = time; ranges = firsts (rangeAt cs vs bs ps) k }
+epochOf time k cs vs bs ps = record { count = k; time = time; ranges = places (rangeAt cs vs bs ps) k }
 
 -- the state at i of columns of constellations, svids and bands, and of eight floats for each: position, velocity, clock, modelled
 abbrev pub stateAt : List ℕ → List ℕ → List ℕ → List Float → ℕ → State
@@ -58,7 +58,7 @@ stateAt cs vs bs fs i =
     }
 
 abbrev pub statesOf : Bool → ℕ → List ℕ → List ℕ → List ℕ → List Float → States
-statesOf present m cs vs bs fs = record { present = present; count = m; states = firsts (stateAt cs vs bs fs) m }
+statesOf present m cs vs bs fs = record { present = present; count = m; states = places (stateAt cs vs bs fs) m }
 
 -- three floats as a place
 abbrev pub placeOf : List Float → Vec3

@@ -14,7 +14,7 @@ use Rattle.robust.specs.Step.{Stepped, refused, stepOf}
 use Rattle.robust.specs.declared.round.Stepping.{Stepping}
 use Rattle.robust.specs.declared.round.Stepping.the-variants as Stepping
 use Rattle.clocks.specs.declared.clocks.Clocks.{Clocks}
-use Rattle.zaqnuti.specs.Columns.{RowColumns, rowsOf, rowsFit}
+use Rattle.zaqnuti.specs.Columns.{RowColumns, rowsFrom, rowsFit}
 
 abbrev pub factorNumber : Factored → ℕ
 factorNumber Refused = numberOf FitFailed
@@ -41,7 +41,7 @@ pub record StepAnswers (s : Stepped) (number : ℕ) (dx : List Float) : Type 0 w
 
 -- the round of the first n rows of the columns: refused by 2 where those are more than 64 or a column is too short
 unfoldable pub columnStepOf : RowColumns → ℕ → ℕ → Float → List Float → Stepped
-columnStepOf c n unknowns huber dx = cond (rowsFit c n) (stepOf (rowsOf c n) unknowns huber dx) (refused TooMany dx)
+columnStepOf c n unknowns huber dx = cond (rowsFit c n) (stepOf (rowsFrom c n) unknowns huber dx) (refused TooMany dx)
 
 -- clocks from the slots and the count that a caller holds
 abbrev pub clocksFrom : List ℕ → ℕ → Clocks

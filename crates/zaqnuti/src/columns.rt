@@ -44,7 +44,7 @@ pub(crate) fn rows_fit(
 fn row_at(units: &[f64], clocks: &[usize], residuals: &[u64], sigmas: &[f64], i: usize) -> Row
     requires { ⌜ 3 * i + 2 < length (now units) ⌝ }
     requires { ⌜ (i < length (now clocks)) × (i < length (now residuals)) × (i < length (now sigmas)) ⌝ }
-    ensures { λ r. ⌜ r ≡ spec.rowAt (spec.rowColumns (now (units .entry)) (now (clocks .entry)) (now (residuals .entry)) (now (sigmas .entry))) i ⌝ }
+    ensures { λ r. ⌜ r ≡ spec.rowFrom (spec.rowColumns (now (units .entry)) (now (clocks .entry)) (now (residuals .entry)) (now (sigmas .entry))) i ⌝ }
 {
     let unit = vector_at(units, 3 * i);
     Row {
@@ -64,7 +64,7 @@ pub(crate) fn rows_of(
     n: usize,
 ) -> Rows
     requires { ⌜ spec.rowsFit (spec.rowColumns (now units) (now clocks) (now residuals) (now sigmas)) n ≡ true ⌝ }
-    ensures { λ r. ⌜ Holds (r .count) (r .row) (spec.rowsOf (spec.rowColumns (now (units .entry)) (now (clocks .entry)) (now (residuals .entry)) (now (sigmas .entry))) n .row) ⌝ }
+    ensures { λ r. ⌜ Holds (r .count) (r .row) (spec.rowsFrom (spec.rowColumns (now (units .entry)) (now (clocks .entry)) (now (residuals .entry)) (now (sigmas .entry))) n .row) ⌝ }
 {
     let zero = Vec3 {
         x: 0.0,

@@ -3,7 +3,7 @@ ghost use mathlib.Core.Path.{_≡_};
 ghost use mathlib.Core.Bool.{cond};
 ghost use Prim.Native.Nat.{_*_, _≤_};
 ghost use lib.ListN.{length, take};
-ghost use Rattle.walk.specs.Walk.{firsts};
+ghost use Rattle.walk.specs.Walk.{places};
 ghost use Rattle.table.specs.Table.{capacity, tableOf};
 ghost use Rattle.table.specs.Query.{queryOf, queryNumber, metresAfter, GivesFinite};
 ghost use Rattle.table.specs.Queries.{queriesOf};
@@ -107,7 +107,7 @@ fn epoch_from(time: f64, k: usize, rc: &[u8], rv: &[u16], rb: &[u8], rp: &[f64])
     requires { ⌜ k ≤ 64 ⌝ }
     requires { ⌜ (k ≤ length (now rc)) × (k ≤ length (now rv)) ⌝ }
     requires { ⌜ (k ≤ length (now rb)) × (k ≤ length (now rp)) ⌝ }
-    ensures { λ r. ⌜ EpochRead time k (firsts (rangeAt (now (rc .entry)) (now (rv .entry)) (now (rb .entry)) (now (rp .entry))) k) r ⌝ }
+    ensures { λ r. ⌜ EpochRead time k (places (rangeAt (now (rc .entry)) (now (rv .entry)) (now (rb .entry)) (now (rp .entry))) k) r ⌝ }
 {
     let nothing = Range {
         constellation: 0,
@@ -139,7 +139,7 @@ fn states_from(present: bool, m: usize, sc: &[u8], sv: &[u16], sb: &[u8], sf: &[
     requires { ⌜ m ≤ 64 ⌝ }
     requires { ⌜ (m ≤ length (now sc)) × (m ≤ length (now sv)) ⌝ }
     requires { ⌜ (m ≤ length (now sb)) × (m * 8 ≤ length (now sf)) ⌝ }
-    ensures { λ r. ⌜ StatesRead present m (firsts (stateAt (now (sc .entry)) (now (sv .entry)) (now (sb .entry)) (now (sf .entry))) m) r ⌝ }
+    ensures { λ r. ⌜ StatesRead present m (places (stateAt (now (sc .entry)) (now (sv .entry)) (now (sb .entry)) (now (sf .entry))) m) r ⌝ }
 {
     let zero = Vec3 {
         x: 0.0,

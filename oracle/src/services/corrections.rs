@@ -183,9 +183,24 @@ fn settings(random: &mut Random) -> Settings {
     set
 }
 
+/// What was compared: calls and places, their numbers, and corrections found.
+#[derive(Default)]
+struct Seen {
+    done: u64,
+    numbers: [u64; 13],
+    found: u64,
+}
+
+impl Seen {
+    fn number(&mut self, number: u8) {
+        self.done += 1;
+        self.numbers[usize::from(number)] += 1;
+    }
+}
+
 fn compare(tally: &mut Tally, random: &mut Random, count: u64) {
-    let (mut done, mut accepted, mut refused, mut found) = (0, 0, [0u64; 13], 0);
-    while done < count {
+    let (mut seen, mut accepted) = (Seen::default(), 0);
+    while seen.done < count {
         let base: [f64; 3] = [-2.7e6 + random.unit() * 1e5, -4.3e6, 3.85e6];
         let rover: [f64; 3] = std::array::from_fn(|i| base[i] + random.unit() * 1e4);
         let set = settings(random);
@@ -261,9 +276,8 @@ fn compare(tally: &mut Tally, random: &mut Random, count: u64) {
                 }
             }
             let ours = Columns::of(&e).add(&mut table, &b, &r, &s);
-            refused[usize::from(number)] += 1;
+            seen.number(number);
             let same = ours == number && table.bits() == expected.bits();
-            done += 1;
             tally.judge(same, || {
                 format!(
                     "an epoch at {} of {} ranges and {} states to {} samples: our number {ours}, expected {number}, {} samples against {}",
@@ -279,48 +293,18 @@ fn compare(tally: &mut Tally, random: &mut Random, count: u64) {
                 table = whole;
             }
             let c = reference(&epochs, base, rover, &set);
-            queries(
-                tally,
-                random,
-                &table,
-                &c,
-                &mut done,
-                &mut refused,
-                &mut found,
-            );
-            many(
-                tally,
-                random,
-                &table,
-                &c,
-                &mut done,
-                &mut refused,
-                &mut found,
-            );
+            queries(tally, random, &table, &c, &mut seen);
+            many(tally, random, &table, &c, &mut seen);
         }
         let (table, c) = long(random);
-        queries(
-            tally,
-            random,
-            &table,
-            &c,
-            &mut done,
-            &mut refused,
-            &mut found,
-        );
-        many(
-            tally,
-            random,
-            &table,
-            &c,
-            &mut done,
-            &mut refused,
-            &mut found,
-        );
+        queries(tally, random, &table, &c, &mut seen);
+        many(tally, random, &table, &c, &mut seen);
     }
     tally.note(format!(
-        "{accepted} epochs accepted, {found} corrections found, by number {:?}",
-        &refused[2..]
+        "{accepted} epochs accepted, {} calls and places, {} corrections found, by number {:?}",
+        seen.done,
+        seen.found,
+        &seen.numbers[2..]
     ));
 }
 
@@ -369,9 +353,7 @@ fn queries(
     random: &mut Random,
     whole: &Table,
     c: &Corrections,
-    done: &mut u64,
-    refused: &mut [u64; 13],
-    found: &mut u64,
+    seen: &mut Seen,
 ) {
     for _ in 0..20 {
         let mut table = whole.clone();
@@ -405,14 +387,13 @@ fn queries(
             Some(_) => 0,
         };
         let (ours, metres) = table.query(n, gap, key, time);
-        refused[usize::from(number)] += 1;
-        *done += 1;
+        seen.number(number);
         let same = ours == number
             && match theirs {
                 Some(x) if number == 0 => metres.to_bits() == x.to_bits() && metres.is_finite(),
                 _ => metres == -1.5e300,
             };
-        *found += u64::from(number == 0);
+        seen.found += u64::from(number == 0);
         tally.judge(same, || format!("{key:?} at {time} with the gap {gap}: our number {ours}, {metres}; expected {number}, {theirs:?}"));
     }
 }
@@ -449,15 +430,7 @@ fn long(random: &mut Random) -> (Table, Corrections) {
 }
 
 /// Many queries of one call, each place against `at`, and what no place is for against what was there.
-fn many(
-    tally: &mut Tally,
-    random: &mut Random,
-    whole: &Table,
-    c: &Corrections,
-    done: &mut u64,
-    refused: &mut [u64; 13],
-    found: &mut u64,
-) {
+fn many(tally: &mut Tally, random: &mut Random, whole: &Table, c: &Corrections, seen: &mut Seen) {
     let mut table = whole.clone();
     if table.n > 0 && random.below(20) == 0 {
         let i = random.place(table.n);
@@ -512,17 +485,15 @@ fn many(
                 None => 12,
                 Some(x) => {
                     expected.metres[i] = x;
-                    *found += 1;
+                    seen.found += 1;
                     0
                 }
             };
-            refused[usize::from(expected.numbers[i])] += 1;
-            *done += 1;
+            seen.number(expected.numbers[i]);
         }
     }
     let ours = table.queries(n, gap, &asked, count, &mut out);
-    refused[usize::from(number)] += 1;
-    *done += 1;
+    seen.number(number);
     tally.judge(ours == number && out.bits() == expected.bits(), || {
         format!("{count} queries of {n} samples with the gap {gap}: our number {ours}, expected {number}; {:?}", out.numbers)
     });

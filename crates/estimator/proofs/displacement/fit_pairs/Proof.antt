@@ -6,7 +6,7 @@ use lib.ListN.{length, take}
 use lib.Seq.{length-take-le}
 use lib.Ieee.{nan}
 use borrow.Author.Tests.{not-true, not-false}
-use Rattle.robust.specs.Columns.{columns, rowsOf}
+use Rattle.robust.specs.Columns.{columns, rowsIn}
 use Rattle.estimator.specs.Rounds.{short}
 use Rattle.records.specs.Kept.{pairsIn}
 use Rattle.estimator.specs.Displacement.{sigmaOf, rowWith, rowAt, roundAt, limit, fitOver}
@@ -42,7 +42,7 @@ abbrev given : tie.Start Inv-loop μ-loop Inv-loop3 μ-loop3 Inv-loop2 μ-loop2 
 given c = pairsIn (c .args .x .now) (c .args .y .now) (c .args .z .now) (c .args .constellation .now) (c .args .elevation .now) (c .args .observed .now)
 
 -- the columns of a round, all made
-all : (c : tie.After-loop3 Inv-loop μ-loop Inv-loop3 μ-loop3 Inv-loop2 μ-loop2) → let s = c .before .before .before .before .before .before .before .before in let l = c .before .before .before .before .before .before .loop in rowsOf (columns (s .args .x .now) (s .args .y .now) (s .args .z .now) (l .clock) (l .sigma) (take (length (s .args .observed .now)) (c .before .loop3 .residual))) ≡ map (rowAt (s .args .settings) (s .args .k) (c .before .before .before .before .loop2 .at)) (given s)
+all : (c : tie.After-loop3 Inv-loop μ-loop Inv-loop3 μ-loop3 Inv-loop2 μ-loop2) → let s = c .before .before .before .before .before .before .before .before in let l = c .before .before .before .before .before .before .loop in rowsIn (columns (s .args .x .now) (s .args .y .now) (s .args .z .now) (l .clock) (l .sigma) (take (length (s .args .observed .now)) (c .before .loop3 .residual))) ≡ map (rowAt (s .args .settings) (s .args .k) (c .before .before .before .before .loop2 .at)) (given s)
 all c =
     let s = c .before .before .before .before .before .before .before .before .args in
     let l = c .before .before .before .before .before .before .loop in

@@ -8,7 +8,7 @@ use lib.Ieee.{nan}
 use borrow.Author.Tests.{not-true, not-false}
 use Rattle.walk.proofs.Walk.{length-mapped}
 use Rattle.robust.specs.Step.{counted}
-use Rattle.robust.specs.Columns.{columns, rowsOf}
+use Rattle.robust.specs.Columns.{columns, rowsIn}
 use Rattle.robust.specs.declared.row.Row.{Row}
 use Rattle.robust.proofs.ColumnLaws.{filled-at, Column, column-start, column-next, rows-are}
 use Rattle.estimator.specs.Rounds.{short}
@@ -41,7 +41,7 @@ all : (c : tie.After-loop2 Inv-loop2 μ-loop2 Inv-loop μ-loop) → let s = c .b
 all c = let h = c .before .loop2 in rowing-end _ _ _ (h .j) (h .rows) (omega arith) (h .inv .1)
 
 -- the columns hold them
-held : (c : tie.After-loop2 Inv-loop2 μ-loop2 Inv-loop μ-loop) → let s = c .before .before .before .before .before .before .before .args in let h = c .before .loop2 in rowsOf (columns (h .ux) (h .uy) (h .uz) (h .clock) (c .before .before .before .before .before .sigmas-of .result) (take (s .t3 .count) (h .residual))) ≡ map (rowAt (s .settings) (s .k) (c .before .before .before .before .loop .state)) (take (s .t3 .count) (s .t3 .observation))
+held : (c : tie.After-loop2 Inv-loop2 μ-loop2 Inv-loop μ-loop) → let s = c .before .before .before .before .before .before .before .args in let h = c .before .loop2 in rowsIn (columns (h .ux) (h .uy) (h .uz) (h .clock) (c .before .before .before .before .before .sigmas-of .result) (take (s .t3 .count) (h .residual))) ≡ map (rowAt (s .settings) (s .k) (c .before .before .before .before .loop .state)) (take (s .t3 .count) (s .t3 .observation))
 unfolding rowWith
 held c =
     let s = c .before .before .before .before .before .before .before in

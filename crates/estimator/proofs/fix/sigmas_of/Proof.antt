@@ -1,7 +1,7 @@
 -- `estimator::fix::sigmas_of` meets its contract: the first j numbers are the sigmas of the first j. Assumes nothing.
-use mathlib.Core.Path.{_≡_, refl, sym, ap, _∙_, subst}
+use mathlib.Core.Path.{_≡_, refl, _∙_, subst}
 use mathlib.Core.List.{map}
-use Prim.Native.Nat.{_≤_, _<_, _-_}
+use Prim.Native.Nat.{_≤_, _-_}
 use native.Mathlib.Omega.{arith}
 use lib.ListN.{take, length, length-set}
 use borrow.Author.Needs.{needs}

@@ -8,7 +8,7 @@ use Rattle.walk.proofs.Walk.{length-mapped}
 use Rattle.robust.specs.Round.{triangleOf}
 use Rattle.robust.proofs.NormalLaws.{Summing, summing-start, summing-next, summing-open, summing-close, summing-more, summing-end}
 use Rattle.robust.proofs.FormedLaws.{sums-zero}
-use Rattle.estimator.proofs.QualityLaws.{rowAt, plain, plain-next, plain-is}
+use Rattle.estimator.proofs.QualityLaws.{rowNth, plain, plain-next, plain-is}
 use Rattle.estimator.proofs.quality.plain_matrix.Statement.{statement}
 use Rattle.estimator.proofs.quality.plain_matrix.Tie as tie
 
@@ -39,7 +39,7 @@ unused-requires c κs = search needs
 loop-holds : tie.Need-loop-holds Inv-loop3 μ-loop3 Inv-loop2 μ-loop2 Inv-loop μ-loop
 loop-holds c =
     let s = c .before .before .args in
-    (omega arith, summing-start (plain (s .t1)) (s .n) (omega arith) (sums-zero _ (rowAt (s .t1))) _ (c .unused .ensures))
+    (omega arith, summing-start (plain (s .t1)) (s .n) (omega arith) (sums-zero _ (rowNth (s .t1))) _ (c .unused .ensures))
 
 mul-r : tie.Need-mul-r Inv-loop3 μ-loop3 Inv-loop2 μ-loop2 Inv-loop μ-loop
 mul-r c = omega arith

@@ -7,8 +7,8 @@ use mir.Syntax.{w32}
 use mir.Val.{toZ, ofZ}
 use mir.Facts.{toZ-ofZ}
 use borrow.Author.Needs.{needs}
+use Rattle.walk.specs.Walk.{places}
 use Rattle.walk.proofs.Walk.{length-mapped}
-use Rattle.robust.specs.Columns.{places}
 use Rattle.records.specs.Carriers.{carrierColumns, Laid}
 use Rattle.records.proofs.RecordLaws.{blank}
 use Rattle.records.proofs.CarrierLaws.{laid-next}

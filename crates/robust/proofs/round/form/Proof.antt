@@ -7,7 +7,7 @@ use lib.ListN.{length}
 use Rattle.exact.specs.Float.{+0}
 use Rattle.robust.specs.Nine.{nine}
 use Rattle.robust.specs.Round.{triangleOf}
-use Rattle.robust.specs.Columns.{columns, rowAt}
+use Rattle.robust.specs.Columns.{columns, rowIn}
 use Rattle.robust.specs.declared.row.Row.{Row}
 use Rattle.robust.proofs.NormalLaws.{Summing, summing-start, summing-next, summing-open, summing-close, summing-more, summing-end, Siding, siding-start, siding-next, siding-more, siding-end}
 use Rattle.robust.proofs.FormedLaws.{cells, sides, cells-zero, sides-zero, cells-next, sides-next, formed}
@@ -17,26 +17,26 @@ use Rattle.robust.proofs.round.form.Statement.{statement}
 use Rattle.robust.proofs.round.form.Tie as tie
 
 abbrev Inv-loop3 : tie.InvT-loop3
-Inv-loop3 x y z clock sigma residual n c huber a₀ b count e k u v h q s p w d i t j₀ j-end a j = (i < n) × (j ≤ j-end) × Summing (cells c huber (rowAt (columns x y z clock sigma residual))) n k (i * 10 + j) a
+Inv-loop3 x y z clock sigma residual n c huber a₀ b count e k u v h q s p w d i t j₀ j-end a j = (i < n) × (j ≤ j-end) × Summing (cells c huber (rowIn (columns x y z clock sigma residual))) n k (i * 10 + j) a
 
 abbrev μ-loop3 : tie.MeasureT-loop3
 μ-loop3 x y z clock sigma residual n c huber a₀ b count e k u v h q s p w d i t j₀ j-end a j = j-end - j
 
 abbrev Inv-loop2 : tie.InvT-loop2
-Inv-loop2 x y z clock sigma residual n c huber a₀ b₀ count e k u v h q s p w d i₀ a b i = (i ≤ n) × Summing (cells c huber (rowAt (columns x y z clock sigma residual))) n k (i * 10) a × Siding (sides c huber (rowAt (columns x y z clock sigma residual))) n k i b
+Inv-loop2 x y z clock sigma residual n c huber a₀ b₀ count e k u v h q s p w d i₀ a b i = (i ≤ n) × Summing (cells c huber (rowIn (columns x y z clock sigma residual))) n k (i * 10) a × Siding (sides c huber (rowIn (columns x y z clock sigma residual))) n k i b
 
 abbrev μ-loop2 : tie.MeasureT-loop2
 μ-loop2 x y z clock sigma residual n c huber a₀ b₀ count e k u v h q s p w d i₀ a b i = n - i
 
 abbrev Inv-loop : tie.InvT-loop
-Inv-loop x y z clock sigma residual n c huber a₀ b₀ count e₀ k₀ a b e k = (k ≤ count) × Summing (cells c huber (rowAt (columns x y z clock sigma residual))) n k 0 a × Siding (sides c huber (rowAt (columns x y z clock sigma residual))) n k 0 b
+Inv-loop x y z clock sigma residual n c huber a₀ b₀ count e₀ k₀ a b e k = (k ≤ count) × Summing (cells c huber (rowIn (columns x y z clock sigma residual))) n k 0 a × Siding (sides c huber (rowIn (columns x y z clock sigma residual))) n k 0 b
 
 abbrev μ-loop : tie.MeasureT-loop
 μ-loop x y z clock sigma residual n c huber a₀ b₀ count e₀ k₀ a b e k = count - k
 
 -- the rows of the columns
 abbrev given : tie.Start Inv-loop3 μ-loop3 Inv-loop2 μ-loop2 Inv-loop μ-loop → ℕ → Row
-given c = rowAt (columns (c .args .x .now) (c .args .y .now) (c .args .z .now) (c .args .clock .now) (c .args .sigma .now) (c .args .residual .now))
+given c = rowIn (columns (c .args .x .now) (c .args .y .now) (c .args .z .now) (c .args .clock .now) (c .args .sigma .now) (c .args .residual .now))
 
 unused-requires : tie.Need-unused-requires Inv-loop3 μ-loop3 Inv-loop2 μ-loop2 Inv-loop μ-loop
 unused-requires c κs = search needs

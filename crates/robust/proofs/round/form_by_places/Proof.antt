@@ -5,7 +5,7 @@ use mathlib.Core.Bool.{Bool, true, false, _&&_}
 use lib.Dec.{T}
 use lib.ListN.{length}
 use lib.Ieee.Fits.{and-l, and-r}
-use Rattle.robust.specs.Columns.{columns, rowAt}
+use Rattle.robust.specs.Columns.{columns, rowIn}
 use Rattle.robust.specs.declared.row.Row.{Row}
 use Rattle.robust.proofs.Places.{Placed, placed-start, placed-next}
 use Rattle.robust.proofs.AllPlaces.{formed-by-places}
@@ -15,14 +15,14 @@ use Rattle.robust.proofs.round.form_by_places.Statement.{statement}
 use Rattle.robust.proofs.round.form_by_places.Tie as tie
 
 abbrev Inv-loop : tie.InvT-loop
-Inv-loop x y z clock sigma residual n c huber a₀ b₀ count xx₀ yx₀ yy₀ zx₀ zy₀ zz₀ sx₀ sy₀ sz₀ k₀ a b xx yx yy zx zy zz sx sy sz k = (k ≤ count) × Placed c huber (rowAt (columns x y z clock sigma residual)) n k xx yx yy zx zy zz sx sy sz a b
+Inv-loop x y z clock sigma residual n c huber a₀ b₀ count xx₀ yx₀ yy₀ zx₀ zy₀ zz₀ sx₀ sy₀ sz₀ k₀ a b xx yx yy zx zy zz sx sy sz k = (k ≤ count) × Placed c huber (rowIn (columns x y z clock sigma residual)) n k xx yx yy zx zy zz sx sy sz a b
 
 abbrev μ-loop : tie.MeasureT-loop
 μ-loop x y z clock sigma residual n c huber a₀ b₀ count xx₀ yx₀ yy₀ zx₀ zy₀ zz₀ sx₀ sy₀ sz₀ k₀ a b xx yx yy zx zy zz sx sy sz k = count - k
 
 -- the rows of the columns
 abbrev given : tie.Start Inv-loop μ-loop → ℕ → Row
-given c = rowAt (columns (c .args .x .now) (c .args .y .now) (c .args .z .now) (c .args .clock .now) (c .args .sigma .now) (c .args .residual .now))
+given c = rowIn (columns (c .args .x .now) (c .args .y .now) (c .args .z .now) (c .args .clock .now) (c .args .sigma .now) (c .args .residual .now))
 
 never : {A : Type 0} → false ≡ true → A
 never e = absurd (subst T (sym e) tt)

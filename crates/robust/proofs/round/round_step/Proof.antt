@@ -5,7 +5,7 @@ use mathlib.Core.List.{List}
 use lib.Ieee.{Float}
 use Rattle.robust.specs.Round.{weight, roundBy, roundOf}
 use Rattle.robust.specs.Normal.{Solving}
-use Rattle.robust.specs.Columns.{Columns, columns, rowsOf}
+use Rattle.robust.specs.Columns.{Columns, columns, rowsIn}
 use Rattle.robust.proofs.FormedLaws.{solving-yes, solving-no, matrix-unused, right-unused}
 use Rattle.robust.proofs.StepLaws.{never-refused, round-solving}
 use native.Mathlib.Omega.{arith}
@@ -17,7 +17,7 @@ abbrev given : tie.Start → Columns
 given c = columns (c .args .x .now) (c .args .y .now) (c .args .z .now) (c .args .clock .now) (c .args .sigma .now) (c .args .residual .now)
 
 -- the weights are by the centre and the scale of the residuals
-solve : (c : tie.After-normal) {ok : Bool} {x y : List Float} → let s = c .before .before .before .before .before .before .before .before in Solving (roundBy (weight (c .before .before .before .before .c .given .0 .0) (s .args .huber)) (rowsOf (given s)) (s .args .n)) ok x y → Solving (roundOf (rowsOf (given s)) (s .args .n) (s .args .huber)) ok x y
+solve : (c : tie.After-normal) {ok : Bool} {x y : List Float} → let s = c .before .before .before .before .before .before .before .before in Solving (roundBy (weight (c .before .before .before .before .c .given .0 .0) (s .args .huber)) (rowsIn (given s)) (s .args .n)) ok x y → Solving (roundOf (rowsIn (given s)) (s .args .n) (s .args .huber)) ok x y
 solve c {ok} {x} {y} r = let s = c .before .before .before .before .before .before .before .before in round-solving (given s) (omega arith) (s .args .n) (s .args .huber) _ ok x y (sym (c .before .before .before .before .c .given .1) ∙ c .before .before .before .before .before .before .centre-scale .ensures) r
 
 centre-scale-requires : tie.Need-centre-scale-requires
@@ -45,10 +45,10 @@ solve-used-requires : tie.Need-solve-used-requires
 solve-used-requires c κs = let u = c .before .before .before .before .before .used-of .ensures in let f = c .before .before .before .before .before .before .normal .ensures in (u .0, u .1, c .before .before .factor-used .ensures .1 (c .before .if1 .taken) .1, rw (f .right-is) (right-unused _ _ _ _ (u .2)))
 
 returns-2 : tie.Need-returns-2
-returns-2 c = let s = c .before .before .before .before .before .before .before .before .before .before .before .before .before .before .before in let t = c .before .before .before .before .before .before .before in let f = c .before .before .before .factor-used in solve t (solving-yes (weight (t .before .before .before .before .c .given .0 .0) (s .args .huber)) (rowsOf (given s)) (s .args .n) _ _ _ (f .result) (t .normal .ensures) (f .ensures .0) _ _ (c .solve-used .result) (f .ensures .1 (c .before .before .if1 .taken) .0) (c .before .before .if1 .taken) (c .solve-used .ensures))
+returns-2 c = let s = c .before .before .before .before .before .before .before .before .before .before .before .before .before .before .before in let t = c .before .before .before .before .before .before .before in let f = c .before .before .before .factor-used in solve t (solving-yes (weight (t .before .before .before .before .c .given .0 .0) (s .args .huber)) (rowsIn (given s)) (s .args .n) _ _ _ (f .result) (t .normal .ensures) (f .ensures .0) _ _ (c .solve-used .result) (f .ensures .1 (c .before .before .if1 .taken) .0) (c .before .before .if1 .taken) (c .solve-used .ensures))
 
 returns-3 : tie.Need-returns-3
-returns-3 c = let s = c .before .before .before .before .before .before .before .before .before .before .before .before .before in let t = c .before .before .before .before .before in let f = c .before .factor-used in solve t (solving-no (weight (t .before .before .before .before .c .given .0 .0) (s .args .huber)) (rowsOf (given s)) (s .args .n) _ _ _ (f .result) (t .normal .ensures) (f .ensures .0) (c .if1 .left))
+returns-3 c = let s = c .before .before .before .before .before .before .before .before .before .before .before .before .before in let t = c .before .before .before .before .before in let f = c .before .factor-used in solve t (solving-no (weight (t .before .before .before .before .c .given .0 .0) (s .args .huber)) (rowsIn (given s)) (s .args .n) _ _ _ (f .result) (t .normal .ensures) (f .ensures .0) (c .if1 .left))
 
 pub round-step-spec : {M : Type 1} → statement M
 round-step-spec =

@@ -11,7 +11,7 @@ use Rattle.walk.specs.Walk.{every}
 use Rattle.walk.proofs.Walk.{length-mapped, every-end, every-yes, every-no}
 use Rattle.robust.specs.Round.{roundOf}
 use Rattle.robust.specs.Normal.{Solving}
-use Rattle.robust.specs.Columns.{columns, rowsOf}
+use Rattle.robust.specs.Columns.{columns, rowsIn}
 use Rattle.robust.specs.Step.{counted, indexed, Stepped}
 use Rattle.robust.specs.declared.row.Row.{Row}
 use Rattle.robust.proofs.Sums.{blank}
@@ -40,16 +40,16 @@ all : (c : tie.After-loop Inv-loop μ-loop) → true ≡ every indexed (counted 
 all c = let h = c .before .loop in let s = c .before .before .before .before in every-end (s .args .t1 .row) (s .args .t1 .count) (omega (arith, long s)) (h .k) indexed (h .inv .1) (omega arith)
 
 -- the columns hold the counted rows
-held : (c : tie.After-loop Inv-loop μ-loop) → let h = c .before .loop in let s = c .before .before .before .before .args .t1 in rowsOf (columns (h .x) (h .y) (h .z) (h .clock) (h .sigma) (take (s .count) (h .residual))) ≡ counted s
+held : (c : tie.After-loop Inv-loop μ-loop) → let h = c .before .loop in let s = c .before .before .before .before .args .t1 in rowsIn (columns (h .x) (h .y) (h .z) (h .clock) (h .sigma) (take (s .count) (h .residual))) ≡ counted s
 held c =
     let h = c .before .loop in
     let s = c .before .before .before .before in
     let last : h .k ≡ s .args .t1 .count = omega arith in
     let rows = rows-are (λ (r : Row). r) (s .args .t1 .row) blank (h .k) (omega (arith, long s)) (omega arith) (h .x) (h .y) (h .z) (h .clock) (h .sigma) (h .residual) (h .inv .2 .so-far) (h .inv .3 .so-far) (h .inv .4 .so-far) (h .inv .5 .so-far) (h .inv .6 .so-far) (h .inv .7) in
-    subst (λ (z : ℕ). rowsOf (columns (h .x) (h .y) (h .z) (h .clock) (h .sigma) (take z (h .residual))) ≡ take z (s .args .t1 .row)) last (rows ∙ map-id _)
+    subst (λ (z : ℕ). rowsIn (columns (h .x) (h .y) (h .z) (h .clock) (h .sigma) (take z (h .residual))) ≡ take z (s .args .t1 .row)) last (rows ∙ map-id _)
 
 -- the round of the columns is that of the counted rows
-round : (c : tie.After-loop Inv-loop μ-loop) {ok : Bool} {x y : List Float} → let h = c .before .loop in let s = c .before .before .before .before .args in Solving (roundOf (rowsOf (columns (h .x) (h .y) (h .z) (h .clock) (h .sigma) (take (s .t1 .count) (h .residual)))) (s .unknowns) (s .huber)) ok x y → Solving (roundOf (counted (s .t1)) (s .unknowns) (s .huber)) ok x y
+round : (c : tie.After-loop Inv-loop μ-loop) {ok : Bool} {x y : List Float} → let h = c .before .loop in let s = c .before .before .before .before .args in Solving (roundOf (rowsIn (columns (h .x) (h .y) (h .z) (h .clock) (h .sigma) (take (s .t1 .count) (h .residual)))) (s .unknowns) (s .huber)) ok x y → Solving (roundOf (counted (s .t1)) (s .unknowns) (s .huber)) ok x y
 round c {ok} {x} {y} r = let s = c .before .before .before .before .args in subst (λ (z : List Row). Solving (roundOf z (s .unknowns) (s .huber)) ok x y) (held c) r
 
 returns : tie.Need-returns Inv-loop μ-loop

@@ -1,5 +1,5 @@
 -- `zaqnuti::columns::row_at` meets its contract. Assumes nothing.
-use Rattle.zaqnuti.specs.Columns.{rowAt}
+use Rattle.zaqnuti.specs.Columns.{rowFrom}
 use borrow.Author.Needs.{needs}
 use Rattle.zaqnuti.proofs.columns.row_at.Statement.{statement}
 use Rattle.zaqnuti.proofs.columns.row_at.Tie as tie
@@ -29,7 +29,7 @@ shared-slice-read-t15 : tie.Need-shared-slice-read-t15
 shared-slice-read-t15 c = search needs
 
 returns : tie.Need-returns
-unfolding rowAt
+unfolding rowFrom
 returns c = rw (c .before .before .before .vector-at .ensures)
 
 pub row-at-spec : {M : Type 1} → statement M

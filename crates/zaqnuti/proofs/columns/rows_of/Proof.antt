@@ -2,13 +2,13 @@
 use mathlib.Core.Path.{refl}
 use Prim.Native.Nat.{_-_}
 use borrow.Author.Needs.{needs}
-use Rattle.zaqnuti.specs.Columns.{RowColumns, rowColumns, rowAt}
+use Rattle.zaqnuti.specs.Columns.{RowColumns, rowColumns, rowFrom}
 use Rattle.zaqnuti.proofs.ColumnLaws.{RowRoom, rows-room, Filling, filling-start, filling-next, filling-end}
 use Rattle.zaqnuti.proofs.columns.rows_of.Statement.{statement}
 use Rattle.zaqnuti.proofs.columns.rows_of.Tie as tie
 
 abbrev Inv-loop : tie.InvT-loop
-Inv-loop units clocks residuals sigmas n out₀ i₀ out i = Filling (rowAt (rowColumns units clocks residuals sigmas)) n (out .row) (out .count) i
+Inv-loop units clocks residuals sigmas n out₀ i₀ out i = Filling (rowFrom (rowColumns units clocks residuals sigmas)) n (out .row) (out .count) i
 
 abbrev μ-loop : tie.MeasureT-loop
 μ-loop units clocks residuals sigmas n out₀ i₀ out i = n - i
@@ -40,12 +40,12 @@ loop-less c = search needs
 loop-again : tie.Need-loop-again Inv-loop μ-loop
 loop-again c =
     let s = c .before .before .before .before .before .before .before in
-    rw (c .row-at .ensures) (filling-next (rowAt (columns s)) _ _ (room s .few) (c .before .before .loop .inv) (c .before .loop-test .taken))
+    rw (c .row-at .ensures) (filling-next (rowFrom (columns s)) _ _ (room s .few) (c .before .before .loop .inv) (c .before .loop-test .taken))
 
 returns : tie.Need-returns Inv-loop μ-loop
 returns c =
     let s = c .before .before .before .before .before .before in
-    filling-end (rowAt (columns s)) _ _ (room s .few) (c .before .loop .inv) (c .loop-test .left)
+    filling-end (rowFrom (columns s)) _ _ (room s .few) (c .before .loop .inv) (c .loop-test .left)
 
 pub rows-of-spec : {M : Type 1} → statement M
 rows-of-spec =

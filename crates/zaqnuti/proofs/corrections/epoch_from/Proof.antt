@@ -3,19 +3,19 @@ use mathlib.Core.Path.{refl}
 use Prim.Native.Nat.{_-_}
 use native.Mathlib.Omega.{arith}
 use Rattle.zaqnuti.specs.Corrections.{rangeAt}
-use Rattle.zaqnuti.proofs.CorrectionLaws.{Reading, reading-start, reading-next, reading-end}
+use Rattle.zaqnuti.proofs.ColumnLaws.{Filling, filling-start, filling-next, filled}
 use borrow.Author.Needs.{needs}
 use Rattle.zaqnuti.proofs.corrections.epoch_from.Statement.{statement}
 use Rattle.zaqnuti.proofs.corrections.epoch_from.Tie as tie
 
 abbrev Inv-loop : tie.InvT-loop
-Inv-loop time k rc rv rb rp ranges₀ i₀ ranges i = Reading (rangeAt rc rv rb rp) k ranges i
+Inv-loop time k rc rv rb rp ranges₀ i₀ ranges i = Filling (rangeAt rc rv rb rp) k ranges k i
 
 abbrev μ-loop : tie.MeasureT-loop
 μ-loop time k rc rv rb rp ranges₀ i₀ ranges i = k - i
 
 loop-holds : tie.Need-loop-holds Inv-loop μ-loop
-loop-holds c = reading-start _ _ _ refl
+loop-holds c = filling-start _ _ _ refl
 
 shared-slice-read-t13 : tie.Need-shared-slice-read-t13 Inv-loop μ-loop
 shared-slice-read-t13 c = omega (arith, c .before .before .before, c .before .before .loop .inv .within)
@@ -48,10 +48,10 @@ loop-less : tie.Need-loop-less Inv-loop μ-loop
 loop-less c = search needs
 
 loop-again : tie.Need-loop-again Inv-loop μ-loop
-loop-again c = reading-next _ _ _ _ (c .before .before .before .before .before .loop .inv) (c .before .before .before .before .loop-test .taken) (c .before .before .before .before .before .before .pre .0)
+loop-again c = filling-next _ _ _ (c .before .before .before .before .before .before .pre .0) (c .before .before .before .before .before .loop .inv) (c .before .before .before .before .loop-test .taken)
 
 returns : tie.Need-returns Inv-loop μ-loop
-returns c = record { count = refl; time-is = refl; ranges = reading-end _ _ _ _ (c .before .loop .inv) (c .loop-test .left) }
+returns c = record { count = refl; time-is = refl; ranges = filled _ _ _ (c .before .loop .inv) (c .loop-test .left) }
 
 pub epoch-from-spec : {M : Type 1} → statement M
 epoch-from-spec = tie.close (tie.spec Inv-loop μ-loop loop-holds shared-slice-read-t13 mul-t14 shared-slice-read-t16 shared-slice-read-t18 mul-t19 shared-slice-read-t21 mul-ranges array-set-from-ranges add-i loop-less loop-again returns)

@@ -3,18 +3,18 @@ use mathlib.Core.Path.{refl}
 use Prim.Native.Nat.{_-_}
 use native.Mathlib.Omega.{arith}
 use Rattle.zaqnuti.specs.Corrections.{stateAt}
-use Rattle.zaqnuti.proofs.CorrectionLaws.{Reading, reading-start, reading-next, reading-end}
+use Rattle.zaqnuti.proofs.ColumnLaws.{Filling, filling-start, filling-next, filled}
 use Rattle.zaqnuti.proofs.corrections.states_from.Statement.{statement}
 use Rattle.zaqnuti.proofs.corrections.states_from.Tie as tie
 
 abbrev Inv-loop : tie.InvT-loop
-Inv-loop present m sc sv sb sf states₀ i₀ states i = Reading (stateAt sc sv sb sf) m states i
+Inv-loop present m sc sv sb sf states₀ i₀ states i = Filling (stateAt sc sv sb sf) m states m i
 
 abbrev μ-loop : tie.MeasureT-loop
 μ-loop present m sc sv sb sf states₀ i₀ states i = m - i
 
 loop-holds : tie.Need-loop-holds Inv-loop μ-loop
-loop-holds c = reading-start _ _ _ refl
+loop-holds c = filling-start _ _ _ refl
 
 mul-at : tie.Need-mul-at Inv-loop μ-loop
 mul-at c = omega (arith, c .before .before, c .before .loop .inv .within, c .loop-test .taken)
@@ -113,10 +113,10 @@ loop-less : tie.Need-loop-less Inv-loop μ-loop
 loop-less c = omega (arith, c .before .before .before .before .before .before .before .before .before .before .before .before .loop .inv .within, c .before .before .before .before .before .before .before .before .before .before .before .loop-test .taken)
 
 loop-again : tie.Need-loop-again Inv-loop μ-loop
-loop-again c = reading-next _ _ _ _ (c .before .before .before .before .before .before .before .before .before .before .before .before .loop .inv) (c .before .before .before .before .before .before .before .before .before .before .before .loop-test .taken) (c .before .before .before .before .before .before .before .before .before .before .before .before .before .pre .0)
+loop-again c = filling-next _ _ _ (c .before .before .before .before .before .before .before .before .before .before .before .before .before .pre .0) (c .before .before .before .before .before .before .before .before .before .before .before .before .loop .inv) (c .before .before .before .before .before .before .before .before .before .before .before .loop-test .taken)
 
 returns : tie.Need-returns Inv-loop μ-loop
-returns c = record { mark = refl; count = refl; states-are = reading-end _ _ _ _ (c .before .loop .inv) (c .loop-test .left) }
+returns c = record { mark = refl; count = refl; states-are = filled _ _ _ (c .before .loop .inv) (c .loop-test .left) }
 
 pub states-from-spec : {M : Type 1} → statement M
 states-from-spec = tie.close (tie.spec Inv-loop μ-loop loop-holds mul-at mul-t16 shared-slice-read-t18 add-t19 mul-t20 shared-slice-read-t22 add-t23 mul-t24 shared-slice-read-t26 add-t16 mul-t19 shared-slice-read-t26-2 add-t23-2 mul-t24-2 shared-slice-read-t22-2 add-t20 mul-t29 shared-slice-read-t18-2 shared-slice-read-t32 mul-t16-2 shared-slice-read-t34 shared-slice-read-t36 add-t19-2 mul-t29-2 shared-slice-read-t18-3 add-t20-2 mul-t24-3 shared-slice-read-t22-3 mul-states array-set-from-states add-i loop-less loop-again returns)
