@@ -1,15 +1,16 @@
--- Worked values of the query, among them document 01's (m10) and (m11), and of adding. Assumes nothing.
+-- Worked values of the query, among them document 01's (m10) and (m11), of many queries, and of adding. Assumes nothing.
 use mathlib.Core.Path.{_≡_, refl}
 use mathlib.Core.Bool.{false}
 use mathlib.Core.List.{List, [], _∷_}
 use lib.Ieee.{Float, nan, inf, lt, le, eq, add, sub, mul, div, ofBits, ofInt, toBits, isNan}
 use Rattle.exact.specs.Float.{whole, bits, +0}
-use Rattle.walk.specs.Walk.{every}
+use Rattle.walk.specs.Walk.{every, places}
 use Rattle.numeric.specs.Order.{keyOf, patternOf}
 use Rattle.numeric.specs.Real.{abs, inRange}
-use Rattle.numeric.specs.declared.refusal.Refusal.the-variants.{NoCorrection, RecordOutOfRange}
+use Rattle.numeric.specs.declared.refusal.Refusal.the-variants.{TooMany, NoCorrection, RecordOutOfRange}
 use Rattle.table.specs.Table.{timeKey, rises, ranged, sound}
-use Rattle.table.specs.Query.{near, firstOf, lastOf, line, bridged, between, answerAt, queryOf}
+use Rattle.table.specs.Query.{near, firstOf, lastOf, line, bridged, between, answerAt, queryOf, metresAfter}
+use Rattle.table.specs.Queries.{Reply, refusal, short, queriesOf, written, placesAfter, numberAfter}
 use Rattle.table.specs.Add.{insert, insertAll}
 use Rattle.table.specs.declared.sample.Sample.{Sample}
 use Rattle.table.specs.declared.query.Correction.{Correction}
@@ -67,6 +68,23 @@ far-time = refl
 pub zeros-unsorted : queryOf 2 2048 (sample +0 (whole 1) ∷ sample (bits 0x8000_0000_0000_0000) (whole 1) ∷ []) (whole 90) 1 5 1 +0 ≡ Refused RecordOutOfRange
 unfolding queryOf answerAt between bridged line near firstOf lastOf inRange abs sound ranged rises timeKey keyOf patternOf every lt le eq add sub mul div ofBits ofInt toBits isNan
 zeros-unsorted = refl
+
+-- three queries in one call, at 15 s, past the end and above 1e9: each place has its number, and metres only where there are some
+abbrev three : Reply
+three = queriesOf 2 2048 two (whole 90) (1 ∷ 1 ∷ 1 ∷ []) (5 ∷ 5 ∷ 5 ∷ []) (1 ∷ 1 ∷ 1 ∷ []) (whole 15 ∷ whole 21 ∷ whole 2000000000 ∷ []) 3 (7 ∷ 7 ∷ 7 ∷ 7 ∷ []) (whole 8 ∷ whole 8 ∷ whole 8 ∷ [])
+
+pub three-numbers : placesAfter numberAfter three (7 ∷ 7 ∷ 7 ∷ 7 ∷ []) ≡ 0 ∷ 12 ∷ 4 ∷ 7 ∷ []
+unfolding queriesOf short places written queryOf answerAt between bridged line near firstOf lastOf inRange abs sound ranged rises timeKey keyOf patternOf every lt le eq add sub mul div ofBits ofInt toBits isNan
+three-numbers = refl
+
+pub three-metres : placesAfter metresAfter three (whole 8 ∷ whole 8 ∷ whole 8 ∷ []) ≡ whole 2 ∷ whole 8 ∷ whole 8 ∷ []
+unfolding queriesOf short places written queryOf answerAt between bridged line near firstOf lastOf inRange abs sound ranged rises timeKey keyOf patternOf every lt le eq add sub mul div ofBits ofInt toBits isNan
+three-metres = refl
+
+-- a lent column that is too short is 2
+pub short-column : queriesOf 2 2048 two (whole 90) (1 ∷ []) (5 ∷ []) (1 ∷ []) (whole 15 ∷ []) 1 [] (whole 8 ∷ []) ≡ refusal TooMany
+unfolding queriesOf short
+short-column = refl
 
 -- a sample of equal time goes after the one that is there
 pub equal-time : insertAll two (sample (whole 10) (whole 7) ∷ []) ≡ sample (whole 10) (whole 1) ∷ sample (whole 10) (whole 7) ∷ sample (whole 20) (whole 3) ∷ []
