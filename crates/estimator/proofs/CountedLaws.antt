@@ -2,25 +2,21 @@
 use mathlib.Core.Path.{_≡_, refl, sym, _∙_}
 use mathlib.Core.Bool.{false, cond, and-false, _||_}
 use mathlib.Core.List.{List, []}
-use Prim.Native.Nat.{_+_, _-_, _<_}
+use Prim.Native.Nat.{_+_, _<_}
 use borrow.Author.Tests.{lt-ltb}
 use lib.Dec.{ltb}
-use lib.ListN.{length}
 use lib.Ieee.{Float}
-use Rattle.cholesky.specs.Factor.{factorOf}
 use Rattle.numeric.specs.declared.vec3.Vec3.{Vec3}
-use Rattle.numeric.specs.declared.refusal.Refusal.the-variants.{TooMany, SettingOutOfRange, FitFailed}
+use Rattle.numeric.specs.declared.refusal.Refusal.the-variants.{TooMany, SettingOutOfRange}
 use Rattle.clocks.specs.Clocks.{clocksOf}
 use Rattle.records.specs.Record.{counted, countedObservations}
 use Rattle.estimator.specs.Rules.{Rule, ruled}
-use Rattle.estimator.specs.Valid.{settingsPass, displacementInput, fixSettingsPass, fixInput}
-use Rattle.records.specs.Screen.{constellations}
+use Rattle.estimator.specs.Valid.{settingsPass, epochRules, displacementInput, fixSettingsPass, fixInput}
 use Rattle.records.specs.Mask.{constellations as observedConstellations}
-use Rattle.estimator.specs.Front.{displacementRules, fixRules}
+use Rattle.estimator.specs.Front.{fixRules}
 use Rattle.records.specs.declared.record.Epoch.{Epoch}
 use Rattle.records.specs.declared.record.Observation.{Observation}
 use Rattle.records.specs.declared.record.Observations.{Observations}
-use Rattle.records.specs.declared.pair.Pair.{Pair}
 use Rattle.estimator.specs.declared.displacement.Settings.{Settings}
 use Rattle.estimator.specs.declared.fix.Settings.{Settings as FixSettings}
 use Rattle.estimator.specs.Rounds.{lastRows, concluded}
@@ -28,32 +24,21 @@ use Rattle.estimator.specs.Displacement as displacement
 use Rattle.estimator.specs.Displacement.{displacementOf}
 use Rattle.estimator.specs.Fix as fix
 use Rattle.estimator.specs.Fix.{fixOf}
-use Rattle.estimator.specs.declared.displacement.Displacement.{Displacement}
-use Rattle.estimator.specs.declared.displacement.Displacement.the-variants.{Refused, Moved}
+use Rattle.estimator.specs.declared.displacement.Displacement.the-variants.{Refused}
 use Rattle.estimator.specs.declared.fix.Fix.{Fix}
-use Rattle.estimator.specs.declared.fix.Fix.the-variants.{Refused as FixRefused}
+use Rattle.estimator.specs.declared.fix.Fix.the-variants.{Refused as FixRefused, At}
 
 -- ---- a displacement
 
--- the answer, from the rules and the pairs before and after screening
-answer : List Rule → List Pair → List Pair → Settings → Displacement
-answer rules all kept settings =
-    ruled Refused rules
-    (concluded (Refused FitFailed) (λ x. Moved (record { delta = displacement.vector x; used = length kept; screened = length all - length kept }))
-    (displacement.fitOver settings (clocksOf (constellations kept)) kept .end))
-
-answer-is : (i : displacement.Input) → displacementOf i ≡ answer (displacementRules (i .previous) (i .current) (i .dt) (i .receiver) (i .settings)) (displacement.pairs i) (displacement.kept i) (i .settings)
-unfolding displacementOf displacement.fitOf answer
-answer-is i = refl
-
 module _ (p q c d : Epoch) (dt : Float) (receiver : Vec3) (settings : Settings) (m : p .count ≡ q .count) (e : counted p ≡ counted q) (n : c .count ≡ d .count) (f : counted c ≡ counted d) where
-  rules-counted : displacementRules p c dt receiver settings ≡ displacementRules q d dt receiver settings
-  unfolding displacementRules displacementInput
+  rules-counted : displacementInput p c dt receiver settings ≡ displacementInput q d dt receiver settings
+  unfolding displacementInput epochRules
   rules-counted = rw (e, f, m, n)
 
   pub displacement-counted : displacementOf (record { previous = p; current = c; dt = dt; receiver = receiver; settings = settings })
       ≡ displacementOf (record { previous = q; current = d; dt = dt; receiver = receiver; settings = settings })
-  displacement-counted = answer-is _ ∙ rw (rules-counted, e, f) (sym (answer-is _))
+  unfolding displacementOf
+  displacement-counted = rw (rules-counted, e, f)
 
 many-rounds : (s : Settings) → 50 < s .rounds → settingsPass s ≡ false
 unfolding settingsPass
@@ -61,7 +46,7 @@ many-rounds s h = rw (lt-ltb 50 (s .rounds) h, and-false)
 
 pub displacement-many-rounds : (i : displacement.Input) → 50 < i .settings .rounds
     → displacementOf i ≡ cond (ltb 64 (i .previous .count) || ltb 64 (i .current .count)) (Refused TooMany) (Refused SettingOutOfRange)
-unfolding displacementOf displacementRules displacementInput ruled
+unfolding displacementOf displacementInput epochRules ruled
 displacement-many-rounds i h = rw (many-rounds (i .settings) h)
 
 -- ---- a fix
@@ -70,9 +55,10 @@ displacement-many-rounds i h = rw (many-rounds (i .settings) h)
 fixAnswer : List Rule → List Observation → Vec3 → FixSettings → Fix
 fixAnswer rules kept guess settings =
     let k = clocksOf (observedConstellations kept) in
+    let n = 3 + k .count in
     let f = fix.fitOver settings k kept guess in
     let rows = lastRows [] (f .rounds) in
-    ruled FixRefused rules (concluded (FixRefused FitFailed) (λ x. fix.judged (3 + k .count) rows x (factorOf (fix.plainMatrix (3 + k .count) rows))) (f .end))
+    ruled FixRefused rules (concluded FixRefused (fix.endRules n rows) (λ x. At (fix.solutionAt n rows x)) (f .end))
 
 fix-answer-is : (i : fix.Input) → fixOf i ≡ fixAnswer (fixRules (i .observations) (i .guess) (i .settings)) (fix.kept i) (i .guess) (i .settings)
 unfolding fixOf fix.fitOf fix.roundsOf fixAnswer

@@ -1,111 +1,122 @@
--- The displacement as the public call works it out: the rules in two parts, the fit, and what it comes to. Assumes nothing.
+-- The displacement as the public call works it out: the rules on what is handed over, and what its pairs come to. Assumes nothing.
 use mathlib.Core.Path.{_≡_, refl, sym, ap, ap₂, _∙_, subst}
 use Prim.Native.Nat.{ℕ, _-_, _≤_}
 use native.Mathlib.Omega.{arith}
-use mathlib.Core.Bool.{Bool, true, false, _||_}
+use mathlib.Core.Bool.{true, false, _||_}
 use mathlib.Core.List.{List}
 use lib.Dec.{ltb}
 use lib.ListN.{length, take}
-use lib.Seq.{take-all}
 use lib.Ieee.{Float}
-use Rattle.cholesky.specs.Factor.{at}
 use Rattle.numeric.specs.declared.refusal.Refusal.{Refusal}
-use Rattle.numeric.specs.declared.refusal.Refusal.the-variants.{TooMany, FitFailed}
+use Rattle.numeric.specs.declared.refusal.Refusal.the-variants.{TooMany, BadInterval}
 use Rattle.records.specs.Record.{Holds}
 use Rattle.clocks.specs.Clocks.{clocksOf}
 use Rattle.records.specs.Screen.{keptOf, constellations}
 use Rattle.records.specs.Kept.{pairsIn, Kept}
-use Rattle.estimator.specs.Rules.{ruled}
-use Rattle.estimator.specs.Valid.{displacementInput, displacementCounts}
-use Rattle.estimator.specs.Front.{displacementRules}
-use Rattle.estimator.specs.Rounds.{End, Failed, Reached, Fit, concluded, Ended}
-use Rattle.estimator.specs.Displacement.{Input, fitOver, pairs, kept, fitOf, movedTo, concludedAt, displacementOf}
+use Rattle.estimator.specs.Rules.{Rule, ruled}
+use Rattle.estimator.specs.Valid.{badInterval, epochRules, intervalRules, displacementInput, displacementCounts}
+use Rattle.estimator.specs.Front.{pairRules}
+use Rattle.estimator.specs.Rounds.{End, Stopped, Reached, Fit, concluded, Ended}
+use Rattle.estimator.specs.Displacement.{Input, fitOver, fitBy, pairs, deltaAt, endRules, concludedAt, movedBy, displacementOf}
 use Rattle.clocks.specs.declared.clocks.Clocks.{Clocks}
 use Rattle.records.specs.declared.pair.Pair.{Pair}
-use Rattle.records.specs.declared.pair.Pairs.{Pairs}
 use Rattle.estimator.specs.declared.displacement.Settings.{Settings}
 use Rattle.estimator.specs.declared.displacement.Displacement.{Displacement}
-use Rattle.estimator.specs.declared.displacement.Displacement.the-variants.{Refused}
+use Rattle.estimator.specs.declared.displacement.Displacement.the-variants.{Refused, Moved}
 use Rattle.estimator.specs.declared.valid.Check.the-variants.{Refused as Stops, Passed}
-use Rattle.estimator.proofs.RulesLaws.{checked, counts-passed}
+use Rattle.estimator.proofs.RulesLaws.{checked, ruled-append, refused-by, passed-by, counts-passed}
 use Rattle.estimator.proofs.DisplacementLaws.{fit-same}
-use Rattle.estimator.proofs.FrontLaws.{input-refused, kept-is, kept-count, pair-count, clocks-are, fewer, counts-refused, counts-kept}
+use Rattle.estimator.proofs.FrontLaws.{kept-few}
 
 -- what a fit comes to, by its end and what the code has of it
-ended-no : {A : Type 0} (r : A) (answer : List Float → A) (e : End) (x y : List Float) → Ended e false x y → r ≡ concluded r answer e
-ended-no r answer Failed x y h = refl
-ended-no r answer (Reached z) x y h = absurd (let q = h .ok-is in let z : _≡_ {A = ℕ} 0 1 = cc in omega arith)
+ended-refused : {A : Type 0} (f : Refusal → A) (rules : List Float → List Rule) (answer : List Float → A) (e : End) {r : Refusal} {x y : List Float} → Ended e (Stops r) x y → f r ≡ concluded f rules answer e
+ended-refused f rules answer (Stopped q) {r} h = let w = h .answer-is in let same : r ≡ q = cc in ap f same
+ended-refused f rules answer (Reached z) h = absurd (let q = h .answer-is in let z : _≡_ {A = ℕ} 0 1 = cc in omega arith)
 
-ended-yes : {A : Type 0} (r : A) (answer : List Float → A) (e : End) (x y : List Float) → Ended e true x y → concluded r answer (Reached y) ≡ concluded r answer e
-ended-yes r answer Failed x y h = absurd (let q = h .ok-is in let z : _≡_ {A = ℕ} 0 1 = cc in omega arith)
-ended-yes r answer (Reached z) x y h = ap (λ (w : List Float). concluded r answer (Reached w)) (h .state-is)
+ended-reached : {A : Type 0} (f : Refusal → A) (rules : List Float → List Rule) (answer : List Float → A) (e : End) {x y : List Float} → Ended e Passed x y → ruled f (rules y) (answer y) ≡ concluded f rules answer e
+ended-reached f rules answer (Stopped r) h = absurd (let q = h .answer-is in let z : _≡_ {A = ℕ} 0 1 = cc in omega arith)
+ended-reached f rules answer (Reached z) h = ap (λ (w : List Float). ruled f (rules w) (answer w)) (h .state-is)
 
--- the kept pairs of the columns, as if they stood in an array
-module _ {ps : List Pair} {n : ℕ} {x y z : List Float} {constellation : List ℕ} {elevation observed : List Float} (h : Kept ps n x y z constellation elevation observed) where
-  abbrev pub as-pairs : Pairs
-  as-pairs = record { count = n; pair = ps }
+-- ---- what n pairs ps come to: what the code has once it has screened
+module _ (settings : Settings) (ps : List Pair) (n : ℕ) (all : n ≡ length ps) (k : Clocks) {used : ℕ} {x y z : List Float} {constellation : List ℕ} {elevation observed : List Float}
+    (h : Kept (keptOf (settings .screen) ps) used x y z constellation elevation observed) (clocks : k ≡ clocksOf (take used constellation)) where
+  abbrev kept : List Pair
+  kept = keptOf (settings .screen) ps
 
-  whole : take n ps ≡ ps
-  whole = take-all n ps (omega (arith, h .count))
+  clocks-are : k ≡ clocksOf (constellations kept)
+  clocks-are = clocks ∙ ap clocksOf (h .constellations)
 
-  pub as-held : Holds n ps ps
-  as-held = record { room = h .room; count = h .count; all = whole }
+  slots : k .count ≡ clocksOf (constellations kept) .count
+  slots = ap (λ (c : Clocks). c .count) clocks-are
 
-  pub as-clocks : {k : Clocks} → k ≡ clocksOf (take n constellation) → k ≡ clocksOf (constellations (take n ps))
-  as-clocks e = e ∙ ap clocksOf (h .constellations ∙ ap constellations (sym whole))
+  pub no-more : used ≤ n
+  no-more = omega (arith, h .count, kept-few (settings .screen) ps)
 
-  pub as-fit : (settings : Settings) (k : Clocks) (ok : Bool) (a b : List Float) → Ended (fitOver settings k (pairsIn x y z constellation elevation (take n observed)) .end) ok a b → Ended (fitOver settings k (take n ps) .end) ok a b
-  as-fit settings k ok a b e = subst (λ (f : Fit). Ended (f .end) ok a b) (fit-same settings k h ∙ ap (fitOver settings k) (sym whole)) e
+  abbrev counts : List Rule
+  counts = displacementCounts n used (k .count)
 
+  counts-are : counts ≡ pairRules settings ps
+  unfolding pairRules
+  counts-are = rw (all, h .count, slots)
+
+  abbrev answer : List Float → Displacement
+  answer x = Moved (deltaAt (length kept) (length ps - length kept) x)
+
+  counted : ruled Refused counts (concluded Refused endRules answer (fitBy settings ps .end)) ≡ movedBy settings ps
+  unfolding movedBy
+  counted = ap (λ (rs : List Rule). ruled Refused rs (concluded Refused endRules answer (fitBy settings ps .end))) counts-are
+
+  pub refused-counts : {r : Refusal} → Stops r ≡ checked counts → Refused r ≡ movedBy settings ps
+  refused-counts e = refused-by Refused _ counts e ∙ counted
+
+  -- rules 7 to 9 leave a fit of at most nine unknowns
+  module _ (enough : Passed ≡ checked counts) where
+    pub few-clocks : k .count ≤ 6
+    few-clocks = counts-passed _ _ _ enough .1 .few-slots
+
+    fit-is : fitOver settings k (pairsIn x y z constellation elevation (take used observed)) ≡ fitBy settings ps
+    unfolding fitBy
+    fit-is = fit-same settings k h ∙ ap (λ (c : Clocks). fitOver settings c kept) clocks-are
+
+    answered : concluded Refused endRules answer (fitBy settings ps .end) ≡ movedBy settings ps
+    answered = sym (passed-by Refused _ counts enough) ∙ counted
+
+    module _ {a b : List Float} where
+      pub stopped : {r : Refusal} → Ended (fitOver settings k (pairsIn x y z constellation elevation (take used observed)) .end) (Stops r) a b → Refused r ≡ movedBy settings ps
+      stopped {r} e = ended-refused Refused endRules answer (fitBy settings ps .end) (subst (λ (f : Fit). Ended (f .end) (Stops r) a b) fit-is e) ∙ answered
+
+      pub reached : Ended (fitOver settings k (pairsIn x y z constellation elevation (take used observed)) .end) Passed a b → concludedAt used (n - used) b ≡ movedBy settings ps
+      reached e =
+          ap₂ (λ (u s : ℕ). concludedAt u s b) (h .count) (ap₂ _-_ all (h .count))
+          ∙ ended-reached Refused endRules answer (fitBy settings ps .end) (subst (λ (f : Fit). Ended (f .end) Passed a b) fit-is e) ∙ answered
+
+-- ---- the call
 module _ (i : Input) where
-  abbrev a : Displacement
-  a = concluded (Refused FitFailed) (movedTo i) (fitOf i .end)
+  abbrev epochs : List Rule
+  epochs = epochRules (i .previous) (i .current) (i .receiver) (i .settings)
 
-  pub refused-input : {r : Refusal} → Stops r ≡ checked (displacementInput (i .previous) (i .current) (i .dt) (i .receiver) (i .settings)) → Refused r ≡ displacementOf i
-  unfolding displacementOf
-  refused-input e = input-refused Refused a (i .previous) (i .current) (i .dt) (i .receiver) (i .settings) e
+  abbrev tail : Displacement
+  tail = movedBy (i .settings) (pairs i)
 
   pub too-many : (ltb 64 (i .previous .count) || ltb 64 (i .current .count)) ≡ true → Refused TooMany ≡ displacementOf i
-  unfolding displacementOf displacementRules displacementInput ruled
+  unfolding displacementOf displacementInput epochRules ruled
   too-many e = rw e
 
-  -- what the code has once it has screened
-  module _ (passed : Passed ≡ checked (displacementInput (i .previous) (i .current) (i .dt) (i .receiver) (i .settings))) (p q : Pairs) (k : Clocks) (has : Holds (p .count) (p .pair) (pairs i))
-      (left : Holds (q .count) (q .pair) (keptOf (i .settings .screen) (take (p .count) (p .pair)))) (clocks : k ≡ clocksOf (constellations (take (q .count) (q .pair)))) where
-    pub no-more : q .count ≤ p .count
-    no-more = fewer Refused a (i .previous) (i .current) (i .dt) (i .receiver) (i .settings) passed p q k has left clocks
+  parts : ruled Refused epochs (ruled Refused (intervalRules (i .dt)) tail) ≡ displacementOf i
+  unfolding displacementOf displacementInput
+  parts = sym (ruled-append Refused tail epochs (intervalRules (i .dt)))
 
-    pub refused-counts : {r : Refusal} → Stops r ≡ checked (displacementCounts (p .count) (q .count) (k .count)) → Refused r ≡ displacementOf i
-    unfolding displacementOf
-    refused-counts e = counts-refused Refused a (i .previous) (i .current) (i .dt) (i .receiver) (i .settings) passed p q k has left clocks e
+  pub refused-epochs : {r : Refusal} → Stops r ≡ checked epochs → Refused r ≡ displacementOf i
+  refused-epochs e = refused-by Refused _ epochs e ∙ parts
 
-    fit-is : fitOver (i .settings) k (take (q .count) (q .pair)) ≡ fitOf i
-    unfolding fitOf
-    fit-is =
-        ap₂ (fitOver (i .settings)) (clocks-are Refused a (i .previous) (i .current) (i .dt) (i .receiver) (i .settings) passed p q k has left clocks)
-        (kept-is Refused a (i .previous) (i .current) (i .dt) (i .receiver) (i .settings) passed p q k has left clocks)
+  module _ (passed : Passed ≡ checked epochs) where
+    timed : ruled Refused (intervalRules (i .dt)) tail ≡ displacementOf i
+    timed = sym (passed-by Refused _ epochs passed) ∙ parts
 
-    -- rules 7 to 9 leave a fit of at most nine unknowns
-    module _ (counted : Passed ≡ checked (displacementCounts (p .count) (q .count) (k .count))) where
-      pub few-clocks : k .count ≤ 6
-      few-clocks = counts-passed _ _ _ counted .1 .few-slots
+    pub refused-interval : badInterval (i .dt) ≡ true → Refused BadInterval ≡ displacementOf i
+    unfolding intervalRules ruled
+    refused-interval e = rw e at timed
 
-      answered : concluded (Refused FitFailed) (movedTo i) (fitOver (i .settings) k (take (q .count) (q .pair)) .end) ≡ displacementOf i
-      unfolding displacementOf
-      answered =
-          ap (λ (f : Fit). concluded (Refused FitFailed) (movedTo i) (f .end)) fit-is
-          ∙ counts-kept Refused a (i .previous) (i .current) (i .dt) (i .receiver) (i .settings) passed p q k has left clocks counted
-
-      pub failed : (x y : List Float) → Ended (fitOver (i .settings) k (take (q .count) (q .pair)) .end) false x y → Refused FitFailed ≡ displacementOf i
-      failed x y h = ended-no (Refused FitFailed) (movedTo i) (fitOver (i .settings) k (take (q .count) (q .pair)) .end) x y h ∙ answered
-
-      pub reached : (x y : List Float) → Ended (fitOver (i .settings) k (take (q .count) (q .pair)) .end) true x y → concludedAt (q .count) (p .count - q .count) y ≡ displacementOf i
-      reached x y h =
-          ap₂ (λ (u s : ℕ). concludedAt u s y) used (ap₂ _-_ all used)
-          ∙ ended-yes (Refused FitFailed) (movedTo i) (fitOver (i .settings) k (take (q .count) (q .pair)) .end) x y h ∙ answered
-        where
-          used : q .count ≡ length (kept i)
-          used = kept-count Refused a (i .previous) (i .current) (i .dt) (i .receiver) (i .settings) passed p q k has left clocks
-
-          all : p .count ≡ length (pairs i)
-          all = pair-count Refused a (i .previous) (i .current) (i .dt) (i .receiver) (i .settings) passed p q k has left clocks
+    pub paired : badInterval (i .dt) ≡ false → {n : ℕ} {array : List Pair} → Holds n array (pairs i) → movedBy (i .settings) (take n array) ≡ displacementOf i
+    unfolding intervalRules ruled
+    paired e h = ap (movedBy (i .settings)) (h .all) ∙ (rw e at timed)

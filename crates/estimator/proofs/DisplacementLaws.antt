@@ -2,7 +2,6 @@
 use mathlib.Core.Path.{_≡_, refl, sym, ap, _∙_, subst₂, fun-ext}
 use Prim.Native.Nat.{ℕ, _+_, _≤_, _<_}
 use native.Mathlib.Omega.{arith}
-use mathlib.Core.Bool.{Bool}
 use mathlib.Core.List.{List, map}
 use lib.ListN.{length, getD, take}
 use lib.Seq.{take-all, getD-take, length-take-le}
@@ -16,6 +15,7 @@ use Rattle.robust.specs.Columns as round
 use Rattle.robust.proofs.ColumnLaws.{filled-at}
 use Rattle.robust.specs.Normal.{Solving}
 use Rattle.robust.specs.declared.row.Row.{Row}
+use Rattle.robust.specs.declared.round.Stepping.{Stepping}
 use Rattle.clocks.specs.declared.clocks.Clocks.{Clocks}
 use Rattle.records.specs.declared.pair.Pair.{Pair}
 use Rattle.estimator.specs.declared.displacement.Settings.{Settings}
@@ -38,9 +38,9 @@ module _ (settings : Settings) (k : Clocks) (ps : List Pair) where
   unfolding fitOver
   going = left-start (roundAt settings k ps) (3 + k .count) limit (settings .rounds) (fitOver settings k ps) zeros refl
 
-  pub solving : (x : List Float) (rows : List Row) (n : ℕ) (ok : Bool) (a b : List Float) → rows ≡ map (rowAt settings k x) ps → n ≡ 3 + k .count → Solving (roundOf rows n (settings .huber)) ok a b → Solving (roundAt settings k ps x) ok a b
+  pub solving : (x : List Float) (rows : List Row) (n : ℕ) (answer : Stepping) (a b : List Float) → rows ≡ map (rowAt settings k x) ps → n ≡ 3 + k .count → Solving (roundOf rows n (settings .huber)) answer a b → Solving (roundAt settings k ps x) answer a b
   unfolding roundAt
-  solving x rows n ok a b e h s = subst₂ (λ (r : List Row) (m : ℕ). Solving (roundOf r m (settings .huber)) ok a b) e h s
+  solving x rows n answer a b e h s = subst₂ (λ (r : List Row) (m : ℕ). Solving (roundOf r m (settings .huber)) answer a b) e h s
 
 -- ---- the pairs of the columns
 module _ (settings : Settings) (k : Clocks) (x y z : List Float) (constellation : List ℕ) (elevation observed : List Float) where

@@ -1,6 +1,6 @@
 -- What an accepted displacement has, DEMAND 3 over all of its rounds among it. Assumes nothing.
 use mathlib.Core.Path.{_≡_, sym, _∙_, subst}
-use Prim.Native.Nat.{ℕ, _+_, _<_}
+use Prim.Native.Nat.{ℕ, _+_, _-_, _<_}
 use native.Mathlib.Omega.{arith}
 use mathlib.Core.List.{List, map}
 use lib.Dec.{T}
@@ -9,23 +9,24 @@ use lib.Ieee.{Float}
 use lib.Ieee.Scale.{finite}
 use Rattle.cholesky.specs.Factor.{at, zeros}
 use Rattle.numeric.specs.declared.refusal.Refusal.{Refusal}
-use Rattle.numeric.specs.declared.refusal.Refusal.the-variants.{FitFailed}
 use Rattle.robust.specs.Round.{Round, Solved, Sound}
 use Rattle.robust.proofs.RoundSound.{round-sound}
 use Rattle.clocks.specs.Clocks.{clocksOf}
-use Rattle.estimator.specs.Front.{displacementRules}
-use Rattle.records.specs.Screen.{constellations}
+use Rattle.estimator.specs.Front.{pairRules}
+use Rattle.estimator.specs.Valid.{displacementInput}
+use Rattle.records.specs.Screen.{keptOf, constellations}
 use Rattle.clocks.specs.declared.clocks.Clocks.{Clocks}
 use Rattle.records.specs.declared.pair.Pair.{Pair}
 use Rattle.estimator.specs.declared.displacement.Settings.{Settings}
 use Rattle.estimator.specs.Rounds.{concluded, Each}
-use Rattle.estimator.specs.Displacement.{Input, rowAt, roundAt, limit, fitOver, pairs, kept, fitOf, roundsOf, deltaAt, movedTo, displacementOf, Accepted, Promised}
-use Rattle.estimator.specs.Rules.{Rule}
+use Rattle.estimator.specs.Displacement.{Input, rowAt, roundAt, limit, fitOver, fitBy, pairs, kept, fitOf, roundsOf, deltaAt, endRules, movedBy, displacementOf, Accepted, Promised}
 use Rattle.estimator.specs.declared.displacement.Delta.{Delta}
 use Rattle.estimator.specs.declared.displacement.Displacement.{Displacement}
 use Rattle.estimator.specs.declared.displacement.Displacement.the-variants.{Refused, Moved}
-use Rattle.estimator.proofs.RoundsSound.{rounds-sound, Finished, finished, passed}
-use Rattle.estimator.proofs.FrontLaws.{kept-few, enough}
+use Rattle.estimator.specs.declared.valid.Check.the-variants.{Passed}
+use Rattle.estimator.proofs.RulesLaws.{checked, passed-of, passed-by, head-passed}
+use Rattle.estimator.proofs.RoundsSound.{rounds-sound, Finished, finished, Placed, placed}
+use Rattle.estimator.proofs.FrontLaws.{kept-few, pairs-enough}
 
 never : (d : Delta) (r : Refusal) → Refused r ≡ Moved d → ⊥
 never d r e = let z : _≡_ {A = ℕ} 0 1 = cc in omega arith
@@ -34,41 +35,58 @@ one-sound : (settings : Settings) (k : Clocks) (ps : List Pair) (x : List Float)
 unfolding roundAt
 one-sound settings k ps x = round-sound (map (rowAt settings k x) ps) (3 + k .count) (settings .huber)
 
--- what an accepted displacement came from
-abbrev rulesOf : Input → List Rule
-rulesOf i = displacementRules (i .previous) (i .current) (i .dt) (i .receiver) (i .settings)
+-- what an accepted displacement of the pairs ps came from
+module _ (settings : Settings) (ps : List Pair) (d : Delta) (e : movedBy settings ps ≡ Moved d) where
+  abbrev used : ℕ
+  used = length (keptOf (settings .screen) ps)
 
-fitted : (i : Input) (d : Delta) → displacementOf i ≡ Moved d → Finished (movedTo i) (Moved d) (fitOf i .end)
-unfolding displacementOf
-fitted i d e =
-    finished (Refused FitFailed) (movedTo i) (Moved d) (never d FitFailed) (fitOf i .end)
-    (passed Refused (Moved d) (never d) (rulesOf i) (concluded (Refused FitFailed) (movedTo i) (fitOf i .end)) e)
+  abbrev answer : List Float → Displacement
+  answer x = Moved (deltaAt used (length ps - used) x)
 
-pub displacement-sound : (i : Input) (d : Delta) → displacementOf i ≡ Moved d → Each Sound (roundsOf i)
-unfolding roundsOf fitOf fitOver
-displacement-sound i d e =
-    let k = clocksOf (constellations (kept i)) in
-    let r = fitted i d e in
-    rounds-sound (roundAt (i .settings) k (kept i)) (3 + k .count) limit (omega arith) (one-sound (i .settings) k (kept i)) (i .settings .rounds) zeros (r .x) (r .end-is) (r .first)
+  abbrev fitted : Displacement
+  fitted = concluded Refused endRules answer (fitBy settings ps .end)
+
+  counted : Passed ≡ checked (pairRules settings ps)
+  unfolding movedBy
+  counted = passed-of Refused fitted (pairRules settings ps) e (never d)
+
+  ended : Finished endRules answer (Moved d) (fitBy settings ps .end)
+  unfolding movedBy
+  ended = finished Refused endRules answer (Moved d) (never d) (fitBy settings ps .end) (sym (passed-by Refused fitted (pairRules settings ps) counted) ∙ e)
+
+  same : deltaAt used (length ps - used) (ended .x) ≡ d
+  same = let h = ended .answer-is in cc
+
+  place : Placed (ended .x)
+  unfolding endRules
+  place = placed (ended .x) (head-passed _ _ (ended .passed) .0)
+
+  moved-sound : Each Sound (fitBy settings ps .rounds)
+  unfolding fitBy fitOver
+  moved-sound =
+      let kept = keptOf (settings .screen) ps in
+      let k = clocksOf (constellations kept) in
+      rounds-sound (roundAt settings k kept) (3 + k .count) limit (omega arith) (one-sound settings k kept) (settings .rounds) zeros (ended .x) (ended .end-is) (place .first)
 
 -- all that an accepted displacement has
 pub displacement-accepted : (i : Input) (d : Delta) → displacementOf i ≡ Moved d → Accepted i d
-unfolding displacementOf
+unfolding displacementOf roundsOf fitOf
 displacement-accepted i d e =
-    let r = fitted i d e in
-    let same : deltaAt i (r .x) ≡ d = moved-same (r .answer-is) in
-    let many = enough Refused (concluded (Refused FitFailed) (movedTo i) (fitOf i .end)) (i .previous) (i .current) (i .dt) (i .receiver) (i .settings) e (never d) in
+    let rules = displacementInput (i .previous) (i .current) (i .dt) (i .receiver) (i .settings) in
+    let s = i .settings in
+    let ps = pairs i in
+    let m : movedBy s ps ≡ Moved d = sym (passed-by Refused (movedBy s ps) rules (passed-of Refused (movedBy s ps) rules e (never d))) ∙ e in
+    let p = place s ps d m in
+    let is = same s ps d m in
+    let many = pairs-enough s ps (counted s ps d m) in
     record {
-      x-finite = subst (λ (z : Delta). T (finite (z .delta .x))) same (r .first);
-      y-finite = subst (λ (z : Delta). T (finite (z .delta .y))) same (r .second);
-      z-finite = subst (λ (z : Delta). T (finite (z .delta .z))) same (r .third);
-      pairs-counted = subst (λ (z : Delta). z .used + z .screened ≡ length (pairs i)) same (omega (arith, kept-few (i .settings .screen) (pairs i)));
-      redundant = subst (λ (z : Delta). 3 + clocksOf (constellations (kept i)) .count < z .used) same (omega (arith, many .redundant));
-      sound-rounds = displacement-sound i d e;
+      x-finite = subst (λ (z : Delta). T (finite (z .delta .x))) is (p .first);
+      y-finite = subst (λ (z : Delta). T (finite (z .delta .y))) is (p .second);
+      z-finite = subst (λ (z : Delta). T (finite (z .delta .z))) is (p .third);
+      pairs-counted = subst (λ (z : Delta). z .used + z .screened ≡ length (pairs i)) is (omega (arith, kept-few (i .settings .screen) (pairs i)));
+      redundant = subst (λ (z : Delta). 3 + clocksOf (constellations (kept i)) .count < z .used) is (omega (arith, many .redundant));
+      sound-rounds = moved-sound s ps d m;
     }
-  where
-    moved-same : {a b : Delta} → Moved a ≡ Moved b → a ≡ b
-    moved-same h = cc
 
 -- the public call's promise follows from its answer
 pub promised : (i : Input) (r : Displacement) → r ≡ displacementOf i → Promised i r

@@ -61,7 +61,7 @@ module _ {A : Type 0} (f : Refusal → A) (a : A) where
 -- ---- what has been passed
 
 -- the rule at the head does not apply, and the others have been passed
-head-passed : (r : Rule) (rs : List Rule) → Passed ≡ checked (r ∷ rs) → (r .applies ≡ false) × (Passed ≡ checked rs)
+pub head-passed : (r : Rule) (rs : List Rule) → Passed ≡ checked (r ∷ rs) → (r .applies ≡ false) × (Passed ≡ checked rs)
 unfolding ruled
 head-passed r rs e = go (r .applies) refl e
   where

@@ -1,7 +1,8 @@
 -- The displacement of a receiver between two epochs (document 01, "Displacement"; tdcp.rs): its rounds, and the answer. Definitions only.
 use mathlib.Core.Path.{_≡_}
 use Prim.Native.Nat.{ℕ, _+_, _-_, _<_}
-use mathlib.Core.List.{List, map}
+use mathlib.Core.Bool.{not}
+use mathlib.Core.List.{List, [], _∷_, map}
 use lib.ListN.{length}
 use lib.Dec.{T}
 use lib.Ieee.{Float}
@@ -15,14 +16,15 @@ use Rattle.robust.specs.Round.{Round, Outcome, roundOf, Sound}
 use Rattle.robust.specs.Sigma.{elevationSigma}
 use Rattle.robust.specs.declared.row.Row.{Row}
 use Rattle.clocks.specs.Clocks.{slot, clocksOf}
-use Rattle.estimator.specs.Rules.{ruled}
-use Rattle.records.specs.Screen.{constellations}
-use Rattle.estimator.specs.Front.{allPairs, keptPairs, displacementRules}
+use Rattle.estimator.specs.Rules.{Rule, rule, ruled}
+use Rattle.records.specs.Screen.{keptOf, constellations}
+use Rattle.estimator.specs.Valid.{displacementInput}
+use Rattle.estimator.specs.Front.{allPairs, keptPairs, pairRules}
 use Rattle.clocks.specs.declared.clocks.Clocks.{Clocks}
 use Rattle.records.specs.declared.record.Epoch.{Epoch}
 use Rattle.records.specs.declared.pair.Pair.{Pair}
 use Rattle.estimator.specs.declared.displacement.Settings.{Settings}
-use Rattle.estimator.specs.Rounds.{Reached, Fit, fitFrom, concluded, Each}
+use Rattle.estimator.specs.Rounds.{Fit, fitFrom, finiteAt, concluded, Each}
 use Rattle.estimator.specs.declared.displacement.Delta.{Delta}
 use Rattle.estimator.specs.declared.displacement.Displacement.{Displacement}
 use Rattle.estimator.specs.declared.displacement.Displacement.the-variants.{Refused, Moved}
@@ -67,17 +69,23 @@ limit = decimal 1 5
 unfoldable pub fitOver : Settings → Clocks → List Pair → Fit
 fitOver settings k ps = fitFrom (roundAt settings k ps) (3 + k .count) limit (settings .rounds) zeros
 
--- the pairs before screening and after it
+-- the fit over those that the screen keeps of the pairs ps
+unfoldable pub fitBy : Settings → List Pair → Fit
+fitBy settings ps =
+    let kept = keptOf (settings .screen) ps in
+    fitOver settings (clocksOf (constellations kept)) kept
+
+-- the pairs of a call, before screening and after it
 abbrev pub pairs : Input → List Pair
 pairs i = allPairs (i .previous) (i .current) (i .dt) (i .receiver) (i .settings)
 
 abbrev pub kept : Input → List Pair
 kept i = keptPairs (i .previous) (i .current) (i .dt) (i .receiver) (i .settings)
 
+-- the fit of a call, and its rounds
 unfoldable pub fitOf : Input → Fit
-fitOf i = fitOver (i .settings) (clocksOf (constellations (kept i))) (kept i)
+fitOf i = fitBy (i .settings) (pairs i)
 
--- the rounds of a call
 unfoldable pub roundsOf : Input → List Round
 roundsOf i = fitOf i .rounds
 
@@ -86,19 +94,26 @@ roundsOf i = fitOf i .rounds
 abbrev pub vector : List Float → Vec3
 vector x = record { x = at x 0; y = at x 1; z = at x 2 }
 
--- the displacement at the state x: the screened are the pairs less those kept
-abbrev pub deltaAt : Input → List Float → Delta
-deltaAt i x = record { delta = vector x; used = length (kept i); screened = length (pairs i) - length (kept i) }
+abbrev pub deltaAt : ℕ → ℕ → List Float → Delta
+deltaAt used screened x = record { delta = vector x; used = used; screened = screened }
 
-abbrev pub movedTo : Input → List Float → Displacement
-movedTo i x = Moved (deltaAt i x)
+-- 10, of the state that the rounds reach
+unfoldable pub endRules : List Float → List Rule
+endRules x = rule FitFailed (not (finiteAt x)) ∷ []
 
--- the same by the counts, as the code has it
+-- the answer at the state x that the rounds reach
 abbrev pub concludedAt : ℕ → ℕ → List Float → Displacement
-concludedAt used screened x = concluded (Refused FitFailed) (λ x. Moved (record { delta = vector x; used = used; screened = screened })) (Reached x)
+concludedAt used screened x = ruled Refused (endRules x) (Moved (deltaAt used screened x))
 
+-- What every displacement shares, from its pairs on: 7 to 9, the rounds over those that the screen keeps, and 10. The screened are the pairs less those kept.
+unfoldable pub movedBy : Settings → List Pair → Displacement
+movedBy settings ps =
+    let used = length (keptOf (settings .screen) ps) in
+    ruled Refused (pairRules settings ps) (concluded Refused endRules (λ x. Moved (deltaAt used (length ps - used) x)) (fitBy settings ps .end))
+
+-- 2 to 5 on what is handed over, and then what its pairs come to
 unfoldable pub displacementOf : Input → Displacement
-displacementOf i = ruled Refused (displacementRules (i .previous) (i .current) (i .dt) (i .receiver) (i .settings)) (concluded (Refused FitFailed) (movedTo i) (fitOf i .end))
+displacementOf i = ruled Refused (displacementInput (i .previous) (i .current) (i .dt) (i .receiver) (i .settings)) (movedBy (i .settings) (pairs i))
 
 -- ---- the promise of the public call
 

@@ -1,7 +1,7 @@
 -- The position of a receiver from one epoch (document 01, "Fix"; wls.rs): its rounds, what the fit says of itself, and the answer. Definitions only.
 use mathlib.Core.Path.{_≡_}
 use Prim.Native.Nat.{ℕ, _+_, _-_, _<_, _≤_, max}
-use mathlib.Core.Bool.{true, cond}
+use mathlib.Core.Bool.{not, cond}
 use mathlib.Core.List.{List, [], _∷_, map}
 use lib.Dec.{eqb}
 use lib.ListN.{length, replicate}
@@ -10,7 +10,9 @@ use lib.Ieee.{Float}
 use lib.Ieee.Scale.{finite}
 use Rattle.exact.specs.Float.{_⊕_, _⊖_, _⊗_, _⊘_, +0, 1·0, bits, whole, decimal}
 use Rattle.root.specs.Root.{rootOf}
-use Rattle.cholesky.specs.Factor.{at, Factored, Refused as NoFactor, Lower, factorOf, solutionOf}
+use Rattle.cholesky.specs.Factor.{at, factorOf, solutionOf}
+use Rattle.cholesky.specs.Answer.{rowsAfter}
+use Rattle.cholesky.specs.Answer as factor
 use Rattle.numeric.specs.Order.{patternOf}
 use Rattle.numeric.specs.Real.{square}
 use Rattle.numeric.specs.Sight.{geometry}
@@ -22,20 +24,21 @@ use Rattle.robust.specs.Sigma.{elevationSigma}
 use Rattle.robust.specs.Step.{counted}
 use Rattle.robust.specs.declared.row.Row.{Row}
 use Rattle.clocks.specs.Clocks.{slot, clocksOf}
-use Rattle.estimator.specs.Rules.{ruled}
+use Rattle.estimator.specs.Rules.{Rule, rule, ruled}
 use Rattle.records.specs.Mask.{constellations}
 use Rattle.estimator.specs.Front.{fixRows, fixRules}
 use Rattle.clocks.specs.declared.clocks.Clocks.{Clocks}
 use Rattle.records.specs.declared.record.Observation.{Observation}
 use Rattle.records.specs.declared.record.Observations.{Observations}
 use Rattle.estimator.specs.declared.fix.Settings.{Settings}
-use Rattle.estimator.specs.Rounds.{Reached, Fit, fitFrom, lastRows, concluded, accepted, Each}
+use Rattle.estimator.specs.Rounds.{Reached, Fit, fitFrom, lastRows, finiteAt, concluded, checkOf, Each}
 use Rattle.estimator.specs.declared.fix.Solution.{Solution}
 use Rattle.estimator.specs.declared.fix.Fix.{Fix}
 use Rattle.estimator.specs.declared.fix.Fix.the-variants.{Refused, At}
 use Rattle.estimator.specs.declared.fix.Position.{Position}
 use Rattle.estimator.specs.declared.fix.Position.the-variants.{Refused as NoPosition, At as PositionAt}
 use Rattle.estimator.specs.declared.fix.Fitted.{Fitted}
+use Rattle.estimator.specs.declared.valid.Check.the-variants.{Passed}
 
 -- what is handed over
 pub record Input : Type 0 where
@@ -117,27 +120,31 @@ variance l i = at (solutionOf l (nine (λ j. cond (eqb i j) 1·0 +0))) i
 unfoldable pub pdopOf : List (List Float) → Float
 pdopOf l = rootOf (+0 ⊕ variance l 0 ⊕ variance l 1 ⊕ variance l 2)
 
--- ---- the answer
+-- ---- the answer, at the state x that the rounds reach with these rows in the last one, of n unknowns
 
--- 10: a pivot of the unweighted matrix is refused
-abbrev pub judged : ℕ → List Row → List Float → Factored → Fix
-judged n rows x NoFactor = Refused FitFailed
-judged n rows x (Lower l) = At (record { position = position x; used = length rows; chi = chiOf n rows; pdop = pdopOf l })
+-- 10: the position is not finite, or a pivot of the unweighted matrix is refused
+unfoldable pub endRules : ℕ → List Row → List Float → List Rule
+endRules n rows x =
+    rule FitFailed (not (finiteAt x))
+    ∷ rule FitFailed (not (factor.accepted (factorOf (plainMatrix n rows))))
+    ∷ []
 
--- the answer at the state x, with what these rows say of it
-abbrev pub judgedAt : ℕ → List Row → List Float → Fix
-judgedAt n rows x = judged n rows x (factorOf (plainMatrix n rows))
+-- with the factor of the unweighted matrix
+abbrev pub solutionAt : ℕ → List Row → List Float → Solution
+solutionAt n rows x = record { position = position x; used = length rows; chi = chiOf n rows; pdop = pdopOf (rowsAfter (factorOf (plainMatrix n rows)) []) }
 
--- the position at the state x, with what the last round's rows say of it
-abbrev pub positionAt : Input → List Float → Fix
-positionAt i x = judgedAt (3 + clocks i .count) (lastRows [] (roundsOf i)) x
-
--- the answer of rows of n unknowns whose rounds end at the state x: 10 where its position is not finite
 abbrev pub concludedAt : ℕ → List Row → List Float → Fix
-concludedAt n rows x = concluded (Refused FitFailed) (judgedAt n rows) (Reached x)
+concludedAt n rows x = ruled Refused (endRules n rows x) (At (solutionAt n rows x))
+
+-- what the rounds of a call come to
+abbrev pub fitted : Input → Fix
+fitted i =
+    let n = 3 + clocks i .count in
+    let rows = lastRows [] (roundsOf i) in
+    concluded Refused (endRules n rows) (λ x. At (solutionAt n rows x)) (fitOf i .end)
 
 unfoldable pub fixOf : Input → Fix
-fixOf i = ruled Refused (fixRules (i .observations) (i .guess) (i .settings)) (concluded (Refused FitFailed) (positionAt i) (fitOf i .end))
+fixOf i = ruled Refused (fixRules (i .observations) (i .guess) (i .settings)) (fitted i)
 
 -- the answer of the call that gives the position alone
 abbrev pub positionOf : Fix → Position
@@ -171,6 +178,6 @@ pub record PositionPromised (i : Input) (r : Position) : Type 0 where
 -- ---- the code's end: where the rounds of the fit f are not refused, the state that they reach and the last round's rows
 pub record Reaches (f : Fit) (r : Fitted) : Type 0 where
   pub few-rows : r .rows .count ≤ 64
-  pub ok-is : r .ok ≡ accepted (f .end)
-  pub state-is : r .ok ≡ true → Reached (r .x) ≡ f .end
-  pub rows-are : r .ok ≡ true → counted (r .rows) ≡ lastRows [] (f .rounds)
+  pub answer-is : r .answer ≡ checkOf (f .end)
+  pub state-is : r .answer ≡ Passed → Reached (r .x) ≡ f .end
+  pub rows-are : r .answer ≡ Passed → counted (r .rows) ≡ lastRows [] (f .rounds)

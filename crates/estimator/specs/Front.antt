@@ -1,4 +1,4 @@
--- What comes before the rounds: the rows, their clocks, and the rules in document 01's order. Definitions only.
+-- What comes before the rounds: the rows, and the rules on them in document 01's order. Definitions only.
 use mathlib.Core.List.{List, _++_}
 use lib.ListN.{length}
 use lib.Ieee.{Float}
@@ -10,7 +10,7 @@ use Rattle.records.specs.Pair.{pairsOf}
 use Rattle.records.specs.Screen.{keptOf, constellations}
 use Rattle.records.specs.Mask.{aboveMask}
 use Rattle.records.specs.Mask.{constellations as observedConstellations}
-use Rattle.estimator.specs.Valid.{displacementInput, displacementCounts, fixInput, fixCounts}
+use Rattle.estimator.specs.Valid.{displacementCounts, fixInput, fixCounts}
 use Rattle.records.specs.declared.record.Epoch.{Epoch}
 use Rattle.records.specs.declared.record.Observation.{Observation}
 use Rattle.records.specs.declared.record.Observations.{Observations}
@@ -28,12 +28,11 @@ allPairs previous current dt receiver settings = pairsOf receiver (settings .mas
 abbrev pub keptPairs : Epoch → Epoch → Float → Vec3 → Settings → List Pair
 keptPairs previous current dt receiver settings = keptOf (settings .screen) (allPairs previous current dt receiver settings)
 
--- 2 to 9
-unfoldable pub displacementRules : Epoch → Epoch → Float → Vec3 → Settings → List Rule
-displacementRules previous current dt receiver settings =
-    let all = allPairs previous current dt receiver settings in
-    let kept = keptPairs previous current dt receiver settings in
-    displacementInput previous current dt receiver settings ++ displacementCounts (length all) (length kept) (clocksOf (constellations kept) .count)
+-- 7 to 9, of the pairs before screening
+unfoldable pub pairRules : Settings → List Pair → List Rule
+pairRules settings ps =
+    let kept = keptOf (settings .screen) ps in
+    displacementCounts (length ps) (length kept) (clocksOf (constellations kept) .count)
 
 -- ---- a fix
 

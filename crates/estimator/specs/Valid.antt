@@ -1,7 +1,7 @@
 -- The rules of a displacement and of a fix, in document 01's numbers and order ("Why a call turns back"). Definitions only.
 use Prim.Native.Nat.{ℕ, _+_}
 use mathlib.Core.Bool.{Bool, not, _&&_, _||_}
-use mathlib.Core.List.{List, [], _∷_}
+use mathlib.Core.List.{List, [], _∷_, _++_}
 use lib.Dec.{eqb, ltb}
 use lib.Ieee.{Float, lt}
 use lib.Ieee.Scale.{finite}
@@ -29,14 +29,21 @@ settingsPass s =
 unfoldable pub badInterval : Float → Bool
 badInterval dt = not (finite dt) || not (lt +0 dt) || lt (whole 604800) dt
 
--- 2 to 5, of what is handed over
-unfoldable pub displacementInput : Epoch → Epoch → Float → Vec3 → Settings → List Rule
-displacementInput previous current dt receiver settings =
+-- 2 to 4, of the epochs, the receiver and the settings
+unfoldable pub epochRules : Epoch → Epoch → Vec3 → Settings → List Rule
+epochRules previous current receiver settings =
     rule TooMany (ltb 64 (previous .count) || ltb 64 (current .count))
     ∷ rule SettingOutOfRange (not (settingsPass settings))
     ∷ rule RecordOutOfRange (not (every sound (counted previous) && every sound (counted current) && placeable receiver))
-    ∷ rule BadInterval (badInterval dt)
     ∷ []
+
+-- 5, of the interval
+unfoldable pub intervalRules : Float → List Rule
+intervalRules dt = rule BadInterval (badInterval dt) ∷ []
+
+-- 2 to 5, of what is handed over
+unfoldable pub displacementInput : Epoch → Epoch → Float → Vec3 → Settings → List Rule
+displacementInput previous current dt receiver settings = epochRules previous current receiver settings ++ intervalRules dt
 
 -- 7 to 9, of how many pairs there are before screening, how many are kept, and how many clock slots those have
 unfoldable pub displacementCounts : ℕ → ℕ → ℕ → List Rule

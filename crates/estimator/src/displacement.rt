@@ -1,7 +1,7 @@
 // The displacement between two epochs.
 ghost use mathlib.Core.Path.{_≡_};
 ghost use mathlib.Core.Bool.{true};
-ghost use lib.ListN.{length};
+ghost use lib.ListN.{length, take};
 ghost use Prim.Native.Nat.{ℕ, _≤_};
 ghost use Rattle.exact.specs.Float.{_⊕_, _⊖_, _⊗_};
 ghost use Rattle.cholesky.specs.Factor.{at};
@@ -16,16 +16,19 @@ use crate::rounds::state_at;
 use crate::valid::Check;
 use crate::valid::check_in;
 use crate::valid::check_pairs;
+use crate::valid::is_bad_interval;
 use clocks::clocks::Clocks;
 use numeric::order::pattern;
 use numeric::real::is_finite;
 use numeric::refusal::Refusal;
 use numeric::vec3::Vec3;
 use records::carriers::columns_into;
+use records::pair::Pairs;
 use records::pair::pairs_in;
 use records::record::Epoch;
 use records::screen::clocks_of;
 use records::screen::keep_into;
+use robust::round::Stepping;
 use robust::round::round_step;
 use robust::sigma::elevation_sigma;
 
@@ -59,7 +62,7 @@ pub(crate) fn residual_of(o: f64, u: f64, v: f64, w: f64, s: usize, x: [f64; 9])
     pattern(o - (u * x[0] + v * x[1] + w * x[2]) - state_at(x, s))
 }
 
-// The rounds over the pairs of the columns: the state that they reach in state, or false and state as it was where one is refused.
+// The rounds over the pairs of the columns: the state that they reach in state, or state as it was where one is refused.
 pub(crate) fn fit_pairs(
     settings: Settings,
     k: Clocks,
@@ -70,7 +73,7 @@ pub(crate) fn fit_pairs(
     elevation: &[f64; 64],
     observed: &[f64],
     state: &mut [f64; 9],
-) -> bool
+) -> Check
     requires { ⌜ (length (now observed) ≤ 64) × (k .count ≤ 6) ⌝ }
     ensures { λ r. ⌜ Ended (spec.fitOver settings k (pairsIn (now (x .entry)) (now (y .entry)) (now (z .entry)) (now (constellation .entry)) (now (elevation .entry)) (now (observed .entry))) .end) r (now (state .entry)) (now (state .exit)) ⌝ }
 {
@@ -95,12 +98,12 @@ pub(crate) fn fit_pairs(
             let v = y[j];
             let w = z[j];
             let s = clock[j];
-            let r = residual_of(o, u, v, w, s, at);
-            residual[j] = r;
+            let d = residual_of(o, u, v, w, s, at);
+            residual[j] = d;
         }
         let n = 3 + k.count;
         let mut dx = [0.0; 9];
-        if !round_step(
+        if let Stepping::Refused(r) = round_step(
             x,
             y,
             z,
@@ -111,18 +114,18 @@ pub(crate) fn fit_pairs(
             settings.huber,
             &mut dx,
         ) {
-            return false;
+            return Check::Refused(r);
         }
         let next = move_by(n, dx, at);
         at = next;
         if is_short(1e-5, dx) {
             *state = at;
-            return true;
+            return Check::Passed;
         }
         i += 1;
     }
     *state = at;
-    true
+    Check::Passed
 }
 
 // The displacement at the state x, or 10 where it is not finite.
@@ -142,6 +145,49 @@ fn moved_to(x: [f64; 9], used: usize, screened: usize) -> Displacement
         });
     }
     Displacement::Refused(Refusal::FitFailed)
+}
+
+// What every displacement shares, from its pairs on: the screen, rules 7 to 9, the rounds, and 10.
+pub(crate) fn moved_by(settings: Settings, all: Pairs) -> Displacement
+    requires { ⌜ all .count ≤ 64 ⌝ }
+    ensures { λ r. ⌜ r ≡ spec.movedBy settings (take (all .count) (all .pair)) ⌝ }
+{
+    let mut x = [0.0; 64];
+    let mut y = [0.0; 64];
+    let mut z = [0.0; 64];
+    let mut constellation = [0u8; 64];
+    let mut elevation = [0.0; 64];
+    let mut observed = [0.0; 64];
+    let used = keep_into(
+        all,
+        settings.screen,
+        &mut x,
+        &mut y,
+        &mut z,
+        &mut constellation,
+        &mut elevation,
+        &mut observed,
+    );
+    let clocks = clocks_of(&constellation[..used]);
+    let pairs = all.count;
+    if let Check::Refused(r) = check_pairs(pairs, used, clocks.count) {
+        return Displacement::Refused(r);
+    }
+    let mut state = [0.0; 9];
+    if let Check::Refused(r) = fit_pairs(
+        settings,
+        clocks,
+        &x,
+        &y,
+        &z,
+        &constellation,
+        &elevation,
+        &observed[..used],
+        &mut state,
+    ) {
+        return Displacement::Refused(r);
+    }
+    moved_to(state, used, pairs - used)
 }
 
 // The receiver's position change between two epochs, dt seconds apart. The receiver's position sets the geometry only.
@@ -206,7 +252,7 @@ pub fn delta_position(
     )
 }
 
-// The same of two epochs' columns: nothing of them is copied.
+// The same of two epochs' columns: nothing of them is copied. Rules 2 to 5, the pairs, and what they come to.
 pub fn delta_in(
     previous_constellation: &[u8],
     previous_svid: &[u16],
@@ -241,11 +287,13 @@ pub fn delta_in(
         current_state,
         current_floats,
         current_count,
-        dt,
         receiver,
         settings,
     ) {
         return Displacement::Refused(r);
+    }
+    if is_bad_interval(dt) {
+        return Displacement::Refused(Refusal::BadInterval);
     }
     let all = pairs_in(
         previous_constellation,
@@ -264,41 +312,5 @@ pub fn delta_in(
         settings.mask,
         dt,
     );
-    let mut x = [0.0; 64];
-    let mut y = [0.0; 64];
-    let mut z = [0.0; 64];
-    let mut constellation = [0u8; 64];
-    let mut elevation = [0.0; 64];
-    let mut observed = [0.0; 64];
-    let used = keep_into(
-        all,
-        settings.screen,
-        &mut x,
-        &mut y,
-        &mut z,
-        &mut constellation,
-        &mut elevation,
-        &mut observed,
-    );
-    let clocks = clocks_of(&constellation[..used]);
-    let pairs = all.count;
-    if let Check::Refused(r) = check_pairs(pairs, used, clocks.count) {
-        return Displacement::Refused(r);
-    }
-    let screened = pairs - used;
-    let mut state = [0.0; 9];
-    if fit_pairs(
-        settings,
-        clocks,
-        &x,
-        &y,
-        &z,
-        &constellation,
-        &elevation,
-        &observed[..used],
-        &mut state,
-    ) {
-        return moved_to(state, used, screened);
-    }
-    Displacement::Refused(Refusal::FitFailed)
+    moved_by(settings, all)
 }

@@ -25,6 +25,7 @@ use records::mask::above_mask;
 use records::mask::clocks_of;
 use records::record::Observation;
 use records::record::Observations;
+use robust::round::Stepping;
 use robust::round::round_step;
 use robust::row::Row;
 use robust::row::Rows;
@@ -60,7 +61,7 @@ pub enum Position {
 
 // Where the rounds ended, and the rows of the last one.
 pub struct Fitted {
-    pub ok: bool,
+    pub answer: Check,
     pub x: [f64; 9],
     pub rows: Rows,
 }
@@ -150,7 +151,7 @@ pub(crate) fn fit_sky(settings: Settings, k: Clocks, sky: Observations, guess: V
             residual[j] = r.residual;
         }
         let mut dx = [0.0; 9];
-        if !round_step(
+        if let Stepping::Refused(r) = round_step(
             &ux,
             &uy,
             &uz,
@@ -162,7 +163,7 @@ pub(crate) fn fit_sky(settings: Settings, k: Clocks, sky: Observations, guess: V
             &mut dx,
         ) {
             return Fitted {
-                ok: false,
+                answer: Check::Refused(r),
                 x: state,
                 rows: rows,
             };
@@ -171,7 +172,7 @@ pub(crate) fn fit_sky(settings: Settings, k: Clocks, sky: Observations, guess: V
         state = next;
         if is_short(1e-3, dx) {
             return Fitted {
-                ok: true,
+                answer: Check::Passed,
                 x: state,
                 rows: rows,
             };
@@ -179,7 +180,7 @@ pub(crate) fn fit_sky(settings: Settings, k: Clocks, sky: Observations, guess: V
         i += 1;
     }
     Fitted {
-        ok: true,
+        answer: Check::Passed,
         x: state,
         rows: rows,
     }
@@ -227,12 +228,13 @@ pub fn solve_full(observations: Observations, guess: Vec3, settings: Settings) -
     }
     let n = 3 + clocks.count;
     let fitted = fit_sky(settings, clocks, kept, guess);
-    if fitted.ok {
-        let x = fitted.x;
-        let rows = fitted.rows;
-        return found_at(x, rows, n);
+    let answer = fitted.answer;
+    if let Check::Refused(r) = answer {
+        return Fix::Refused(r);
     }
-    Fix::Refused(Refusal::FitFailed)
+    let x = fitted.x;
+    let rows = fitted.rows;
+    found_at(x, rows, n)
 }
 
 // The receiver's position from one epoch.

@@ -17,7 +17,7 @@ use records::record::Observations;
 use records::record::is_placeable;
 use records::record::is_sound_observation;
 
-// What rules find: the first that applies, or none.
+// What rules find, or rounds: the first refusal, or none.
 pub enum Check {
     Refused(Refusal),
     Passed,
@@ -71,7 +71,7 @@ pub(crate) fn is_bad_interval(dt: f64) -> bool
     !is_finite(dt) | !(0.0 < dt) | (604800.0 < dt)
 }
 
-// Rules 2 to 5 of a displacement between two epochs' columns: they fit, so that 2 does not apply.
+// Rules 2 to 4 of a displacement between two epochs' columns: they fit, so that 2 does not apply.
 pub(crate) fn check_in(
     previous_constellation: &[u8],
     previous_svid: &[u16],
@@ -85,13 +85,12 @@ pub(crate) fn check_in(
     current_state: &[i32],
     current_floats: &[f64],
     current_count: usize,
-    dt: f64,
     receiver: Vec3,
     settings: Settings,
 ) -> Check
     requires { ⌜ epochFits (carrierColumns (now «previous_constellation») (now «previous_svid») (now «previous_band») (now «previous_state») (now «previous_floats»)) «previous_count» ≡ true ⌝ }
     requires { ⌜ epochFits (carrierColumns (now «current_constellation») (now «current_svid») (now «current_band») (now «current_state») (now «current_floats»)) «current_count» ≡ true ⌝ }
-    ensures { λ r. ⌜ r ≡ ruled Check.Refused (spec.displacementInput (epochOf (carrierColumns (now («previous_constellation» .entry)) (now («previous_svid» .entry)) (now («previous_band» .entry)) (now («previous_state» .entry)) (now («previous_floats» .entry))) «previous_count») (epochOf (carrierColumns (now («current_constellation» .entry)) (now («current_svid» .entry)) (now («current_band» .entry)) (now («current_state» .entry)) (now («current_floats» .entry))) «current_count») dt receiver settings) Check.Passed ⌝ }
+    ensures { λ r. ⌜ r ≡ ruled Check.Refused (spec.epochRules (epochOf (carrierColumns (now («previous_constellation» .entry)) (now («previous_svid» .entry)) (now («previous_band» .entry)) (now («previous_state» .entry)) (now («previous_floats» .entry))) «previous_count») (epochOf (carrierColumns (now («current_constellation» .entry)) (now («current_svid» .entry)) (now («current_band» .entry)) (now («current_state» .entry)) (now («current_floats» .entry))) «current_count») receiver settings) Check.Passed ⌝ }
 {
     if !settings_pass(settings) {
         return Check::Refused(Refusal::SettingOutOfRange);
@@ -114,9 +113,6 @@ pub(crate) fn check_in(
         )
         & is_placeable(receiver)) {
         return Check::Refused(Refusal::RecordOutOfRange);
-    }
-    if is_bad_interval(dt) {
-        return Check::Refused(Refusal::BadInterval);
     }
     Check::Passed
 }

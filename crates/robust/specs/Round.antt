@@ -8,6 +8,8 @@ use lib.ListN.{set, replicate}
 use lib.Ieee.{Float, le}
 use Rattle.exact.specs.Float.{_⊕_, _⊖_, _⊗_, _⊘_, +0, 1·0, bits, decimal}
 use Rattle.numeric.specs.Real.{abs, max}
+use Rattle.numeric.specs.declared.refusal.Refusal.{Refusal}
+use Rattle.numeric.specs.declared.refusal.Refusal.the-variants.{FitFailed}
 use Rattle.cholesky.specs.Factor.{at, Factored, Refused as NoFactor, Lower, factorOf, solutionOf}
 use Rattle.cholesky.specs.Sound as system
 use Rattle.median.specs.Centre.{centreAndScaleOf}
@@ -62,18 +64,18 @@ pub record Round : Type 0 where
   pub factor : List (List Float)
   pub step : List Float
 
--- a round whose matrix has a refused pivot comes to nothing
+-- a round comes to nothing, and why, or is solved
 pub data Outcome : Type 0 where
-  Refused : Outcome
+  Refused : Refusal → Outcome
   Solved : Round → Outcome
 
 -- the round of the rows, with the matrix a, the right side b and the factor l
 abbrev pub made : List Row → List (List Float) → List Float → List (List Float) → Round
 made rows a b l = record { rows = rows; matrix = a; right = b; factor = l; step = solutionOf l b }
 
--- the round, from what factoring its matrix gives
+-- the round, from what factoring its matrix gives: 10 where a pivot is refused
 abbrev pub solved : List Row → List (List Float) → List Float → Factored → Outcome
-solved rows a b NoFactor = Refused
+solved rows a b NoFactor = Refused FitFailed
 solved rows a b (Lower l) = Solved (made rows a b l)
 
 unfoldable pub roundBy : (Row → Float) → List Row → ℕ → Outcome

@@ -5,13 +5,12 @@ use mathlib.Core.List.{List, map}
 use lib.ListN.{length, take}
 use lib.Seq.{length-take-le}
 use lib.Ieee.{nan}
-use borrow.Author.Tests.{not-true, not-false}
 use Rattle.robust.specs.Columns.{columns, rowsIn}
 use Rattle.estimator.specs.Rounds.{short}
 use Rattle.records.specs.Kept.{pairsIn}
 use Rattle.estimator.specs.Displacement.{sigmaOf, rowWith, rowAt, roundAt, limit, fitOver}
 use Rattle.records.specs.declared.pair.Pair.{Pair}
-use Rattle.estimator.proofs.RoundsLaws.{five-places, left-end, left-failed, left-stops, left-goes, ended-failed, ended-reached}
+use Rattle.estimator.proofs.RoundsLaws.{five-places, left-end, left-stopped, left-stops, left-goes, ended-stopped, ended-reached}
 use Rattle.estimator.proofs.DisplacementLaws.{Going, going, solving, clockAt, sigmaAt, residualAt, rows-in}
 use Rattle.records.proofs.KeepLaws.{Filled, filled-start, filled-more}
 use borrow.Author.Needs.{needs}
@@ -173,8 +172,14 @@ round-step-requires :
     tie.Need-round-step-requires Inv-loop μ-loop Inv-loop3 μ-loop3 Inv-loop2 μ-loop2
 round-step-requires c κs = let h = c .before .before .before .before .before .before .loop3 in let s = c .before .before .before .before .before .before .before .before .before .before .before .before .before .args in let e = length-take-le (length (s .observed .now)) (h .residual) (omega (arith, h .inv .1 .long)) in (omega (arith, e), omega arith)
 
+enum-known-r : tie.Need-enum-known-r Inv-loop μ-loop Inv-loop3 μ-loop3 Inv-loop2 μ-loop2
+enum-known-r c = search needs
+
 returns : tie.Need-returns Inv-loop μ-loop Inv-loop3 μ-loop3 Inv-loop2 μ-loop2
-returns c = let s = c .before .before .before .before .before .before .before .before .before .before .before .before .before .before .before .args in let ps = given (c .before .before .before .before .before .before .before .before .before .before .before .before .before .before .before) in let l = c .before .before .before .before .before .before .before .before .before .before .before .loop2 in let t = c .before .before .before .before .before .before .before in let g = c .before .round-step in let q = solving (s .settings) (s .k) ps (l .at) _ _ (g .result) _ _ (all t) refl (g .ensures) in ended-failed _ _ _ (l .inv .1) (left-failed (roundAt (s .settings) (s .k) ps) (3 + s .k .count) limit (s .settings .rounds) (fitOver (s .settings) (s .k) ps) (l .i) (l .at) (omega arith) (g .result) _ _ q (not-true _ (c .if2 .taken)) (l .inv .3))
+returns c = let s = c .before .before .before .before .before .before .before .before .before .before .before .before .before .before .before .before .before .args in let ps = given (c .before .before .before .before .before .before .before .before .before .before .before .before .before .before .before .before .before) in let l = c .before .before .before .before .before .before .before .before .before .before .before .before .before .loop2 in let t = c .before .before .before .before .before .before .before .before .before in let g = c .before .before .before .round-step in let q = solving (s .settings) (s .k) ps (l .at) _ _ (g .result) _ _ (all t) refl (g .ensures) in ended-stopped _ _ _ (l .inv .1) (left-stopped (roundAt (s .settings) (s .k) ps) (3 + s .k .count) limit (s .settings .rounds) (fitOver (s .settings) (s .k) ps) (l .i) (l .at) (omega arith) (g .result) _ _ q _ (c .before .r .given .1) (l .inv .3))
+
+enum-told : tie.Need-enum-told Inv-loop μ-loop Inv-loop3 μ-loop3 Inv-loop2 μ-loop2
+enum-told c = search needs
 
 move-by-requires : tie.Need-move-by-requires Inv-loop μ-loop Inv-loop3 μ-loop3 Inv-loop2 μ-loop2
 move-by-requires c κs = search needs
@@ -183,16 +188,16 @@ is-short-requires : tie.Need-is-short-requires Inv-loop μ-loop Inv-loop3 μ-loo
 is-short-requires c κs = search needs
 
 returns-2 : tie.Need-returns-2 Inv-loop μ-loop Inv-loop3 μ-loop3 Inv-loop2 μ-loop2
-returns-2 c = let s = c .before .before .before .before .before .before .before .before .before .before .before .before .before .before .before .before .before .before .args in let ps = given (c .before .before .before .before .before .before .before .before .before .before .before .before .before .before .before .before .before .before) in let l = c .before .before .before .before .before .before .before .before .before .before .before .before .before .before .loop2 in let t = c .before .before .before .before .before .before .before .before .before .before in let g = c .before .before .before .before .round-step in let q = solving (s .settings) (s .k) ps (l .at) _ _ (g .result) _ _ (all t) refl (g .ensures) in let m = c .before .before .move-by in let h = c .before .is-short in let u = h .ensures ∙ ap (λ z. short z (g .last .1 .1 .1 .1 .1 .1 .1 .1 .0)) five-places in let v = not-false _ (c .before .before .before .if2 .left) in ended-reached _ _ _ (left-stops (roundAt (s .settings) (s .k) ps) (3 + s .k .count) limit (s .settings .rounds) (fitOver (s .settings) (s .k) ps) (l .i) (l .at) (omega arith) (g .result) _ _ q v (m .result) (h .result) (m .ensures) u (c .if3 .taken) (l .inv .3))
+returns-2 c = let s = c .before .before .before .before .before .before .before .before .before .before .before .before .before .before .before .before .before .before .before .args in let ps = given (c .before .before .before .before .before .before .before .before .before .before .before .before .before .before .before .before .before .before .before) in let l = c .before .before .before .before .before .before .before .before .before .before .before .before .before .before .before .loop2 in let t = c .before .before .before .before .before .before .before .before .before .before .before in let g = c .before .before .before .before .before .round-step in let q = solving (s .settings) (s .k) ps (l .at) _ _ (g .result) _ _ (all t) refl (g .ensures) in let m = c .before .before .move-by in let h = c .before .is-short in let u = h .ensures ∙ ap (λ z. short z (g .last .1 .1 .1 .1 .1 .1 .1 .1 .0)) five-places in let v = c .before .before .before .enum-told .given .1 in ended-reached _ _ _ (left-stops (roundAt (s .settings) (s .k) ps) (3 + s .k .count) limit (s .settings .rounds) (fitOver (s .settings) (s .k) ps) (l .i) (l .at) (omega arith) (g .result) _ _ q v (m .result) (h .result) (m .ensures) u (c .if2 .taken) (l .inv .3))
 
 add-i : tie.Need-add-i Inv-loop μ-loop Inv-loop3 μ-loop3 Inv-loop2 μ-loop2
-add-i c = omega arith
+add-i c = let known = c .before .before .before .before .before .before .before .before .before .before .before .before .before .before .struct-known .given in omega (arith, c .before .before .before .before .before .before .before .before .before .before .before .before .before .if1 .taken)
 
 loop2-less : tie.Need-loop2-less Inv-loop μ-loop Inv-loop3 μ-loop3 Inv-loop2 μ-loop2
 loop2-less c = omega arith
 
 loop2-again : tie.Need-loop2-again Inv-loop μ-loop Inv-loop3 μ-loop3 Inv-loop2 μ-loop2
-loop2-again c = let s = c .before .before .before .before .before .before .before .before .before .before .before .before .before .before .before .before .before .before .args in let ps = given (c .before .before .before .before .before .before .before .before .before .before .before .before .before .before .before .before .before .before) in let l = c .before .before .before .before .before .before .before .before .before .before .before .before .before .before .loop2 in let t = c .before .before .before .before .before .before .before .before .before .before in let g = c .before .before .before .before .round-step in let q = solving (s .settings) (s .k) ps (l .at) _ _ (g .result) _ _ (all t) refl (g .ensures) in let m = c .before .before .move-by in let h = c .before .is-short in let u = h .ensures ∙ ap (λ z. short z (g .last .1 .1 .1 .1 .1 .1 .1 .1 .0)) five-places in let v = not-false _ (c .before .before .before .if2 .left) in (omega arith, l .inv .1, t .before .loop3 .inv .1 .long, left-goes (roundAt (s .settings) (s .k) ps) (3 + s .k .count) limit (s .settings .rounds) (fitOver (s .settings) (s .k) ps) (l .i) (l .at) (omega arith) (g .result) _ _ q v (m .result) (h .result) (m .ensures) u (c .if3 .left) (l .inv .3))
+loop2-again c = let s = c .before .before .before .before .before .before .before .before .before .before .before .before .before .before .before .before .before .before .before .args in let ps = given (c .before .before .before .before .before .before .before .before .before .before .before .before .before .before .before .before .before .before .before) in let l = c .before .before .before .before .before .before .before .before .before .before .before .before .before .before .before .loop2 in let t = c .before .before .before .before .before .before .before .before .before .before .before in let g = c .before .before .before .before .before .round-step in let q = solving (s .settings) (s .k) ps (l .at) _ _ (g .result) _ _ (all t) refl (g .ensures) in let m = c .before .before .move-by in let h = c .before .is-short in let u = h .ensures ∙ ap (λ z. short z (g .last .1 .1 .1 .1 .1 .1 .1 .1 .0)) five-places in let v = c .before .before .before .enum-told .given .1 in (omega arith, l .inv .1, t .before .loop3 .inv .1 .long, left-goes (roundAt (s .settings) (s .k) ps) (3 + s .k .count) limit (s .settings .rounds) (fitOver (s .settings) (s .k) ps) (l .i) (l .at) (omega arith) (g .result) _ _ q v (m .result) (h .result) (m .ensures) u (c .if2 .left) (l .inv .3))
 
 returns-3 : tie.Need-returns-3 Inv-loop μ-loop Inv-loop3 μ-loop3 Inv-loop2 μ-loop2
 returns-3 c = let s = c .before .before .before .before .before .before .args in let ps = given (c .before .before .before .before .before .before) in let l = c .before .before .loop2 in ended-reached _ _ _ (left-end (roundAt (s .settings) (s .k) ps) (3 + s .k .count) limit (s .settings .rounds) (fitOver (s .settings) (s .k) ps) (l .i) (l .at) (omega arith) (l .inv .3))
@@ -242,7 +247,9 @@ fit-pairs-spec =
     array-share-prefix-residual
     slice-aggregate-round-step
     round-step-requires
+    enum-known-r
     returns
+    enum-told
     move-by-requires
     is-short-requires
     returns-2

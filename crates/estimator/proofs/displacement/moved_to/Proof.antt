@@ -1,3 +1,7 @@
+-- `estimator::displacement::moved_to` meets its contract. Assumes nothing.
+use Rattle.estimator.specs.Rules.{ruled}
+use Rattle.estimator.specs.Rounds.{finiteAt}
+use Rattle.estimator.specs.Displacement.{endRules}
 use borrow.Author.Needs.{needs}
 use Rattle.estimator.proofs.displacement.moved_to.Statement.{statement}
 use Rattle.estimator.proofs.displacement.moved_to.Tie as tie
@@ -21,9 +25,11 @@ is-finite-requires-3 : tie.Need-is-finite-requires-3
 is-finite-requires-3 c κs = search needs
 
 returns : tie.Need-returns
+unfolding endRules finiteAt ruled
 returns c = rw (rw (c .before .before .before .is-finite .ensures, c .before .before .is-finite2 .ensures, c .before .is-finite3 .ensures) at (c .if1 .taken))
 
 returns-2 : tie.Need-returns-2
+unfolding endRules finiteAt ruled
 returns-2 c = rw (rw (c .before .before .before .is-finite .ensures, c .before .before .is-finite2 .ensures, c .before .is-finite3 .ensures) at (c .if1 .left))
 
 pub moved-to-spec : {M : Type 1} → statement M

@@ -5,7 +5,6 @@ use mathlib.Core.List.{map}
 use lib.ListN.{length, getD, take}
 use lib.Seq.{length-take-le}
 use lib.Ieee.{nan}
-use borrow.Author.Tests.{not-true, not-false}
 use Rattle.walk.proofs.Walk.{length-mapped}
 use Rattle.robust.specs.Step.{counted}
 use Rattle.robust.specs.Columns.{columns, rowsIn}
@@ -14,7 +13,7 @@ use Rattle.robust.proofs.ColumnLaws.{filled-at, Column, column-start, column-ne
 use Rattle.estimator.specs.Rounds.{short}
 use Rattle.estimator.specs.Fix.{sigmaOf, rowWith, rowAt, roundAt, limit, start, fitOver}
 use Rattle.records.specs.declared.record.Observation.{Observation}
-use Rattle.estimator.proofs.RoundsLaws.{three-places, left-end, rows-end, left-failed, left-stops, left-goes, rows-stop, rows-go, Rowing, rowing-next, rowing-end}
+use Rattle.estimator.proofs.RoundsLaws.{three-places, left-end, rows-end, left-stopped, left-stops, left-goes, rows-stop, rows-go, Rowing, rowing-next, rowing-end}
 use Rattle.estimator.proofs.FixLaws.{blank, fit, Going, GoingRows, going, going-rows, solving, made-rows, reaches-no, reaches-yes}
 use borrow.Author.Needs.{needs}
 use native.Mathlib.Omega.{arith}
@@ -148,9 +147,15 @@ slice-aggregate-round-step c = let h = c .before .before .before .before .before
 round-step-requires : tie.Need-round-step-requires Inv-loop2 μ-loop2 Inv-loop μ-loop
 round-step-requires c κs = let h = c .before .before .before .before .before .before .before .before .loop2 in let s = c .before .before .before .before .before .before .before .before .before .before .before .before .before .before in let e = length-take-le (s .args .t3 .count) (h .residual) (omega (arith, h .inv .6 .long)) in (omega (arith, e), omega arith)
 
+enum-known-r : tie.Need-enum-known-r Inv-loop2 μ-loop2 Inv-loop μ-loop
+enum-known-r c = search needs
+
 returns : tie.Need-returns Inv-loop2 μ-loop2 Inv-loop μ-loop
 unfolding fitOver
-returns c = let s = c .before .before .before .before .before .before .before .before .before .before .before .before .before .before .before .before in let os = take (s .args .t3 .count) (s .args .t3 .observation) in let l = c .before .before .before .before .before .before .before .before .before .before .before .before .before .loop in let t = c .before .before .before .before .before .before .before .before .before in let g = c .before .round-step in let q = solving (s .args .settings) (s .args .k) os (l .state) _ (held t) _ (g .result) _ _ (l .inv .1) (g .ensures) in reaches-no _ _ (omega (arith, t .before .loop2 .inv .1 .count-is)) refl (left-failed (roundAt (s .args .settings) (s .args .k) os) (3 + s .args .k .count) limit (s .args .settings .rounds) (fit (s .args .settings) (s .args .k) os (start (s .args .guess))) (l .i) (l .state) (omega arith) (g .result) _ _ q (not-true _ (c .if2 .taken)) (l .inv .3))
+returns c = let s = c .before .before .before .before .before .before .before .before .before .before .before .before .before .before .before .before .before .before in let os = take (s .args .t3 .count) (s .args .t3 .observation) in let l = c .before .before .before .before .before .before .before .before .before .before .before .before .before .before .before .loop in let t = c .before .before .before .before .before .before .before .before .before .before .before in let g = c .before .before .before .round-step in let q = solving (s .args .settings) (s .args .k) os (l .state) _ (held t) _ (g .result) _ _ (l .inv .1) (g .ensures) in reaches-no _ _ (omega (arith, t .before .loop2 .inv .1 .count-is)) refl (left-stopped (roundAt (s .args .settings) (s .args .k) os) (3 + s .args .k .count) limit (s .args .settings .rounds) (fit (s .args .settings) (s .args .k) os (start (s .args .guess))) (l .i) (l .state) (omega arith) (g .result) _ _ q _ (c .before .r .given .1) (l .inv .3))
+
+enum-told : tie.Need-enum-told Inv-loop2 μ-loop2 Inv-loop μ-loop
+enum-told c = search needs
 
 move-by-requires : tie.Need-move-by-requires Inv-loop2 μ-loop2 Inv-loop μ-loop
 move-by-requires c κs = search needs
@@ -160,16 +165,16 @@ is-short-requires c κs = search needs
 
 returns-2 : tie.Need-returns-2 Inv-loop2 μ-loop2 Inv-loop μ-loop
 unfolding fitOver
-returns-2 c = let s = c .before .before .before .before .before .before .before .before .before .before .before .before .before .before .before .before .before .before .before in let os = take (s .args .t3 .count) (s .args .t3 .observation) in let l = c .before .before .before .before .before .before .before .before .before .before .before .before .before .before .before .before .loop in let t = c .before .before .before .before .before .before .before .before .before .before .before .before in let g = c .before .before .before .before .round-step in let q = solving (s .args .settings) (s .args .k) os (l .state) _ (held t) _ (g .result) _ _ (l .inv .1) (g .ensures) in let m = c .before .before .move-by in let h = c .before .is-short in let b = t .before .loop2 .inv .1 in let u = h .ensures ∙ ap (λ z. short z (g .last .1 .1 .1 .1 .1 .1 .1 .1 .0)) three-places in let v = not-false _ (c .before .before .before .if2 .left) in reaches-yes _ _ (omega (arith, b .count-is)) refl (left-stops (roundAt (s .args .settings) (s .args .k) os) (3 + s .args .k .count) limit (s .args .settings .rounds) (fit (s .args .settings) (s .args .k) os (start (s .args .guess))) (l .i) (l .state) (omega arith) (g .result) _ _ q v (m .result) (h .result) (m .ensures) u (c .if3 .taken) (l .inv .3)) (rows-stop (roundAt (s .args .settings) (s .args .k) os) (3 + s .args .k .count) limit (s .args .settings .rounds) (fit (s .args .settings) (s .args .k) os (start (s .args .guess))) (l .i) (l .state) (omega arith) (g .result) _ _ q v (m .result) (h .result) (m .ensures) u (counted (l .rows)) (counted (t .before .loop2 .rows)) (made-rows (s .args .settings) (s .args .k) os (l .state) (counted (t .before .loop2 .rows)) (all t)) (c .if3 .taken) (l .inv .4))
+returns-2 c = let s = c .before .before .before .before .before .before .before .before .before .before .before .before .before .before .before .before .before .before .before .before in let os = take (s .args .t3 .count) (s .args .t3 .observation) in let l = c .before .before .before .before .before .before .before .before .before .before .before .before .before .before .before .before .before .loop in let t = c .before .before .before .before .before .before .before .before .before .before .before .before .before in let g = c .before .before .before .before .before .round-step in let q = solving (s .args .settings) (s .args .k) os (l .state) _ (held t) _ (g .result) _ _ (l .inv .1) (g .ensures) in let m = c .before .before .move-by in let h = c .before .is-short in let b = t .before .loop2 .inv .1 in let u = h .ensures ∙ ap (λ z. short z (g .last .1 .1 .1 .1 .1 .1 .1 .1 .0)) three-places in let v = c .before .before .before .enum-told .given .1 in reaches-yes _ _ (omega (arith, b .count-is)) refl (left-stops (roundAt (s .args .settings) (s .args .k) os) (3 + s .args .k .count) limit (s .args .settings .rounds) (fit (s .args .settings) (s .args .k) os (start (s .args .guess))) (l .i) (l .state) (omega arith) (g .result) _ _ q v (m .result) (h .result) (m .ensures) u (c .if2 .taken) (l .inv .3)) (rows-stop (roundAt (s .args .settings) (s .args .k) os) (3 + s .args .k .count) limit (s .args .settings .rounds) (fit (s .args .settings) (s .args .k) os (start (s .args .guess))) (l .i) (l .state) (omega arith) (g .result) _ _ q v (m .result) (h .result) (m .ensures) u (counted (l .rows)) (counted (t .before .loop2 .rows)) (made-rows (s .args .settings) (s .args .k) os (l .state) (counted (t .before .loop2 .rows)) (all t)) (c .if2 .taken) (l .inv .4))
 
 add-i : tie.Need-add-i Inv-loop2 μ-loop2 Inv-loop μ-loop
-add-i c = omega arith
+add-i c = let known = c .before .before .before .before .before .before .before .before .before .before .before .before .before .before .before .before .struct-known2 .given in omega (arith, c .before .before .before .before .before .before .before .before .before .before .before .before .before .before .before .if1 .taken)
 
 loop-less : tie.Need-loop-less Inv-loop2 μ-loop2 Inv-loop μ-loop
 loop-less c = omega arith
 
 loop-again : tie.Need-loop-again Inv-loop2 μ-loop2 Inv-loop μ-loop
-loop-again c = let s = c .before .before .before .before .before .before .before .before .before .before .before .before .before .before .before .before .before .before .before in let os = take (s .args .t3 .count) (s .args .t3 .observation) in let l = c .before .before .before .before .before .before .before .before .before .before .before .before .before .before .before .before .loop in let t = c .before .before .before .before .before .before .before .before .before .before .before .before in let g = c .before .before .before .before .round-step in let q = solving (s .args .settings) (s .args .k) os (l .state) _ (held t) _ (g .result) _ _ (l .inv .1) (g .ensures) in let m = c .before .before .move-by in let h = c .before .is-short in let b = t .before .loop2 .inv .1 in let u = h .ensures ∙ ap (λ z. short z (g .last .1 .1 .1 .1 .1 .1 .1 .1 .0)) three-places in let v = not-false _ (c .before .before .before .if2 .left) in let d = t .before .loop2 .inv in (omega arith, refl, b .long, left-goes (roundAt (s .args .settings) (s .args .k) os) (3 + s .args .k .count) limit (s .args .settings .rounds) (fit (s .args .settings) (s .args .k) os (start (s .args .guess))) (l .i) (l .state) (omega arith) (g .result) _ _ q v (m .result) (h .result) (m .ensures) u (c .if3 .left) (l .inv .3), rows-go (roundAt (s .args .settings) (s .args .k) os) (3 + s .args .k .count) limit (s .args .settings .rounds) (fit (s .args .settings) (s .args .k) os (start (s .args .guess))) (l .i) (l .state) (omega arith) (g .result) _ _ q v (m .result) (h .result) (m .ensures) u (counted (l .rows)) (counted (t .before .loop2 .rows)) (made-rows (s .args .settings) (s .args .k) os (l .state) (counted (t .before .loop2 .rows)) (all t)) (c .if3 .left) (l .inv .4), omega (arith, b .count-is), d .2 .long, d .3 .long, d .4 .long, d .5 .long, d .6 .long)
+loop-again c = let s = c .before .before .before .before .before .before .before .before .before .before .before .before .before .before .before .before .before .before .before .before in let os = take (s .args .t3 .count) (s .args .t3 .observation) in let l = c .before .before .before .before .before .before .before .before .before .before .before .before .before .before .before .before .before .loop in let t = c .before .before .before .before .before .before .before .before .before .before .before .before .before in let g = c .before .before .before .before .before .round-step in let q = solving (s .args .settings) (s .args .k) os (l .state) _ (held t) _ (g .result) _ _ (l .inv .1) (g .ensures) in let m = c .before .before .move-by in let h = c .before .is-short in let b = t .before .loop2 .inv .1 in let u = h .ensures ∙ ap (λ z. short z (g .last .1 .1 .1 .1 .1 .1 .1 .1 .0)) three-places in let v = c .before .before .before .enum-told .given .1 in let d = t .before .loop2 .inv in (omega arith, refl, b .long, left-goes (roundAt (s .args .settings) (s .args .k) os) (3 + s .args .k .count) limit (s .args .settings .rounds) (fit (s .args .settings) (s .args .k) os (start (s .args .guess))) (l .i) (l .state) (omega arith) (g .result) _ _ q v (m .result) (h .result) (m .ensures) u (c .if2 .left) (l .inv .3), rows-go (roundAt (s .args .settings) (s .args .k) os) (3 + s .args .k .count) limit (s .args .settings .rounds) (fit (s .args .settings) (s .args .k) os (start (s .args .guess))) (l .i) (l .state) (omega arith) (g .result) _ _ q v (m .result) (h .result) (m .ensures) u (counted (l .rows)) (counted (t .before .loop2 .rows)) (made-rows (s .args .settings) (s .args .k) os (l .state) (counted (t .before .loop2 .rows)) (all t)) (c .if2 .left) (l .inv .4), omega (arith, b .count-is), d .2 .long, d .3 .long, d .4 .long, d .5 .long, d .6 .long)
 
 returns-3 : tie.Need-returns-3 Inv-loop2 μ-loop2 Inv-loop μ-loop
 unfolding fitOver
@@ -213,7 +218,9 @@ fit-sky-spec =
     array-share-prefix-residual
     slice-aggregate-round-step
     round-step-requires
+    enum-known-r
     returns
+    enum-told
     move-by-requires
     is-short-requires
     returns-2

@@ -1,8 +1,10 @@
 -- `estimator::fix::found_at` meets its contract. Assumes nothing.
-use mathlib.Core.Path.{_≡_}
+use mathlib.Core.Path.{_≡_, sym}
 use native.Mathlib.Omega.{arith}
 use lib.ListN.{length}
 use Rattle.walk.proofs.Walk.{length-mapped}
+use Rattle.robust.specs.Step.{counted}
+use Rattle.estimator.proofs.QualityLaws.{counted-length}
 use Rattle.estimator.proofs.FixCall.{found-no, found-refused, found-yes}
 use borrow.Author.Needs.{needs}
 use Rattle.estimator.proofs.fix.found_at.Statement.{statement}
@@ -45,18 +47,18 @@ returns : tie.Need-returns
 returns c =
     let s = c .before .before .before .before .before .before .before .before .before .before .before .before .before in
     let f = c .before .before .before .before .factor-into in
-    found-yes (s .args .n) (s .args .rows) (s .args .t1) _ _ _ (c .before .before .before .before .before .before .before .before .before .before .before .before .is-finite .ensures) (c .before .before .before .before .before .before .before .before .before .before .before .is-finite2 .ensures) (c .before .before .before .before .before .before .before .before .before .before .is-finite3 .ensures) (c .before .before .before .before .before .before .before .before .before .if1 .taken) _ (c .before .before .before .before .before .before .before .plain-matrix .ensures) (f .result) (f .ensures .0) (long s) (omega arith) _ _ _ _ (f .ensures .1) (c .before .before .before .if2 .taken) (c .before .before .chi-of .ensures) (c .pdop-of .ensures)
+    found-yes (s .args .n) (counted (s .args .rows)) (s .args .t1) _ _ _ (c .before .before .before .before .before .before .before .before .before .before .before .before .is-finite .ensures) (c .before .before .before .before .before .before .before .before .before .before .before .is-finite2 .ensures) (c .before .before .before .before .before .before .before .before .before .before .is-finite3 .ensures) (c .before .before .before .before .before .before .before .before .before .if1 .taken) _ (c .before .before .before .before .before .before .before .plain-matrix .ensures) (f .result) (f .ensures .0) _ (sym (counted-length (s .args .rows) (long s) (omega arith))) _ _ _ _ (f .ensures .1) (c .before .before .before .if2 .taken) (c .before .before .chi-of .ensures) (c .pdop-of .ensures)
 
 returns-2 : tie.Need-returns-2
 returns-2 c =
     let s = c .before .before .before .before .before .before .before .before .before .before in
     let f = c .before .factor-into in
-    found-refused (s .args .n) (s .args .rows) (s .args .t1) _ _ _ (c .before .before .before .before .before .before .before .before .before .is-finite .ensures) (c .before .before .before .before .before .before .before .before .is-finite2 .ensures) (c .before .before .before .before .before .before .before .is-finite3 .ensures) (c .before .before .before .before .before .before .if1 .taken) _ (c .before .before .before .before .plain-matrix .ensures) (f .result) (f .ensures .0) (c .if2 .left)
+    found-refused (s .args .n) (counted (s .args .rows)) (s .args .t1) _ _ _ (c .before .before .before .before .before .before .before .before .before .is-finite .ensures) (c .before .before .before .before .before .before .before .before .is-finite2 .ensures) (c .before .before .before .before .before .before .before .is-finite3 .ensures) (c .before .before .before .before .before .before .if1 .taken) _ (c .before .before .before .before .plain-matrix .ensures) (f .result) (f .ensures .0) (c .if2 .left)
 
 returns-3 : tie.Need-returns-3
 returns-3 c =
     let s = c .before .before .before .before in
-    found-no (s .args .n) (s .args .rows) (s .args .t1) _ _ _ (c .before .before .before .is-finite .ensures) (c .before .before .is-finite2 .ensures) (c .before .is-finite3 .ensures) (c .if1 .left)
+    found-no (s .args .n) (counted (s .args .rows)) (s .args .t1) _ _ _ (c .before .before .before .is-finite .ensures) (c .before .before .is-finite2 .ensures) (c .before .is-finite3 .ensures) (c .if1 .left)
 
 pub found-at-spec : {M : Type 1} → statement M
 found-at-spec =

@@ -6,7 +6,7 @@ use Rattle.estimator.specs.Valid.{fixInput}
 use Rattle.estimator.specs.declared.valid.Check.the-variants.{Passed}
 use Rattle.estimator.proofs.RulesLaws.{checked, observations-fit}
 use Rattle.estimator.proofs.FixSound.{promised}
-use Rattle.estimator.proofs.FixCall.{refused-input, refused-counts, few-clocks, failed, reached}
+use Rattle.estimator.proofs.FixCall.{refused-input, refused-counts, few-clocks, stopped, reached}
 use borrow.Author.Needs.{needs}
 use Rattle.estimator.proofs.fix.solve_full.Statement.{statement}
 use Rattle.estimator.proofs.fix.solve_full.Tie as tie
@@ -55,14 +55,20 @@ add-n c = omega (arith, few c)
 fit-sky-requires : tie.Need-fit-sky-requires
 fit-sky-requires c κs = (c .before .before .before .before .before .above-mask .ensures .room, few c)
 
-found-at-requires : tie.Need-found-at-requires
-found-at-requires c κs = (c .before .before .before .fit-sky .ensures .few-rows, omega (arith, few (c .before .before .before .before)))
+enum-known-answer : tie.Need-enum-known-answer
+enum-known-answer c = search needs
 
 returns-3 : tie.Need-returns-3
-returns-3 c = promised _ _ (c .found-at .ensures ∙ reached _ (passed (c .before .before .before .before .before .before .before .before .before .before .before)) _ _ (c .before .before .before .before .before .before .before .before .before .before .above-mask .ensures) (c .before .before .before .before .before .before .before .before .before .clocks-of .ensures) (sym (c .before .before .before .before .before .before .enum-told2 .given .1) ∙ c .before .before .before .before .before .before .before .before .check-rows .ensures) _ (c .before .before .before .before .fit-sky .ensures) (c .before .before .before .if1 .taken))
+returns-3 c = promised _ _ (stopped _ (passed (c .before .before .before .before .before .before .before .before .before .before)) _ _ (c .before .before .before .before .before .before .before .before .before .above-mask .ensures) (c .before .before .before .before .before .before .before .before .clocks-of .ensures) (sym (c .before .before .before .before .before .enum-told2 .given .1) ∙ c .before .before .before .before .before .before .before .check-rows .ensures) _ (c .before .before .before .fit-sky .ensures) _ (c .before .answer .given .1))
+
+enum-told-3 : tie.Need-enum-told-3
+enum-told-3 c = search needs
+
+found-at-requires : tie.Need-found-at-requires
+found-at-requires c κs = (c .before .before .before .before .fit-sky .ensures .few-rows, omega (arith, few (c .before .before .before .before .before)))
 
 returns-4 : tie.Need-returns-4
-returns-4 c = promised _ _ (failed _ (passed (c .before .before .before .before .before .before .before .before)) _ _ (c .before .before .before .before .before .before .before .above-mask .ensures) (c .before .before .before .before .before .before .clocks-of .ensures) (sym (c .before .before .before .enum-told2 .given .1) ∙ c .before .before .before .before .before .check-rows .ensures) _ (c .before .fit-sky .ensures) (c .if1 .left))
+returns-4 c = promised _ _ (c .found-at .ensures ∙ reached _ (passed (c .before .before .before .before .before .before .before .before .before .before .before .before)) _ _ (c .before .before .before .before .before .before .before .before .before .before .before .above-mask .ensures) (c .before .before .before .before .before .before .before .before .before .before .clocks-of .ensures) (sym (c .before .before .before .before .before .before .before .enum-told2 .given .1) ∙ c .before .before .before .before .before .before .before .before .before .check-rows .ensures) _ (c .before .before .before .before .before .fit-sky .ensures) (c .before .before .before .enum-told3 .given .1))
 
 pub solve-full-spec : {M : Type 1} → statement M
 solve-full-spec =
@@ -80,6 +86,8 @@ solve-full-spec =
     enum-told-2
     add-n
     fit-sky-requires
-    found-at-requires
+    enum-known-answer
     returns-3
+    enum-told-3
+    found-at-requires
     returns-4)

@@ -4,7 +4,7 @@ use borrow.Author.Needs.{needs}
 use Rattle.records.specs.Carriers.{CarrierColumns, carrierColumns}
 use Rattle.records.proofs.CarrierLaws.{CarrierRoom, carriers-room}
 use Rattle.estimator.specs.Rules.{ruled}
-use Rattle.estimator.specs.Valid.{displacementInput}
+use Rattle.estimator.specs.Valid.{epochRules}
 use Rattle.estimator.proofs.valid.check_in.Statement.{statement}
 use Rattle.estimator.proofs.valid.check_in.Tie as tie
 
@@ -24,7 +24,7 @@ settings-pass-requires : tie.Need-settings-pass-requires
 settings-pass-requires c κs = search needs
 
 returns : tie.Need-returns
-unfolding displacementInput ruled
+unfolding epochRules ruled
 returns c =
     let s = c .before .before .before .before .before .before .before .before .before .before in
     simp (le-ltb _ _ (room-previous s .few), le-ltb _ _ (room-current s .few), rw (c .before .settings-pass .ensures) at (c .if1 .taken))
@@ -39,7 +39,7 @@ is-placeable-requires : tie.Need-is-placeable-requires
 is-placeable-requires c κs = search needs
 
 returns-2 : tie.Need-returns-2
-unfolding displacementInput ruled
+unfolding epochRules ruled
 returns-2 c =
     let s = c .before .before .before .before .before .before .before .before .before .before .before .before .before .before in
     simp (
@@ -49,31 +49,15 @@ returns-2 c =
       rw (c .before .before .before .sound-in .ensures, c .before .before .sound-in2 .ensures, c .before .is-placeable .ensures) at (c .if2 .taken),
     )
 
-is-bad-interval-requires : tie.Need-is-bad-interval-requires
-is-bad-interval-requires c κs = search needs
-
 returns-3 : tie.Need-returns-3
-unfolding displacementInput ruled
+unfolding epochRules ruled
 returns-3 c =
-    let s = c .before .before .before .before .before .before .before .before .before .before .before .before .before .before .before .before in
+    let s = c .before .before .before .before .before .before .before .before .before .before .before .before .before .before in
     simp (
       le-ltb _ _ (room-previous s .few),
       le-ltb _ _ (room-current s .few),
-      rw (c .before .before .before .before .before .before .before .settings-pass .ensures) at (c .before .before .before .before .before .before .if1 .left),
-      rw (c .before .before .before .before .before .sound-in .ensures, c .before .before .before .before .sound-in2 .ensures, c .before .before .before .is-placeable .ensures) at (c .before .before .if2 .left),
-      rw (c .before .is-bad-interval .ensures) at (c .if3 .taken),
-    )
-
-returns-4 : tie.Need-returns-4
-unfolding displacementInput ruled
-returns-4 c =
-    let s = c .before .before .before .before .before .before .before .before .before .before .before .before .before .before .before .before in
-    simp (
-      le-ltb _ _ (room-previous s .few),
-      le-ltb _ _ (room-current s .few),
-      rw (c .before .before .before .before .before .before .before .settings-pass .ensures) at (c .before .before .before .before .before .before .if1 .left),
-      rw (c .before .before .before .before .before .sound-in .ensures, c .before .before .before .before .sound-in2 .ensures, c .before .before .before .is-placeable .ensures) at (c .before .before .if2 .left),
-      rw (c .before .is-bad-interval .ensures) at (c .if3 .left),
+      rw (c .before .before .before .before .before .settings-pass .ensures) at (c .before .before .before .before .if1 .left),
+      rw (c .before .before .before .sound-in .ensures, c .before .before .sound-in2 .ensures, c .before .is-placeable .ensures) at (c .if2 .left),
     )
 
 pub check-in-spec : {M : Type 1} → statement M
@@ -86,6 +70,4 @@ check-in-spec =
     sound-in-requires-2
     is-placeable-requires
     returns-2
-    is-bad-interval-requires
-    returns-3
-    returns-4)
+    returns-3)
