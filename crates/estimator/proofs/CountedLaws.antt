@@ -1,32 +1,26 @@
 -- A displacement and a fix look at the counted records alone, and refuse every count of rounds above 50 alike. Assumes nothing.
-use mathlib.Core.Path.{_≡_, refl, sym, _∙_}
+use mathlib.Core.Path.{_≡_}
 use mathlib.Core.Bool.{false, cond, and-false, _||_}
-use mathlib.Core.List.{List, []}
-use Prim.Native.Nat.{_+_, _<_}
+use Prim.Native.Nat.{_<_}
 use borrow.Author.Tests.{lt-ltb}
 use lib.Dec.{ltb}
 use lib.Ieee.{Float}
 use Rattle.numeric.specs.declared.vec3.Vec3.{Vec3}
 use Rattle.numeric.specs.declared.refusal.Refusal.the-variants.{TooMany, SettingOutOfRange}
-use Rattle.clocks.specs.Clocks.{clocksOf}
 use Rattle.records.specs.Record.{counted, countedObservations}
-use Rattle.estimator.specs.Rules.{Rule, ruled}
+use Rattle.estimator.specs.Rules.{ruled}
 use Rattle.estimator.specs.Valid.{settingsPass, epochRules, displacementInput, fixSettingsPass, fixInput}
-use Rattle.records.specs.Mask.{constellations as observedConstellations}
 use Rattle.estimator.specs.Front.{fixRules}
 use Rattle.records.specs.declared.record.Epoch.{Epoch}
-use Rattle.records.specs.declared.record.Observation.{Observation}
 use Rattle.records.specs.declared.record.Observations.{Observations}
 use Rattle.estimator.specs.declared.displacement.Settings.{Settings}
 use Rattle.estimator.specs.declared.fix.Settings.{Settings as FixSettings}
-use Rattle.estimator.specs.Rounds.{lastRows, concluded}
 use Rattle.estimator.specs.Displacement as displacement
 use Rattle.estimator.specs.Displacement.{displacementOf}
 use Rattle.estimator.specs.Fix as fix
 use Rattle.estimator.specs.Fix.{fixOf}
 use Rattle.estimator.specs.declared.displacement.Displacement.the-variants.{Refused}
-use Rattle.estimator.specs.declared.fix.Fix.{Fix}
-use Rattle.estimator.specs.declared.fix.Fix.the-variants.{Refused as FixRefused, At}
+use Rattle.estimator.specs.declared.fix.Fix.the-variants.{Refused as FixRefused}
 
 -- ---- a displacement
 
@@ -51,26 +45,14 @@ displacement-many-rounds i h = rw (many-rounds (i .settings) h)
 
 -- ---- a fix
 
--- the answer, from the rules and the observations at or above the mask
-fixAnswer : List Rule → List Observation → Vec3 → FixSettings → Fix
-fixAnswer rules kept guess settings =
-    let k = clocksOf (observedConstellations kept) in
-    let n = 3 + k .count in
-    let f = fix.fitOver settings k kept guess in
-    let rows = lastRows [] (f .rounds) in
-    ruled FixRefused rules (concluded FixRefused (fix.endRules n rows) (λ x. At (fix.solutionAt n rows x)) (f .end))
-
-fix-answer-is : (i : fix.Input) → fixOf i ≡ fixAnswer (fixRules (i .observations) (i .guess) (i .settings)) (fix.kept i) (i .guess) (i .settings)
-unfolding fixOf fix.fitOf fix.roundsOf fixAnswer
-fix-answer-is i = refl
-
 module _ (o p : Observations) (guess : Vec3) (settings : FixSettings) (m : o .count ≡ p .count) (e : countedObservations o ≡ countedObservations p) where
   fix-rules-counted : fixRules o guess settings ≡ fixRules p guess settings
   unfolding fixRules fixInput
   fix-rules-counted = rw (e, m)
 
   pub fix-counted : fixOf (record { observations = o; guess = guess; settings = settings }) ≡ fixOf (record { observations = p; guess = guess; settings = settings })
-  fix-counted = fix-answer-is _ ∙ rw (fix-rules-counted, e) (sym (fix-answer-is _))
+  unfolding fixOf
+  fix-counted = rw (fix-rules-counted, e)
 
 fix-many : (s : FixSettings) → 50 < s .rounds → fixSettingsPass s ≡ false
 unfolding fixSettingsPass

@@ -1,6 +1,6 @@
 -- The fix as the public call works it out: the rules in two parts, the fit, and what it comes to. Assumes nothing.
-use mathlib.Core.Path.{_≡_, refl, sym, ap, ap₂, _∙_, subst}
-use Prim.Native.Nat.{ℕ, _+_, _≤_}
+use mathlib.Core.Path.{_≡_, refl, sym, ap, ap₂, _∙_}
+use Prim.Native.Nat.{ℕ, _≤_}
 use native.Mathlib.Omega.{arith}
 use mathlib.Core.Bool.{Bool, true, false, _&&_}
 use mathlib.Core.List.{List, []}
@@ -12,21 +12,19 @@ use Rattle.cholesky.specs.Answer.{rowsAfter}
 use Rattle.cholesky.specs.Answer as factor
 use Rattle.numeric.specs.declared.refusal.Refusal.{Refusal}
 use Rattle.numeric.specs.declared.refusal.Refusal.the-variants.{FitFailed}
-use Rattle.robust.specs.Step.{counted}
 use Rattle.robust.specs.declared.row.Row.{Row}
 use Rattle.estimator.specs.Rules.{ruled}
 use Rattle.records.specs.Record.{Holds, countedObservations}
 use Rattle.clocks.specs.Clocks.{clocksOf}
 use Rattle.records.specs.Mask.{constellations}
 use Rattle.estimator.specs.Valid.{fixInput, fixCounts}
-use Rattle.estimator.specs.Rounds.{End, Stopped, Reached, Fit, lastRows, finiteAt, concluded, checkOf}
-use Rattle.estimator.specs.Fix.{Input, position, fitOver, kept, clocks, fitOf, roundsOf, chiOf, plainMatrix, pdopOf, endRules, solutionAt, concludedAt, fitted, fixOf, Reaches}
+use Rattle.estimator.specs.Rounds.{finiteAt}
+use Rattle.estimator.specs.Fix.{Input, position, kept, clocks, chiOf, plainMatrix, pdopOf, endRules, concludedAt, foundOver, fixOf}
 use Rattle.clocks.specs.declared.clocks.Clocks.{Clocks}
 use Rattle.records.specs.declared.record.Observation.{Observation}
 use Rattle.records.specs.declared.record.Observations.{Observations}
 use Rattle.estimator.specs.declared.fix.Fix.{Fix}
 use Rattle.estimator.specs.declared.fix.Fix.the-variants.{Refused, At}
-use Rattle.estimator.specs.declared.fix.Fitted.{Fitted}
 use Rattle.estimator.specs.declared.valid.Check.the-variants.{Refused as Stops, Passed}
 use Rattle.estimator.proofs.RulesLaws.{checked, rows-passed}
 use Rattle.estimator.proofs.FrontLaws.{fix-input-refused, fix-clocks, fix-counts-refused, fix-counts-kept}
@@ -60,56 +58,30 @@ module _ (n : ℕ) (rows : List Row) (x : List Float) (a b d : Bool) (a-is : a �
 
 -- ---- the call
 module _ (i : Input) where
+  abbrev fitted : Fix
+  fitted = foundOver (i .settings) (clocks i) (kept i) (i .guess)
+
   pub refused-input : {r : Refusal} → Stops r ≡ checked (fixInput (i .observations) (i .guess) (i .settings)) → Refused r ≡ fixOf i
   unfolding fixOf
-  refused-input e = fix-input-refused Refused (fitted i) (i .observations) (i .guess) (i .settings) e
+  refused-input e = fix-input-refused Refused fitted (i .observations) (i .guess) (i .settings) e
 
   -- what the code has once it has masked
   module _ (passed : Passed ≡ checked (fixInput (i .observations) (i .guess) (i .settings))) (q : Observations) (k : Clocks) (left : Holds (q .count) (q .observation) (kept i))
       (clocked : k ≡ clocksOf (constellations (countedObservations q))) where
     pub refused-counts : {r : Refusal} → Stops r ≡ checked (fixCounts (q .count) (k .count)) → Refused r ≡ fixOf i
     unfolding fixOf
-    refused-counts e = fix-counts-refused Refused (fitted i) (i .observations) (i .guess) (i .settings) passed q k left clocked e
+    refused-counts e = fix-counts-refused Refused fitted (i .observations) (i .guess) (i .settings) passed q k left clocked e
 
     clocks-are : k ≡ clocks i
-    clocks-are = fix-clocks Refused (fitted i) (i .observations) (i .guess) (i .settings) passed q k left clocked
-
-    fit-is : fitOver (i .settings) k (take (q .count) (q .observation)) (i .guess) ≡ fitOf i
-    unfolding fitOf
-    fit-is = ap₂ (λ (c : Clocks) (os : List Observation). fitOver (i .settings) c os (i .guess)) clocks-are (left .all)
+    clocks-are = fix-clocks Refused fitted (i .observations) (i .guess) (i .settings) passed q k left clocked
 
     -- rules 8 and 9 leave a fit of at most nine unknowns
     module _ (enough : Passed ≡ checked (fixCounts (q .count) (k .count))) where
       pub few-clocks : k .count ≤ 6
       few-clocks = rows-passed _ _ enough .few-slots
 
-      answered : fitted i ≡ fixOf i
+      pub found : foundOver (i .settings) k (take (q .count) (q .observation)) (i .guess) ≡ fixOf i
       unfolding fixOf
-      answered = fix-counts-kept Refused (fitted i) (i .observations) (i .guess) (i .settings) passed q k left clocked enough
-
-      -- what the rounds of the code reach
-      module _ (r : Fitted) (reaches : Reaches (fitOver (i .settings) k (take (q .count) (q .observation)) (i .guess)) r) where
-        fit-reaches : Reaches (fitOf i) r
-        fit-reaches = subst (λ (f : Fit). Reaches f r) fit-is reaches
-
-        abbrev n : ℕ
-        n = 3 + clocks i .count
-
-        abbrev last : List Row
-        last = lastRows [] (roundsOf i)
-
-        pub stopped : (q : Refusal) → r .answer ≡ Stops q → Refused q ≡ fixOf i
-        stopped q e = go (fitOf i .end) (fit-reaches .answer-is) ∙ answered
-          where
-            go : (z : End) → r .answer ≡ checkOf z → Refused q ≡ concluded Refused (endRules n last) (λ x. At (solutionAt n last x)) z
-            go (Stopped p) h = let same : q ≡ p = cc in ap Refused same
-            go (Reached y) h = absurd (let z : _≡_ {A = ℕ} 0 1 = cc in omega arith)
-
-        last-rows : r .answer ≡ Passed → counted (r .rows) ≡ last
-        unfolding roundsOf
-        last-rows e = fit-reaches .rows-are e
-
-        pub reached : r .answer ≡ Passed → concludedAt (3 + k .count) (counted (r .rows)) (r .x) ≡ fixOf i
-        reached e =
-            ap₂ (λ (c : Clocks) (rs : List Row). concludedAt (3 + c .count) rs (r .x)) clocks-are (last-rows e)
-            ∙ ap (concluded Refused (endRules n last) (λ x. At (solutionAt n last x))) (fit-reaches .state-is e) ∙ answered
+      found =
+          ap₂ (λ (c : Clocks) (os : List Observation). foundOver (i .settings) c os (i .guess)) clocks-are (left .all)
+          ∙ fix-counts-kept Refused fitted (i .observations) (i .guess) (i .settings) passed q k left clocked enough

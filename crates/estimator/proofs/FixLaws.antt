@@ -1,23 +1,24 @@
 -- The rounds of a fix, as the code has them. Assumes nothing.
-use mathlib.Core.Path.{_≡_, refl, sym, ap, _∙_, subst₂}
+use mathlib.Core.Path.{_≡_, refl, sym, ap, ap₂, _∙_, subst₂}
 use Prim.Native.Nat.{ℕ, _+_, _≤_}
-use native.Mathlib.Omega.{arith}
 use mathlib.Core.List.{List, [], map}
+use lib.ListN.{length, take}
 use lib.Ieee.{Float, nan}
 use Rattle.robust.specs.Round.{Round, Solved, roundOf}
 use Rattle.robust.specs.Normal.{Solving}
-use Rattle.robust.specs.Step.{counted}
+use Rattle.robust.specs.Columns.{columns, rowsIn}
 use Rattle.robust.specs.declared.row.Row.{Row}
 use Rattle.robust.specs.declared.round.Stepping.{Stepping}
 use Rattle.numeric.specs.declared.refusal.Refusal.{Refusal}
+use Rattle.numeric.specs.declared.vec3.Vec3.{Vec3}
 use Rattle.robust.proofs.RoundSound.{round-rows}
+use Rattle.robust.proofs.ColumnLaws.{rows-are}
 use Rattle.clocks.specs.declared.clocks.Clocks.{Clocks}
 use Rattle.records.specs.declared.record.Observation.{Observation}
 use Rattle.estimator.specs.declared.fix.Settings.{Settings}
-use Rattle.estimator.specs.Rounds.{Stopped, Reached, Fit, fitFrom, lastRows, checkOf}
-use Rattle.estimator.specs.Fix.{rowAt, roundAt, limit, Reaches}
-use Rattle.estimator.specs.declared.fix.Fitted.{Fitted}
-use Rattle.estimator.specs.declared.valid.Check.the-variants.{Refused, Passed}
+use Rattle.estimator.specs.Rounds.{Stopped, Reached, Fit, fitFrom, lastRows, concluded}
+use Rattle.estimator.specs.Fix.{sigmaOf, rowAt, roundAt, limit, start, fitOver, endRules, solutionAt, concludedAt, foundOver, RowsAt}
+use Rattle.estimator.specs.declared.fix.Fix.the-variants.{Refused, At}
 use Rattle.estimator.proofs.RoundsLaws.{Left, LeftRows, left-start, rows-start}
 
 -- what the logic has for an observation past the end
@@ -51,15 +52,22 @@ module _ (settings : Settings) (k : Clocks) (os : List Observation) (x : List Fl
   unfolding roundAt
   made-rows r e = round-rows (map (rowAt settings k x) os) (3 + k .count) (settings .huber) r e ∙ sym rows-are
 
--- the contract
-pub reaches-no : (f : Fit) (r : Fitted) {q : Refusal} → r .rows .count ≤ 64 → r .answer ≡ Refused q → Stopped q ≡ f .end → Reaches f r
-reaches-no f r few e h =
-    record {
-      few-rows = few;
-      answer-is = e ∙ ap checkOf h;
-      state-is = λ t. absurd (let z : _≡_ {A = ℕ} 0 1 = cc in omega arith);
-      rows-are = λ t. absurd (let z : _≡_ {A = ℕ} 0 1 = cc in omega arith);
-    }
+-- the columns of a round hold its rows
+pub held : (settings : Settings) (k : Clocks) (n : ℕ) (os : List Observation) (s : List Float) {x y z : List Float} {clock residual : List ℕ} (sigma : List Float) → n ≤ length os → n ≤ 64 → RowsAt k n os s x y z clock residual
+    → take n sigma ≡ map (sigmaOf settings) (take n os) → rowsIn (columns x y z clock sigma (take n residual)) ≡ map (rowAt settings k s) (take n os)
+unfolding rowAt
+held settings k n os s {x} {y} {z} {clock} {residual} sigma fits few h sigmas =
+    rows-are (rowAt settings k s) os blank n fits few x y z clock sigma residual (h .xs) (h .ys) (h .zs) (h .clocks-are) sigmas (record { long = h .long .residual-long; so-far = h .residuals })
 
-pub reaches-yes : (f : Fit) (r : Fitted) → r .rows .count ≤ 64 → r .answer ≡ Passed → Reached (r .x) ≡ f .end → counted (r .rows) ≡ lastRows [] (f .rounds) → Reaches f r
-reaches-yes f r few e h l = record { few-rows = few; answer-is = e ∙ ap checkOf h; state-is = λ t. h; rows-are = λ t. l }
+-- what the rounds come to, by where they end
+module _ (settings : Settings) (k : Clocks) (os : List Observation) (guess : Vec3) where
+  pub stopped-at : {r : Refusal} → Stopped r ≡ fit settings k os (start guess) .end → Refused r ≡ foundOver settings k os guess
+  unfolding foundOver fitOver
+  stopped-at e = rw (sym e)
+
+  pub reached-at : {n : ℕ} {rows : List Row} {x : List Float} → n ≡ 3 + k .count → Reached x ≡ fit settings k os (start guess) .end → rows ≡ lastRows [] (fit settings k os (start guess) .rounds)
+      → concludedAt n rows x ≡ foundOver settings k os guess
+  unfolding foundOver fitOver
+  reached-at {n} {rows} {x} n-is e l =
+      ap₂ (λ (m : ℕ) (r : List Row). concludedAt m r x) n-is l
+      ∙ ap (concluded Refused (endRules (3 + k .count) (lastRows [] (fit settings k os (start guess) .rounds))) (λ y. At (solutionAt (3 + k .count) (lastRows [] (fit settings k os (start guess) .rounds)) y))) e

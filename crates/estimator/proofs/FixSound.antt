@@ -17,7 +17,7 @@ use Rattle.clocks.specs.declared.clocks.Clocks.{Clocks}
 use Rattle.records.specs.declared.record.Observation.{Observation}
 use Rattle.estimator.specs.declared.fix.Settings.{Settings}
 use Rattle.estimator.specs.Rounds.{lastRows, Each}
-use Rattle.estimator.specs.Fix.{Input, rowAt, roundAt, limit, start, fitOver, kept, clocks, fitOf, roundsOf, endRules, solutionAt, fitted, fixOf, Accepted, Promised}
+use Rattle.estimator.specs.Fix.{Input, rowAt, roundAt, limit, start, fitOver, kept, clocks, fitOf, roundsOf, endRules, solutionAt, foundOver, fixOf, Accepted, Promised}
 use Rattle.estimator.specs.declared.fix.Solution.{Solution}
 use Rattle.estimator.specs.declared.fix.Fix.{Fix}
 use Rattle.estimator.specs.declared.fix.Fix.the-variants.{Refused, At}
@@ -39,8 +39,11 @@ unknowns i = 3 + clocks i .count
 abbrev rows : Input → List Row
 rows i = lastRows [] (roundsOf i)
 
+abbrev fitted : Input → Fix
+fitted i = foundOver (i .settings) (clocks i) (kept i) (i .guess)
+
 ended : (i : Input) (s : Solution) → fixOf i ≡ At s → Finished (endRules (unknowns i) (rows i)) (λ x. At (solutionAt (unknowns i) (rows i) x)) (At s) (fitOf i .end)
-unfolding fixOf
+unfolding fixOf foundOver roundsOf fitOf
 ended i s e =
     let rules = fixRules (i .observations) (i .guess) (i .settings) in
     finished Refused (endRules (unknowns i) (rows i)) (λ x. At (solutionAt (unknowns i) (rows i) x)) (At s) (never s) (fitOf i .end)

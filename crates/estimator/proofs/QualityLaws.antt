@@ -1,5 +1,5 @@
 -- What a fit says of itself, as the code works it out from the rows. Assumes nothing.
-use mathlib.Core.Path.{_≡_, refl, sym, ap, _∙_}
+use mathlib.Core.Path.{_≡_, refl, sym, ap, ap₂, _∙_}
 use Prim.Native.Nat.{ℕ, _+_, _-_, _≤_, _<_, max}
 use native.Mathlib.Decide.{ℕ-discrete}
 use native.Mathlib.Omega.{arith}
@@ -8,20 +8,19 @@ use mathlib.Core.List.{List}
 use lib.Dec.{eqb}
 use borrow.Author.Tests.{eq-eqb, ne-eqb}
 use lib.ListN.{getD, length, set, length-set, getD-replicate}
-use lib.Seq.{getD-set-same, getD-set-other, length-take-le}
+use lib.Seq.{getD-set-same, getD-set-other}
 use lib.Ieee.{Float, nan, ofInt, ofBits}
-use Rattle.walk.proofs.Walk.{places-take}
+use Rattle.walk.proofs.Walk.{places-length}
 use Rattle.exact.specs.Float.{_⊕_, _⊗_, _⊘_, +0, 1·0, bits, whole}
 use Rattle.cholesky.specs.Factor.{at, zeros, solutionOf}
 use Rattle.numeric.specs.Real.{square}
 use Rattle.root.specs.Root.{rootOf}
 use Rattle.robust.specs.Nine.{nine}
 use Rattle.robust.specs.Round.{wide, total, triangleOf}
-use Rattle.robust.specs.Step.{counted}
+use Rattle.robust.specs.Columns.{Columns, columns, rowIn, rowsIn}
 use Rattle.robust.specs.declared.row.Row.{Row}
-use Rattle.robust.specs.declared.row.Rows.{Rows}
 use Rattle.robust.proofs.NineLaws.{nine-is}
-use Rattle.robust.proofs.Sums.{blank, sumTo, sumTo-zero, sumTo-next, sum-total}
+use Rattle.robust.proofs.Sums.{sumTo, sumTo-zero, sumTo-next, sum-places}
 use Rattle.robust.proofs.FormedLaws.{sums, sums-next, sums-triangle}
 use Rattle.estimator.specs.Fix.{freedomOf, chiOf, plainMatrix, pdopOf}
 
@@ -39,48 +38,46 @@ pub freedom-least : (count n : ℕ) → count ≤ n → 1·0 ≡ freedomOf count
 unfolding freedomOf
 freedom-least count n h = let e : max 1 (count - n) ≡ 1 = omega arith in rw e one
 
-abbrev pub rowNth : Rows → ℕ → Row
-rowNth rows k = getD (rows .row) k blank
-
--- ---- the reduced chi-squared
+-- ---- the reduced chi-squared, of the columns' rows
 
 -- what a row adds
 abbrev pub scaled : Row → Float
 scaled r = square (bits (r .residual) ⊘ r .sigma)
 
-module _ (rows : Rows) where
+module _ (sigma : List Float) (residual : List ℕ) where
   -- the sum over the first k rows
   pub squares : ℕ → Float
-  squares k = sumTo (λ k. scaled (rowNth rows k)) k
+  squares k = sumTo (λ k. square (bits (getD residual k 0) ⊘ getD sigma k nan)) k
 
   pub squares-zero : +0 ≡ squares 0
   unfolding squares
   squares-zero = sym (sumTo-zero _)
 
-  pub squares-next : (k : ℕ) (s y z : Float) → s ≡ squares k → y ≡ bits (rowNth rows k .residual) → z ≡ square (y ⊘ rowNth rows k .sigma) → s ⊕ z ≡ squares (k + 1)
+  pub squares-next : (k : ℕ) (s y z : Float) → s ≡ squares k → y ≡ bits (getD residual k 0) → z ≡ square (y ⊘ getD sigma k nan) → s ⊕ z ≡ squares (k + 1)
   unfolding squares
   squares-next k s y z h y-is z-is = rw (sumTo-next, h, z-is, y-is)
 
-  module _ (long : length (rows .row) ≡ 64) (few : rows .count ≤ 64) where
-    pub counted-length : length (counted rows) ≡ rows .count
-    counted-length = length-take-le (rows .count) (rows .row) (omega arith)
+  pub chi-is : (n k : ℕ) (s f r : Float) → k ≡ length residual → s ≡ squares k → f ≡ freedomOf (length residual) n → r ≡ rootOf (s ⊘ f)
+      → (x y z : List Float) (clock : List ℕ) → r ≡ chiOf n (rowsIn (columns x y z clock sigma residual))
+  unfolding chiOf squares
+  chi-is n k s f r last s-is f-is r-is x y z clock =
+      let c = columns x y z clock sigma residual in
+      let sum : s ≡ total scaled (rowsIn c) = s-is ∙ ap squares last ∙ sum-places scaled (rowIn c) (length residual) in
+      let all : f ≡ freedomOf (length (rowsIn c)) n = f-is ∙ ap (λ (m : ℕ). freedomOf m n) (sym (places-length (rowIn c) (length residual))) in
+      r-is ∙ ap₂ (λ (a b : Float). rootOf (a ⊘ b)) sum all
 
-    pub chi-is : (n k : ℕ) (s f r : Float) → k ≡ rows .count → s ≡ squares k → f ≡ freedomOf (rows .count) n → r ≡ rootOf (s ⊘ f) → r ≡ chiOf n (counted rows)
-    unfolding chiOf squares
-    chi-is n k s f r last s-is f-is r-is = rw (r-is, s-is, f-is, last, counted-length, sum-total scaled (rows .row) (rows .count) (omega arith))
+-- ---- the unweighted matrix
 
-    -- ---- the unweighted matrix
+-- the sums of its cells over the first k rows, and what one row more adds, by the wide row e that the code has of it
+abbrev pub plain : Columns → ℕ → ℕ → ℕ → Float
+plain c = sums (λ r p q. at (wide r) p ⊗ at (wide r) q) (rowIn c)
 
-    pub plain-is : (n : ℕ) → triangleOf n (sums (λ r p q. at (wide r) p ⊗ at (wide r) q) (rowNth rows) (rows .count)) ≡ plainMatrix n (counted rows)
-    unfolding plainMatrix
-    plain-is n = sums-triangle (λ r p q. at (wide r) p ⊗ at (wide r) q) (rowNth rows) (rows .count) n ∙ ap (λ (z : List Row). triangleOf n (λ i j. total (λ r. at (wide r) i ⊗ at (wide r) j) z)) (places-take (rows .row) blank (rows .count) (omega arith))
+pub plain-next : (c : Columns) (k : ℕ) (e : List Float) → e ≡ wide (rowIn c k) → (p q : ℕ) (s : Float) → s ≡ plain c k p q → s ⊕ at e p ⊗ at e q ≡ plain c (k + 1) p q
+plain-next c k e e-is p q s h = sums-next (λ r p q. at (wide r) p ⊗ at (wide r) q) (rowIn c) k p q s _ h (rw e-is)
 
-  -- the sums of its cells over the first k rows, and what one row more adds, by the wide row e that the code has of it
-  abbrev pub plain : ℕ → ℕ → ℕ → Float
-  plain = sums (λ r p q. at (wide r) p ⊗ at (wide r) q) (rowNth rows)
-
-  pub plain-next : (k : ℕ) (e : List Float) → e ≡ wide (rowNth rows k) → (p q : ℕ) (s : Float) → s ≡ plain k p q → s ⊕ at e p ⊗ at e q ≡ plain (k + 1) p q
-  plain-next k e e-is p q s h = sums-next (λ r p q. at (wide r) p ⊗ at (wide r) q) (rowNth rows) k p q s _ h (rw e-is)
+pub plain-is : (c : Columns) (n : ℕ) → triangleOf n (plain c (length (c .residual))) ≡ plainMatrix n (rowsIn c)
+unfolding plainMatrix
+plain-is c n = sums-triangle (λ r p q. at (wide r) p ⊗ at (wide r) q) (rowIn c) (length (c .residual)) n
 
 -- ---- the inverse's diagonal
 

@@ -5,25 +5,22 @@ use native.Mathlib.Nat.{not-suc-le-zero}
 use native.Mathlib.Decide.{ℕ-discrete, decLt}
 use native.Mathlib.Omega.{arith}
 use mathlib.Core.Bool.{Bool, true, false, cond}
-use mathlib.Core.List.{List, [], map}
+use mathlib.Core.List.{List, []}
 use lib.Dec.{ltb}
 use borrow.Author.Tests.{lt-ltb, le-ltb}
-use lib.ListN.{length, getD, set, take, length-set, List·getD-eq-default}
+use lib.ListN.{length, set, length-set, List·getD-eq-default}
 use lib.Seq.{getD-set-same, getD-set-other}
 use lib.Ieee.{Float, nan, div, ofInt, ofBits}
 use Rattle.exact.specs.Float.{_⊕_, bits, decimal}
 use Rattle.cholesky.specs.Factor.{at}
 use Rattle.robust.specs.Round.{Round, Outcome, Refused, Solved}
 use Rattle.robust.specs.Normal.{Solving}
-use Rattle.robust.specs.Step.{counted}
 use Rattle.robust.specs.declared.row.Row.{Row}
-use Rattle.robust.specs.declared.row.Rows.{Rows}
 use Rattle.robust.specs.declared.round.Stepping.{Stepping}
 use Rattle.robust.specs.declared.round.Stepping.the-variants as Stepping
 use Rattle.numeric.specs.declared.refusal.Refusal.{Refusal}
 use Rattle.estimator.specs.declared.valid.Check.the-variants as Check
 use Rattle.robust.proofs.NineLaws.{nine-is}
-use Rattle.robust.proofs.Sums.{mapped-next}
 use Rattle.estimator.specs.Rounds.{End, Stopped, Reached, Fit, moved, short, after, fitFrom, lastRows, Ended}
 
 -- 1e-3 and 1e-5, as a compiler reads them
@@ -160,21 +157,3 @@ ended-stopped e x y {r} k h = subst (λ z. Ended z (Check.Refused r) x y) h (rec
 
 pub ended-reached : (e : End) (x y : List Float) → Reached y ≡ e → Ended e Check.Passed x y
 ended-reached e x y h = subst (λ z. Ended z Check.Passed x y) h (record { answer-is = refl; state-is = refl })
-
--- ---- the rows of a round, made one after the other: the first j are what f gives of the first j of xs
-pub record Rowing {A : Type 0} (f : A → Row) (xs : List A) (count j : ℕ) (rows : Rows) : Type 0 where
-  pub count-is : rows .count ≡ count
-  pub long : length (rows .row) ≡ 64
-  pub so-far : take j (rows .row) ≡ map f (take j xs)
-
-module _ {A : Type 0} (f : A → Row) (xs : List A) (count : ℕ) where
-  pub rowing-next : (j : ℕ) (rows : Rows) (d : A) (v : Row) → j < 64 → j < length xs → v ≡ f (getD xs j d) → Rowing f xs count j rows → Rowing f xs count (j + 1) (record { count = rows .count; row = set (rows .row) j v })
-  rowing-next j rows d v jb jx e h =
-      record {
-        count-is = h .count-is;
-        long = length-set (rows .row) j v ∙ h .long;
-        so-far = mapped-next f xs (rows .row) d j v (omega (arith, h .long)) jx e (h .so-far);
-      }
-
-  pub rowing-end : (j : ℕ) (rows : Rows) → j ≡ count → Rowing f xs count j rows → counted rows ≡ map f (take count xs)
-  rowing-end j rows e h = ap (λ (z : ℕ). take z (rows .row)) (h .count-is) ∙ subst (λ (z : ℕ). take z (rows .row) ≡ map f (take z xs)) e (h .so-far)

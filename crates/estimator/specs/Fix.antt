@@ -1,10 +1,10 @@
 -- The position of a receiver from one epoch (document 01, "Fix"; wls.rs): its rounds, what the fit says of itself, and the answer. Definitions only.
 use mathlib.Core.Path.{_≡_}
-use Prim.Native.Nat.{ℕ, _+_, _-_, _<_, _≤_, max}
+use Prim.Native.Nat.{ℕ, _+_, _-_, _<_, max}
 use mathlib.Core.Bool.{not, cond}
 use mathlib.Core.List.{List, [], _∷_, map}
 use lib.Dec.{eqb}
-use lib.ListN.{length, replicate}
+use lib.ListN.{length, take, replicate}
 use lib.Dec.{T}
 use lib.Ieee.{Float}
 use lib.Ieee.Scale.{finite}
@@ -16,12 +16,12 @@ use Rattle.cholesky.specs.Answer as factor
 use Rattle.numeric.specs.Order.{patternOf}
 use Rattle.numeric.specs.Real.{square}
 use Rattle.numeric.specs.Sight.{geometry}
+use Rattle.numeric.specs.declared.sight.Sight.{Sight}
 use Rattle.numeric.specs.declared.vec3.Vec3.{Vec3}
 use Rattle.numeric.specs.declared.refusal.Refusal.the-variants.{FitFailed}
 use Rattle.robust.specs.Nine.{nine}
 use Rattle.robust.specs.Round.{wide, total, triangleOf, Round, Outcome, roundOf, Sound}
 use Rattle.robust.specs.Sigma.{elevationSigma}
-use Rattle.robust.specs.Step.{counted}
 use Rattle.robust.specs.declared.row.Row.{Row}
 use Rattle.clocks.specs.Clocks.{slot, clocksOf}
 use Rattle.estimator.specs.Rules.{Rule, rule, ruled}
@@ -31,14 +31,12 @@ use Rattle.clocks.specs.declared.clocks.Clocks.{Clocks}
 use Rattle.records.specs.declared.record.Observation.{Observation}
 use Rattle.records.specs.declared.record.Observations.{Observations}
 use Rattle.estimator.specs.declared.fix.Settings.{Settings}
-use Rattle.estimator.specs.Rounds.{Reached, Fit, fitFrom, lastRows, finiteAt, concluded, checkOf, Each}
+use Rattle.estimator.specs.Rounds.{Fit, fitFrom, lastRows, finiteAt, concluded, Each}
 use Rattle.estimator.specs.declared.fix.Solution.{Solution}
 use Rattle.estimator.specs.declared.fix.Fix.{Fix}
 use Rattle.estimator.specs.declared.fix.Fix.the-variants.{Refused, At}
 use Rattle.estimator.specs.declared.fix.Position.{Position}
 use Rattle.estimator.specs.declared.fix.Position.the-variants.{Refused as NoPosition, At as PositionAt}
-use Rattle.estimator.specs.declared.fix.Fitted.{Fitted}
-use Rattle.estimator.specs.declared.valid.Check.the-variants.{Passed}
 
 -- what is handed over
 pub record Input : Type 0 where
@@ -55,20 +53,23 @@ position x = record { x = at x 0; y = at x 1; z = at x 2 }
 unfoldable pub sigmaOf : Settings → Observation → Float
 sigmaOf settings o = elevationSigma (o .elevation) (settings .«sigma_a») (settings .«sigma_b»)
 
--- the row of an observation with this sigma at the state x: what was measured, less what x predicts
-unfoldable pub rowWith : Float → Clocks → List Float → Observation → Row
-rowWith sigma k x o =
-    let g = geometry (o .satellite) (position x) in
-    let s = slot k (o .constellation) in
-    record {
-      unit = record { x = g .x; y = g .y; z = g .z };
-      clock = s;
-      residual = patternOf (o .pseudorange ⊖ (g .range ⊕ at x s));
-      sigma = sigma;
-    }
+-- the line of sight of an observation at the state x
+abbrev pub sightAt : List Float → Observation → Sight
+sightAt x o = geometry (o .satellite) (position x)
 
-abbrev pub rowAt : Settings → Clocks → List Float → Observation → Row
-rowAt settings k x o = rowWith (sigmaOf settings o) k x o
+-- what was measured, less what the state x predicts
+unfoldable pub residualAt : Clocks → List Float → Observation → ℕ
+residualAt k x o = patternOf (o .pseudorange ⊖ (sightAt x o .range ⊕ at x (slot k (o .constellation))))
+
+-- the row of an observation at the state x
+unfoldable pub rowAt : Settings → Clocks → List Float → Observation → Row
+rowAt settings k x o =
+    record {
+      unit = record { x = sightAt x o .x; y = sightAt x o .y; z = sightAt x o .z };
+      clock = slot k (o .constellation);
+      residual = residualAt k x o;
+      sigma = sigmaOf settings o;
+    }
 
 -- the round at the state x over the observations os, with the clocks k
 unfoldable pub roundAt : Settings → Clocks → List Observation → List Float → Outcome
@@ -136,15 +137,17 @@ solutionAt n rows x = record { position = position x; used = length rows; chi = 
 abbrev pub concludedAt : ℕ → List Row → List Float → Fix
 concludedAt n rows x = ruled Refused (endRules n rows x) (At (solutionAt n rows x))
 
--- what the rounds of a call come to
-abbrev pub fitted : Input → Fix
-fitted i =
-    let n = 3 + clocks i .count in
-    let rows = lastRows [] (roundsOf i) in
-    concluded Refused (endRules n rows) (λ x. At (solutionAt n rows x)) (fitOf i .end)
+-- what the rounds over the observations os come to, with the clocks k
+unfoldable pub foundOver : Settings → Clocks → List Observation → Vec3 → Fix
+foundOver settings k os guess =
+    let f = fitOver settings k os guess in
+    let n = 3 + k .count in
+    let rows = lastRows [] (f .rounds) in
+    concluded Refused (endRules n rows) (λ x. At (solutionAt n rows x)) (f .end)
 
+-- 2 to 9, and then what the rounds come to
 unfoldable pub fixOf : Input → Fix
-fixOf i = ruled Refused (fixRules (i .observations) (i .guess) (i .settings)) (fitted i)
+fixOf i = ruled Refused (fixRules (i .observations) (i .guess) (i .settings)) (foundOver (i .settings) (clocks i) (kept i) (i .guess))
 
 -- the answer of the call that gives the position alone
 abbrev pub positionOf : Fix → Position
@@ -175,9 +178,19 @@ pub record PositionPromised (i : Input) (r : Position) : Type 0 where
   pub answer : r ≡ positionOf (fixOf i)
   pub accepted : (s : Solution) → fixOf i ≡ At s → Accepted i s
 
--- ---- the code's end: where the rounds of the fit f are not refused, the state that they reach and the last round's rows
-pub record Reaches (f : Fit) (r : Fitted) : Type 0 where
-  pub few-rows : r .rows .count ≤ 64
-  pub answer-is : r .answer ≡ checkOf (f .end)
-  pub state-is : r .answer ≡ Passed → Reached (r .x) ≡ f .end
-  pub rows-are : r .answer ≡ Passed → counted (r .rows) ≡ lastRows [] (f .rounds)
+-- ---- the rows of a round as the code has them: columns of 64 numbers, of which the first n are the observations'
+pub record Long (x y z : List Float) (clock residual : List ℕ) : Type 0 where
+  pub x-long : length x ≡ 64
+  pub y-long : length y ≡ 64
+  pub z-long : length z ≡ 64
+  pub clock-long : length clock ≡ 64
+  pub residual-long : length residual ≡ 64
+
+-- they are the rows at the state s, but for the sigmas, which no round changes
+pub record RowsAt (k : Clocks) (n : ℕ) (os : List Observation) (s x y z : List Float) (clock residual : List ℕ) : Type 0 where
+  pub long : Long x y z clock residual
+  pub xs : take n x ≡ map (λ (o : Observation). sightAt s o .x) (take n os)
+  pub ys : take n y ≡ map (λ (o : Observation). sightAt s o .y) (take n os)
+  pub zs : take n z ≡ map (λ (o : Observation). sightAt s o .z) (take n os)
+  pub clocks-are : take n clock ≡ map (λ (o : Observation). slot k (o .constellation)) (take n os)
+  pub residuals : take n residual ≡ map (residualAt k s) (take n os)

@@ -1,9 +1,9 @@
 // The position from one epoch.
 ghost use mathlib.Core.Path.{_≡_};
 ghost use mathlib.Core.List.{map};
-ghost use lib.ListN.{take};
+ghost use lib.ListN.{length, take};
 ghost use Prim.Native.Nat.{ℕ, _≤_};
-ghost use Rattle.robust.specs.Step.{counted};
+ghost use Rattle.robust.specs.Columns.{columns, rowsIn};
 ghost use Rattle.estimator.specs.Fix as spec;
 use crate::quality::chi_of;
 use crate::quality::pdop_of;
@@ -23,12 +23,9 @@ use numeric::sight::geometry;
 use numeric::vec3::Vec3;
 use records::mask::above_mask;
 use records::mask::clocks_of;
-use records::record::Observation;
 use records::record::Observations;
 use robust::round::Stepping;
 use robust::round::round_step;
-use robust::row::Row;
-use robust::row::Rows;
 use robust::sigma::elevation_sigma;
 
 // Weighting and robustness.
@@ -59,13 +56,6 @@ pub enum Position {
     At(Vec3),
 }
 
-// Where the rounds ended, and the rows of the last one.
-pub struct Fitted {
-    pub answer: Check,
-    pub x: [f64; 9],
-    pub rows: Rows,
-}
-
 // The sigma of each observation, which no round changes.
 pub(crate) fn sigmas_of(settings: Settings, sky: Observations) -> [f64; 64]
     requires { ⌜ sky .count ≤ 64 ⌝ }
@@ -81,80 +71,75 @@ pub(crate) fn sigmas_of(settings: Settings, sky: Observations) -> [f64; 64]
     sigma
 }
 
-// The row of an observation with this sigma at the state x.
-pub(crate) fn row_at(sigma: f64, k: Clocks, x: [f64; 9], o: Observation) -> Row
-    ensures { λ r. ⌜ r ≡ spec.rowWith sigma k x o ⌝ }
+// The rows of the observations at the state s, but for their sigmas: lines of sight, clocks and residuals.
+pub(crate) fn rows_at(
+    k: Clocks,
+    sky: Observations,
+    s: [f64; 9],
+    x: &mut [f64; 64],
+    y: &mut [f64; 64],
+    z: &mut [f64; 64],
+    clock: &mut [usize; 64],
+    residual: &mut [u64; 64],
+)
+    requires { ⌜ (sky .count ≤ 64) × spec.Long (now x) (now y) (now z) (now clock) (now residual) ⌝ }
+    ensures { λ _. ⌜ spec.RowsAt k (sky .count) (sky .observation) s (now (x .exit)) (now (y .exit)) (now (z .exit)) (now (clock .exit)) (now (residual .exit)) ⌝ }
 {
+    let count = sky.count;
     let at = Vec3 {
-        x: x[0],
-        y: x[1],
-        z: x[2],
+        x: s[0],
+        y: s[1],
+        z: s[2],
     };
-    let g = geometry(o.satellite, at);
-    let u = Vec3 {
-        x: g.x,
-        y: g.y,
-        z: g.z,
-    };
-    let s = k.slot(o.constellation);
-    let residual = o.pseudorange - (g.range + state_at(x, s));
-    Row {
-        unit: u,
-        clock: s,
-        residual: pattern(residual),
-        sigma: sigma,
+    for j in 0..count {
+        let o = sky.observation[j];
+        let g = geometry(o.satellite, at);
+        let q = k.slot(o.constellation);
+        let r = pattern(o.pseudorange - (g.range + state_at(s, q)));
+        x[j] = g.x;
+        y[j] = g.y;
+        z[j] = g.z;
+        clock[j] = q;
+        residual[j] = r;
     }
 }
 
-// The rounds over the observations from the guess on.
-pub(crate) fn fit_sky(settings: Settings, k: Clocks, sky: Observations, guess: Vec3) -> Fitted
+// The rounds over the observations from the guess on, and what they come to.
+pub(crate) fn fit_sky(settings: Settings, k: Clocks, sky: Observations, guess: Vec3) -> Fix
     requires { ⌜ (sky .count ≤ 64) × (k .count ≤ 6) ⌝ }
-    ensures { λ r. ⌜ spec.Reaches (spec.fitOver settings k (take (sky .count) (sky .observation)) guess) r ⌝ }
+    ensures { λ r. ⌜ r ≡ spec.foundOver settings k (take (sky .count) (sky .observation)) guess ⌝ }
 {
     let n = 3 + k.count;
     let count = sky.count;
     let sigma = sigmas_of(settings, sky);
-    let zero = Vec3 {
-        x: 0.0,
-        y: 0.0,
-        z: 0.0,
-    };
-    let none = Row {
-        unit: zero,
-        clock: 0,
-        residual: 0,
-        sigma: 0.0,
-    };
-    let row = [none; 64];
-    let mut rows = Rows { count: 0, row: row };
-    let mut ux = [0.0; 64];
-    let mut uy = [0.0; 64];
-    let mut uz = [0.0; 64];
+    let mut x = [0.0; 64];
+    let mut y = [0.0; 64];
+    let mut z = [0.0; 64];
     let mut clock = [0usize; 64];
     let mut residual = [0u64; 64];
+    let mut used: usize = 0;
     let mut state = [0.0; 9];
     state[0] = guess.x;
     state[1] = guess.y;
     state[2] = guess.z;
     let mut i: u32 = 0;
     while i < settings.rounds {
-        rows.count = count;
-        for j in 0..count {
-            let o = sky.observation[j];
-            let s = sigma[j];
-            let r = row_at(s, k, state, o);
-            rows.row[j] = r;
-            ux[j] = r.unit.x;
-            uy[j] = r.unit.y;
-            uz[j] = r.unit.z;
-            clock[j] = r.clock;
-            residual[j] = r.residual;
-        }
+        rows_at(
+            k,
+            sky,
+            state,
+            &mut x,
+            &mut y,
+            &mut z,
+            &mut clock,
+            &mut residual,
+        );
+        used = count;
         let mut dx = [0.0; 9];
         if let Stepping::Refused(r) = round_step(
-            &ux,
-            &uy,
-            &uz,
+            &x,
+            &y,
+            &z,
             &clock,
             &sigma,
             &residual[..count],
@@ -162,50 +147,48 @@ pub(crate) fn fit_sky(settings: Settings, k: Clocks, sky: Observations, guess: V
             settings.huber,
             &mut dx,
         ) {
-            return Fitted {
-                answer: Check::Refused(r),
-                x: state,
-                rows: rows,
-            };
+            return Fix::Refused(r);
         }
         let next = move_by(n, dx, state);
         state = next;
         if is_short(1e-3, dx) {
-            return Fitted {
-                answer: Check::Passed,
-                x: state,
-                rows: rows,
-            };
+            return found_at(&x, &y, &z, &clock, &sigma, &residual[..count], n, state);
         }
         i += 1;
     }
-    Fitted {
-        answer: Check::Passed,
-        x: state,
-        rows: rows,
-    }
+    found_at(&x, &y, &z, &clock, &sigma, &residual[..used], n, state)
 }
 
-// The answer at the state x that the counted rows of n unknowns lead to, or 10 where it is not finite or the unweighted matrix is refused.
-fn found_at(x: [f64; 9], rows: Rows, n: usize) -> Fix
-    requires { ⌜ (rows .count ≤ 64) × (n ≤ 9) ⌝ }
-    ensures { λ r. ⌜ r ≡ spec.concludedAt n (counted rows) x ⌝ }
+// The answer at the state s that the rows of n unknowns lead to, or 10 where it is not finite or the unweighted matrix is refused.
+fn found_at(
+    x: &[f64; 64],
+    y: &[f64; 64],
+    z: &[f64; 64],
+    clock: &[usize; 64],
+    sigma: &[f64; 64],
+    residual: &[u64],
+    n: usize,
+    s: [f64; 9],
+) -> Fix
+    requires { ⌜ (length (now residual) ≤ 64) × (n ≤ 9) ⌝ }
+    ensures { λ r. ⌜ r ≡ spec.concludedAt n (rowsIn (columns (now (x .entry)) (now (y .entry)) (now (z .entry)) (now (clock .entry)) (now (sigma .entry)) (now (residual .entry)))) s ⌝ }
 {
     let position = Vec3 {
-        x: x[0],
-        y: x[1],
-        z: x[2],
+        x: s[0],
+        y: s[1],
+        z: s[2],
     };
     if is_finite(position.x) & is_finite(position.y) & is_finite(position.z) {
         let mut a = [[0.0; 9]; 9];
-        plain_matrix(rows, n, &mut a);
+        plain_matrix(x, y, z, clock, sigma, residual, n, &mut a);
         let mut l = [[0.0; 9]; 9];
         if factor_into(&a, &mut l) {
-            let chi = chi_of(rows, n);
+            let used = residual.len();
+            let chi = chi_of(sigma, residual, n);
             let pdop = pdop_of(&l);
             return Fix::At(Solution {
                 position: position,
-                used: rows.count,
+                used: used,
                 chi: chi,
                 pdop: pdop,
             });
@@ -226,15 +209,7 @@ pub fn solve_full(observations: Observations, guess: Vec3, settings: Settings) -
     if let Check::Refused(r) = check_rows(kept.count, clocks.count) {
         return Fix::Refused(r);
     }
-    let n = 3 + clocks.count;
-    let fitted = fit_sky(settings, clocks, kept, guess);
-    let answer = fitted.answer;
-    if let Check::Refused(r) = answer {
-        return Fix::Refused(r);
-    }
-    let x = fitted.x;
-    let rows = fitted.rows;
-    found_at(x, rows, n)
+    fit_sky(settings, clocks, kept, guess)
 }
 
 // The receiver's position from one epoch.

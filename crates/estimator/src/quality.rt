@@ -1,13 +1,17 @@
 // What a fit says of itself, from the last round's rows.
 ghost use mathlib.Core.Path.{_≡_};
-ghost use Prim.Native.Nat.{_≤_};
-ghost use Rattle.robust.specs.Step.{counted};
+ghost use mathlib.Core.List.{List};
+ghost use Prim.Native.Nat.{ℕ, _≤_};
+ghost use lib.ListN.{length};
+ghost use lib.Ieee.{Float};
+ghost use Rattle.robust.specs.Columns.{columns, rowsIn};
 ghost use Rattle.estimator.specs.Fix as spec;
 use cholesky::factor::solve_lent;
 use numeric::order::float;
 use numeric::real::square;
+use numeric::vec3::Vec3;
 use robust::round::unused;
-use robust::row::Rows;
+use robust::row::Row;
 use robust::row::wide;
 use root::sqrt::sqrt;
 
@@ -23,30 +27,52 @@ fn freedom_of(count: usize, n: usize) -> f64
     }
 }
 
-// The root of the reduced chi-squared of the counted rows, with n unknowns.
-pub(crate) fn chi_of(rows: Rows, n: usize) -> f64
-    requires { ⌜ rows .count ≤ 64 ⌝ }
-    ensures { λ r. ⌜ r ≡ spec.chiOf n (counted rows) ⌝ }
+// The root of the reduced chi-squared of the rows with these sigmas and residuals, and n unknowns.
+pub(crate) fn chi_of(sigma: &[f64; 64], residual: &[u64], n: usize) -> f64
+    requires { ⌜ length (now residual) ≤ 64 ⌝ }
+    ensures { λ r. ⌜ ((x y z : List Float) (clock : List ℕ) → r ≡ spec.chiOf n (rowsIn (columns x y z clock (now (sigma .entry)) (now (residual .entry))))) ⌝ }
 {
-    let count = rows.count;
-    let mut s = 0.0;
+    let count = residual.len();
+    let mut t = 0.0;
     for k in 0..count {
-        let r = rows.row[k];
-        s = s + square(float(r.residual) / r.sigma);
+        let p = residual[k];
+        let s = sigma[k];
+        t = t + square(float(p) / s);
     }
-    sqrt(s / freedom_of(count, n))
+    sqrt(t / freedom_of(count, n))
 }
 
-// Makes a the normal equations of the counted rows without weights, by their lower triangle.
-pub(crate) fn plain_matrix(rows: Rows, n: usize, a: &mut [[f64; 9]; 9])
-    requires { ⌜ (rows .count ≤ 64) × (n ≤ 9) ⌝ }
-    ensures { λ _. ⌜ now (a .exit) ≡ spec.plainMatrix n (counted rows) ⌝ }
+// Makes a the normal equations of the rows without weights, by their lower triangle.
+pub(crate) fn plain_matrix(
+    x: &[f64; 64],
+    y: &[f64; 64],
+    z: &[f64; 64],
+    clock: &[usize; 64],
+    sigma: &[f64; 64],
+    residual: &[u64],
+    n: usize,
+    a: &mut [[f64; 9]; 9],
+)
+    requires { ⌜ (length (now residual) ≤ 64) × (n ≤ 9) ⌝ }
+    ensures { λ _. ⌜ now (a .exit) ≡ spec.plainMatrix n (rowsIn (columns (now (x .entry)) (now (y .entry)) (now (z .entry)) (now (clock .entry)) (now (sigma .entry)) (now (residual .entry)))) ⌝ }
 {
-    let count = rows.count;
+    let count = residual.len();
     unused(n, a);
     let mut e = [0.0; 9];
     for k in 0..count {
-        let r = rows.row[k];
+        let u = x[k];
+        let v = y[k];
+        let h = z[k];
+        let q = clock[k];
+        let s = sigma[k];
+        let p = residual[k];
+        let unit = Vec3 { x: u, y: v, z: h };
+        let r = Row {
+            unit: unit,
+            clock: q,
+            residual: p,
+            sigma: s,
+        };
         wide(r, &mut e);
         for i in 0..n {
             let t = e[i];

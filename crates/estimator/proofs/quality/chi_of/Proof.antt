@@ -1,31 +1,32 @@
 -- `estimator::quality::chi_of` meets its contract. Assumes nothing.
 use mathlib.Core.Path.{_≡_}
 use Prim.Native.Nat.{_-_, _≤_}
-use native.Mathlib.Omega.{arith}
-use lib.ListN.{length}
-use borrow.Author.Needs.{needs}
-use Rattle.walk.proofs.Walk.{length-mapped}
 use Rattle.estimator.proofs.QualityLaws.{squares, squares-zero, squares-next, chi-is}
+use borrow.Author.Needs.{needs}
+use native.Mathlib.Omega.{arith}
 use Rattle.estimator.proofs.quality.chi_of.Statement.{statement}
 use Rattle.estimator.proofs.quality.chi_of.Tie as tie
 
 abbrev Inv-loop : tie.InvT-loop
-Inv-loop n rows count s₀ k₀ s k = (k ≤ count) × (s ≡ squares rows k)
+Inv-loop sigma residual n count t₀ k₀ t k = (k ≤ count) × (t ≡ squares sigma residual k)
 
 abbrev μ-loop : tie.MeasureT-loop
-μ-loop n rows count s₀ k₀ s k = count - k
-
-long : (c : tie.Start Inv-loop μ-loop) → length (c .args .t1 .row) ≡ 64
-long c = search length-mapped
+μ-loop sigma residual n count t₀ k₀ t k = count - k
 
 loop-holds : tie.Need-loop-holds Inv-loop μ-loop
-loop-holds c = (omega arith, squares-zero _)
+loop-holds c = let s = c .before in (omega arith, squares-zero (s .args .sigma .now) (s .args .residual .now))
 
-mul-r : tie.Need-mul-r Inv-loop μ-loop
-mul-r c = omega arith
+mul-p : tie.Need-mul-p Inv-loop μ-loop
+mul-p c = omega arith
 
-element-copy-out-r : tie.Need-element-copy-out-r Inv-loop μ-loop
-element-copy-out-r c = omega arith
+shared-slice-read-p : tie.Need-shared-slice-read-p Inv-loop μ-loop
+shared-slice-read-p c = omega arith
+
+mul-s : tie.Need-mul-s Inv-loop μ-loop
+mul-s c = omega arith
+
+element-copy-out-s : tie.Need-element-copy-out-s Inv-loop μ-loop
+element-copy-out-s c = omega arith
 
 float-requires : tie.Need-float-requires Inv-loop μ-loop
 float-requires c κs = search needs
@@ -40,9 +41,7 @@ loop-less : tie.Need-loop-less Inv-loop μ-loop
 loop-less c = omega arith
 
 loop-again : tie.Need-loop-again Inv-loop μ-loop
-loop-again c =
-    let h = c .before .before .before .before .before .loop in
-    (omega arith, squares-next (c .before .before .before .before .before .before .args .t1) (h .k) (h .s) _ _ (h .inv .1) (c .before .before .float .ensures) (c .square .ensures))
+loop-again c = let s = c .before .before .before .before .before .before .before in let h = c .before .before .before .before .before .loop in (omega arith, squares-next (s .args .sigma .now) (s .args .residual .now) (h .k) (h .t) _ _ (h .inv .1) (c .before .float .ensures) (c .square .ensures))
 
 freedom-of-requires : tie.Need-freedom-of-requires Inv-loop μ-loop
 freedom-of-requires c κs = search needs
@@ -51,10 +50,7 @@ sqrt-requires : tie.Need-sqrt-requires Inv-loop μ-loop
 sqrt-requires c κs = search needs
 
 returns : tie.Need-returns Inv-loop μ-loop
-returns c =
-    let t = c .before .before .before .before in
-    let h = c .before .before .before .loop in
-    chi-is (t .args .t1) (long t) (omega arith) (t .args .n) (h .k) (h .s) _ _ (omega arith) (h .inv .1) (c .before .freedom-of .ensures) (c .sqrt .ensures)
+returns c = let s = c .before .before .before .before .before in let h = c .before .before .before .loop in chi-is (s .args .sigma .now) (s .args .residual .now) (s .args .n) (h .k) (h .t) _ _ (omega arith) (h .inv .1) (c .before .freedom-of .ensures) (c .sqrt .ensures)
 
 pub chi-of-spec : {M : Type 1} → statement M
 chi-of-spec =
@@ -63,8 +59,10 @@ chi-of-spec =
     Inv-loop
     μ-loop
     loop-holds
-    mul-r
-    element-copy-out-r
+    mul-p
+    shared-slice-read-p
+    mul-s
+    element-copy-out-s
     float-requires
     square-requires
     add-k
