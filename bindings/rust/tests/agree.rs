@@ -68,25 +68,29 @@ fn rusty(text: &str, mark: &str, parameter: impl Fn(&str) -> Vec<String>) -> Sig
     out
 }
 
+/// What a caller lends as doubles and the sources take as their patterns, so that what a refusal leaves is promised to the last bit.
+const PATTERNS: [&str; 4] = ["delta", "solution", "position", "metres"];
+
 fn rattle() -> Signatures {
     let mut out = Signatures::new();
     for file in fs::read_dir(root().join("crates/zaqnuti/src")).unwrap() {
         let text = fs::read_to_string(file.unwrap().path()).unwrap();
         let parameter = |item: &str| {
-            let (_, kind) = item.split_once(':').unwrap();
+            let (name, kind) = item.split_once(':').unwrap();
             let kind = kind.trim();
             let Some(behind) = kind.strip_prefix('&') else {
                 return vec![kind.to_string()];
             };
             let (writable, kind) = match behind.strip_prefix("mut ") {
-                Some(kind) => (true, kind),
-                None => (false, behind),
+                Some(kind) if PATTERNS.contains(&name.trim()) => (true, kind.replace("u64", "f64")),
+                Some(kind) => (true, kind.to_string()),
+                None => (false, behind.to_string()),
             };
             if kind.starts_with('[') && !kind.contains(';') {
                 let element = kind.trim_matches(['[', ']']);
                 return vec![pointer(writable, element), "usize".to_string()];
             }
-            vec![pointer(writable, kind)]
+            vec![pointer(writable, &kind)]
         };
         out.extend(rusty(&text, "pub extern \"C\" fn ", parameter));
     }

@@ -28,7 +28,7 @@ use Rattle.estimator.proofs.RoundsLaws.{Left, left-start}
 
 -- what the logic has for a pair past the end
 abbrev pub blank : Pair
-blank = record { unit = record { x = nan; y = nan; z = nan }; constellation = 0; elevation = nan; observed = nan; detector = nan }
+blank = record { unit = record { x = nan; y = nan; z = nan }; constellation = 0; elevation = nan; observed = nan; detector = nan; range = nan; «previous_range» = nan }
 
 module _ (settings : Settings) (k : Clocks) (ps : List Pair) where
   abbrev pub Going : ℕ → List Float → Type 0

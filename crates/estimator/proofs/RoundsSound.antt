@@ -1,9 +1,10 @@
--- Where the rounds of a fit reach a state whose entry 0 is finite, every one of them is sound: a step whose entry 0 is not finite would leave it so to the end. Assumes nothing.
+-- Where the rounds of a fit reach a state whose entry 0 is finite, every one of them has a step whose entry 0 is finite, and what that gives: a step whose entry 0 is not
+-- finite would leave it so to the end. Assumes nothing.
 use mathlib.Core.Path.{_≡_, refl, sym, ap, _∙_, subst}
 use Prim.Native.Nat.{ℕ, zero, suc, _<_}
 use native.Mathlib.Omega.{arith}
 use mathlib.Core.Bool.{Bool, true, false, not, cond, _&&_}
-use mathlib.Core.List.{List, []}
+use mathlib.Core.List.{List, [], _∷_}
 use lib.Dec.{T, ltb, lt→ltb}
 use lib.ListN.{length}
 use lib.Ieee.{Float, nan}
@@ -13,10 +14,11 @@ use lib.Ieee.Scale.{finite}
 use borrow.Author.Tests.{not-false}
 use Rattle.exact.specs.Float.{_⊕_}
 use Rattle.exact.proofs.Ops.{add-finite}
+use Rattle.walk.specs.Walk.{every}
 use Rattle.cholesky.specs.Factor.{at}
 use Rattle.numeric.specs.declared.refusal.Refusal.{Refusal}
 use Rattle.robust.specs.Nine.{nine}
-use Rattle.robust.specs.Round.{Round, Outcome, Refused, Solved, Sound}
+use Rattle.robust.specs.Round.{Round, Outcome, Refused, Solved}
 use Rattle.robust.specs.declared.row.Row.{Row}
 use Rattle.robust.proofs.NineLaws.{nine-at}
 use Rattle.estimator.specs.Rules.{Rule}
@@ -32,11 +34,11 @@ moved-first n x dx h f =
     nine-at (λ i. cond (ltb i n) (at x i ⊕ at dx i) (at x i)) nan 0 (omega arith) ∙ ap (λ (b : Bool). cond b (at x 0 ⊕ at dx 0) (at x 0)) (is-true (ltb 0 n) (lt→ltb 0 n h)) in
     add-finite (at x 0) (at dx 0) (subst (λ (z : Float). T (finite z)) e f)
 
-module _ (roundAt : List Float → Outcome) (n : ℕ) (limit : Float) (used : 0 < n)
-    (one-sound : (x : List Float) (r : Round) → roundAt x ≡ Solved r → T (finite (at (r .step) 0)) → Sound r) where
+module _ (P : Round → Type 0) (roundAt : List Float → Outcome) (n : ℕ) (limit : Float) (used : 0 < n)
+    (one : (x : List Float) (r : Round) → roundAt x ≡ Solved r → T (finite (at (r .step) 0)) → P r) where
   -- what the end of a fit from x says of x and of the rounds
   abbrev Kept : List Float → Fit → Type 0
-  Kept x f = (y : List Float) → f .end ≡ Reached y → T (finite (at y 0)) → T (finite (at x 0)) × Each Sound (f .rounds)
+  Kept x f = (y : List Float) → f .end ≡ Reached y → T (finite (at y 0)) → T (finite (at x 0)) × Each P (f .rounds)
 
   ended-kept : (x : List Float) → Kept x (ended x)
   unfolding Each
@@ -47,7 +49,7 @@ module _ (roundAt : List Float → Outcome) (n : ℕ) (limit : Float) (used : 0 
   begun-kept x r f d k y e g =
       let h = k y e g in
       let m = moved-first n x (r .step) used (h .0) in
-      (m .0, (one-sound x r d (m .1), h .1))
+      (m .0, (one x r d (m .1), h .1))
 
   after-kept : (x : List Float) (next : List Float → Fit) → ((z : List Float) → Kept z (next z)) → (o : Outcome) → roundAt x ≡ o → Kept x (after n limit x next o)
   after-kept x next h (Refused r) d = λ y e f. absurd (let z : _≡_ {A = ℕ} 0 1 = cc in omega arith)
@@ -62,8 +64,8 @@ module _ (roundAt : List Float → Outcome) (n : ℕ) (limit : Float) (used : 0 
   fit-kept zero x = ended-kept x
   fit-kept (suc count) x = after-kept x (fitFrom roundAt n limit count) (fit-kept count) (roundAt x) refl
 
-  pub rounds-sound : (count : ℕ) (x y : List Float) → fitFrom roundAt n limit count x .end ≡ Reached y → T (finite (at y 0)) → Each Sound (fitFrom roundAt n limit count x .rounds)
-  rounds-sound count x y e f = fit-kept count x y e f .1
+  pub rounds-each : (count : ℕ) (x y : List Float) → fitFrom roundAt n limit count x .end ≡ Reached y → T (finite (at y 0)) → Each P (fitFrom roundAt n limit count x .rounds)
+  rounds-each count x y e f = fit-kept count x y e f .1
 
 -- ---- the last round's rows, where every round has as many
 
@@ -122,3 +124,8 @@ placed x e =
       second = and-r (finite (at x 0)) (finite (at x 1)) both;
       third = and-r (finite (at x 0) && finite (at x 1)) (finite (at x 2)) all;
     }
+
+-- three finite floats
+pub three-finite : (x y z : Float) → T (finite x) → T (finite y) → T (finite z) → every finite (x ∷ y ∷ z ∷ []) ≡ true
+unfolding every
+three-finite x y z a b c = rw (is-true (finite x) a, is-true (finite y) b, is-true (finite z) c)

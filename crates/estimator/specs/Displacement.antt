@@ -1,18 +1,20 @@
 -- The displacement of a receiver between two epochs (document 01, "Displacement"; tdcp.rs): its rounds, and the answer. Definitions only.
 use mathlib.Core.Path.{_≡_}
 use Prim.Native.Nat.{ℕ, _+_, _-_, _<_}
-use mathlib.Core.Bool.{not}
+use mathlib.Core.Bool.{true, not}
 use mathlib.Core.List.{List, [], _∷_, map}
 use lib.ListN.{length}
 use lib.Dec.{T}
 use lib.Ieee.{Float}
 use lib.Ieee.Scale.{finite}
 use Rattle.exact.specs.Float.{_⊕_, _⊖_, _⊗_, decimal}
+use Rattle.walk.specs.Walk.{every}
 use Rattle.cholesky.specs.Factor.{at, zeros}
 use Rattle.numeric.specs.Order.{patternOf}
+use Rattle.numeric.specs.Refusal.{numberOf}
 use Rattle.numeric.specs.declared.vec3.Vec3.{Vec3}
 use Rattle.numeric.specs.declared.refusal.Refusal.the-variants.{FitFailed}
-use Rattle.robust.specs.Round.{Round, Outcome, roundOf, Sound}
+use Rattle.robust.specs.Round.{Round, Outcome, roundOf, Sound, FiniteResiduals}
 use Rattle.robust.specs.Sigma.{elevationSigma}
 use Rattle.robust.specs.declared.row.Row.{Row}
 use Rattle.clocks.specs.Clocks.{slot, clocksOf}
@@ -115,12 +117,29 @@ movedBy settings ps =
 unfoldable pub displacementOf : Input → Displacement
 displacementOf i = ruled Refused (displacementInput (i .previous) (i .current) (i .dt) (i .receiver) (i .settings)) (movedBy (i .settings) (pairs i))
 
+-- ---- an answer in numbers: its number, which is 0 where it is accepted, its floats and its counts; a refusal has its number alone
+
+abbrev pub displacementNumber : Displacement → ℕ
+displacementNumber (Refused r) = numberOf r
+displacementNumber (Moved d) = 0
+
+-- dx, dy, dz
+abbrev pub displacementFloats : Displacement → List Float
+displacementFloats (Refused r) = []
+displacementFloats (Moved d) = d .delta .x ∷ d .delta .y ∷ d .delta .z ∷ []
+
+-- used, screened
+abbrev pub displacementCounts : Displacement → List ℕ
+displacementCounts (Refused r) = []
+displacementCounts (Moved d) = d .used ∷ d .screened ∷ []
+
 -- ---- the promise of the public call
 
 abbrev pub input : Epoch → Epoch → Float → Vec3 → Settings → Input
 input previous current dt receiver settings = record { previous = previous; current = current; dt = dt; receiver = receiver; settings = settings }
 
--- What an accepted displacement has: it is finite, used plus screened are the pairs counted, used exceeds three plus the slots, and demand 3 holds of every round.
+-- What an accepted displacement has: it is finite, used plus screened are the pairs counted, used exceeds three plus the slots, demand 3 holds of every round, and
+-- no round has a residual that is not finite.
 pub record Accepted (i : Input) (d : Delta) : Type 0 where
   pub x-finite : T (finite (d .delta .x))
   pub y-finite : T (finite (d .delta .y))
@@ -128,8 +147,10 @@ pub record Accepted (i : Input) (d : Delta) : Type 0 where
   pub pairs-counted : d .used + d .screened ≡ length (pairs i)
   pub redundant : 3 + clocksOf (constellations (kept i)) .count < d .used
   pub sound-rounds : Each Sound (roundsOf i)
+  pub finite-residuals : Each FiniteResiduals (roundsOf i)
 
--- the answer is the definition's, for every input whatever
+-- the answer is the definition's, for every input whatever, and what it gives out is finite
 pub record Promised (i : Input) (r : Displacement) : Type 0 where
   pub answer : r ≡ displacementOf i
+  pub given-finite : every finite (displacementFloats r) ≡ true
   pub accepted : (d : Delta) → r ≡ Moved d → Accepted i d

@@ -1,7 +1,7 @@
 -- The position of a receiver from one epoch (document 01, "Fix"; wls.rs): its rounds, what the fit says of itself, and the answer. Definitions only.
 use mathlib.Core.Path.{_≡_}
 use Prim.Native.Nat.{ℕ, _+_, _-_, _<_, max}
-use mathlib.Core.Bool.{not, cond}
+use mathlib.Core.Bool.{true, not, cond}
 use mathlib.Core.List.{List, [], _∷_, map}
 use lib.Dec.{eqb}
 use lib.ListN.{length, take, replicate}
@@ -10,17 +10,19 @@ use lib.Ieee.{Float}
 use lib.Ieee.Scale.{finite}
 use Rattle.exact.specs.Float.{_⊕_, _⊖_, _⊗_, _⊘_, +0, 1·0, bits, whole, decimal}
 use Rattle.root.specs.Root.{rootOf}
+use Rattle.walk.specs.Walk.{every}
 use Rattle.cholesky.specs.Factor.{at, factorOf, solutionOf}
 use Rattle.cholesky.specs.Answer.{rowsAfter}
 use Rattle.cholesky.specs.Answer as factor
 use Rattle.numeric.specs.Order.{patternOf}
 use Rattle.numeric.specs.Real.{square}
 use Rattle.numeric.specs.Sight.{geometry}
+use Rattle.numeric.specs.Refusal.{numberOf}
 use Rattle.numeric.specs.declared.sight.Sight.{Sight}
 use Rattle.numeric.specs.declared.vec3.Vec3.{Vec3}
 use Rattle.numeric.specs.declared.refusal.Refusal.the-variants.{FitFailed}
 use Rattle.robust.specs.Nine.{nine}
-use Rattle.robust.specs.Round.{wide, total, triangleOf, Round, Outcome, roundOf, Sound}
+use Rattle.robust.specs.Round.{wide, total, triangleOf, Round, Outcome, roundOf, Sound, FiniteResiduals}
 use Rattle.robust.specs.Sigma.{elevationSigma}
 use Rattle.robust.specs.declared.row.Row.{Row}
 use Rattle.clocks.specs.Clocks.{slot, clocksOf}
@@ -154,12 +156,33 @@ abbrev pub positionOf : Fix → Position
 positionOf (Refused r) = NoPosition r
 positionOf (At s) = PositionAt (s .position)
 
+-- ---- an answer in numbers: its number, which is 0 where it is accepted, and its floats; a refusal has its number alone
+
+abbrev pub fixNumber : Fix → ℕ
+fixNumber (Refused r) = numberOf r
+fixNumber (At s) = 0
+
+-- x, y, z, chi, pdop
+abbrev pub fixFloats : Fix → List Float
+fixFloats (Refused r) = []
+fixFloats (At s) = s .position .x ∷ s .position .y ∷ s .position .z ∷ s .chi ∷ s .pdop ∷ []
+
+abbrev pub positionNumber : Position → ℕ
+positionNumber (NoPosition r) = numberOf r
+positionNumber (PositionAt p) = 0
+
+-- x, y, z
+abbrev pub positionFloats : Position → List Float
+positionFloats (NoPosition r) = []
+positionFloats (PositionAt p) = p .x ∷ p .y ∷ p .z ∷ []
+
 -- ---- the promise of the public call
 
 abbrev pub input : Observations → Vec3 → Settings → Input
 input observations guess settings = record { observations = observations; guess = guess; settings = settings }
 
--- What an accepted fix has: the position is finite, used are the observations at or above the mask and exceed three plus the slots, and demand 3 holds of every round.
+-- What an accepted fix has: the position is finite, used are the observations at or above the mask and exceed three plus the slots, demand 3 holds of every round, and
+-- no round has a residual that is not finite.
 pub record Accepted (i : Input) (s : Solution) : Type 0 where
   pub x-finite : T (finite (s .position .x))
   pub y-finite : T (finite (s .position .y))
@@ -167,15 +190,18 @@ pub record Accepted (i : Input) (s : Solution) : Type 0 where
   pub used-counted : s .used ≡ length (kept i)
   pub redundant : 3 + clocks i .count < s .used
   pub sound-rounds : Each Sound (roundsOf i)
+  pub finite-residuals : Each FiniteResiduals (roundsOf i)
 
--- the answer is the definition's, for every input whatever
+-- the answer is the definition's, for every input whatever, and the position that it gives out is finite
 pub record Promised (i : Input) (r : Fix) : Type 0 where
   pub answer : r ≡ fixOf i
+  pub given-finite : every finite (positionFloats (positionOf r)) ≡ true
   pub accepted : (s : Solution) → r ≡ At s → Accepted i s
 
 -- the position alone is that of the fix, and demand 3 holds of every round of an accepted one
 pub record PositionPromised (i : Input) (r : Position) : Type 0 where
   pub answer : r ≡ positionOf (fixOf i)
+  pub given-finite : every finite (positionFloats r) ≡ true
   pub accepted : (s : Solution) → fixOf i ≡ At s → Accepted i s
 
 -- ---- the rows of a round as the code has them: columns of 64 numbers, of which the first n are the observations'

@@ -41,7 +41,7 @@ pub(crate) fn all_sound_observations(o: Observations) -> bool
 }
 
 // Rule 3 of a displacement.
-pub(crate) fn settings_pass(s: Settings) -> bool
+pub fn settings_pass(s: Settings) -> bool
     ensures { λ r. ⌜ r ≡ spec.settingsPass s ⌝ }
 {
     in_range(s.screen)

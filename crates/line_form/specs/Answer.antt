@@ -5,7 +5,10 @@ use mathlib.Core.Bool.{cond}
 use mathlib.Core.List.{List, _++_}
 use lib.Dec.{ltb}
 use lib.ListN.{length, drop}
-use Rattle.line_form.specs.Text.{displacementIn}
+use Rattle.estimator.specs.Displacement.{Accepted}
+use Rattle.estimator.specs.declared.displacement.Delta.{Delta}
+use Rattle.estimator.specs.declared.displacement.Displacement.the-variants.{Moved}
+use Rattle.line_form.specs.Text.{inputOf, displacementIn}
 use Rattle.line_form.specs.Print.{answerText}
 
 -- the one line of output
@@ -20,7 +23,8 @@ lineAfter line buffer = cond (ltb (length buffer) (length line)) buffer (line ++
 unfoldable pub countAfter : List ℕ → List ℕ → ℕ
 countAfter line buffer = cond (ltb (length buffer) (length line)) 0 (length line)
 
--- the buffer and the count are those of the text's answer
+-- The buffer and the count are those of the text's answer. An accepted text has what an accepted displacement has, demand 3 of every round included.
 pub record Answered (text buffer after : List ℕ) (r : ℕ) : Type 0 where
   pub bytes : after ≡ lineAfter (answerOf text) buffer
   pub count : r ≡ countAfter (answerOf text) buffer
+  pub accepted : (d : Delta) → displacementIn text ≡ Moved d → Accepted (inputOf text) d

@@ -1,11 +1,14 @@
 -- One round of the robust least squares (document 01, "Round" and "Their rounds"; `step` of robust.rs). Definitions only.
 -- A row's residual is a pattern, since the centre is taken in totalOrder.
+use mathlib.Core.Path.{_≡_}
 use Prim.Native.Nat.{ℕ}
-use mathlib.Core.Bool.{cond, _&&_}
+use mathlib.Core.Bool.{true, cond, _&&_}
 use mathlib.Core.List.{List, _∷_, map, foldl}
 use lib.Dec.{ltb, leb, eqb}
 use lib.ListN.{set, replicate}
 use lib.Ieee.{Float, le}
+use lib.Ieee.Scale.{finite}
+use Rattle.walk.specs.Walk.{every}
 use Rattle.exact.specs.Float.{_⊕_, _⊖_, _⊗_, _⊘_, +0, 1·0, bits, decimal}
 use Rattle.numeric.specs.Real.{abs, max}
 use Rattle.numeric.specs.declared.refusal.Refusal.{Refusal}
@@ -88,3 +91,7 @@ roundOf rows n huber = roundBy (weight (centreAndScaleOf (map (λ (r : Row). r .
 -- demand 3 for one round: matrix, right side, factor and step are finite, and the step solves the equations up to rounding
 abbrev pub Sound : Round → Type 0
 Sound r = system.Sound (r .matrix) (r .right) (r .factor) (r .step)
+
+-- every residual of a round is a finite number, so that neither the sign nor the payload of a NaN has a part in its centre
+unfoldable pub FiniteResiduals : Round → Type 0
+FiniteResiduals r = every (λ (row : Row). finite (bits (row .residual))) (r .rows) ≡ true

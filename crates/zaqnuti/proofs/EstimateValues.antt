@@ -11,7 +11,9 @@ use Rattle.estimator.specs.declared.displacement.Displacement.the-variants as D
 use Rattle.estimator.specs.declared.fix.Fix.the-variants as Fix
 use Rattle.records.specs.Carriers.{CarrierColumns, carrierColumns, epochFits}
 use Rattle.zaqnuti.specs.Columns.{ObservationColumns, observationColumns, observationsFit}
-use Rattle.zaqnuti.specs.Estimates.{columnDisplacementOf, displacementNumber, deltaAfter, countsAfter, columnFixOf, fixNumber}
+use Rattle.estimator.specs.Displacement.{displacementNumber}
+use Rattle.estimator.specs.Fix.{fixNumber}
+use Rattle.zaqnuti.specs.Estimates.{columnDisplacementOf, deltaAfter, countsAfter, columnFixOf}
 
 module _ (p c : CarrierColumns) (n : ℕ) (dt : Float) (receiver : Vec3) (settings : DisplacementSettings) where
   -- 65 previous carriers, whatever the columns hold
@@ -34,7 +36,7 @@ module _ (guess : Vec3) (settings : FixSettings) where
   observations-missing = refl
 
 -- a refusal leaves the lent results as they were
-pub refused-leaves : (delta : List Float) (counts : List ℕ) → (deltaAfter (Displacement.Refused TooMany) delta ≡ delta) × (countsAfter (Displacement.Refused TooMany) counts ≡ counts)
+pub refused-leaves : (delta : List ℕ) (counts : List ℕ) → (deltaAfter (Displacement.Refused TooMany) delta ≡ delta) × (countsAfter (Displacement.Refused TooMany) counts ≡ counts)
 refused-leaves delta counts = (refl, refl)
 
 pub refused-number : (displacementNumber (Displacement.Refused TooMany) ≡ 2) × (fixNumber (Fix.Refused TooMany) ≡ 2)

@@ -1,7 +1,7 @@
 -- `estimator::fix::solve` meets its contract. Assumes nothing.
-use mathlib.Core.Path.{sym, ap, _∙_}
+use mathlib.Core.Path.{sym, ap}
 use Rattle.estimator.specs.Fix.{positionOf}
-use Rattle.estimator.proofs.FixSound.{fix-accepted}
+use Rattle.estimator.proofs.FixSound.{position-promised}
 use borrow.Author.Needs.{needs}
 use Rattle.estimator.proofs.fix.solve.Statement.{statement}
 use Rattle.estimator.proofs.fix.solve.Tie as tie
@@ -16,10 +16,10 @@ enum-known-s : tie.Need-enum-known-s
 enum-known-s c = search needs
 
 returns : tie.Need-returns
-returns c = record { answer = ap positionOf (sym (c .before .r .given .1) ∙ c .before .before .before .solve-full .ensures .answer); accepted = fix-accepted _ }
+returns c = position-promised _ _ _ (c .before .before .before .solve-full .ensures) (ap positionOf (sym (c .before .r .given .1)))
 
 returns-2 : tie.Need-returns-2
-returns-2 c = record { answer = ap positionOf (sym (c .before .before .s .given .1) ∙ c .before .before .before .before .solve-full .ensures .answer); accepted = fix-accepted _ }
+returns-2 c = position-promised _ _ _ (c .before .before .before .before .solve-full .ensures) (ap positionOf (sym (c .before .before .s .given .1)))
 
 pub solve-spec : {M : Type 1} → statement M
 solve-spec = tie.close (tie.spec solve-full-requires enum-known-r enum-known-s returns returns-2)
