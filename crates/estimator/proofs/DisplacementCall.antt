@@ -14,7 +14,7 @@ use Rattle.clocks.specs.Clocks.{clocksOf}
 use Rattle.records.specs.Screen.{keptOf, constellations}
 use Rattle.records.specs.Kept.{pairsIn, Kept}
 use Rattle.estimator.specs.Rules.{Rule, ruled}
-use Rattle.estimator.specs.Valid.{badInterval, epochRules, intervalRules, displacementInput, displacementCounts}
+use Rattle.estimator.specs.Valid.{badInterval, epochRules, intervalRules, inputRules, displacementCounts}
 use Rattle.estimator.specs.Front.{pairRules}
 use Rattle.estimator.specs.Rounds.{End, Stopped, Reached, Fit, concluded, Ended}
 use Rattle.estimator.specs.Displacement.{Input, fitOver, fitBy, pairs, deltaAt, endRules, concludedAt, movedBy, displacementOf}
@@ -99,11 +99,11 @@ module _ (i : Input) where
   tail = movedBy (i .settings) (pairs i)
 
   pub too-many : (ltb 64 (i .previous .count) || ltb 64 (i .current .count)) ≡ true → Refused TooMany ≡ displacementOf i
-  unfolding displacementOf displacementInput epochRules ruled
+  unfolding displacementOf inputRules epochRules ruled
   too-many e = rw e
 
   parts : ruled Refused epochs (ruled Refused (intervalRules (i .dt)) tail) ≡ displacementOf i
-  unfolding displacementOf displacementInput
+  unfolding displacementOf inputRules
   parts = sym (ruled-append Refused tail epochs (intervalRules (i .dt)))
 
   pub refused-epochs : {r : Refusal} → Stops r ≡ checked epochs → Refused r ≡ displacementOf i

@@ -16,7 +16,7 @@ use Rattle.robust.proofs.RoundSound.{round-sound}
 use Rattle.robust.proofs.ResidualsFinite.{round-residuals}
 use Rattle.clocks.specs.Clocks.{clocksOf}
 use Rattle.estimator.specs.Front.{pairRules}
-use Rattle.estimator.specs.Valid.{displacementInput}
+use Rattle.estimator.specs.Valid.{inputRules}
 use Rattle.records.specs.Screen.{keptOf, constellations}
 use Rattle.clocks.specs.declared.clocks.Clocks.{Clocks}
 use Rattle.records.specs.declared.pair.Pair.{Pair}
@@ -81,7 +81,7 @@ module _ (settings : Settings) (ps : List Pair) (d : Delta) (e : movedBy setting
 pub displacement-accepted : (i : Input) (d : Delta) → displacementOf i ≡ Moved d → Accepted i d
 unfolding displacementOf roundsOf fitOf
 displacement-accepted i d e =
-    let rules = displacementInput (i .previous) (i .current) (i .dt) (i .receiver) (i .settings) in
+    let rules = inputRules (i .previous) (i .current) (i .dt) (i .receiver) (i .settings) in
     let s = i .settings in
     let ps = pairs i in
     let m : movedBy s ps ≡ Moved d = sym (passed-by Refused (movedBy s ps) rules (passed-of Refused (movedBy s ps) rules e (never d))) ∙ e in

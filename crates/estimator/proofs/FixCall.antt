@@ -17,9 +17,9 @@ use Rattle.estimator.specs.Rules.{ruled}
 use Rattle.records.specs.Record.{Holds, countedObservations}
 use Rattle.clocks.specs.Clocks.{clocksOf}
 use Rattle.records.specs.Mask.{constellations}
-use Rattle.estimator.specs.Valid.{fixInput, fixCounts}
-use Rattle.estimator.specs.Rounds.{finiteAt}
-use Rattle.estimator.specs.Fix.{Input, position, kept, clocks, chiOf, plainMatrix, pdopOf, endRules, concludedAt, foundOver, fixOf}
+use Rattle.estimator.specs.Valid.{fixInputRules, fixCounts}
+use Rattle.estimator.specs.Rounds.{vector, finiteAt}
+use Rattle.estimator.specs.Fix.{Input, kept, clocks, chiOf, plainMatrix, pdopOf, endRules, concludedAt, foundOver, fixOf}
 use Rattle.clocks.specs.declared.clocks.Clocks.{Clocks}
 use Rattle.records.specs.declared.record.Observation.{Observation}
 use Rattle.records.specs.declared.record.Observations.{Observations}
@@ -50,7 +50,7 @@ module _ (n : ℕ) (rows : List Row) (x : List Float) (a b d : Bool) (a-is : a �
     found-refused e = rw (rw (a-is, b-is, d-is) at tests, sym factored ∙ e)
 
     pub found-yes : (count : ℕ) → count ≡ length rows → (l z : List (List Float)) (chi pdop : Float) → l ≡ rowsAfter (factorOf m) z → ok ≡ true → chi ≡ chiOf n rows → pdop ≡ pdopOf l
-        → At (record { position = position x; used = count; chi = chi; pdop = pdop }) ≡ concludedAt n rows x
+        → At (record { position = vector x; used = count; chi = chi; pdop = pdop }) ≡ concludedAt n rows x
     unfolding endRules finiteAt ruled
     found-yes count count-is l z chi pdop l-is e chi-is pdop-is =
         let q : l ≡ rowsAfter (factorOf (plainMatrix n rows)) [] = l-is ∙ same-rows (factorOf m) z [] (sym e ∙ ok-is) ∙ ap (λ (y : List (List Float)). rowsAfter (factorOf y) []) m-is in
@@ -61,12 +61,12 @@ module _ (i : Input) where
   abbrev fitted : Fix
   fitted = foundOver (i .settings) (clocks i) (kept i) (i .guess)
 
-  pub refused-input : {r : Refusal} → Stops r ≡ checked (fixInput (i .observations) (i .guess) (i .settings)) → Refused r ≡ fixOf i
+  pub refused-input : {r : Refusal} → Stops r ≡ checked (fixInputRules (i .observations) (i .guess) (i .settings)) → Refused r ≡ fixOf i
   unfolding fixOf
   refused-input e = fix-input-refused Refused fitted (i .observations) (i .guess) (i .settings) e
 
   -- what the code has once it has masked
-  module _ (passed : Passed ≡ checked (fixInput (i .observations) (i .guess) (i .settings))) (q : Observations) (k : Clocks) (left : Holds (q .count) (q .observation) (kept i))
+  module _ (passed : Passed ≡ checked (fixInputRules (i .observations) (i .guess) (i .settings))) (q : Observations) (k : Clocks) (left : Holds (q .count) (q .observation) (kept i))
       (clocked : k ≡ clocksOf (constellations (countedObservations q))) where
     pub refused-counts : {r : Refusal} → Stops r ≡ checked (fixCounts (q .count) (k .count)) → Refused r ≡ fixOf i
     unfolding fixOf

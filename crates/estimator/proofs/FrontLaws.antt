@@ -11,7 +11,7 @@ use Rattle.records.specs.Record.{Holds, countedObservations}
 use Rattle.clocks.specs.Clocks.{clocksOf}
 use Rattle.records.specs.Screen.{centre, within, keptOf, constellations}
 use Rattle.records.specs.Mask.{constellations as observedConstellations}
-use Rattle.estimator.specs.Valid.{fixInput, fixCounts}
+use Rattle.estimator.specs.Valid.{fixInputRules, fixCounts}
 use Rattle.estimator.specs.Front.{pairRules, fixRows, fixRules}
 use Rattle.clocks.specs.declared.clocks.Clocks.{Clocks}
 use Rattle.records.specs.declared.record.Observation.{Observation}
@@ -40,14 +40,14 @@ module _ {A : Type 0} (f : Refusal → A) (a : A) (observations : Observations) 
   abbrev fix : A
   fix = ruled f (fixRules observations guess settings) a
 
-  pub fix-input-refused : {r : Refusal} → Refused r ≡ checked (fixInput observations guess settings) → f r ≡ fix
+  pub fix-input-refused : {r : Refusal} → Refused r ≡ checked (fixInputRules observations guess settings) → f r ≡ fix
   unfolding fixRules
   fix-input-refused e = refused-by f _ _ e ∙ sym (ruled-append f _ _ _)
 
   abbrev rows : List Observation
   rows = fixRows observations settings
 
-  module _ (passed : Passed ≡ checked (fixInput observations guess settings)) (q : Observations) (k : Clocks) (left : Holds (q .count) (q .observation) rows)
+  module _ (passed : Passed ≡ checked (fixInputRules observations guess settings)) (q : Observations) (k : Clocks) (left : Holds (q .count) (q .observation) rows)
       (clocks : k ≡ clocksOf (observedConstellations (countedObservations q))) where
     pub fix-clocks : k ≡ clocksOf (observedConstellations rows)
     fix-clocks = clocks ∙ ap (λ (l : List Observation). clocksOf (observedConstellations l)) (left .all)
@@ -67,8 +67,8 @@ module _ {A : Type 0} (f : Refusal → A) (a : A) (observations : Observations) 
 
   pub fix-enough : {b : A} → fix ≡ b → ((r : Refusal) → f r ≡ b → ⊥) → Enough (length rows) (clocksOf (observedConstellations rows) .count)
   unfolding fixRules
-  fix-enough e ne = rows-passed _ _ (append-passed (fixInput observations guess settings) _ (passed-of f _ _ e ne))
+  fix-enough e ne = rows-passed _ _ (append-passed (fixInputRules observations guess settings) _ (passed-of f _ _ e ne))
 
   pub fix-rounds : {b : A} → fix ≡ b → ((r : Refusal) → f r ≡ b → ⊥) → 0 < settings .rounds
   unfolding fixRules
-  fix-rounds e ne = some-rounds observations guess settings (append-first (fixInput observations guess settings) _ (passed-of f _ _ e ne))
+  fix-rounds e ne = some-rounds observations guess settings (append-first (fixInputRules observations guess settings) _ (passed-of f _ _ e ne))

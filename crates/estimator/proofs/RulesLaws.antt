@@ -11,7 +11,7 @@ use Rattle.numeric.specs.Real.{inRange}
 use Rattle.numeric.specs.declared.vec3.Vec3.{Vec3}
 use Rattle.numeric.specs.declared.refusal.Refusal.{Refusal}
 use Rattle.estimator.specs.Rules.{Rule, ruled}
-use Rattle.estimator.specs.Valid.{displacementCounts, fixSettingsPass, fixInput, fixCounts}
+use Rattle.estimator.specs.Valid.{displacementCounts, fixSettingsPass, fixInputRules, fixCounts}
 use Rattle.records.specs.declared.record.Observations.{Observations}
 use Rattle.estimator.specs.declared.fix.Settings.{Settings as FixSettings}
 use Rattle.estimator.specs.declared.valid.Check.{Check}
@@ -78,9 +78,9 @@ unfolding ruled
 append-first [] ss e = refl
 append-first (r ∷ rs) ss e = let h = head-passed r (rs ++ ss) e in rw (h .0) (append-first rs ss (h .1))
 
-pub observations-fit : (observations : Observations) (guess : Vec3) (settings : FixSettings) → Passed ≡ checked (fixInput observations guess settings)
+pub observations-fit : (observations : Observations) (guess : Vec3) (settings : FixSettings) → Passed ≡ checked (fixInputRules observations guess settings)
     → observations .count ≤ 64
-unfolding fixInput
+unfolding fixInputRules
 observations-fit observations guess settings e = ltb-false 64 (observations .count) (head-passed _ _ e .0)
 
 -- rule 3 refuses a fix of 0 rounds
@@ -88,8 +88,8 @@ above-zero : (n : ℕ) → T (not (eqb n 0)) → 0 < n
 above-zero zero h = absurd h
 above-zero (suc n) h = omega arith
 
-pub some-rounds : (observations : Observations) (guess : Vec3) (settings : FixSettings) → Passed ≡ checked (fixInput observations guess settings) → 0 < settings .rounds
-unfolding fixInput fixSettingsPass
+pub some-rounds : (observations : Observations) (guess : Vec3) (settings : FixSettings) → Passed ≡ checked (fixInputRules observations guess settings) → 0 < settings .rounds
+unfolding fixInputRules fixSettingsPass
 some-rounds observations guess settings e =
     let pass : fixSettingsPass settings ≡ true = not-false (fixSettingsPass settings) (head-passed _ _ (head-passed _ _ e .1) .0) in
     let others = inRange (settings .«sigma_a») && inRange (settings .«sigma_b») && inRange (settings .huber) && inRange (settings .mask) && not (ltb 50 (settings .rounds)) in

@@ -20,13 +20,13 @@ use Rattle.robust.specs.declared.row.Row.{Row}
 use Rattle.clocks.specs.Clocks.{slot, clocksOf}
 use Rattle.estimator.specs.Rules.{Rule, rule, ruled}
 use Rattle.records.specs.Screen.{keptOf, constellations}
-use Rattle.estimator.specs.Valid.{displacementInput}
+use Rattle.estimator.specs.Valid.{inputRules}
 use Rattle.estimator.specs.Front.{allPairs, keptPairs, pairRules}
 use Rattle.clocks.specs.declared.clocks.Clocks.{Clocks}
 use Rattle.records.specs.declared.record.Epoch.{Epoch}
 use Rattle.records.specs.declared.pair.Pair.{Pair}
 use Rattle.estimator.specs.declared.displacement.Settings.{Settings}
-use Rattle.estimator.specs.Rounds.{Fit, fitFrom, finiteAt, concluded, Each}
+use Rattle.estimator.specs.Rounds.{Fit, fitFrom, vector, finiteAt, concluded, Each}
 use Rattle.estimator.specs.declared.displacement.Delta.{Delta}
 use Rattle.estimator.specs.declared.displacement.Displacement.{Displacement}
 use Rattle.estimator.specs.declared.displacement.Displacement.the-variants.{Refused, Moved}
@@ -93,9 +93,6 @@ roundsOf i = fitOf i .rounds
 
 -- ---- the answer
 
-abbrev pub vector : List Float → Vec3
-vector x = record { x = at x 0; y = at x 1; z = at x 2 }
-
 abbrev pub deltaAt : ℕ → ℕ → List Float → Delta
 deltaAt used screened x = record { delta = vector x; used = used; screened = screened }
 
@@ -115,7 +112,7 @@ movedBy settings ps =
 
 -- 2 to 5 on what is handed over, and then what its pairs come to
 unfoldable pub displacementOf : Input → Displacement
-displacementOf i = ruled Refused (displacementInput (i .previous) (i .current) (i .dt) (i .receiver) (i .settings)) (movedBy (i .settings) (pairs i))
+displacementOf i = ruled Refused (inputRules (i .previous) (i .current) (i .dt) (i .receiver) (i .settings)) (movedBy (i .settings) (pairs i))
 
 -- ---- an answer in numbers: its number, which is 0 where it is accepted, its floats and its counts; a refusal has its number alone
 

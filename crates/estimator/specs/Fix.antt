@@ -33,7 +33,7 @@ use Rattle.clocks.specs.declared.clocks.Clocks.{Clocks}
 use Rattle.records.specs.declared.record.Observation.{Observation}
 use Rattle.records.specs.declared.record.Observations.{Observations}
 use Rattle.estimator.specs.declared.fix.Settings.{Settings}
-use Rattle.estimator.specs.Rounds.{Fit, fitFrom, lastRows, finiteAt, concluded, Each}
+use Rattle.estimator.specs.Rounds.{Fit, fitFrom, lastRows, vector, finiteAt, concluded, Each}
 use Rattle.estimator.specs.declared.fix.Solution.{Solution}
 use Rattle.estimator.specs.declared.fix.Fix.{Fix}
 use Rattle.estimator.specs.declared.fix.Fix.the-variants.{Refused, At}
@@ -48,16 +48,12 @@ pub record Input : Type 0 where
 
 -- ---- the rounds
 
--- a state's position
-abbrev pub position : List Float → Vec3
-position x = record { x = at x 0; y = at x 1; z = at x 2 }
-
 unfoldable pub sigmaOf : Settings → Observation → Float
 sigmaOf settings o = elevationSigma (o .elevation) (settings .«sigma_a») (settings .«sigma_b»)
 
 -- the line of sight of an observation at the state x
 abbrev pub sightAt : List Float → Observation → Sight
-sightAt x o = geometry (o .satellite) (position x)
+sightAt x o = geometry (o .satellite) (vector x)
 
 -- what was measured, less what the state x predicts
 unfoldable pub residualAt : Clocks → List Float → Observation → ℕ
@@ -134,7 +130,7 @@ endRules n rows x =
 
 -- with the factor of the unweighted matrix
 abbrev pub solutionAt : ℕ → List Row → List Float → Solution
-solutionAt n rows x = record { position = position x; used = length rows; chi = chiOf n rows; pdop = pdopOf (rowsAfter (factorOf (plainMatrix n rows)) []) }
+solutionAt n rows x = record { position = vector x; used = length rows; chi = chiOf n rows; pdop = pdopOf (rowsAfter (factorOf (plainMatrix n rows)) []) }
 
 abbrev pub concludedAt : ℕ → List Row → List Float → Fix
 concludedAt n rows x = ruled Refused (endRules n rows x) (At (solutionAt n rows x))

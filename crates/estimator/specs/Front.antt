@@ -10,7 +10,7 @@ use Rattle.records.specs.Pair.{pairsOf}
 use Rattle.records.specs.Screen.{keptOf, constellations}
 use Rattle.records.specs.Mask.{aboveMask}
 use Rattle.records.specs.Mask.{constellations as observedConstellations}
-use Rattle.estimator.specs.Valid.{displacementCounts, fixInput, fixCounts}
+use Rattle.estimator.specs.Valid.{displacementCounts, fixInputRules, fixCounts}
 use Rattle.records.specs.declared.record.Epoch.{Epoch}
 use Rattle.records.specs.declared.record.Observation.{Observation}
 use Rattle.records.specs.declared.record.Observations.{Observations}
@@ -44,4 +44,4 @@ fixRows observations settings = aboveMask (settings .mask) (countedObservations 
 unfoldable pub fixRules : Observations → Vec3 → FixSettings → List Rule
 fixRules observations guess settings =
     let kept = fixRows observations settings in
-    fixInput observations guess settings ++ fixCounts (length kept) (clocksOf (observedConstellations kept) .count)
+    fixInputRules observations guess settings ++ fixCounts (length kept) (clocksOf (observedConstellations kept) .count)

@@ -10,6 +10,7 @@ use lib.Ieee.Scale.{finite}
 use Rattle.exact.specs.Float.{_⊕_}
 use Rattle.cholesky.specs.Factor.{at}
 use Rattle.numeric.specs.Real.{hypot}
+use Rattle.numeric.specs.declared.vec3.Vec3.{Vec3}
 use Rattle.numeric.specs.declared.refusal.Refusal.{Refusal}
 use Rattle.robust.specs.Nine.{nine}
 use Rattle.robust.specs.Round.{Round, Outcome, Refused, Solved}
@@ -61,7 +62,11 @@ unfoldable pub lastRows : List Row → List Round → List Row
 lastRows rows [] = rows
 lastRows rows (r ∷ rs) = lastRows (r .rows) rs
 
--- the position or displacement of a state is finite
+-- the position or displacement of a state
+abbrev pub vector : List Float → Vec3
+vector x = record { x = at x 0; y = at x 1; z = at x 2 }
+
+-- it is finite
 unfoldable pub finiteAt : List Float → Bool
 finiteAt x = finite (at x 0) && finite (at x 1) && finite (at x 2)
 

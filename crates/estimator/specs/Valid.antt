@@ -42,8 +42,8 @@ unfoldable pub intervalRules : Float → List Rule
 intervalRules dt = rule BadInterval (badInterval dt) ∷ []
 
 -- 2 to 5, of what is handed over
-unfoldable pub displacementInput : Epoch → Epoch → Float → Vec3 → Settings → List Rule
-displacementInput previous current dt receiver settings = epochRules previous current receiver settings ++ intervalRules dt
+unfoldable pub inputRules : Epoch → Epoch → Float → Vec3 → Settings → List Rule
+inputRules previous current dt receiver settings = epochRules previous current receiver settings ++ intervalRules dt
 
 -- 7 to 9, of how many pairs there are before screening, how many are kept, and how many clock slots those have
 unfoldable pub displacementCounts : ℕ → ℕ → ℕ → List Rule
@@ -62,8 +62,8 @@ fixSettingsPass s =
     && not (ltb 50 (s .rounds)) && not (eqb (s .rounds) 0)
 
 -- 2 to 4, of what is handed over
-unfoldable pub fixInput : Observations → Vec3 → FixSettings → List Rule
-fixInput observations guess settings =
+unfoldable pub fixInputRules : Observations → Vec3 → FixSettings → List Rule
+fixInputRules observations guess settings =
     rule TooMany (ltb 64 (observations .count))
     ∷ rule SettingOutOfRange (not (fixSettingsPass settings))
     ∷ rule RecordOutOfRange (not (every soundObservation (countedObservations observations) && placeable guess))

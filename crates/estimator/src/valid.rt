@@ -123,7 +123,7 @@ pub(crate) fn check_fix(
     guess: Vec3,
     settings: crate::fix::Settings,
 ) -> Check
-    ensures { λ r. ⌜ r ≡ ruled Check.Refused (spec.fixInput observations guess settings) Check.Passed ⌝ }
+    ensures { λ r. ⌜ r ≡ ruled Check.Refused (spec.fixInputRules observations guess settings) Check.Passed ⌝ }
 {
     if 64 < observations.count {
         return Check::Refused(Refusal::TooMany);

@@ -12,7 +12,7 @@ use Rattle.numeric.specs.Real.{abs, inRange}
 use Rattle.estimator.specs.Rules.{ruled}
 use Rattle.records.specs.Record.{placeable}
 use Rattle.records.specs.Pair.{pairsOf}
-use Rattle.estimator.specs.Valid.{settingsPass, badInterval, epochRules, intervalRules, displacementInput, displacementCounts}
+use Rattle.estimator.specs.Valid.{settingsPass, badInterval, epochRules, intervalRules, inputRules, displacementCounts}
 use Rattle.estimator.specs.Front.{pairRules}
 use Rattle.estimator.specs.Displacement.{movedBy, displacementOf}
 use Rattle.numeric.specs.declared.refusal.Refusal.the-variants.{BrokenForm, TooFewPairs, NoCorrection}
@@ -183,7 +183,7 @@ the-carrier = refl
 
 -- document 01: the example alone gives R,7
 the-answer : answerOf example ≡ 82 ∷ 44 ∷ 55 ∷ 10 ∷ []
-unfolding answerOf displacementIn inputOf given none fold isText recordsForm split isSettings settingsForm lineOf isPlace place number isNumber plain every decimalValue patternIn isFloat hex example displacementOf movedBy ruled epochRules intervalRules displacementInput pairRules displacementCounts settingsPass badInterval placeable abs inRange pairsOf collect digitsText digitCount ofInt ofBits neg le lt isNan
+unfolding answerOf displacementIn inputOf given none fold isText recordsForm split isSettings settingsForm lineOf isPlace place number isNumber plain every decimalValue patternIn isFloat hex example displacementOf movedBy ruled epochRules intervalRules inputRules pairRules displacementCounts settingsPass badInterval placeable abs inRange pairsOf collect digitsText digitCount ofInt ofBits neg le lt isNan
 the-answer = refl
 
 -- ---- answers

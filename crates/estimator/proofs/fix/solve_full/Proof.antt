@@ -1,6 +1,6 @@
 -- `estimator::fix::solve_full` meets its contract. Assumes nothing.
 use mathlib.Core.Path.{_≡_, sym, _∙_}
-use Rattle.estimator.specs.Valid.{fixInput}
+use Rattle.estimator.specs.Valid.{fixInputRules}
 use Rattle.estimator.specs.declared.valid.Check.the-variants.{Passed}
 use Rattle.estimator.proofs.RulesLaws.{checked, observations-fit}
 use Rattle.estimator.proofs.FixSound.{promised}
@@ -10,7 +10,7 @@ use Rattle.estimator.proofs.fix.solve_full.Statement.{statement}
 use Rattle.estimator.proofs.fix.solve_full.Tie as tie
 
 -- what the first check said, where it refused nothing
-passed : (c : tie.After-enum-told) → let a = c .before .before .before .args in Passed ≡ checked (fixInput (a .observations) (a .guess) (a .settings))
+passed : (c : tie.After-enum-told) → let a = c .before .before .before .args in Passed ≡ checked (fixInputRules (a .observations) (a .guess) (a .settings))
 passed c = sym (c .enum-told .given .1) ∙ c .before .before .check-fix .ensures
 
 check-fix-requires : tie.Need-check-fix-requires

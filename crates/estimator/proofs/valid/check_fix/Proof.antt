@@ -1,20 +1,20 @@
 -- `estimator::valid::check_fix` meets its contract: each answer follows from the tests on the way to it. Assumes nothing.
 use borrow.Author.Tests.{lt-ltb, le-ltb}
 use Rattle.estimator.specs.Rules.{ruled}
-use Rattle.estimator.specs.Valid.{fixInput}
+use Rattle.estimator.specs.Valid.{fixInputRules}
 use borrow.Author.Needs.{needs}
 use Rattle.estimator.proofs.valid.check_fix.Statement.{statement}
 use Rattle.estimator.proofs.valid.check_fix.Tie as tie
 
 returns : tie.Need-returns
-unfolding fixInput ruled
+unfolding fixInputRules ruled
 returns c = simp (lt-ltb _ _ (c .if1 .taken))
 
 fix-settings-pass-requires : tie.Need-fix-settings-pass-requires
 fix-settings-pass-requires c κs = search needs
 
 returns-2 : tie.Need-returns-2
-unfolding fixInput ruled
+unfolding fixInputRules ruled
 returns-2 c = simp (le-ltb _ _ (c .before .before .if1 .left), rw (c .before .fix-settings-pass .ensures) at (c .if2 .taken))
 
 all-sound-observations-requires : tie.Need-all-sound-observations-requires
@@ -24,11 +24,11 @@ is-placeable-requires : tie.Need-is-placeable-requires
 is-placeable-requires c κs = search needs
 
 returns-3 : tie.Need-returns-3
-unfolding fixInput ruled
+unfolding fixInputRules ruled
 returns-3 c = simp (le-ltb _ _ (c .before .before .before .before .before .if1 .left), rw (c .before .before .before .before .fix-settings-pass .ensures) at (c .before .before .before .if2 .left), rw (c .before .before .all-sound-observations .ensures, c .before .is-placeable .ensures) at (c .if3 .taken))
 
 returns-4 : tie.Need-returns-4
-unfolding fixInput ruled
+unfolding fixInputRules ruled
 returns-4 c = simp (le-ltb _ _ (c .before .before .before .before .before .if1 .left), rw (c .before .before .before .before .fix-settings-pass .ensures) at (c .before .before .before .if2 .left), rw (c .before .before .all-sound-observations .ensures, c .before .is-placeable .ensures) at (c .if3 .left))
 
 pub check-fix-spec : {M : Type 1} → statement M

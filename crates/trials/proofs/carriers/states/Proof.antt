@@ -11,7 +11,7 @@ use Rattle.records.specs.Record.{placeable, isElevation, sound, unsigned, bitSe
 use Rattle.clocks.specs.Clocks.{has, appearing, slotFrom, clocksIn, clocksOf}
 use Rattle.records.specs.Pair.{pairOf, firstPair, pairAt, pairsOf}
 use Rattle.records.specs.Screen.{centre, within, keptOf}
-use Rattle.estimator.specs.Valid.{settingsPass, badInterval, epochRules, intervalRules, displacementInput, displacementCounts}
+use Rattle.estimator.specs.Valid.{settingsPass, badInterval, epochRules, intervalRules, inputRules, displacementCounts}
 use Rattle.estimator.specs.Front.{pairRules}
 use Rattle.estimator.specs.Rounds.{fitFrom, finiteAt}
 use Rattle.estimator.specs.Displacement.{fitOver, fitBy, endRules, movedBy, displacementOf}
@@ -29,7 +29,7 @@ record Used : Type 0 where
   in-minus-1 : usedOf (displacementOf (sixIn (negsuc 0))) ≡ 0
 
 used : Used
-unfolding displacementOf movedBy endRules finiteAt fitBy fitOver fitFrom ruled every first collect abs inRange placeable isElevation sound unsigned bitSet usable same has appearing slotFrom clocksIn clocksOf pairOf firstPair pairAt pairsOf centre within keptOf settingsPass badInterval epochRules intervalRules displacementInput displacementCounts pairRules sign exponent digits isNaN isQuiet payload payloadOrder unordered totalOrder patternOf insertBy sortedBy medianOf centreOf ofInt ofBits toBits neg add sub mul div le lt eq isNan
+unfolding displacementOf movedBy endRules finiteAt fitBy fitOver fitFrom ruled every first collect abs inRange placeable isElevation sound unsigned bitSet usable same has appearing slotFrom clocksIn clocksOf pairOf firstPair pairAt pairsOf centre within keptOf settingsPass badInterval epochRules intervalRules inputRules displacementCounts pairRules sign exponent digits isNaN isQuiet payload payloadOrder unordered totalOrder patternOf insertBy sortedBy medianOf centreOf ofInt ofBits toBits neg add sub mul div le lt eq isNan
 used = record { in-1 = refl; in-0 = refl; in-3 = refl; in-5 = refl; in-minus-1 = refl }
 
 used-in-requires : tie.Need-used-in-requires
