@@ -19,7 +19,7 @@ use Rattle.robust.specs.declared.row.Row.{Row}
 use Rattle.robust.specs.declared.round.Stepping.{Stepping}
 use Rattle.robust.specs.declared.round.Stepping.the-variants as Stepping
 use Rattle.numeric.specs.declared.refusal.Refusal.{Refusal}
-use Rattle.estimator.specs.declared.valid.Check.the-variants as Check
+use Rattle.estimator.specs.declared.rules.Check.the-variants as Check
 use Rattle.robust.proofs.NineLaws.{nine-is}
 use Rattle.estimator.specs.Rounds.{End, Stopped, Reached, Fit, moved, short, after, fitFrom, lastRows, Ended}
 

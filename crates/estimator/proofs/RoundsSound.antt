@@ -23,7 +23,7 @@ use Rattle.robust.specs.declared.row.Row.{Row}
 use Rattle.robust.proofs.NineLaws.{nine-at}
 use Rattle.estimator.specs.Rules.{Rule}
 use Rattle.estimator.specs.Rounds.{End, Stopped, Reached, Fit, moved, short, ended, begun, after, fitFrom, lastRows, finiteAt, concluded, Each}
-use Rattle.estimator.specs.declared.valid.Check.the-variants.{Passed}
+use Rattle.estimator.specs.declared.rules.Check.the-variants.{Passed}
 use Rattle.estimator.proofs.RulesLaws.{checked, passed-of, passed-by}
 
 -- entry 0 of a state that moved is a sum

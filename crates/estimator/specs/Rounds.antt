@@ -16,8 +16,8 @@ use Rattle.robust.specs.Nine.{nine}
 use Rattle.robust.specs.Round.{Round, Outcome, Refused, Solved}
 use Rattle.robust.specs.declared.row.Row.{Row}
 use Rattle.estimator.specs.Rules.{Rule, ruled}
-use Rattle.estimator.specs.declared.valid.Check.{Check}
-use Rattle.estimator.specs.declared.valid.Check.the-variants as Check
+use Rattle.estimator.specs.declared.rules.Check.{Check}
+use Rattle.estimator.specs.declared.rules.Check.the-variants as Check
 
 -- where the rounds end: in one that is refused, and why, or at the state x
 pub data End : Type 0 where

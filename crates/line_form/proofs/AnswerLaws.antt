@@ -9,11 +9,11 @@ use borrow.Author.Tests.{lt-ltb, le-ltb, ltb-false}
 use lib.ListN.{length, take, drop}
 use lib.Seq.{take-at, take-length}
 use Rattle.numeric.specs.declared.refusal.Refusal.the-variants.{BrokenForm}
-use Rattle.estimator.specs.Displacement.{displacementOf, Accepted}
-use Rattle.estimator.specs.declared.displacement.Delta.{Delta}
-use Rattle.estimator.specs.declared.displacement.Displacement.{Displacement}
-use Rattle.estimator.specs.declared.displacement.Displacement.the-variants.{Refused, Moved}
-use Rattle.estimator.proofs.DisplacementSound.{displacement-accepted}
+use Rattle.tdcp.specs.Displacement.{displacementOf, Accepted}
+use Rattle.tdcp.specs.declared.displacement.Delta.{Delta}
+use Rattle.tdcp.specs.declared.displacement.Displacement.{Displacement}
+use Rattle.tdcp.specs.declared.displacement.Displacement.the-variants.{Refused, Moved}
+use Rattle.tdcp.proofs.DisplacementSound.{displacement-accepted}
 use Rattle.line_form.specs.Text.{isText, inputOf, displacementIn}
 use Rattle.line_form.specs.Print.{answerText}
 use Rattle.line_form.specs.Written.{Put}

@@ -9,15 +9,15 @@ use lib.Ieee.{ofInt, ofBits, toBits, neg, le, lt, isNan}
 use Rattle.exact.specs.Float.{+0, bits}
 use Rattle.walk.specs.Walk.{every, collect, fold}
 use Rattle.numeric.specs.Real.{abs, inRange}
-use Rattle.estimator.specs.Rules.{ruled}
+use Rattle.estimator.specs.Rules.{ruled, rowRules}
 use Rattle.records.specs.Record.{placeable}
 use Rattle.records.specs.Pair.{pairsOf}
-use Rattle.estimator.specs.Valid.{settingsPass, badInterval, epochRules, intervalRules, inputRules, displacementCounts}
-use Rattle.estimator.specs.Front.{pairRules}
-use Rattle.estimator.specs.Displacement.{movedBy, displacementOf}
+use Rattle.tdcp.specs.Valid.{settingsPass, badInterval, epochRules, intervalRules, inputRules, displacementCounts}
+use Rattle.tdcp.specs.Front.{pairRules}
+use Rattle.tdcp.specs.Displacement.{movedBy, displacementOf}
 use Rattle.numeric.specs.declared.refusal.Refusal.the-variants.{BrokenForm, TooFewPairs, NoCorrection}
 use Rattle.records.specs.declared.record.Carrier.{Carrier}
-use Rattle.estimator.specs.declared.displacement.Displacement.the-variants.{Refused, Moved}
+use Rattle.tdcp.specs.declared.displacement.Displacement.the-variants.{Refused, Moved}
 use Rattle.line_form.specs.Split.{split}
 use Rattle.line_form.specs.Field.{decimalValue, plain, isNumber, number, isState, state, hex, isFloat, patternIn}
 use Rattle.line_form.specs.Line.{isPlace, place, settingsForm, isSettings, given, carrierForm, carrier, lineOf}
@@ -183,7 +183,7 @@ the-carrier = refl
 
 -- document 01: the example alone gives R,7
 the-answer : answerOf example ≡ 82 ∷ 44 ∷ 55 ∷ 10 ∷ []
-unfolding answerOf displacementIn inputOf given none fold isText recordsForm split isSettings settingsForm lineOf isPlace place number isNumber plain every decimalValue patternIn isFloat hex example displacementOf movedBy ruled epochRules intervalRules inputRules pairRules displacementCounts settingsPass badInterval placeable abs inRange pairsOf collect digitsText digitCount ofInt ofBits neg le lt isNan
+unfolding answerOf displacementIn inputOf given none fold isText recordsForm split isSettings settingsForm lineOf isPlace place number isNumber plain every decimalValue patternIn isFloat hex example displacementOf movedBy ruled epochRules intervalRules inputRules pairRules displacementCounts rowRules settingsPass badInterval placeable abs inRange pairsOf collect digitsText digitCount ofInt ofBits neg le lt isNan
 the-answer = refl
 
 -- ---- answers

@@ -5,9 +5,9 @@ use mathlib.Core.Bool.{cond}
 use mathlib.Core.List.{List, _++_}
 use lib.Dec.{ltb}
 use lib.ListN.{length, drop}
-use Rattle.estimator.specs.Displacement.{Accepted}
-use Rattle.estimator.specs.declared.displacement.Delta.{Delta}
-use Rattle.estimator.specs.declared.displacement.Displacement.the-variants.{Moved}
+use Rattle.tdcp.specs.Displacement.{Accepted}
+use Rattle.tdcp.specs.declared.displacement.Delta.{Delta}
+use Rattle.tdcp.specs.declared.displacement.Displacement.the-variants.{Moved}
 use Rattle.line_form.specs.Text.{inputOf, displacementIn}
 use Rattle.line_form.specs.Print.{answerText}
 

@@ -8,11 +8,11 @@ use lib.IntN.{pos}
 use Rattle.exact.specs.Float.{+0}
 use Rattle.walk.specs.Walk.{fold}
 use Rattle.numeric.specs.declared.refusal.Refusal.the-variants.{BrokenForm}
-use Rattle.estimator.specs.Displacement.{Input, input, displacementOf}
+use Rattle.tdcp.specs.Displacement.{Input, input, displacementOf}
 use Rattle.records.specs.declared.record.Carrier.{Carrier}
 use Rattle.records.specs.declared.record.Epoch.{Epoch}
-use Rattle.estimator.specs.declared.displacement.Displacement.{Displacement}
-use Rattle.estimator.specs.declared.displacement.Displacement.the-variants.{Refused}
+use Rattle.tdcp.specs.declared.displacement.Displacement.{Displacement}
+use Rattle.tdcp.specs.declared.displacement.Displacement.the-variants.{Refused}
 use Rattle.line_form.specs.Split.{split}
 use Rattle.line_form.specs.Line.{isSettings, given, lineOf}
 use Rattle.line_form.specs.declared.line.Line.{Line}

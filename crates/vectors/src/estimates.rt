@@ -13,16 +13,16 @@ use crate::read::state;
 use crate::read::vector;
 use crate::read::word;
 use crate::read::zero;
-use estimator::displacement::Displacement;
-use estimator::displacement::Settings as DisplacementSettings;
-use estimator::displacement::delta_position;
-use estimator::fix::Fix;
-use estimator::fix::Settings as FixSettings;
-use estimator::fix::solve_full;
 use records::record::Carrier;
 use records::record::Epoch;
 use records::record::Observation;
 use records::record::Observations;
+use tdcp::displacement::Displacement;
+use tdcp::displacement::Settings as DisplacementSettings;
+use tdcp::displacement::delta_position;
+use wls::fix::Fix;
+use wls::fix::Settings as FixSettings;
+use wls::fix::solve_full;
 
 fn next_carrier() -> Carrier {
     let constellation = byte();

@@ -11,21 +11,22 @@ use Rattle.numeric.specs.declared.refusal.Refusal.the-variants.{TooMany}
 use Rattle.numeric.specs.declared.vec3.Vec3.{Vec3}
 use Rattle.records.specs.Record.{Holds}
 use Rattle.records.specs.declared.record.Observations.{Observations}
-use Rattle.estimator.specs.Displacement as displacement
-use Rattle.estimator.specs.Displacement.{displacementOf, displacementNumber}
-use Rattle.estimator.specs.Fix as fix
-use Rattle.estimator.specs.Fix.{fixOf, positionOf, fixNumber, positionNumber}
-use Rattle.estimator.specs.declared.displacement.Displacement.{Displacement}
-use Rattle.estimator.specs.declared.displacement.Displacement.the-variants as Displacement
-use Rattle.estimator.specs.declared.fix.Fix.{Fix}
-use Rattle.estimator.specs.declared.fix.Fix.the-variants as Fix
-use Rattle.estimator.specs.declared.displacement.Delta.{Delta}
-use Rattle.estimator.specs.declared.displacement.Settings.{Settings as DisplacementSettings}
-use Rattle.estimator.specs.declared.fix.Solution.{Solution}
-use Rattle.estimator.specs.declared.fix.Settings.{Settings as FixSettings}
-use Rattle.estimator.proofs.DisplacementSound.{displacement-accepted}
-use Rattle.estimator.proofs.FixSound.{fix-accepted}
-use Rattle.estimator.proofs.CountedLaws.{displacement-many-rounds, fix-counted, fix-many-rounds}
+use Rattle.tdcp.specs.Displacement as displacement
+use Rattle.tdcp.specs.Displacement.{displacementOf, displacementNumber}
+use Rattle.wls.specs.Fix as fix
+use Rattle.wls.specs.Fix.{fixOf, positionOf, fixNumber, positionNumber}
+use Rattle.tdcp.specs.declared.displacement.Displacement.{Displacement}
+use Rattle.tdcp.specs.declared.displacement.Displacement.the-variants as Displacement
+use Rattle.wls.specs.declared.fix.Fix.{Fix}
+use Rattle.wls.specs.declared.fix.Fix.the-variants as Fix
+use Rattle.tdcp.specs.declared.displacement.Delta.{Delta}
+use Rattle.tdcp.specs.declared.displacement.Settings.{Settings as DisplacementSettings}
+use Rattle.wls.specs.declared.fix.Solution.{Solution}
+use Rattle.wls.specs.declared.fix.Settings.{Settings as FixSettings}
+use Rattle.tdcp.proofs.DisplacementSound.{displacement-accepted}
+use Rattle.wls.proofs.FixSound.{fix-accepted}
+use Rattle.tdcp.proofs.CountedLaws.{displacement-many-rounds}
+use Rattle.wls.proofs.CountedLaws.{fix-counted, fix-many-rounds}
 use Rattle.records.specs.Carriers.{CarrierColumns, epochFits}
 use Rattle.zaqnuti.specs.Columns.{ObservationColumns, observationAt, observationsOf, observationsFit}
 use Rattle.zaqnuti.specs.Estimates.{displacementSettings, displacementInput, columnDisplacementOf, deltaAfter, countsAfter, DisplacementAnswers, fixSettings, fixInput, columnFixOf, solutionAfter, usedAfter, FixAnswers, positionAfter, PositionAnswers}

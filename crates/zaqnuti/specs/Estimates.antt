@@ -9,20 +9,20 @@ use Rattle.exact.specs.Float.{+0}
 use Rattle.numeric.specs.Order.{patternOf}
 use Rattle.numeric.specs.declared.refusal.Refusal.the-variants.{TooMany}
 use Rattle.numeric.specs.declared.vec3.Vec3.{Vec3}
-use Rattle.estimator.specs.declared.displacement.Settings.{Settings as DisplacementSettings}
-use Rattle.estimator.specs.declared.fix.Settings.{Settings as FixSettings}
-use Rattle.estimator.specs.Displacement as displacement
-use Rattle.estimator.specs.Displacement.{displacementOf, displacementNumber, displacementFloats, displacementCounts}
-use Rattle.estimator.specs.Fix as fix
-use Rattle.estimator.specs.Fix.{fixOf, positionOf, fixNumber, fixFloats, positionNumber, positionFloats}
-use Rattle.estimator.specs.declared.displacement.Delta.{Delta}
-use Rattle.estimator.specs.declared.fix.Solution.{Solution}
-use Rattle.estimator.specs.declared.displacement.Displacement.{Displacement}
-use Rattle.estimator.specs.declared.displacement.Displacement.the-variants as Displacement
-use Rattle.estimator.specs.declared.fix.Fix.{Fix}
-use Rattle.estimator.specs.declared.fix.Fix.the-variants as Fix
-use Rattle.estimator.specs.declared.fix.Position.{Position}
-use Rattle.estimator.specs.declared.fix.Position.the-variants as Position
+use Rattle.tdcp.specs.declared.displacement.Settings.{Settings as DisplacementSettings}
+use Rattle.wls.specs.declared.fix.Settings.{Settings as FixSettings}
+use Rattle.tdcp.specs.Displacement as displacement
+use Rattle.tdcp.specs.Displacement.{displacementOf, displacementNumber, displacementFloats, displacementCounts}
+use Rattle.wls.specs.Fix as fix
+use Rattle.wls.specs.Fix.{fixOf, positionOf, fixNumber, fixFloats, positionNumber, positionFloats}
+use Rattle.tdcp.specs.declared.displacement.Delta.{Delta}
+use Rattle.wls.specs.declared.fix.Solution.{Solution}
+use Rattle.tdcp.specs.declared.displacement.Displacement.{Displacement}
+use Rattle.tdcp.specs.declared.displacement.Displacement.the-variants as Displacement
+use Rattle.wls.specs.declared.fix.Fix.{Fix}
+use Rattle.wls.specs.declared.fix.Fix.the-variants as Fix
+use Rattle.wls.specs.declared.fix.Position.{Position}
+use Rattle.wls.specs.declared.fix.Position.the-variants as Position
 use Rattle.records.specs.Carriers.{CarrierColumns, epochOf, epochFits}
 use Rattle.zaqnuti.specs.Columns.{ObservationColumns, observationsOf, observationsFit}
 

@@ -8,14 +8,14 @@ use crate::columns::epoch_fits;
 use crate::columns::observations_fit;
 use crate::columns::observations_of;
 use crate::columns::vector;
-use estimator::displacement::Displacement;
-use estimator::displacement::Settings as DisplacementSettings;
-use estimator::displacement::delta_in;
-use estimator::fix::Fix;
-use estimator::fix::Settings as FixSettings;
-use estimator::fix::solve_full;
 use numeric::order::pattern;
 use numeric::refusal::Refusal;
+use tdcp::displacement::Displacement;
+use tdcp::displacement::Settings as DisplacementSettings;
+use tdcp::displacement::delta_in;
+use wls::fix::Fix;
+use wls::fix::Settings as FixSettings;
+use wls::fix::solve_full;
 
 // The rounds as an estimator takes them: from 51 on they are refused alike.
 pub(crate) fn rounds_of(rounds: usize) -> u32

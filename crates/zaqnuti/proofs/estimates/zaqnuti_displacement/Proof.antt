@@ -1,7 +1,7 @@
 -- `zaqnuti::estimates::zaqnuti_displacement` meets its contract. Assumes nothing.
 use mathlib.Core.Path.{_≡_, refl, sym, _∙_}
 use borrow.Author.Tests.{not-true, not-false}
-use Rattle.estimator.specs.declared.displacement.Displacement.{Displacement}
+use Rattle.tdcp.specs.declared.displacement.Displacement.{Displacement}
 use Rattle.records.specs.Carriers.{vectorAt, CarrierColumns, carrierColumns}
 use Rattle.zaqnuti.specs.Estimates.{displacementSettings, columnDisplacementOf}
 use Rattle.zaqnuti.proofs.EstimateLaws.{previous-short, current-short, displacement-fit, displacement-answers}
