@@ -25,7 +25,6 @@
  * here and in the oracle's (oracle/src/services/mod.rs). A number is never given
  * to another kind; 6 and 14 are free.
  */
-#include <inttypes.h>
 #include <stdio.h>
 #include <stdlib.h>
 

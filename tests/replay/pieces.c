@@ -1,6 +1,4 @@
 /* The cases of the pieces: numbers, factor, clocks, centre, sight and round. */
-#include <string.h>
-
 #include "replay.h"
 
 /* More than the 64 that are allowed. */
