@@ -13,7 +13,6 @@ pub const SERVICE: Service = Service {
     count: 8_000_000,
     compare,
     bench: Some(time),
-    vectors: Some(vectors),
 };
 
 /// One stand-in; those of one operand leave the second alone.
@@ -134,7 +133,7 @@ fn time(random: &mut Random) {
 }
 
 /// Number of the stand-in (its place in `CASES`), two operands, answer.
-fn vectors(random: &mut Random) -> Vectors {
+pub fn vectors(random: &mut Random) -> Vectors {
     let mut numbers = Vec::new();
     for (number, case) in CASES.iter().enumerate() {
         for k in 0..100 {
