@@ -14,17 +14,17 @@ use Rattle.clocks.specs.Clocks.{clocksOf}
 use Rattle.records.specs.Screen.{keptOf, constellations}
 use Rattle.records.specs.Kept.{pairsIn, Kept}
 use Rattle.estimator.specs.Rules.{Rule, ruled}
-use Rattle.tdcp.specs.Valid.{badInterval, epochRules, intervalRules, inputRules, displacementCounts}
+use Rattle.tdcp.specs.Valid.{badInterval, epochRules, intervalRules, displacementCounts}
 use Rattle.tdcp.specs.Front.{pairRules}
 use Rattle.estimator.specs.Rounds.{End, Stopped, Reached, Fit, concluded, Ended}
-use Rattle.tdcp.specs.Displacement.{Input, fitOver, fitBy, pairs, deltaAt, endRules, concludedAt, movedBy, displacementOf}
+use Rattle.tdcp.specs.Displacement.{Input, fitOver, fitBy, pairs, deltaAt, endRules, concludedAt, movedBy, movedIn, displacementOf}
 use Rattle.clocks.specs.declared.clocks.Clocks.{Clocks}
 use Rattle.records.specs.declared.pair.Pair.{Pair}
 use Rattle.tdcp.specs.declared.displacement.Settings.{Settings}
 use Rattle.tdcp.specs.declared.displacement.Displacement.{Displacement}
 use Rattle.tdcp.specs.declared.displacement.Displacement.the-variants.{Refused, Moved}
 use Rattle.estimator.specs.declared.rules.Check.the-variants.{Refused as Stops, Passed}
-use Rattle.estimator.proofs.RulesLaws.{checked, ruled-append, refused-by, passed-by}
+use Rattle.estimator.proofs.RulesLaws.{checked, refused-by, passed-by}
 use Rattle.tdcp.proofs.DisplacementLaws.{fit-same}
 use Rattle.tdcp.proofs.FrontLaws.{counts-passed, kept-few}
 
@@ -95,28 +95,22 @@ module _ (i : Input) where
   abbrev epochs : List Rule
   epochs = epochRules (i .previous) (i .current) (i .receiver) (i .settings)
 
-  abbrev tail : Displacement
-  tail = movedBy (i .settings) (pairs i)
-
   pub too-many : (ltb 64 (i .previous .count) || ltb 64 (i .current .count)) ≡ true → Refused TooMany ≡ displacementOf i
-  unfolding displacementOf inputRules epochRules ruled
+  unfolding displacementOf epochRules ruled
   too-many e = rw e
 
-  parts : ruled Refused epochs (ruled Refused (intervalRules (i .dt)) tail) ≡ displacementOf i
-  unfolding displacementOf inputRules
-  parts = sym (ruled-append Refused tail epochs (intervalRules (i .dt)))
-
   pub refused-epochs : {r : Refusal} → Stops r ≡ checked epochs → Refused r ≡ displacementOf i
-  refused-epochs e = refused-by Refused _ epochs e ∙ parts
+  unfolding displacementOf
+  refused-epochs e = refused-by Refused _ epochs e
 
-  module _ (passed : Passed ≡ checked epochs) where
-    timed : ruled Refused (intervalRules (i .dt)) tail ≡ displacementOf i
-    timed = sym (passed-by Refused _ epochs passed) ∙ parts
+  pub passed-epochs : Passed ≡ checked epochs → movedIn i ≡ displacementOf i
+  unfolding displacementOf
+  passed-epochs e = sym (passed-by Refused _ epochs e)
 
-    pub refused-interval : badInterval (i .dt) ≡ true → Refused BadInterval ≡ displacementOf i
-    unfolding intervalRules ruled
-    refused-interval e = rw e at timed
+  pub refused-interval : badInterval (i .dt) ≡ true → Refused BadInterval ≡ movedIn i
+  unfolding movedIn intervalRules ruled
+  refused-interval e = rw e
 
-    pub paired : badInterval (i .dt) ≡ false → {n : ℕ} {array : List Pair} → Holds n array (pairs i) → movedBy (i .settings) (take n array) ≡ displacementOf i
-    unfolding intervalRules ruled
-    paired e h = ap (movedBy (i .settings)) (h .all) ∙ (rw e at timed)
+  pub paired : badInterval (i .dt) ≡ false → {n : ℕ} {array : List Pair} → Holds n array (pairs i) → movedBy (i .settings) (take n array) ≡ movedIn i
+  unfolding movedIn intervalRules ruled
+  paired e h = rw (e, h .all)

@@ -16,13 +16,13 @@ use Rattle.robust.proofs.RoundSound.{round-sound}
 use Rattle.robust.proofs.ResidualsFinite.{round-residuals}
 use Rattle.clocks.specs.Clocks.{clocksOf}
 use Rattle.tdcp.specs.Front.{pairRules}
-use Rattle.tdcp.specs.Valid.{inputRules}
+use Rattle.tdcp.specs.Valid.{epochRules, intervalRules}
 use Rattle.records.specs.Screen.{keptOf, constellations}
 use Rattle.clocks.specs.declared.clocks.Clocks.{Clocks}
 use Rattle.records.specs.declared.pair.Pair.{Pair}
 use Rattle.tdcp.specs.declared.displacement.Settings.{Settings}
 use Rattle.estimator.specs.Rounds.{concluded, Each}
-use Rattle.tdcp.specs.Displacement.{Input, rowAt, roundAt, limit, fitOver, fitBy, pairs, kept, fitOf, roundsOf, deltaAt, endRules, movedBy, displacementOf, displacementFloats, Accepted, Promised}
+use Rattle.tdcp.specs.Displacement.{Input, rowAt, roundAt, limit, fitOver, fitBy, pairs, kept, fitOf, roundsOf, deltaAt, endRules, movedBy, movedIn, displacementOf, displacementFloats, Accepted, Promised}
 use Rattle.tdcp.specs.declared.displacement.Delta.{Delta}
 use Rattle.tdcp.specs.declared.displacement.Displacement.{Displacement}
 use Rattle.tdcp.specs.declared.displacement.Displacement.the-variants.{Refused, Moved}
@@ -77,11 +77,11 @@ module _ (settings : Settings) (ps : List Pair) (d : Delta) (e : movedBy setting
         let k = clocksOf (constellations kept) in
         rounds-each P (roundAt settings k kept) (3 + k .count) limit (omega arith) (one k kept) (settings .rounds) zeros (ended .x) (ended .end-is) (place .first)
 
--- all that an accepted displacement has
-pub displacement-accepted : (i : Input) (d : Delta) → displacementOf i ≡ Moved d → Accepted i d
-unfolding displacementOf roundsOf fitOf
-displacement-accepted i d e =
-    let rules = inputRules (i .previous) (i .current) (i .dt) (i .receiver) (i .settings) in
+-- all that a displacement has which 5, its pairs and its rounds let pass
+pub moved-accepted : (i : Input) (d : Delta) → movedIn i ≡ Moved d → Accepted i d
+unfolding movedIn roundsOf fitOf
+moved-accepted i d e =
+    let rules = intervalRules (i .dt) in
     let s = i .settings in
     let ps = pairs i in
     let m : movedBy s ps ≡ Moved d = sym (passed-by Refused (movedBy s ps) rules (passed-of Refused (movedBy s ps) rules e (never d))) ∙ e in
@@ -97,6 +97,13 @@ displacement-accepted i d e =
       sound-rounds = moved-each s ps d m Sound (one-sound s);
       finite-residuals = moved-each s ps d m FiniteResiduals (one-finite s);
     }
+
+-- an accepted displacement is one that 2 to 4 let pass
+pub displacement-accepted : (i : Input) (d : Delta) → displacementOf i ≡ Moved d → Accepted i d
+unfolding displacementOf
+displacement-accepted i d e =
+    let rules = epochRules (i .previous) (i .current) (i .receiver) (i .settings) in
+    moved-accepted i d (sym (passed-by Refused (movedIn i) rules (passed-of Refused (movedIn i) rules e (never d))) ∙ e)
 
 -- what it gives out is finite
 given-finite : (i : Input) (r : Displacement) → ((d : Delta) → r ≡ Moved d → Accepted i d) → every finite (displacementFloats r) ≡ true

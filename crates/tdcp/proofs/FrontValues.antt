@@ -19,7 +19,7 @@ use Rattle.records.specs.Record.{placeable, isElevation, sound, unsigned, bitSe
 use Rattle.clocks.specs.Clocks.{none, given, slot, has, appearing, slotFrom, clocksIn, clocksOf}
 use Rattle.records.specs.Pair.{pairOf, firstPair, pairAt, pairsOf}
 use Rattle.records.specs.Screen.{centre, within, keptOf}
-use Rattle.tdcp.specs.Valid.{settingsPass, badInterval, epochRules, intervalRules, inputRules, displacementCounts}
+use Rattle.tdcp.specs.Valid.{settingsPass, badInterval, epochRules, intervalRules, displacementCounts}
 use Rattle.tdcp.specs.Front.{allPairs, keptPairs, pairRules}
 use Rattle.records.specs.declared.record.Carrier.{Carrier}
 use Rattle.records.specs.declared.record.Epoch.{Epoch}
@@ -66,7 +66,7 @@ set m = record { screen = decimal 5 1; «sigma_a» = 1·0; «sigma_b» = +0; hub
 
 -- what the rules say at dt seconds
 abbrev said : Float → Float → List Carrier → List Carrier → Check
-said m dt previous current = ruled Refused (inputRules (epoch previous) (epoch current) dt origin (set m) ++ pairRules (set m) (allPairs (epoch previous) (epoch current) dt origin (set m))) Passed
+said m dt previous current = ruled Refused (epochRules (epoch previous) (epoch current) origin (set m) ++ intervalRules dt ++ pairRules (set m) (allPairs (epoch previous) (epoch current) dt origin (set m))) Passed
 
 abbrev six : List Carrier
 six = map (used 1) (1 ∷ 2 ∷ 3 ∷ 4 ∷ 5 ∷ 6 ∷ [])
@@ -93,7 +93,7 @@ pub record Edges : Type 0 where
   pub mask-not-finite : said nan 1·0 six six ≡ Refused SettingOutOfRange
 
 pub edges : Edges
-unfolding ruled every first collect abs inRange placeable isElevation sound unsigned bitSet usable same has appearing slotFrom clocksIn clocksOf pairOf firstPair pairAt pairsOf centre within keptOf settingsPass badInterval epochRules intervalRules inputRules displacementCounts rowRules pairRules sign exponent digits isNaN isQuiet payload payloadOrder unordered totalOrder patternOf insertBy sortedBy medianOf centreOf ofInt ofBits toBits neg add sub mul div le lt eq isNan
+unfolding ruled every first collect abs inRange placeable isElevation sound unsigned bitSet usable same has appearing slotFrom clocksIn clocksOf pairOf firstPair pairAt pairsOf centre within keptOf settingsPass badInterval epochRules intervalRules displacementCounts rowRules pairRules sign exponent digits isNaN isQuiet payload payloadOrder unordered totalOrder patternOf insertBy sortedBy medianOf centreOf ofInt ofBits toBits neg add sub mul div le lt eq isNan
 edges =
     record {
       nothing = refl;

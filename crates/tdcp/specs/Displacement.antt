@@ -20,7 +20,7 @@ use Rattle.robust.specs.declared.row.Row.{Row}
 use Rattle.clocks.specs.Clocks.{slot, clocksOf}
 use Rattle.estimator.specs.Rules.{Rule, rule, ruled}
 use Rattle.records.specs.Screen.{keptOf, constellations}
-use Rattle.tdcp.specs.Valid.{inputRules}
+use Rattle.tdcp.specs.Valid.{epochRules, intervalRules}
 use Rattle.tdcp.specs.Front.{allPairs, keptPairs, pairRules}
 use Rattle.clocks.specs.declared.clocks.Clocks.{Clocks}
 use Rattle.records.specs.declared.record.Epoch.{Epoch}
@@ -110,9 +110,13 @@ movedBy settings ps =
     let used = length (keptOf (settings .screen) ps) in
     ruled Refused (pairRules settings ps) (concluded Refused endRules (λ x. Moved (deltaAt used (length ps - used) x)) (fitBy settings ps .end))
 
--- 2 to 5 on what is handed over, and then what its pairs come to
+-- 5 on the interval, and then what its pairs come to
+unfoldable pub movedIn : Input → Displacement
+movedIn i = ruled Refused (intervalRules (i .dt)) (movedBy (i .settings) (pairs i))
+
+-- 2 to 4 on what is handed over, and then that
 unfoldable pub displacementOf : Input → Displacement
-displacementOf i = ruled Refused (inputRules (i .previous) (i .current) (i .dt) (i .receiver) (i .settings)) (movedBy (i .settings) (pairs i))
+displacementOf i = ruled Refused (epochRules (i .previous) (i .current) (i .receiver) (i .settings)) (movedIn i)
 
 -- ---- an answer in numbers: its number, which is 0 where it is accepted, its floats and its counts; a refusal has its number alone
 

@@ -1,7 +1,7 @@
 -- The rules of a displacement, in document 01's numbers and order ("Why a call turns back"). Definitions only.
 use Prim.Native.Nat.{ℕ}
 use mathlib.Core.Bool.{Bool, not, _&&_, _||_}
-use mathlib.Core.List.{List, [], _∷_, _++_}
+use mathlib.Core.List.{List, [], _∷_}
 use lib.Dec.{ltb}
 use lib.Ieee.{Float, lt}
 use lib.Ieee.Scale.{finite}
@@ -36,10 +36,6 @@ epochRules previous current receiver settings =
 -- 5, of the interval
 unfoldable pub intervalRules : Float → List Rule
 intervalRules dt = rule BadInterval (badInterval dt) ∷ []
-
--- 2 to 5, of what is handed over
-unfoldable pub inputRules : Epoch → Epoch → Float → Vec3 → Settings → List Rule
-inputRules previous current dt receiver settings = epochRules previous current receiver settings ++ intervalRules dt
 
 -- 7 to 9, of how many pairs there are before screening, how many are kept, and how many clock slots those have
 unfoldable pub displacementCounts : ℕ → ℕ → ℕ → List Rule

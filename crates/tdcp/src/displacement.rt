@@ -252,7 +252,52 @@ pub fn delta_position(
     )
 }
 
-// The same of two epochs' columns: nothing of them is copied. Rules 2 to 5, the pairs, and what they come to.
+// What every displacement of two epochs' columns shares once 2 to 4 have passed: rule 5, the pairs, and what they come to.
+pub(crate) fn moved_in(
+    previous_constellation: &[u8],
+    previous_svid: &[u16],
+    previous_band: &[u32],
+    previous_state: &[i32],
+    previous_floats: &[f64],
+    previous_count: usize,
+    current_constellation: &[u8],
+    current_svid: &[u16],
+    current_band: &[u32],
+    current_state: &[i32],
+    current_floats: &[f64],
+    current_count: usize,
+    dt: f64,
+    receiver: Vec3,
+    settings: Settings,
+) -> Displacement
+    requires { ⌜ epochFits (carrierColumns (now «previous_constellation») (now «previous_svid») (now «previous_band») (now «previous_state») (now «previous_floats»)) «previous_count» ≡ true ⌝ }
+    requires { ⌜ epochFits (carrierColumns (now «current_constellation») (now «current_svid») (now «current_band») (now «current_state») (now «current_floats»)) «current_count» ≡ true ⌝ }
+    ensures { λ r. ⌜ r ≡ spec.movedIn (spec.input (epochOf (carrierColumns (now («previous_constellation» .entry)) (now («previous_svid» .entry)) (now («previous_band» .entry)) (now («previous_state» .entry)) (now («previous_floats» .entry))) «previous_count») (epochOf (carrierColumns (now («current_constellation» .entry)) (now («current_svid» .entry)) (now («current_band» .entry)) (now («current_state» .entry)) (now («current_floats» .entry))) «current_count») dt receiver settings) ⌝ }
+{
+    if is_bad_interval(dt) {
+        return Displacement::Refused(Refusal::BadInterval);
+    }
+    let all = pairs_in(
+        previous_constellation,
+        previous_svid,
+        previous_band,
+        previous_state,
+        previous_floats,
+        previous_count,
+        current_constellation,
+        current_svid,
+        current_band,
+        current_state,
+        current_floats,
+        current_count,
+        receiver,
+        settings.mask,
+        dt,
+    );
+    moved_by(settings, all)
+}
+
+// The same of two epochs' columns: nothing of them is copied. Rules 2 to 4, and then 5 and what the pairs come to.
 pub fn delta_in(
     previous_constellation: &[u8],
     previous_svid: &[u16],
@@ -292,10 +337,7 @@ pub fn delta_in(
     ) {
         return Displacement::Refused(r);
     }
-    if is_bad_interval(dt) {
-        return Displacement::Refused(Refusal::BadInterval);
-    }
-    let all = pairs_in(
+    moved_in(
         previous_constellation,
         previous_svid,
         previous_band,
@@ -308,9 +350,8 @@ pub fn delta_in(
         current_state,
         current_floats,
         current_count,
-        receiver,
-        settings.mask,
         dt,
-    );
-    moved_by(settings, all)
+        receiver,
+        settings,
+    )
 }

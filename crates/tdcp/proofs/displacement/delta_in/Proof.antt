@@ -5,7 +5,7 @@ use Rattle.tdcp.specs.Valid.{epochRules}
 use Rattle.estimator.specs.declared.rules.Check.the-variants.{Passed}
 use Rattle.estimator.proofs.RulesLaws.{checked}
 use Rattle.tdcp.proofs.DisplacementSound.{promised}
-use Rattle.tdcp.proofs.DisplacementCall.{refused-epochs, refused-interval, paired}
+use Rattle.tdcp.proofs.DisplacementCall.{refused-epochs, passed-epochs}
 use borrow.Author.Needs.{needs}
 use Rattle.tdcp.proofs.displacement.delta_in.Statement.{statement}
 use Rattle.tdcp.proofs.displacement.delta_in.Tie as tie
@@ -32,31 +32,11 @@ returns c = promised _ _ (refused-epochs _ (sym (c .before .r .given .1) ∙ c .
 enum-told : tie.Need-enum-told
 enum-told c = search needs
 
-is-bad-interval-requires : tie.Need-is-bad-interval-requires
-is-bad-interval-requires c κs = search needs
+moved-in-requires : tie.Need-moved-in-requires
+moved-in-requires c κs = (c .before .before .before .before .before .before .before .before .before .before .before .pre .0, c .before .before .before .before .before .before .before .before .before .before .before .pre .1)
 
 returns-2 : tie.Need-returns-2
-returns-2 c = promised _ _ (refused-interval _ (passed (c .before .before)) (sym (c .before .is-bad-interval .ensures) ∙ c .if1 .taken))
-
-pairs-in-requires : tie.Need-pairs-in-requires
-pairs-in-requires c κs = (c .before .before .before .before .before .before .before .before .before .before .before .before .before .pre .0, c .before .before .before .before .before .before .before .before .before .before .before .before .before .pre .1)
-
-moved-by-requires : tie.Need-moved-by-requires
-moved-by-requires c κs = c .pairs-in .ensures .room
-
-returns-3 : tie.Need-returns-3
-returns-3 c = promised _ _ (c .moved-by .ensures ∙ paired _ (passed (c .before .before .before .before)) (sym (c .before .before .before .is-bad-interval .ensures) ∙ c .before .before .if1 .left) (c .before .pairs-in .ensures))
+returns-2 c = promised _ _ (c .moved-in .ensures ∙ passed-epochs _ (passed (c .before)))
 
 pub delta-in-spec : {M : Type 1} → statement M
-delta-in-spec =
-    tie.close
-    (tie.spec
-    check-in-requires
-    enum-known-r
-    returns
-    enum-told
-    is-bad-interval-requires
-    returns-2
-    pairs-in-requires
-    moved-by-requires
-    returns-3)
+delta-in-spec = tie.close (tie.spec check-in-requires enum-known-r returns enum-told moved-in-requires returns-2)
