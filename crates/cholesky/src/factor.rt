@@ -9,9 +9,9 @@ ghost use Rattle.cholesky.specs.Factor.{zeros, isPivot, factorOf, forwar
 ghost use Rattle.cholesky.specs.Answer.{accepted, rowsAfter, factoringOf};
 use numeric::real::is_finite;
 use numeric::refusal::Refusal;
-use root::sqrt::no_tangent;
-use root::sqrt::sqrt_near;
-use root::sqrt::tangent_at;
+use root::tangent::no_tangent;
+use root::tangent::sqrt_near;
+use root::tangent::tangent_at;
 
 // What factoring answers; the factor itself stands in the lent rows.
 pub enum Factoring {
