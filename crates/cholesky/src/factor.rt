@@ -6,7 +6,7 @@ ghost use lib.Dec.{T};
 ghost use lib.ListN.{replicate};
 ghost use lib.Ieee.{binary64, fits};
 ghost use Rattle.cholesky.specs.Factor.{zeros, isPivot, factorOf, forwardTo, backTo, solutionOf, at, Unused, UnusedPlaces};
-ghost use Rattle.cholesky.specs.Answer.{accepted, rowsAfter, factoringOf};
+ghost use Rattle.cholesky.specs.Answer.{accepted, rowsAfter, factoringOf, factoringNumber};
 use numeric::real::is_finite;
 use numeric::refusal::Refusal;
 use root::tangent::no_tangent;
@@ -17,6 +17,18 @@ use root::tangent::tangent_at;
 pub enum Factoring {
     Refused(Refusal),
     Done,
+}
+
+impl Factoring {
+    // The number that a caller outside is given.
+    pub fn number(self) -> u8
+        ensures { λ r. ⌜ r ≡ factoringNumber self ⌝ }
+    {
+        match self {
+            Factoring::Refused(r) => r.number(),
+            Factoring::Done => 0,
+        }
+    }
 }
 
 // A pivot that is not finite or not above 0 is refused; a NaN is neither above 0 nor at most the largest number. It is not held against infinity, since the
