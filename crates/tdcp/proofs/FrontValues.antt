@@ -9,7 +9,8 @@ use lib.ListN.{length, replicate}
 use Rattle.exact.specs.Float.{+0, 1·0, whole, decimal}
 use Rattle.walk.specs.Walk.{every, first, collect, fold}
 use Rattle.numeric.specs.Real.{abs, inRange}
-use Rattle.numeric.specs.Order.{sign, exponent, digits, isNaN, isQuiet, payload, payloadOrder, unordered, totalOrder, patternOf}
+use Rattle.exact.specs.Pattern.{sign, exponent, digits}
+use Rattle.numeric.specs.Order.{isNanPattern, isQuiet, payload, payloadOrder, unordered, totalOrder, patternOf}
 use Rattle.numeric.specs.declared.vec3.Vec3.{Vec3}
 use Rattle.numeric.specs.declared.refusal.Refusal.the-variants.{TooMany, SettingOutOfRange, RecordOutOfRange, BadInterval, TooFewPairs, TooFewRows, TooManySlots}
 use Rattle.median.specs.Sorted.{insertBy, sortedBy, medianOf}
@@ -93,7 +94,7 @@ pub record Edges : Type 0 where
   pub mask-not-finite : said nan 1·0 six six ≡ Refused SettingOutOfRange
 
 pub edges : Edges
-unfolding ruled every first collect abs inRange placeable isElevation sound unsigned bitSet usable same has appearing slotFrom clocksIn clocksOf pairOf firstPair pairAt pairsOf centre within keptOf settingsPass badInterval epochRules intervalRules displacementCounts rowRules pairRules sign exponent digits isNaN isQuiet payload payloadOrder unordered totalOrder patternOf insertBy sortedBy medianOf centreOf ofInt ofBits toBits neg add sub mul div le lt eq isNan
+unfolding ruled every first collect abs inRange placeable isElevation sound unsigned bitSet usable same has appearing slotFrom clocksIn clocksOf pairOf firstPair pairAt pairsOf centre within keptOf settingsPass badInterval epochRules intervalRules displacementCounts rowRules pairRules sign exponent digits isNanPattern isQuiet payload payloadOrder unordered totalOrder patternOf insertBy sortedBy medianOf centreOf ofInt ofBits toBits neg add sub mul div le lt eq isNan
 edges =
     record {
       nothing = refl;

@@ -7,7 +7,8 @@ use Rattle.exact.specs.Float.{+0}
 use Rattle.exact.specs.Products.{lessProducts}
 use Rattle.root.specs.Root.{rootOf}
 use Rattle.cholesky.specs.Factor.{isPivot, withElement, below, pivotOf, rowOf, Refused, next, factorTo, factorOf}
-use Rattle.numeric.specs.Order.{sign, totalOrder, keyOf, patternOf}
+use Rattle.exact.specs.Pattern.{sign}
+use Rattle.numeric.specs.Order.{totalOrder, keyOf, patternOf}
 use Rattle.numeric.specs.Real.{abs, inRange}
 use Rattle.walk.specs.Walk.{every}
 use Rattle.median.specs.Sorted.{insertBy, sortedBy, medianOf}

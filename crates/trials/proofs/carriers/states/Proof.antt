@@ -3,7 +3,8 @@ use lib.IntN.{pos, negsuc}
 use lib.Ieee.{ofInt, ofBits, toBits, neg, add, sub, mul, div, le, lt, eq, isNan}
 use Rattle.walk.specs.Walk.{every, first, collect}
 use Rattle.numeric.specs.Real.{abs, inRange}
-use Rattle.numeric.specs.Order.{sign, exponent, digits, isNaN, isQuiet, payload, payloadOrder, unordered, totalOrder, patternOf}
+use Rattle.exact.specs.Pattern.{sign, exponent, digits}
+use Rattle.numeric.specs.Order.{isNanPattern, isQuiet, payload, payloadOrder, unordered, totalOrder, patternOf}
 use Rattle.median.specs.Sorted.{insertBy, sortedBy, medianOf}
 use Rattle.median.specs.Centre.{centreOf}
 use Rattle.estimator.specs.Rules.{ruled, rowRules}
@@ -29,7 +30,7 @@ record Used : Type 0 where
   in-minus-1 : usedOf (displacementOf (sixIn (negsuc 0))) ≡ 0
 
 used : Used
-unfolding displacementOf movedIn movedBy endRules finiteAt fitBy fitOver fitFrom ruled every first collect abs inRange placeable isElevation sound unsigned bitSet usable same has appearing slotFrom clocksIn clocksOf pairOf firstPair pairAt pairsOf centre within keptOf settingsPass badInterval epochRules intervalRules displacementCounts rowRules pairRules sign exponent digits isNaN isQuiet payload payloadOrder unordered totalOrder patternOf insertBy sortedBy medianOf centreOf ofInt ofBits toBits neg add sub mul div le lt eq isNan
+unfolding displacementOf movedIn movedBy endRules finiteAt fitBy fitOver fitFrom ruled every first collect abs inRange placeable isElevation sound unsigned bitSet usable same has appearing slotFrom clocksIn clocksOf pairOf firstPair pairAt pairsOf centre within keptOf settingsPass badInterval epochRules intervalRules displacementCounts rowRules pairRules sign exponent digits isNanPattern isQuiet payload payloadOrder unordered totalOrder patternOf insertBy sortedBy medianOf centreOf ofInt ofBits toBits neg add sub mul div le lt eq isNan
 used = record { in-1 = refl; in-0 = refl; in-3 = refl; in-5 = refl; in-minus-1 = refl }
 
 used-in-requires : tie.Need-used-in-requires

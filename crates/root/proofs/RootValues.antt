@@ -1,4 +1,4 @@
--- `rootOf` at some numbers, by computation.
+-- Worked values of `rootOf`. Assumes nothing.
 use mathlib.Core.Path.{_≡_, refl}
 use mathlib.Core.Bool.{false, true}
 use lib.IntN.{pos, negsuc}

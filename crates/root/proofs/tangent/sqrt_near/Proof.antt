@@ -1,7 +1,7 @@
--- `root::sqrt::sqrt_near` meets its contract: each answer was tested by `is_root` or comes from `sqrt`. Assumes nothing.
+-- `root::tangent::sqrt_near` meets its contract: each answer was tested by `is_root` or comes from `sqrt`. Assumes nothing.
 use borrow.Author.Needs.{needs}
-use Rattle.root.proofs.sqrt.sqrt_near.Statement.{statement}
-use Rattle.root.proofs.sqrt.sqrt_near.Tie as tie
+use Rattle.root.proofs.tangent.sqrt_near.Statement.{statement}
+use Rattle.root.proofs.tangent.sqrt_near.Tie as tie
 
 is-root-requires : tie.Need-is-root-requires
 is-root-requires c κs = search needs

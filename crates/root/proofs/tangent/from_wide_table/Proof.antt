@@ -1,9 +1,9 @@
--- `root::sqrt::from_wide_table` is safe: no pattern that it reads is a NaN's. Assumes nothing.
+-- `root::tangent::from_wide_table` is safe: no pattern that it reads is a NaN's. Assumes nothing.
 use native.Mathlib.Omega.{arith}
 use Rattle.root.proofs.Reading.{no-nan}
 use borrow.Author.Needs.{needs}
-use Rattle.root.proofs.sqrt.from_wide_table.Statement.{statement}
-use Rattle.root.proofs.sqrt.from_wide_table.Tie as tie
+use Rattle.root.proofs.tangent.from_wide_table.Statement.{statement}
+use Rattle.root.proofs.tangent.from_wide_table.Tie as tie
 
 wide-place-of-requires : tie.Need-wide-place-of-requires
 wide-place-of-requires c κs = search needs
