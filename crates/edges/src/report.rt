@@ -5,8 +5,8 @@ use libc::STDOUT_FILENO;
 use numeric::order::pattern;
 use numeric::refusal::Refusal;
 use numeric::vec3::Vec3;
+use query::query::Correction;
 use table::add::Adding;
-use table::query::Correction;
 
 fn text(t: &[u8]) {
     io::write_all(STDOUT_FILENO, t);

@@ -17,9 +17,9 @@ use differential::record::Settings;
 use differential::record::State;
 use differential::record::States;
 use numeric::order::pattern;
+use query::query::Correction;
+use query::query::query;
 use table::add::Adding;
-use table::query::Correction;
-use table::query::query;
 
 // A table with room for 32 samples, zeros past its own.
 struct Table {
