@@ -3,8 +3,8 @@ use libc::STDOUT_FILENO;
 use numeric::order::pattern;
 use numeric::refusal::Refusal;
 use numeric::vec3::Vec3;
+use query::query::Correction;
 use table::add::Adding;
-use table::query::Correction;
 use tdcp::displacement::Displacement;
 use wls::fix::Fix;
 

@@ -8,9 +8,9 @@ use native.Mathlib.Nat.{le-trans, le-refl}
 use lib.Dec.{ltb, leb, eqb}
 use borrow.Author.Tests.{ltb-true, ltb-false, leb-true, eqb-true, eqb-false, le-leb, ne-eqb}
 use Rattle.walk.specs.Walk.{collect}
-use Rattle.table.specs.Table.{placeOf, rises, signalOf, timeKey}
+use Rattle.table.specs.Table.{placeOf, rises, signalOf, timeKey, ofSignal, seriesOf}
 use Rattle.table.specs.Add.{insertAll}
-use Rattle.table.specs.Build.{builtOf, ofSignal, put, seriesOf, signals, sortTimes, withSignal}
+use Rattle.table.specs.Build.{builtOf, put, signals, sortTimes, withSignal}
 use Rattle.table.specs.declared.sample.Sample.{Sample}
 use Rattle.table.proofs.TableLaws.{and-left, and-right}
 use Rattle.table.proofs.UnitLaws.{never, key-lt}

@@ -1,6 +1,6 @@
 -- `zaqnuti::corrections::zaqnuti_query` meets its contract. Assumes nothing.
 use mathlib.Core.Path.{sym, _∙_, subst}
-use Rattle.table.specs.Query.{GivesFinite}
+use Rattle.query.specs.Query.{GivesFinite}
 use Rattle.zaqnuti.proofs.CorrectionLaws.{query-refused, query-metres}
 use borrow.Author.Needs.{needs}
 use Rattle.zaqnuti.proofs.corrections.zaqnuti_query.Statement.{statement}
