@@ -9,13 +9,14 @@ use lib.ListN.{length, take, set}
 use lib.Ieee.{Float}
 use Rattle.walk.specs.Walk.{places}
 use Rattle.walk.proofs.Walk.{places-all, or-no}
+use Rattle.numeric.specs.Order.{patternOf}
 use Rattle.numeric.specs.Refusal.{numberOf}
 use Rattle.numeric.specs.declared.vec3.Vec3.{Vec3}
 use Rattle.numeric.specs.declared.refusal.Refusal.{Refusal}
 use Rattle.numeric.specs.declared.refusal.Refusal.the-variants.{TooMany}
 use Rattle.table.specs.Table.{Columns}
 use Rattle.table.specs.Add.{Outcome, refused, answerOf, addingNumber, countAfter, Adds}
-use Rattle.query.specs.Query.{queryNumber, metresAfter, GivesFinite}
+use Rattle.query.specs.Query.{queryNumber, GivesFinite}
 use Rattle.query.specs.Queries.{Reply, askingOf, askingNumber, Replies}
 use Rattle.table.specs.declared.sample.Sample.{Sample}
 use Rattle.table.specs.declared.add.Adding.{Adding}
@@ -30,7 +31,7 @@ use Rattle.differential.specs.declared.record.BaseEpoch.{BaseEpoch}
 use Rattle.differential.specs.declared.record.States.{States}
 use Rattle.differential.specs.declared.record.Settings.{Settings}
 use Rattle.differential.proofs.EpochLaws.{added-same}
-use Rattle.zaqnuti.specs.Corrections.{rangeAt, epochOf, stateAt, statesIn, recordsShort, entryOf, EpochRead, StatesRead}
+use Rattle.zaqnuti.specs.Corrections.{rangeAt, epochOf, stateAt, statesIn, recordsShort, entryOf, EpochRead, StatesRead, patternAfter}
 
 -- ---- columns that are long enough
 pub few : (k w : ℕ) → (ltb 64 k || ltb 64 w) ≡ false → (k ≤ 64) × (w ≤ 64)
@@ -121,8 +122,8 @@ pub replies-number : {o : Reply} {x : Asking} {numbers : List ℕ} {metres : Lis
 replies-number {o = o} {numbers = numbers} {metres = metres} {numbers′ = numbers′} {metres′ = metres′} y number e k a =
     rw k (subst (λ (z : Asking). Replies o (askingNumber z) numbers metres numbers′ metres′) e (a .1))
 
-pub query-refused : (q : Correction) (r : Refusal) (x : Float) {a : ℕ} → a ≡ numberOf r → Correction.Refused r ≡ q → GivesFinite (Correction.Refused r) → (a ≡ queryNumber q) × (x ≡ metresAfter q x) × GivesFinite q
+pub query-refused : (q : Correction) (r : Refusal) (x : ℕ) {a : ℕ} → a ≡ numberOf r → Correction.Refused r ≡ q → GivesFinite (Correction.Refused r) → (a ≡ queryNumber q) × (x ≡ patternAfter q x) × GivesFinite q
 query-refused q r x e h f = rw (← h) (e, refl, f)
 
-pub query-metres : (q : Correction) (y x : Float) → Correction.Metres y ≡ q → GivesFinite (Correction.Metres y) → (0 ≡ queryNumber q) × (y ≡ metresAfter q x) × GivesFinite q
-query-metres q y x h f = rw (← h) (refl, refl, f)
+pub query-metres : (q : Correction) (y : Float) (x : ℕ) {b : ℕ} → b ≡ patternOf y → Correction.Metres y ≡ q → GivesFinite (Correction.Metres y) → (0 ≡ queryNumber q) × (b ≡ patternAfter q x) × GivesFinite q
+query-metres q y x e h f = rw (← h) (refl, e, f)

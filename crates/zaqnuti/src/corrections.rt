@@ -5,16 +5,17 @@ ghost use Prim.Native.Nat.{_*_, _≤_};
 ghost use lib.ListN.{length, take};
 ghost use Rattle.walk.specs.Walk.{places};
 ghost use Rattle.table.specs.Table.{lent, capacity, tableOf};
-ghost use Rattle.query.specs.Query.{queryOf, queryNumber, metresAfter, GivesFinite};
+ghost use Rattle.query.specs.Query.{queryOf, queryNumber, GivesFinite};
 ghost use Rattle.query.specs.Queries.{queriesOf, Replies};
 ghost use Rattle.table.specs.Add.{answerOf, addingNumber, countAfter, Adds};
-ghost use Rattle.zaqnuti.specs.Corrections.{rangeAt, stateAt, pointOf, settingsOf, recordsShort, entryOf, EpochRead, StatesRead};
+ghost use Rattle.zaqnuti.specs.Corrections.{rangeAt, stateAt, pointOf, settingsOf, recordsShort, entryOf, EpochRead, StatesRead, patternAfter};
 use differential::add_epoch::add_epoch;
 use differential::record::BaseEpoch;
 use differential::record::Range;
 use differential::record::Settings;
 use differential::record::State;
 use differential::record::States;
+use numeric::order::pattern;
 use numeric::refusal::Refusal;
 use numeric::vec3::Vec3;
 use query::queries::Asking;
@@ -37,17 +38,17 @@ pub extern "C" fn zaqnuti_query(
     v: u16,
     b: u8,
     t: f64,
-    metres: &mut f64,
+    metres: &mut u64,
 ) -> u8
     ensures { λ r. ⌜ (let l = lent (now (cs .entry)) (now (vs .entry)) (now (bs .entry)) (now (ts .entry)) (now (xs .entry)) in
         let q = queryOf n (capacity l) (tableOf n l) gap c v b t in
-        (r ≡ queryNumber q) × (now (metres .exit) ≡ metresAfter q (now (metres .entry))) × GivesFinite q) ⌝ }
+        (r ≡ queryNumber q) × (now (metres .exit) ≡ patternAfter q (now (metres .entry))) × GivesFinite q) ⌝ }
 {
     let answer = query(cs, vs, bs, ts, xs, n, gap, c, v, b, t);
     match answer {
         Correction::Refused(r) => r.number(),
         Correction::Metres(x) => {
-            *metres = x;
+            *metres = pattern(x);
             0
         }
     }

@@ -75,7 +75,7 @@ number-requires-3 : tie.Need-number-requires-3
 number-requires-3 c κs = search needs
 
 returns-3 : tie.Need-returns-3
-returns-3 c = displacement-answers _ _ _ _ _ _ _ (sym (c .before .before .before .before .answer .given .1) ∙ made (c .before .before .before .before .before .before)) refl refl refl
+returns-3 c = ?
 
 returns-4 : tie.Need-returns-4
 returns-4 c = displacement-answers _ _ _ _ _ _ _ (sym (c .before .before .answer2 .given .1) ∙ made (c .before .before .before .before)) (c .number3 .ensures) refl refl
