@@ -31,7 +31,8 @@
 //! # Ok::<(), Refusal>(())
 //! ```
 //!
-//! The library is `no_std` and needs `alloc` for tables and tracks.
+//! The library is `no_std` and needs `alloc` for tables and tracks; the feature `std`, on by
+//! default, builds the command `zaqnuti` beside it.
 #![no_std]
 #![warn(missing_docs)]
 #![deny(unsafe_op_in_unsafe_fn)]
