@@ -113,3 +113,8 @@ fn columns<R, const N: usize>(records: &[R], of: impl Fn(&R) -> [f64; N]) -> [[f
     }
     out
 }
+
+/// The README's program is compiled and run with the other examples.
+#[cfg(doctest)]
+#[doc = include_str!("../README.md")]
+struct Readme;
