@@ -107,6 +107,15 @@ impl Args {
         parsed.map_err(|_| Self::wrong(name, value, "a whole number from 0 up"))
     }
 
+    /// The settings of the kind of receiver.
+    pub fn receiver<T>(&self, phone: T, geodetic: T) -> Run<T> {
+        match self.value("--receiver") {
+            None | Some("phone") => Ok(phone),
+            Some("geodetic") => Ok(geodetic),
+            Some(other) => Err(Self::wrong("--receiver", other, "phone or geodetic")),
+        }
+    }
+
     /// A place by x, y and z, if the option is given.
     pub fn place(&self, name: &str) -> Run<Option<[f64; 3]>> {
         let Some(value) = self.value(name) else {

@@ -12,56 +12,10 @@ const LONGEST: u64 = 65_536;
 
 /// Every column that a command reads or writes. A file may have those that a command has no use
 /// for; a name that is none of these is most likely misspelt.
-const KNOWN: &[&str] = &[
-    "week",
-    "tow",
-    "constellation",
-    "svid",
-    "band",
-    "pseudorange",
-    "carrier",
-    "adr",
-    "state",
-    "x",
-    "y",
-    "z",
-    "vx",
-    "vy",
-    "vz",
-    "clock",
-    "modelled",
-    "ionosphere",
-    "elevation",
-    "rate",
-    "correction",
-    "rx",
-    "ry",
-    "rz",
-    "pair",
-    "line",
-    "dt",
-    "screen",
-    "sigma_a",
-    "sigma_b",
-    "huber",
-    "mask",
-    "rounds",
-    "true_dx",
-    "true_dy",
-    "true_dz",
-    "dx",
-    "dy",
-    "dz",
-    "used",
-    "screened",
-    "chi",
-    "pdop",
-    "refusal",
-    "sigma_x",
-    "sigma_y",
-    "sigma_z",
-    "satellites",
-];
+const KNOWN: &str = "week tow constellation svid band pseudorange carrier adr state \
+    x y z vx vy vz clock modelled ionosphere correction elevation rate rx ry rz \
+    dt dx dy dz true_dx true_dy true_dz sigma_x sigma_y sigma_z \
+    pair line screen sigma_a sigma_b huber mask rounds used screened chi pdop refusal satellites";
 
 /// A column of a table by its place.
 #[derive(Clone, Copy)]
@@ -132,7 +86,7 @@ impl Table {
             if self.header[..i].contains(name) {
                 return Err(self.fault(&format!("the column {name:?} stands twice")));
             }
-            if !strangers && !KNOWN.contains(&name.as_str()) {
+            if !strangers && !KNOWN.split(' ').any(|known| known == name) {
                 let hint = "see --help, or give --ignore-unknown";
                 return Err(self.fault(&format!("the column {name:?} is unknown; {hint}")));
             }

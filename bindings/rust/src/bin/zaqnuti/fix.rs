@@ -8,7 +8,7 @@ use crate::args::Args;
 use crate::csv::{Column, Table};
 use crate::decimal::{metres, written};
 use crate::epochs::{Epochs, Time};
-use crate::fault::{said, Run};
+use crate::fault::Run;
 
 pub const HELP: &str = "\
 zaqnuti fix [OPTIONS] [FILE..]: a position from the pseudoranges of each epoch
@@ -90,11 +90,7 @@ impl Columns {
 }
 
 fn settings(args: &Args) -> Run<Settings> {
-    let kind = match args.value("--receiver") {
-        None | Some("phone") => Settings::default(),
-        Some("geodetic") => Settings::geodetic(),
-        Some(other) => return said(format!("--receiver: {other:?} is not phone or geodetic")),
-    };
+    let kind = args.receiver(Settings::default(), Settings::geodetic())?;
     Ok(Settings {
         sigma_a: args.float("--sigma-a", kind.sigma_a)?,
         sigma_b: args.float("--sigma-b", kind.sigma_b)?,

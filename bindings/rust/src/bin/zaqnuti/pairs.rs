@@ -295,11 +295,7 @@ impl Series {
 }
 
 fn settings(args: &Args) -> Run<Settings> {
-    let kind = match args.value("--receiver") {
-        None | Some("phone") => Settings::default(),
-        Some("geodetic") => Settings::geodetic(),
-        Some(other) => return said(format!("--receiver: {other:?} is not phone or geodetic")),
-    };
+    let kind = args.receiver(Settings::default(), Settings::geodetic())?;
     Ok(Settings {
         screen: args.float("--screen", kind.screen)?,
         sigma_a: args.float("--sigma-a", kind.sigma_a)?,
