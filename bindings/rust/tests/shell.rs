@@ -287,6 +287,20 @@ fn encode_and_decode() {
     assert_eq!(answered(&words, 0), stored);
     let many = said(&["encode", &drive("drive.csv")], b"");
     assert!(many.ends_with("has more than one pair; give --to FOLDER"));
+    let series = fed(&["encode", AT], rover(17).as_bytes());
+    assert_eq!(series.status.code(), Some(0));
+    assert_eq!(text(&series.stdout).lines().count(), 17);
+    let rows = &rover(9)[rover(1).len()..];
+    let crowd = format!(
+        "{}{}",
+        rover(17),
+        rows.replace("518400", "518460").repeat(9)
+    );
+    let crowd = said(&["encode", "--to", &to, AT], crowd.as_bytes());
+    assert!(
+        crowd.ends_with("518460.000 s: has too many carriers for a text"),
+        "{crowd}"
+    );
     let outside = stored.replace("\n01,S", "\n../01,S");
     let name = said(&["encode", "--to", &to], outside.as_bytes());
     assert_eq!(name, "\"../01\" is no name of a file");

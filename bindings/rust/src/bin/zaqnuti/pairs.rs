@@ -2,7 +2,7 @@
 //! which is paired with the one before it, or lines S, P and C as the line form has them.
 
 use zaqnuti::tdcp::{delta_position, Carrier, Delta, Settings};
-use zaqnuti::{Ecef, Refusal};
+use zaqnuti::{Ecef, Refusal, RECORDS};
 
 use crate::args::Args;
 use crate::csv::{Column, Table};
@@ -83,7 +83,7 @@ pub struct Pair {
     pub at: [f64; 3],
     pub set: Settings,
     pub carriers: Vec<(Side, Carrier)>,
-    /// Whether there are more carriers than are kept.
+    /// Whether there may be more carriers than are kept.
     pub over: bool,
     pub truth: Option<[f64; 3]>,
 }
@@ -286,7 +286,7 @@ impl Series {
             at: self.places.at(before.time, before.rows[0].at)?,
             set: self.set,
             carriers: [side(Side::Previous, before), side(Side::Current, &now)].concat(),
-            over: false,
+            over: before.rows.len().max(now.rows.len()) > RECORDS,
             truth: now.rows[0].truth,
         };
         self.before = Some(now);

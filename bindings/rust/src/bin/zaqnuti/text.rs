@@ -58,7 +58,7 @@ fn encoded(pair: &Pair) -> Run<String> {
         );
     }
     match pair.over || out.len() > TEXT {
-        true => said(format!("{}: its text is above {TEXT} bytes", pair.name)),
+        true => said(format!("{}: has too many carriers for a text", pair.name)),
         false => Ok(out),
     }
 }
