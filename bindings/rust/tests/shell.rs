@@ -489,6 +489,11 @@ fn files_that_cannot_be_read() {
     let at = folder("unread").display().to_string();
     assert_eq!(said(&["fix", &at], b""), format!("{at}: is a folder"));
     assert_eq!(said(&["decode", &at], b""), format!("{at}: is a folder"));
+    let twice = said(
+        &["corrections", "--base", "-", BASE_AT],
+        rover(9).as_bytes(),
+    );
+    assert_eq!(twice, "standard input: is read twice");
     let none = format!("{at}/none.csv");
     assert!(said(&["fix", &none], b"").starts_with(&format!("{none}: No such file")));
     let out = Command::new(COMMAND)

@@ -3,6 +3,7 @@
 use std::fs::File;
 use std::io::{self, BufRead, BufReader, Read};
 use std::str::FromStr;
+use std::sync::atomic::{AtomicBool, Ordering};
 
 use crate::fault::{failed, said, Fault, Run};
 use crate::progress::Progress;
@@ -36,9 +37,15 @@ pub struct Table {
     progress: Progress,
 }
 
+/// Whether standard input is some file's already.
+static TAKEN: AtomicBool = AtomicBool::new(false);
+
 /// A name for messages, and what can be read; `-` is standard input.
 pub fn open(path: &str) -> Run<(String, Box<dyn BufRead>, Option<u64>)> {
     if path == "-" {
+        if TAKEN.swap(true, Ordering::Relaxed) {
+            return said("standard input: is read twice");
+        }
         let source = Box::new(io::stdin().lock());
         return Ok(("standard input".into(), source, None));
     }
