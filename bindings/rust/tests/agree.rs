@@ -4,6 +4,8 @@ use std::collections::BTreeMap;
 use std::fs;
 use std::path::{Path, PathBuf};
 
+use zaqnuti::Refusal;
+
 /// For each function the parameters' types and the result's, in one notation: `*T` and `*const T` for pointers, `T` for numbers.
 type Signatures = BTreeMap<String, (Vec<String>, String)>;
 
@@ -181,4 +183,20 @@ fn header_and_rattle_agree() {
 #[test]
 fn sys_and_rattle_agree() {
     assert_eq!(sys(), rattle());
+}
+
+/// The names and numbers of crates/numeric/src/refusal.rt.
+#[test]
+fn refusals_and_rattle_agree() {
+    let text = fs::read_to_string(root().join("crates/numeric/src/refusal.rt")).unwrap();
+    let named = |line: &str| {
+        let (name, number) = line.trim().strip_prefix("Refusal::")?.split_once(" => ")?;
+        Some((
+            name.to_string(),
+            number.trim_end_matches(',').parse::<u8>().ok()?,
+        ))
+    };
+    let rattle: Vec<(String, u8)> = text.lines().filter_map(named).collect();
+    let here = Refusal::ALL.iter().map(|r| (format!("{r:?}"), r.number()));
+    assert_eq!(rattle, here.collect::<Vec<_>>());
 }

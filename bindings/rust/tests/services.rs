@@ -17,13 +17,15 @@ fn near(a: f64, b: f64, within: f64) -> bool {
 
 #[test]
 fn refusals_have_document_01s_numbers() {
-    for (i, refusal) in Refusal::ALL.into_iter().enumerate() {
+    assert_eq!(Refusal::ALL.len(), 21);
+    for (i, &refusal) in Refusal::ALL.iter().enumerate() {
         assert_eq!(usize::from(refusal.number()), i + 1);
         assert_eq!(Refusal::of(refusal.number()), Some(refusal));
         assert!(refusal.to_string().ends_with(&format!("({})", i + 1)));
     }
     assert_eq!(Refusal::of(0), None);
-    assert_eq!(Refusal::of(13), None);
+    assert_eq!(Refusal::of(13), Some(Refusal::BadTime));
+    assert_eq!(Refusal::of(22), None);
 }
 
 #[test]
