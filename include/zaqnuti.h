@@ -51,8 +51,8 @@
  * recurses. Each page is touched in order, so that a stack that is too small
  * ends at its guard page.
  *
- *     fix             26,624
- *     position        26,624
+ *     fix             20,224
+ *     position        20,224
  *     displacement    14,080
  *     line            38,144
  *     add_epoch       17,408

@@ -424,10 +424,10 @@ static inline uint8_t zaqnuti_easy_queries(
     uint8_t *numbers,
     double *metres)
 {
-    uint8_t constellation[ZAQNUTI_RECORDS];
-    uint16_t svid[ZAQNUTI_RECORDS];
-    uint8_t band[ZAQNUTI_RECORDS];
-    double times[ZAQNUTI_RECORDS];
+    uint8_t constellation[ZAQNUTI_RECORDS] = {0};
+    uint16_t svid[ZAQNUTI_RECORDS] = {0};
+    uint8_t band[ZAQNUTI_RECORDS] = {0};
+    double times[ZAQNUTI_RECORDS] = {0.0};
     size_t i;
 
     if (count > ZAQNUTI_RECORDS) {
