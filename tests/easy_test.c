@@ -70,6 +70,7 @@ static void fix_both(const zaqnuti_observation *record, size_t count, zaqnuti_ve
     double position[3];
     size_t used = 77;
     zaqnuti_observations epoch;
+    zaqnuti_observations before;
     zaqnuti_solution easy;
     zaqnuti_solution marked;
     uint8_t plain_number;
@@ -85,7 +86,9 @@ static void fix_both(const zaqnuti_observation *record, size_t count, zaqnuti_ve
         constellation[i] = record[i].constellation;
         memcpy(&floats[5 * i], f, sizeof f);
         if (easy_number == 0) {
+            before = epoch;
             easy_number = zaqnuti_observations_add(&epoch, &record[i]);
+            same(easy_number == 0 || (i == 64 && memcmp(&before, &epoch, sizeof epoch) == 0), "fix, the 65th observation");
         }
     }
     plain_number = zaqnuti_fix(constellation, count, floats, 5 * count, count, from, settings, set->rounds, solution, &used);
@@ -134,12 +137,15 @@ static void columns_of(struct columns *to, const zaqnuti_carrier *record, size_t
 
 static uint8_t epoch_of(zaqnuti_epoch *to, const zaqnuti_carrier *record, size_t count)
 {
+    zaqnuti_epoch before;
     uint8_t number = 0;
     size_t i;
     memset(to, 0xA5, sizeof *to);
     zaqnuti_epoch_clear(to);
     for (i = 0; i < count && number == 0; i++) {
+        before = *to;
         number = zaqnuti_epoch_add(to, &record[i]);
+        same(number == 0 || (i == 64 && memcmp(&before, to, sizeof before) == 0), "displacement, the 65th carrier");
     }
     return number;
 }
@@ -217,19 +223,84 @@ static void tables_clear(void)
     plain_table.count = 0;
 }
 
-static void add_both(const zaqnuti_base_epoch *e, zaqnuti_vector base, zaqnuti_vector rover, const zaqnuti_correction_settings *set)
+/* An epoch of the base as records. */
+struct base_records {
+    double time;
+    size_t ranges;
+    zaqnuti_base_range range[MOST];
+    bool present;
+    size_t states;
+    zaqnuti_base_state state[MOST];
+};
+
+static uint8_t easy_add(const struct base_records *e, zaqnuti_vector base, zaqnuti_vector rover, const zaqnuti_correction_settings *set)
 {
+    static zaqnuti_base_epoch epoch;
+    static zaqnuti_base_epoch before;
+    uint8_t number = 0;
+    size_t i;
+
+    memset(&epoch, 0xA5, sizeof epoch);
+    zaqnuti_base_epoch_clear(&epoch, e->time);
+    epoch.states_present = e->present;
+    for (i = 0; i < e->ranges && number == 0; i++) {
+        before = epoch;
+        number = zaqnuti_base_epoch_add_range(&epoch, &e->range[i]);
+        same(number == 0 || memcmp(&before, &epoch, sizeof epoch) == 0, "base epoch, a range too many");
+    }
+    for (i = 0; i < e->states && number == 0; i++) {
+        before = epoch;
+        number = zaqnuti_base_epoch_add_state(&epoch, &e->state[i]);
+        same(number == 0 || memcmp(&before, &epoch, sizeof epoch) == 0, "base epoch, a state too many");
+        if (number != 0 && !e->present) {
+            /* States beside the mark that there are none are not looked at. */
+            number = 0;
+            break;
+        }
+    }
+    return number != 0 ? number : zaqnuti_easy_add_epoch(&easy_table, &epoch, base, rover, set);
+}
+
+static uint8_t plain_add(const struct base_records *e, zaqnuti_vector base, zaqnuti_vector rover, const zaqnuti_correction_settings *set)
+{
+    uint8_t rc[MOST] = {0};
+    uint16_t rv[MOST] = {0};
+    uint8_t rb[MOST] = {0};
+    double rp[MOST] = {0.0};
+    uint8_t sc[MOST] = {0};
+    uint16_t sv[MOST] = {0};
+    uint8_t sb[MOST] = {0};
+    double sf[8 * MOST] = {0.0};
     const double at_base[3] = {base.x, base.y, base.z};
     const double at_rover[3] = {rover.x, rover.y, rover.z};
-    const uint8_t easy_number = zaqnuti_easy_add_epoch(&easy_table, e, base, rover, set);
-    const size_t k = e->ranges <= ZAQNUTI_RECORDS ? e->ranges : ZAQNUTI_RECORDS;
-    const size_t m = e->states <= ZAQNUTI_RECORDS ? e->states : ZAQNUTI_RECORDS;
-    const uint8_t plain_number = zaqnuti_add_epoch(
+    size_t i;
+
+    for (i = 0; i < e->ranges; i++) {
+        rc[i] = e->range[i].signal.constellation;
+        rv[i] = e->range[i].signal.svid;
+        rb[i] = e->range[i].signal.band;
+        rp[i] = e->range[i].pseudorange;
+    }
+    for (i = 0; i < e->states; i++) {
+        const zaqnuti_base_state *s = &e->state[i];
+        const double f[8] = {s->satellite.x, s->satellite.y, s->satellite.z, s->velocity.x, s->velocity.y, s->velocity.z, s->clock, s->modelled};
+        sc[i] = s->signal.constellation;
+        sv[i] = s->signal.svid;
+        sb[i] = s->signal.band;
+        memcpy(&sf[8 * i], f, sizeof f);
+    }
+    return zaqnuti_add_epoch(
         plain_table.constellation, ZAQNUTI_SAMPLES, plain_table.svid, ZAQNUTI_SAMPLES, plain_table.band, ZAQNUTI_SAMPLES,
         plain_table.time, ZAQNUTI_SAMPLES, plain_table.metres, ZAQNUTI_SAMPLES, &plain_table.count,
-        e->time, e->ranges, e->range_constellation, k, e->range_svid, k, e->range_band, k, e->range_pseudorange, k,
-        e->states_present, e->states, e->state_constellation, m, e->state_svid, m, e->state_band, m, e->state_floats, 8 * m,
+        e->time, e->ranges, rc, e->ranges, rv, e->ranges, rb, e->ranges, rp, e->ranges,
+        e->present, e->states, sc, e->states, sv, e->states, sb, e->states, sf, 8 * e->states,
         at_base, at_rover, set->max_gap, set->max_correction, set->corrected);
+}
+
+static void add_both(const struct base_records *e, zaqnuti_vector base, zaqnuti_vector rover, const zaqnuti_correction_settings *set)
+{
+    const uint8_t easy_number = easy_add(e, base, rover, set);
+    const uint8_t plain_number = plain_add(e, base, rover, set);
 
     met[plain_number] += 1;
     same(plain_number == easy_number, "base epoch, its number");
@@ -283,21 +354,71 @@ static void query_both(const zaqnuti_signal *signals, size_t count, double time,
 
 static zaqnuti_track easy_track;
 
+/* The anchors and links that were handed over, as columns of this test's own. */
+static struct {
+    size_t anchors;
+    size_t links;
+    size_t anchor_epoch[ZAQNUTI_EPOCHS];
+    double anchor_position[3 * ZAQNUTI_EPOCHS];
+    double anchor_sigma[3 * ZAQNUTI_EPOCHS];
+    size_t link_epoch[ZAQNUTI_EPOCHS];
+    double link_change[3 * ZAQNUTI_EPOCHS];
+    double link_sigma[3 * ZAQNUTI_EPOCHS];
+} given;
+
+static void begin_track(size_t epochs)
+{
+    zaqnuti_track_clear(&easy_track, epochs);
+    given.anchors = 0;
+    given.links = 0;
+}
+
+static void three(double *to, size_t i, zaqnuti_vector v)
+{
+    const double f[3] = {v.x, v.y, v.z};
+    memcpy(&to[3 * i], f, sizeof f);
+}
+
+static uint8_t give_anchor(size_t epoch, zaqnuti_vector position, zaqnuti_vector sigma)
+{
+    const uint8_t number = zaqnuti_track_anchor(&easy_track, epoch, position, sigma);
+    if (number == 0) {
+        given.anchor_epoch[given.anchors] = epoch;
+        three(given.anchor_position, given.anchors, position);
+        three(given.anchor_sigma, given.anchors, sigma);
+        given.anchors += 1;
+    }
+    return number;
+}
+
+static uint8_t give_link(size_t epoch, zaqnuti_vector change, zaqnuti_vector sigma)
+{
+    const uint8_t number = zaqnuti_track_link(&easy_track, epoch, change, sigma);
+    if (number == 0) {
+        given.link_epoch[given.links] = epoch;
+        three(given.link_change, given.links, change);
+        three(given.link_sigma, given.links, sigma);
+        given.links += 1;
+    }
+    return number;
+}
+
 static void smooth_both(const zaqnuti_track_settings *set)
 {
     static double result[3 * ZAQNUTI_EPOCHS];
     static double work[11 * ZAQNUTI_EPOCHS];
-    const zaqnuti_track *t = &easy_track;
+    const size_t a = given.anchors;
+    const size_t l = given.links;
     uint8_t plain_number;
     uint8_t easy_number;
     size_t k;
 
-    memcpy(result, t->place, sizeof result);
-    memcpy(work, t->work, sizeof work);
+    memcpy(result, easy_track.place, sizeof result);
+    memcpy(work, easy_track.work, sizeof work);
     plain_number = zaqnuti_smooth(
-        t->epochs, t->anchors, t->links,
-        t->anchor_epoch, t->anchors, t->anchor_position, 3 * t->anchors, t->anchor_sigma, 3 * t->anchors,
-        t->link_epoch, t->links, t->link_change, 3 * t->links, t->link_sigma, 3 * t->links,
+        easy_track.epochs, a, l,
+        given.anchor_epoch, a, given.anchor_position, 3 * a, given.anchor_sigma, 3 * a,
+        given.link_epoch, l, given.link_change, 3 * l, given.link_sigma, 3 * l,
         set->huber, set->iterations, result, 3 * ZAQNUTI_EPOCHS, work, 11 * ZAQNUTI_EPOCHS);
     easy_number = zaqnuti_easy_smooth(&easy_track, set);
     met[plain_number] += 1;
@@ -530,39 +651,87 @@ static void displacements(size_t k)
     }
     if (displacement_both(t.carrier[0], t.count[0], t.carrier[1], t.count[1], t.dt, t.receiver, &t.settings, &moved) == 0) {
         const zaqnuti_vector sigma = {0.05, 0.05, 0.05};
-        zaqnuti_track_link(&easy_track, k, moved.delta, sigma);
+        give_link(k, moved.delta, sigma);
     }
     alter_displacements(&t, 60);
 }
 
+/* The records of an epoch of the base. */
+static void base_records_of(const struct geonet_epoch *from, struct base_records *e)
+{
+    size_t i;
+
+    memset(e, 0, sizeof *e);
+    e->time = from->tow;
+    e->present = true;
+    e->ranges = e->states = from->count;
+    for (i = 0; i < from->count; i++) {
+        const struct geonet_line *line = &from->line[i];
+        e->range[i].signal = e->state[i].signal = line->signal;
+        e->range[i].pseudorange = line->pseudorange;
+        e->state[i].satellite = line->satellite;
+        e->state[i].velocity = line->velocity;
+        e->state[i].clock = line->clock;
+        e->state[i].modelled = line->modelled;
+    }
+}
+
+/* A refused or empty epoch of each kind. */
+static void alter_epoch(struct base_records *e)
+{
+    const size_t i = (size_t)chance(e->ranges);
+    zaqnuti_base_state *s = &e->state[i];
+    double *f[8] = {&s->satellite.x, &s->satellite.y, &s->satellite.z, &s->velocity.x, &s->velocity.y, &s->velocity.z, &s->clock, &s->modelled};
+    size_t k;
+
+    alter(&e->time, 8);
+    alter(&e->range[i].pseudorange, 8);
+    alter(f[chance(8)], 4);
+    s->signal.band = chance(8) == 0 ? 2 : s->signal.band;
+    e->range[i].signal.constellation = chance(8) == 0 ? (uint8_t)chance(10) : e->range[i].signal.constellation;
+    e->present = chance(8) != 0;
+    if (chance(8) == 0) {
+        for (k = e->ranges; k < 65; k++) {
+            e->range[k] = e->range[0];
+        }
+        e->ranges = 65;
+    } else if (chance(4) == 0) {
+        e->ranges = (size_t)chance(4);
+    }
+    if (chance(8) == 0) {
+        for (k = e->states; k < 65; k++) {
+            e->state[k] = e->state[0];
+        }
+        e->states = 65;
+    }
+}
+
 static void corrections(void)
 {
-    static zaqnuti_base_epoch e;
+    static struct base_records e;
     const zaqnuti_correction_settings plain = ZAQNUTI_EASY_CORRECTIONS;
     zaqnuti_signal signals[MOST];
     size_t k;
     size_t i;
+    size_t times;
 
     tables_clear();
-    for (k = 0; k < base.count && k < rover.count; k++) {
-        zaqnuti_correction_settings set = plain;
-        zaqnuti_vector at = base_place;
-        geonet_base(&base.epoch[k], &e);
+    for (k = 0; k < base.count; k++) {
         if (k % 2 == 0) {
-            add_both(&e, base_place, rover_place, &plain);
+            base_records_of(&base.epoch[k], &e);
+            add_both(&e, base_place, base_place, &plain);
         }
-        /* A refused or empty epoch of each kind. */
-        alter(&set.max_gap, 8);
-        alter(&set.max_correction, 8);
-        alter(&at.z, 8);
-        alter(&e.time, 8);
-        alter(&e.range_pseudorange[0], 8);
-        alter(&e.state_floats[7], 8);
-        e.states_present = chance(8) != 0;
-        e.ranges = chance(8) == 0 ? 65 : chance(4) == 0 ? (size_t)chance(4) : e.ranges;
-        e.states = chance(8) == 0 ? 65 : e.states;
-        set.corrected[1] = chance(4) != 0;
-        add_both(&e, at, rover_place, &set);
+        for (times = 0; times < 4; times++) {
+            zaqnuti_correction_settings set = plain;
+            zaqnuti_vector at = base_place;
+            base_records_of(&base.epoch[k], &e);
+            alter(&set.max_gap, 16);
+            alter(&set.max_correction, 16);
+            alter(&at.z, 16);
+            set.corrected[1] = chance(4) != 0;
+            alter_epoch(&e);
+            add_both(&e, at, rover_place, &set);
+        }
     }
     for (k = 0; k < rover.count; k++) {
         zaqnuti_correction_settings set = plain;
@@ -579,10 +748,11 @@ static void corrections(void)
     /* A table that is not sorted, and one that is full. */
     easy_table.time[1] = plain_table.time[1] = -easy_table.time[1];
     query_both(signals, 3, 0.0, &plain);
+    base_records_of(&base.epoch[0], &e);
     add_both(&e, base_place, rover_place, &plain);
     tables_clear();
     for (k = 0; k < 400; k++) {
-        geonet_base(&base.epoch[k % base.count], &e);
+        base_records_of(&base.epoch[k % base.count], &e);
         add_both(&e, base_place, rover_place, &plain);
     }
 }
@@ -598,21 +768,22 @@ static void tracks(void)
     for (times = 0; times < 400; times++) {
         zaqnuti_track_settings set = plain;
         const size_t epochs = chance(20) == 0 ? (size_t)(1022 + chance(4)) : (size_t)chance(40);
-        zaqnuti_track_clear(&easy_track, epochs);
+        begin_track(epochs);
         memset(easy_track.place, 0xA5, sizeof easy_track.place);
         memset(easy_track.work, 0xA5, sizeof easy_track.work);
         for (k = 0; k < epochs; k++) {
             zaqnuti_vector place = rover_place;
-            zaqnuti_vector some = sigma;
+            zaqnuti_vector some = {1.0, 2.0, 3.0};
             place.x += (double)chance(100);
             alter(&place.y, 4000);
             alter(&some.z, 4000);
             if (chance(3) != 0) {
-                zaqnuti_track_anchor(&easy_track, chance(2000) == 0 ? epochs : k, place, some);
+                give_anchor(chance(2000) == 0 ? epochs : k, place, some);
             }
-            if (k + 1 < epochs && chance(200) != 0) {
+            if (k + 1 < epochs && chance(20) != 0) {
                 const zaqnuti_vector change = {(double)chance(9), 0.5, -0.25};
-                zaqnuti_track_link(&easy_track, k, change, sigma);
+                const zaqnuti_vector other = {0.5, 0.25, 1.5};
+                give_link(k, change, other);
             }
         }
         alter(&set.huber, 10);
@@ -620,10 +791,10 @@ static void tracks(void)
         smooth_both(&set);
     }
     /* No room for another anchor or link. */
-    zaqnuti_track_clear(&easy_track, 5);
+    begin_track(5);
     for (k = 0; k < ZAQNUTI_EASY_EPOCHS; k++) {
-        same(zaqnuti_track_anchor(&easy_track, k % 5, rover_place, sigma) == 0, "track, room for an anchor");
-        same(zaqnuti_track_link(&easy_track, k % 4, sigma, sigma) == 0, "track, room for a link");
+        same(give_anchor(k % 5, rover_place, sigma) == 0, "track, room for an anchor");
+        same(give_link(k % 4, sigma, sigma) == 0, "track, room for a link");
     }
     same(zaqnuti_track_anchor(&easy_track, 0, rover_place, sigma) == ZAQNUTI_TOO_MANY, "track, an anchor too many");
     same(zaqnuti_track_link(&easy_track, 0, sigma, sigma) == ZAQNUTI_TOO_MANY, "track, a link too many");
@@ -670,11 +841,11 @@ int main(int count, char **word)
         return 2;
     }
     memset(&easy_track, 0, sizeof easy_track);
-    zaqnuti_track_clear(&easy_track, rover.count);
+    begin_track(rover.count);
     drive(word[1]);
     for (k = 0; k < rover.count; k++) {
         fixes(&rover.epoch[k]);
-        zaqnuti_track_anchor(&easy_track, k, rover_place, sigma);
+        give_anchor(k, rover_place, sigma);
         if (k + 1 < rover.count) {
             displacements(k);
         }
