@@ -88,7 +88,7 @@ static void fix_both(const zaqnuti_observation *record, size_t count, zaqnuti_ve
         if (easy_number == 0) {
             before = epoch;
             easy_number = zaqnuti_observations_add(&epoch, &record[i]);
-            same(easy_number == 0 || (i == 64 && memcmp(&before, &epoch, sizeof epoch) == 0), "fix, the 65th observation");
+            same((easy_number == 0) == (i < 64) && (i < 64 || memcmp(&before, &epoch, sizeof epoch) == 0), "fix, the 65th observation");
         }
     }
     plain_number = zaqnuti_fix(constellation, count, floats, 5 * count, count, from, settings, set->rounds, solution, &used);
@@ -145,7 +145,7 @@ static uint8_t epoch_of(zaqnuti_epoch *to, const zaqnuti_carrier *record, size_t
     for (i = 0; i < count && number == 0; i++) {
         before = *to;
         number = zaqnuti_epoch_add(to, &record[i]);
-        same(number == 0 || (i == 64 && memcmp(&before, to, sizeof before) == 0), "displacement, the 65th carrier");
+        same((number == 0) == (i < 64) && (i < 64 || memcmp(&before, to, sizeof before) == 0), "displacement, the 65th carrier");
     }
     return number;
 }
@@ -246,12 +246,12 @@ static uint8_t easy_add(const struct base_records *e, zaqnuti_vector base, zaqnu
     for (i = 0; i < e->ranges && number == 0; i++) {
         before = epoch;
         number = zaqnuti_base_epoch_add_range(&epoch, &e->range[i]);
-        same(number == 0 || memcmp(&before, &epoch, sizeof epoch) == 0, "base epoch, a range too many");
+        same((number == 0) == (i < 64) && (i < 64 || memcmp(&before, &epoch, sizeof epoch) == 0), "base epoch, a range too many");
     }
     for (i = 0; i < e->states && number == 0; i++) {
         before = epoch;
         number = zaqnuti_base_epoch_add_state(&epoch, &e->state[i]);
-        same(number == 0 || memcmp(&before, &epoch, sizeof epoch) == 0, "base epoch, a state too many");
+        same((number == 0) == (i < 64) && (i < 64 || memcmp(&before, &epoch, sizeof epoch) == 0), "base epoch, a state too many");
         if (number != 0 && !e->present) {
             /* States beside the mark that there are none are not looked at. */
             number = 0;
