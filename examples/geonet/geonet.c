@@ -1,14 +1,14 @@
 /*
  * The three levels on an hour of two real receivers that stand still at known
  * places (README.md beside this file): the error of each against the truth,
- * as the root of the mean square in three dimensions, in metres, and of how
- * many epochs.
+ * as the root of the mean square in three dimensions, in metres.
  *
- *     fix            each epoch by itself
- *     rtklib         RTKLIB's single-point solution of the same epochs
- *     displacement   from each epoch to the next, 30 s later: the truth is 0
- *     fix_corrected  with corrections from every other epoch of the base
- *     track          through the fixes and the displacements
+ *     fix              each epoch by itself
+ *     rtklib           RTKLIB's single-point solution of the same epochs
+ *     displacement     from each epoch to the next, 30 s later: the truth is 0
+ *     fix_corrected    with corrections from every other epoch of the base
+ *     track            through the fixes and the displacements
+ *     track_corrected  through the corrected fixes and the displacements
  *
  *     cc -std=c99 -O2 -Iinclude examples/geonet/geonet.c target/staticlib/libzaqnuti.a -o target/geonet
  *     target/geonet examples/geonet
@@ -24,13 +24,14 @@ static const zaqnuti_correction_settings correction_settings = ZAQNUTI_EASY_CORR
 static const zaqnuti_track_settings track_settings = ZAQNUTI_EASY_TRACK;
 
 /* One-sigma of a fix and of a displacement, as the track weighs them (m). */
-static const zaqnuti_vector anchor_sigma = {3.0, 3.0, 3.0};
+static const zaqnuti_vector anchor_sigma = {1.0, 1.0, 1.0};
 static const zaqnuti_vector link_sigma = {0.05, 0.05, 0.05};
 
 static struct geonet_file rover;
 static struct geonet_file base;
 static zaqnuti_table table;
 static zaqnuti_track track;
+static zaqnuti_track corrected_track;
 static zaqnuti_vector fixed[GEONET_EPOCHS];
 static bool has_fix[GEONET_EPOCHS];
 
@@ -53,9 +54,9 @@ static void note(struct errors *e, zaqnuti_vector got, zaqnuti_vector truth)
 static void tell(const char *name, const struct errors *e)
 {
     if (e->count == 0) {
-        printf("%-14s  none  %6d\n", name, 0);
+        printf("%-14s none\n", name);
     } else {
-        printf("%-14s %5.3f  %6lu\n", name, zaqnuti_sqrt(e->squares / (double)e->count), (unsigned long)e->count);
+        printf("%-14s %.3f\n", name, zaqnuti_sqrt(e->squares / (double)e->count));
     }
 }
 
@@ -115,6 +116,7 @@ static struct errors displacements(void)
         if (zaqnuti_easy_displacement(&previous, &current, dt, fixed[k], &displacement_settings, &moved) == 0) {
             note(&e, moved.delta, none);
             zaqnuti_track_link(&track, k, moved.delta, link_sigma);
+            zaqnuti_track_link(&corrected_track, k, moved.delta, link_sigma);
         }
     }
     return e;
@@ -167,20 +169,21 @@ static struct errors corrected_fixes(void)
         }
         if (zaqnuti_easy_fix(&sky, base_place, &fix_settings, &solution) == 0) {
             note(&e, solution.position, rover_place);
+            zaqnuti_track_anchor(&corrected_track, k, solution.position, anchor_sigma);
         }
     }
     return e;
 }
 
-/* The track, once fixes and displacements are its anchors and links. */
-static struct errors smoothed(void)
+/* A track, once fixes and displacements are its anchors and links. */
+static struct errors smoothed(zaqnuti_track *one)
 {
     struct errors e = {0.0, 0};
     size_t k;
 
-    if (zaqnuti_easy_smooth(&track, &track_settings) == 0) {
+    if (zaqnuti_easy_smooth(one, &track_settings) == 0) {
         for (k = 0; k < rover.count; k++) {
-            note(&e, zaqnuti_track_place(&track, k), rover_place);
+            note(&e, zaqnuti_track_place(one, k), rover_place);
         }
     }
     return e;
@@ -217,8 +220,8 @@ int main(int count, char **word)
     if (!geonet_read(folder, "rover.csv", &rover) || !geonet_read(folder, "base.csv", &base)) {
         return 2;
     }
-    printf("level          rms_m  epochs\n");
     zaqnuti_track_clear(&track, rover.count);
+    zaqnuti_track_clear(&corrected_track, rover.count);
     e = fixes();
     tell("fix", &e);
     e = rtklib(folder);
@@ -228,7 +231,9 @@ int main(int count, char **word)
     corrections();
     e = corrected_fixes();
     tell("fix_corrected", &e);
-    e = smoothed();
+    e = smoothed(&track);
     tell("track", &e);
+    e = smoothed(&corrected_track);
+    tell("track_corrected", &e);
     return 0;
 }
