@@ -7,7 +7,7 @@ use lib.ListN.{length}
 use Rattle.walk.specs.Walk.{collect, fold}
 use Rattle.numeric.specs.declared.vec3.Vec3.{Vec3}
 use Rattle.table.specs.Table.{Columns, capacity, tableOf, sound}
-use Rattle.table.specs.Add.{Outcome, refused, added, answerOf, countAfter, columnsAfter}
+use Rattle.table.specs.Add.{Outcome, refused, added, addingOf, countAfter, columnsAfter}
 use Rattle.table.specs.Build.{builtOf}
 use Rattle.table.specs.declared.sample.Sample.{Sample}
 use Rattle.differential.specs.Sample.{epochSamples}
@@ -49,7 +49,7 @@ module _ (base rover : Vec3) (set : Settings) where
 
   -- what the caller has after it: the count and the columns as the call leaves them
   unfoldable pub afterCall : Owned → Input → Owned
-  afterCall h i = record { count = countAfter (answerOf (callOf h i)) (h .count); columns = columnsAfter (callOf h i) (h .columns) }
+  afterCall h i = record { count = countAfter (addingOf (callOf h i)) (h .count); columns = columnsAfter (callOf h i) (h .columns) }
 
   -- calls one after the other, each on what the one before it left
   unfoldable pub afterCalls : Owned → List Input → Owned

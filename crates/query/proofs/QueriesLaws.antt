@@ -16,7 +16,7 @@ use Rattle.numeric.specs.Real.{inRange}
 use Rattle.numeric.specs.declared.refusal.Refusal.{Refusal}
 use Rattle.numeric.specs.declared.refusal.Refusal.the-variants.{TooMany, SettingOutOfRange, RecordOutOfRange}
 use Rattle.table.specs.Table.{sound}
-use Rattle.query.specs.Query.{answerAt, queryOf, queryNumber, metresAfter, GivesFinite, Passed}
+use Rattle.query.specs.Query.{answerAt, queryOf, queryNumber, metresAfter, GivesFinite, PassedTable}
 use Rattle.table.specs.declared.sample.Sample.{Sample}
 use Rattle.query.specs.declared.query.Correction.{Correction}
 use Rattle.query.specs.declared.query.Correction.the-variants as Correction
@@ -161,7 +161,7 @@ module _ (n room r : ℕ) (e : r ≡ room) (l : List Sample) (gap : Float) (c v 
         not-sound z = rw (few, sym es ∙ w, sym eq ∙ not-false q u, sym ey ∙ not-true y z)
 
         module _ (z : not y ≡ false) where
-          pub passes : Passed n room l gap
+          pub passes : PassedTable n room l gap
           passes = record { few = omega arith; in-range = sym eq ∙ not-false q u; steady = sym ey ∙ not-false y z }
 
           pub all-answered : queriesOf n room l gap c v b t count numbers metres ≡ answers (places (queryAt n room l gap c v b t) count)

@@ -15,7 +15,7 @@ use Rattle.exact.specs.Float.{_⊖_}
 use Rattle.numeric.specs.Real.{inRange}
 use Rattle.numeric.specs.declared.refusal.Refusal.the-variants.{NoCorrection, RecordOutOfRange, SettingOutOfRange, TooMany}
 use Rattle.table.specs.Table.{Columns, blank, placeOf, rows, seriesOf, signal, signalOf, sound, timeKey}
-use Rattle.query.specs.Query.{bridged, answerAt, answerIn, between, firstSince, lastBefore, line, missing, near, queryOf, the, Passed}
+use Rattle.query.specs.Query.{bridged, answerAt, answerIn, between, firstSince, lastBefore, line, missing, near, queryOf, the, PassedTable}
 use Rattle.query.specs.Search.{ahead, Leading, Searching}
 use Rattle.table.specs.declared.sample.Sample.{Sample}
 use Rattle.query.specs.declared.query.Correction.the-variants.{Refused, Metres}
@@ -328,11 +328,11 @@ module _ (n room r : ℕ) (e : r ≡ room) (l : List Sample) (gap : Float) (c v 
       unfolding queryOf
       rule-4 u = rw (few, sym eq ∙ not-false q w, sym ey ∙ not-true y u)
 
-      pub no-rule : not y ≡ false → Passed n room l gap
+      pub no-rule : not y ≡ false → PassedTable n room l gap
       no-rule u = record { few = omega arith; in-range = sym eq ∙ not-false q w; steady = sym ey ∙ not-false y u }
 
 -- ---- the time of a query that has passed them
-module _ (n room : ℕ) (l : List Sample) (gap : Float) (p : Passed n room l gap) (c v b : ℕ) (t : Float) {i k : Bool} (ei : i ≡ inRange t) (ek : k ≡ finite t) where
+module _ (n room : ℕ) (l : List Sample) (gap : Float) (p : PassedTable n room l gap) (c v b : ℕ) (t : Float) {i k : Bool} (ei : i ≡ inRange t) (ek : k ≡ finite t) where
   pub time-refused : not (i || not k) ≡ true → Refused RecordOutOfRange ≡ queryOf n room l gap c v b t
   unfolding queryOf
   time-refused z = rw (le-ltb room n (p .few), p .in-range, p .steady, ← ei, ← ek, not-true (i || not k) z)

@@ -104,7 +104,7 @@ GivesFinite (Metres x) = finite x ≡ true
 -- ---- what the contract of the answer says
 
 -- rules 2 to 4 let the table and the gap pass
-pub record Passed (n room : ℕ) (ss : List Sample) (gap : Float) : Type 0 where
+pub record PassedTable (n room : ℕ) (ss : List Sample) (gap : Float) : Type 0 where
   pub few : n ≤ room
   pub in-range : inRange gap ≡ true
   pub steady : sound ss ≡ true

@@ -3,7 +3,7 @@ ghost use mathlib.Core.Path.{_≡_};
 ghost use mathlib.Core.Bool.{false};
 ghost use Rattle.walk.specs.Walk.{places};
 ghost use Rattle.table.specs.Table.{lent, capacity, tableOf};
-ghost use Rattle.query.specs.Query.{queryNumber, metresAfter, Passed};
+ghost use Rattle.query.specs.Query.{queryNumber, metresAfter, PassedTable};
 ghost use Rattle.query.specs.Queries.{placesShort, queryAt, queriesOf, answers, askingOf, askingNumber, Replies};
 use crate::query::Correction;
 use crate::query::answer_of;
@@ -75,7 +75,7 @@ fn fill(
     numbers: &mut [u8],
     metres: &mut [f64],
 )
-    requires { ⌜ (let l = lent (now cs) (now vs) (now bs) (now ts) (now xs) in Passed n (capacity l) (tableOf n l) gap) ⌝ }
+    requires { ⌜ (let l = lent (now cs) (now vs) (now bs) (now ts) (now xs) in PassedTable n (capacity l) (tableOf n l) gap) ⌝ }
     requires { ⌜ placesShort count (now c) (now v) (now b) (now t) (now numbers) (now metres) ≡ false ⌝ }
     ensures { λ _. ⌜ (let l = lent (now (cs .entry)) (now (vs .entry)) (now (bs .entry)) (now (ts .entry)) (now (xs .entry)) in
         Replies (answers (places (queryAt n (capacity l) (tableOf n l) gap (now (c .entry)) (now (v .entry)) (now (b .entry)) (now (t .entry))) count)) 0

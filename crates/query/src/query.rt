@@ -5,7 +5,7 @@ ghost use Prim.Native.Nat.{_≤_};
 ghost use lib.ListN.{length};
 ghost use lib.Dec.{eqb};
 ghost use Rattle.table.specs.Table.{lent, rows, capacity, tableOf, signal, signalOf, sound};
-ghost use Rattle.query.specs.Query.{near, line, answerAt, queryOf, GivesFinite, Passed};
+ghost use Rattle.query.specs.Query.{near, line, answerAt, queryOf, GivesFinite, PassedTable};
 use crate::search::first_from;
 use numeric::real::abs;
 use numeric::real::in_range;
@@ -108,7 +108,7 @@ pub(crate) fn answer_of(
     b: u8,
     t: f64,
 ) -> Correction
-    requires { ⌜ (let l = lent (now cs) (now vs) (now bs) (now ts) (now xs) in Passed n (capacity l) (tableOf n l) gap) ⌝ }
+    requires { ⌜ (let l = lent (now cs) (now vs) (now bs) (now ts) (now xs) in PassedTable n (capacity l) (tableOf n l) gap) ⌝ }
     ensures { λ r. ⌜ (let l = lent (now (cs .entry)) (now (vs .entry)) (now (bs .entry)) (now (ts .entry)) (now (xs .entry)) in
         (r ≡ queryOf n (capacity l) (tableOf n l) gap c v b t) × GivesFinite r) ⌝ }
 {

@@ -14,7 +14,7 @@ use Rattle.walk.specs.Walk.{every}
 use Rattle.numeric.specs.declared.refusal.Refusal.{Refusal}
 use Rattle.numeric.specs.declared.refusal.Refusal.the-variants.{TooMany, RecordOutOfRange, TableFull}
 use Rattle.table.specs.Table.{Columns, lent, beside, rows, capacity, tableOf, ranged, sound}
-use Rattle.table.specs.Add.{Outcome, refused, added, answerOf, addingNumber, countAfter, columnWith, columnsWith, columnsAfter, Adds, counted, testOf, outcomeOf, addOf, insertAll, past, InsertedAll}
+use Rattle.table.specs.Add.{Outcome, refused, added, addingOf, addingNumber, countAfter, columnWith, columnsWith, columnsAfter, Adds, counted, testOf, outcomeOf, addOf, insertAll, past, InsertedAll}
 use Rattle.table.specs.declared.sample.Sample.{Sample}
 use Rattle.table.specs.declared.add.Samples.{Samples}
 use Rattle.table.specs.declared.add.Test.{Test}
@@ -61,7 +61,7 @@ module _ (n room r : ℕ) (e : r ≡ room) (t : List Sample) (new : Samples) whe
           test-passed w = rw (few, short, sym ex ∙ not-false x u, sym ey ∙ not-false y v, le-ltb room (n + new .count) (omega arith))
 
 -- ---- what has passed
-pub record Passed (n room : ℕ) (t : List Sample) (new : Samples) : Type 0 where
+pub record PassedSamples (n room : ℕ) (t : List Sample) (new : Samples) : Type 0 where
   pub few : n ≤ room
   pub short : new .count ≤ 64
   pub steady : sound t ≡ true
@@ -71,12 +71,12 @@ pub record Passed (n room : ℕ) (t : List Sample) (new : Samples) : Type 0 wher
 refused-passed : {A : Type 0} (r : _) → Test.Refused r ≡ Test.Passed → A
 refused-passed r e = absurd (let z : _≡_ {A = ℕ} 0 1 = cc in omega arith)
 
-pub passed : (n room : ℕ) (t : List Sample) (new : Samples) → Test.Passed ≡ testOf n room t new → Passed n room t new
+pub passed : (n room : ℕ) (t : List Sample) (new : Samples) → Test.Passed ≡ testOf n room t new → PassedSamples n room t new
 unfolding testOf
 passed n room t new e = go (ltb room n) (ltb 64 (new .count)) (sound t && every ranged (counted new)) (ltb room (n + new .count)) refl refl refl refl (sym e)
   where
     go : (a b x c : Bool) → ltb room n ≡ a → ltb 64 (new .count) ≡ b → (sound t && every ranged (counted new)) ≡ x → ltb room (n + new .count) ≡ c
-        → cond (a || b) (Test.Refused TooMany) (cond (not x) (Test.Refused RecordOutOfRange) (cond c (Test.Refused TableFull) Test.Passed)) ≡ Test.Passed → Passed n room t new
+        → cond (a || b) (Test.Refused TooMany) (cond (not x) (Test.Refused RecordOutOfRange) (cond c (Test.Refused TableFull) Test.Passed)) ≡ Test.Passed → PassedSamples n room t new
     go true b x c p q r s e = refused-passed TooMany e
     go false true x c p q r s e = refused-passed TooMany e
     go false false false c p q r s e = refused-passed RecordOutOfRange e
@@ -175,25 +175,25 @@ pub same-capacity : (t : List Sample) (l : Columns) → length t ≤ length (row
 same-capacity t l h = ap (min 2048) (rows-alike l (columnsWith t l) (columns-alike t l h))
 
 -- ---- adding
-pub told : (o : Outcome) (r : Adding) (n : ℕ) (l l′ : Columns) → r ≡ answerOf o → l′ ≡ columnsAfter o l → (r ≡ answerOf o) × Adds o (addingNumber r) n (countAfter r n) l l′
+pub told : (o : Outcome) (r : Adding) (n : ℕ) (l l′ : Columns) → r ≡ addingOf o → l′ ≡ columnsAfter o l → (r ≡ addingOf o) × Adds o (addingNumber r) n (countAfter r n) l l′
 told o r n l l′ e k = (e, record { number-is = ap addingNumber e; count = ap (λ (a : Adding). countAfter a n) e; columns = k })
 
 -- an outcome by another name
-pub told-same : {o o′ : Outcome} {r : Adding} {n : ℕ} {l l′ : Columns} → o ≡ o′ → (r ≡ answerOf o) × Adds o (addingNumber r) n (countAfter r n) l l′ → (r ≡ answerOf o′) × Adds o′ (addingNumber r) n (countAfter r n) l l′
+pub told-same : {o o′ : Outcome} {r : Adding} {n : ℕ} {l l′ : Columns} → o ≡ o′ → (r ≡ addingOf o) × Adds o (addingNumber r) n (countAfter r n) l l′ → (r ≡ addingOf o′) × Adds o′ (addingNumber r) n (countAfter r n) l l′
 told-same e a = rw (← e) a
 
 -- a refusal that leaves all as it was
-pub told-nothing : {o : Outcome} (r : Refusal) (n : ℕ) (l : Columns) → refused r ≡ o → (Adding.Refused r ≡ answerOf o) × Adds o (addingNumber (Adding.Refused r)) n (countAfter (Adding.Refused r) n) l l
+pub told-nothing : {o : Outcome} (r : Refusal) (n : ℕ) (l : Columns) → refused r ≡ o → (Adding.Refused r ≡ addingOf o) × Adds o (addingNumber (Adding.Refused r)) n (countAfter (Adding.Refused r) n) l l
 told-nothing r n l e = told-same e (told (refused r) (Adding.Refused r) n l l refl refl)
 
 module _ (n room : ℕ) (new : Samples) (l : Columns) where
   pub add-refused : (r : Refusal) → Test.Refused r ≡ testOf n room (tableOf n l) new
-      → (Adding.Refused r ≡ answerOf (addOf n room (tableOf n l) new)) × Adds (addOf n room (tableOf n l) new) (addingNumber (Adding.Refused r)) n (countAfter (Adding.Refused r) n) l l
+      → (Adding.Refused r ≡ addingOf (addOf n room (tableOf n l) new)) × Adds (addOf n room (tableOf n l) new) (addingNumber (Adding.Refused r)) n (countAfter (Adding.Refused r) n) l l
   unfolding addOf
   add-refused r e = told-nothing r n l (ap (λ (t : Test). outcomeOf t (insertAll (tableOf n l) (counted new))) e)
 
   pub add-passed : (l′ : Columns) → InsertedAll n (new .count) (counted new) l l′ → Alike l l′ → n + new .count ≤ length (rows l) → Test.Passed ≡ testOf n room (tableOf n l) new
-      → (Adding.Count (n + new .count) ≡ answerOf (addOf n room (tableOf n l) new)) × Adds (addOf n room (tableOf n l) new) (addingNumber (Adding.Count (n + new .count))) n (countAfter (Adding.Count (n + new .count)) n) l l′
+      → (Adding.Count (n + new .count) ≡ addingOf (addOf n room (tableOf n l) new)) × Adds (addOf n room (tableOf n l) new) (addingNumber (Adding.Count (n + new .count))) n (countAfter (Adding.Count (n + new .count)) n) l l′
   unfolding addOf
   add-passed l′ i a h e =
       let k = n + new .count in

@@ -35,9 +35,9 @@ pub data Outcome : Type 0 where
   added : List Sample → Outcome
 
 -- the answer: the refusal, or how many samples the table has now
-abbrev pub answerOf : Outcome → Adding
-answerOf (refused r) = Refused r
-answerOf (added t) = Count (length t)
+abbrev pub addingOf : Outcome → Adding
+addingOf (refused r) = Refused r
+addingOf (added t) = Count (length t)
 
 -- 0, or the number of the refusal
 abbrev pub addingNumber : Adding → ℕ
@@ -71,8 +71,8 @@ columnsAfter (added t) l = columnsWith t l
 
 -- the number, the count and the columns afterwards are those of the outcome
 pub record Adds (o : Outcome) (number n n′ : ℕ) (l l′ : Columns) : Type 0 where
-  pub number-is : number ≡ addingNumber (answerOf o)
-  pub count : n′ ≡ countAfter (answerOf o) n
+  pub number-is : number ≡ addingNumber (addingOf o)
+  pub count : n′ ≡ countAfter (addingOf o) n
   pub columns : l′ ≡ columnsAfter o l
 
 -- the samples that are counted

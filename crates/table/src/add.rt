@@ -5,7 +5,7 @@ ghost use Prim.Native.Nat.{_+_, _-_, _≤_, _<_};
 ghost use lib.ListN.{length, take};
 ghost use Rattle.walk.specs.Walk.{every};
 ghost use Rattle.table.specs.Table.{lent, rows, capacity, tableOf, ranged, sound};
-ghost use Rattle.table.specs.Add.{spotOf, opened, Inserted, InsertedAll, counted, testOf, addOf, answerOf, addingNumber, countAfter, Adds};
+ghost use Rattle.table.specs.Add.{spotOf, opened, Inserted, InsertedAll, counted, testOf, addOf, addingOf, addingNumber, countAfter, Adds};
 use crate::sample::Sample;
 use crate::sample::capacity_of;
 use crate::sample::is_ranged;
@@ -191,7 +191,7 @@ pub fn add(
 ) -> Adding
     ensures { λ r. ⌜ (let l = lent (now (cs .entry)) (now (vs .entry)) (now (bs .entry)) (now (ts .entry)) (now (xs .entry)) in
         let o = addOf n (capacity l) (tableOf n l) new in
-        (r ≡ answerOf o) × Adds o (addingNumber r) n (countAfter r n) l (lent (now (cs .exit)) (now (vs .exit)) (now (bs .exit)) (now (ts .exit)) (now (xs .exit)))) ⌝ }
+        (r ≡ addingOf o) × Adds o (addingNumber r) n (countAfter r n) l (lent (now (cs .exit)) (now (vs .exit)) (now (bs .exit)) (now (ts .exit)) (now (xs .exit)))) ⌝ }
 {
     let test = tested(cs, vs, bs, ts, xs, n, new);
     match test {

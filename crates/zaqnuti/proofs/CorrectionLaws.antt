@@ -15,7 +15,7 @@ use Rattle.numeric.specs.declared.vec3.Vec3.{Vec3}
 use Rattle.numeric.specs.declared.refusal.Refusal.{Refusal}
 use Rattle.numeric.specs.declared.refusal.Refusal.the-variants.{TooMany}
 use Rattle.table.specs.Table.{Columns}
-use Rattle.table.specs.Add.{Outcome, refused, answerOf, addingNumber, countAfter, Adds}
+use Rattle.table.specs.Add.{Outcome, refused, addingOf, addingNumber, countAfter, Adds}
 use Rattle.query.specs.Query.{queryNumber, GivesFinite}
 use Rattle.query.specs.Queries.{Reply, askingOf, askingNumber, Replies}
 use Rattle.table.specs.declared.sample.Sample.{Sample}
@@ -114,7 +114,7 @@ module _ (n room : ℕ) (t : List Sample) (time : Float) (k : ℕ) (rc rv rb : L
 
 -- ---- the answers: x is that of the call inside
 pub adds-number : {o : Outcome} {x : Adding} {n : ℕ} {l l′ : Columns} (y : Adding) (number : ℕ) → x ≡ y → number ≡ addingNumber y
-    → (x ≡ answerOf o) × Adds o (addingNumber x) n (countAfter x n) l l′ → Adds o number n (countAfter y n) l l′
+    → (x ≡ addingOf o) × Adds o (addingNumber x) n (countAfter x n) l l′ → Adds o number n (countAfter y n) l l′
 adds-number {o = o} {n = n} {l = l} {l′ = l′} y number e k a = rw k (subst (λ (z : Adding). Adds o (addingNumber z) n (countAfter z n) l l′) e (a .1))
 
 pub replies-number : {o : Reply} {x : Asking} {numbers : List ℕ} {metres : List Float} {numbers′ : List ℕ} {metres′ : List Float} (y : Asking) (number : ℕ) → x ≡ y → number ≡ askingNumber y

@@ -7,7 +7,7 @@ ghost use Rattle.walk.specs.Walk.{places};
 ghost use Rattle.table.specs.Table.{lent, capacity, tableOf};
 ghost use Rattle.query.specs.Query.{queryOf, queryNumber, GivesFinite};
 ghost use Rattle.query.specs.Queries.{queriesOf, Replies};
-ghost use Rattle.table.specs.Add.{answerOf, addingNumber, countAfter, Adds};
+ghost use Rattle.table.specs.Add.{addingOf, addingNumber, countAfter, Adds};
 ghost use Rattle.zaqnuti.specs.Corrections.{rangeAt, stateAt, pointOf, settingsOf, recordsShort, entryOf, EpochRead, StatesRead, patternAfter};
 use differential::add_epoch::add_epoch;
 use differential::record::BaseEpoch;
@@ -246,7 +246,7 @@ fn add_from(
         let o = entryOf n (capacity l) (tableOf n l) time
         k (now (rc .entry)) (now (rv .entry)) (now (rb .entry)) (now (rp .entry))
         present m (now (sc .entry)) (now (sv .entry)) (now (sb .entry)) (now (sf .entry)) base rover settings in
-        (r ≡ answerOf o) × Adds o (addingNumber r) n (countAfter r n) l (lent (now (cs .exit)) (now (vs .exit)) (now (bs .exit)) (now (ts .exit)) (now (xs .exit)))) ⌝ }
+        (r ≡ addingOf o) × Adds o (addingNumber r) n (countAfter r n) l (lent (now (cs .exit)) (now (vs .exit)) (now (bs .exit)) (now (ts .exit)) (now (xs .exit)))) ⌝ }
 {
     let w = wanted(present, m);
     if (64 < k) | (64 < w) {
