@@ -136,7 +136,7 @@ fn a_displacement_refuses() {
     assert_eq!(why(&seven, &seven, 1.0, &set), Refusal::TooManySlots);
 }
 
-/// Document 01's example, without its LF.
+/// The example of docs/SCOPE.md, without its LF.
 const EXAMPLE: &str = "S,3FF0000000000000,0000000000000000,0000000000000000,0000000000000000,3FE0000000000000,3FF0000000000000,0000000000000000,3FF8000000000000,4024000000000000,4";
 
 #[test]

@@ -1,4 +1,4 @@
--- The rounds of a fit (document 01, "Their rounds"): the first begins where the reference begins, each later one with just what the one before left,
+-- The rounds of a fit (docs/SCOPE.md, "Their rounds"): the first begins where the reference begins, each later one with just what the one before left,
 -- and the last meets the stop or uses up the count. Definitions only.
 use mathlib.Core.Path.{_≡_}
 use Prim.Native.Nat.{ℕ, zero, suc}

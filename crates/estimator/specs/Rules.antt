@@ -1,4 +1,4 @@
--- Why a call turns back (document 01): in checking order, the first rule that applies is given, and only then. Definitions only.
+-- Why a call turns back (docs/SCOPE.md): in checking order, the first rule that applies is given, and only then. Definitions only.
 use Prim.Native.Nat.{ℕ, _+_}
 use mathlib.Core.Bool.{Bool, cond}
 use mathlib.Core.List.{List, [], _∷_}

@@ -100,7 +100,7 @@ fifteen = refl
 
 -- ---- texts
 
--- document 01's example: S,3FF0000000000000,0000000000000000, and so on
+-- the example of docs/SCOPE.md, "The line form and its program": S,3FF0000000000000,0000000000000000, and so on
 example : List ℕ
 example =
     83 ∷ 44 ∷ 51 ∷ 70 ∷ 70 ∷ 48 ∷ 48 ∷ 48 ∷ 48 ∷ 48 ∷ 48 ∷ 48 ∷ 48 ∷ 48 ∷ 48 ∷ 48 ∷ 48 ∷ 48 ∷ 44 ∷ 48 ∷ 48 ∷ 48 ∷ 48 ∷ 48 ∷ 48 ∷ 48 ∷ 48 ∷ 48 ∷ 48 ∷ 48 ∷
@@ -181,7 +181,7 @@ the-carrier : lineOf (80 ∷ 44 ∷ 54 ∷ 44 ∷ 49 ∷ 50 ∷ 44 ∷ 49 ∷ 53
 unfolding isText recordsForm split isSettings settingsForm lineOf carrierForm carrier isPlace place number isNumber plain every decimalValue state isState patternIn isFloat hex example one ofBits
 the-carrier = refl
 
--- document 01: the example alone gives R,7
+-- the example alone gives R,7
 the-answer : answerOf example ≡ 82 ∷ 44 ∷ 55 ∷ 10 ∷ []
 unfolding answerOf displacementIn inputOf given none fold isText recordsForm split isSettings settingsForm lineOf isPlace place number isNumber plain every decimalValue patternIn isFloat hex example displacementOf movedIn movedBy ruled epochRules intervalRules pairRules displacementCounts rowRules settingsPass badInterval placeable abs inRange pairsOf collect digitsText digitCount ofInt ofBits neg le lt isNan
 the-answer = refl

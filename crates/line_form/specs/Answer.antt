@@ -1,4 +1,4 @@
--- What the program writes for a text (document 01, "The line form and its program"), and the promise of the public call. Definitions only.
+-- What the program writes for a text (docs/SCOPE.md, "The line form and its program"), and the promise of the public call. Definitions only.
 use Prim.Native.Nat.{ℕ}
 use mathlib.Core.Path.{_≡_}
 use mathlib.Core.Bool.{cond}

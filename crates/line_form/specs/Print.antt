@@ -1,4 +1,4 @@
--- The output line (document 01, "The line form and its program"). Definitions only.
+-- The output line (docs/SCOPE.md, "The line form and its program"). Definitions only.
 use Prim.Native.Nat.{ℕ, zero, suc, _+_, _/_, _%_}
 use mathlib.Core.Bool.{cond}
 use mathlib.Core.List.{List, [], _∷_, _++_}

@@ -1,4 +1,4 @@
--- A whole text of the form, and the displacement that it asks for (document 01, "The line form and its program"). Definitions only.
+-- A whole text of the form, and the displacement that it asks for (docs/SCOPE.md, "The line form and its program"). Definitions only.
 use Prim.Native.Nat.{ℕ, _+_}
 use mathlib.Core.Bool.{Bool, true, false, cond, not, _&&_}
 use mathlib.Core.List.{List, [], _∷_}

@@ -1,4 +1,4 @@
--- Document 01's marked trials of the centre, by computation. Assumes nothing.
+-- The marked trials of the centre (docs/SCOPE.md, "Trials at the edges"), by computation. Assumes nothing.
 use Prim.Native.Nat.{ℕ}
 use mathlib.Core.Path.{_≡_, refl}
 use mathlib.Core.List.{List, [], _∷_}

@@ -1,4 +1,4 @@
--- The centre of residuals and their scale (document 01, "Centre"; `centre_scale` of robust.rs). Definitions only.
+-- The centre of residuals and their scale (docs/SCOPE.md, "Centre"; `centre_scale` of robust.rs). Definitions only.
 -- A residual is a pattern, since totalOrder tells NaNs of either sign apart.
 use Prim.Native.Nat.{ℕ}
 use mathlib.Core.Bool.{cond}

@@ -1,4 +1,4 @@
--- Document 01, "Why a call turns back", and the requests of document 02: the number of each refusal. Definitions only.
+-- docs/SCOPE.md, "Why a call turns back": the number of each refusal. Definitions only.
 use Prim.Native.Nat.{ℕ}
 use Rattle.numeric.specs.declared.refusal.Refusal.{Refusal}
 use Rattle.numeric.specs.declared.refusal.Refusal.the-variants.{BrokenForm, TooMany, SettingOutOfRange, RecordOutOfRange, BadInterval, BadTrack, TooFewPairs, TooFewRows, TooManySlots, FitFailed, TableFull, NoCorrection, BadTime, QualityNotFinite, OnReceiver, BadTrip, NoDistance, BadDropTime, NotTurned, NotCertified, BrokenRecords}

@@ -1,4 +1,4 @@
-// Why a call turns back: the numbers of documents 01 and 02, each under its one name.
+// Why a call turns back (docs/SCOPE.md): each number under its one name.
 ghost use mathlib.Core.Path.{_≡_};
 ghost use Rattle.numeric.specs.Refusal.{numberOf};
 

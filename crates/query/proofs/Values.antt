@@ -1,4 +1,4 @@
--- Worked values of the query, among them document 01's (m10) and (m11), and of many queries. Assumes nothing.
+-- Worked values of the query, among them (m10) and (m11) of docs/SCOPE.md, and of many queries. Assumes nothing.
 use mathlib.Core.Path.{_≡_, refl}
 use mathlib.Core.Bool.{false}
 use mathlib.Core.List.{List, [], _∷_}

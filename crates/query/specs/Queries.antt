@@ -1,4 +1,4 @@
--- Many queries of one table, which is tested once. The call is not of document 01; each of its answers is a query of it ("Corrections"). Definitions only.
+-- Many queries of one table, which is tested once; each of the answers is that of one query (docs/SCOPE.md, "Corrections"). Definitions only.
 use Prim.Native.Nat.{ℕ}
 use mathlib.Core.Path.{_≡_}
 use mathlib.Core.Bool.{Bool, cond, not, _||_}

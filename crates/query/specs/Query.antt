@@ -1,4 +1,4 @@
--- The correction of a signal at a time (document 01, "Corrections"; `Corrections::at` of differential.rs). Definitions only.
+-- The correction of a signal at a time (docs/SCOPE.md, "Corrections"; `Corrections::at` of differential.rs). Definitions only.
 use Prim.Native.Nat.{ℕ, _≤_}
 use mathlib.Core.Path.{_≡_}
 use mathlib.Core.Bool.{Bool, true, cond, not, _&&_, _||_}

@@ -1,4 +1,4 @@
--- The carrier pairs of two epochs (document 01, "Displacement"; tdcp.rs). Definitions only.
+-- The carrier pairs of two epochs (docs/SCOPE.md, "Displacement"; tdcp.rs). Definitions only.
 use mathlib.Core.Bool.{cond, _&&_}
 use mathlib.Core.List.{List, [], _∷_}
 use lib.Ieee.{Float, le}

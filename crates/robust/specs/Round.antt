@@ -1,4 +1,4 @@
--- One round of the robust least squares (document 01, "Round" and "Their rounds"; `step` of robust.rs). Definitions only.
+-- One round of the robust least squares (docs/SCOPE.md, "Round" and "Their rounds"; `step` of robust.rs). Definitions only.
 -- A row's residual is a pattern, since the centre is taken in totalOrder.
 use mathlib.Core.Path.{_≡_}
 use Prim.Native.Nat.{ℕ}

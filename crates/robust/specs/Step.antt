@@ -1,4 +1,4 @@
--- The round called by itself (document 01, "The reference" and "Round"). It takes every float, and refuses only by 2, 4 and 10. Definitions only.
+-- The round called by itself (docs/SCOPE.md, "The reference" and "Round"). It takes every float, and refuses only by 2, 4 and 10. Definitions only.
 use Prim.Native.Nat.{ℕ}
 use mathlib.Core.Bool.{Bool, not, cond, _||_}
 use mathlib.Core.List.{List}

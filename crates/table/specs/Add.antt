@@ -1,4 +1,4 @@
--- Samples added to the table (document 01, "Corrections", and number 11). Definitions only.
+-- Samples added to the table (docs/SCOPE.md, "Corrections", and number 11). Definitions only.
 use Prim.Native.Nat.{ℕ, zero, suc, _+_}
 use mathlib.Core.Path.{_≡_}
 use mathlib.Core.Bool.{cond, not, _&&_, _||_}

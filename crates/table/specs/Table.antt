@@ -42,7 +42,7 @@ rows l = beside (l .constellations) (l .svids) (l .bands) (l .times) (l .correct
 abbrev pub blank : Sample
 blank = record { constellation = 0; svid = 0; band = 0; time = nan; correction = nan }
 
--- document 01, number 11: the capacity is the shortest lent column, at most 2,048
+-- docs/SCOPE.md, number 11: the capacity is the shortest lent column, at most 2,048
 abbrev pub capacity : Columns → ℕ
 capacity l = min 2048 (length (rows l))
 
@@ -76,7 +76,7 @@ rises p (s ∷ ss) = leb p (placeOf s) && rises (placeOf s) ss
 abbrev pub sorted : List Sample → Bool
 sorted ss = rises 0 ss
 
--- ---- document 01, number 4
+-- ---- docs/SCOPE.md, number 4
 
 -- time and correction are finite and not above 1e9 in magnitude
 unfoldable pub ranged : Sample → Bool

@@ -1,4 +1,4 @@
--- Marked trials m6 and m9 of document 01, and its trials at the edges that come before the rounds, computed. Assumes nothing.
+-- Marked trials m6 and m9 of docs/SCOPE.md, and its trials at the edges that come before the rounds, computed. Assumes nothing.
 use mathlib.Core.Path.{_≡_, refl}
 use mathlib.Core.List.{List, [], _∷_, _++_, map}
 use mathlib.Core.Bool.{true, false}

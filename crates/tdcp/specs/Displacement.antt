@@ -1,4 +1,4 @@
--- The displacement of a receiver between two epochs (document 01, "Displacement"; tdcp.rs): its rounds, and the answer. Definitions only.
+-- The displacement of a receiver between two epochs (docs/SCOPE.md, "Displacement"; tdcp.rs): its rounds, and the answer. Definitions only.
 use mathlib.Core.Path.{_≡_}
 use Prim.Native.Nat.{ℕ, _+_, _-_, _<_}
 use mathlib.Core.Bool.{true, not}

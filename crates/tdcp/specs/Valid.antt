@@ -1,4 +1,4 @@
--- The rules of a displacement, in document 01's numbers and order ("Why a call turns back"). Definitions only.
+-- The rules of a displacement, in the numbers and order of docs/SCOPE.md, "Why a call turns back". Definitions only.
 use Prim.Native.Nat.{ℕ}
 use mathlib.Core.Bool.{Bool, not, _&&_, _||_}
 use mathlib.Core.List.{List, [], _∷_}

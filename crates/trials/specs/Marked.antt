@@ -1,4 +1,4 @@
--- Document 01, "Trials at the edges", those marked for proof: one list, in its order. Definitions only.
+-- docs/SCOPE.md, "Trials at the edges", those marked for proof: one list, in its order. Definitions only.
 use Prim.Native.Nat.{ℕ}
 use mathlib.Core.Path.{_≡_}
 use mathlib.Core.List.{List, [], _∷_, map}

@@ -1,4 +1,4 @@
--- The position of a receiver from one epoch (document 01, "Fix"; wls.rs): its rounds, what the fit says of itself, and the answer. Definitions only.
+-- The position of a receiver from one epoch (docs/SCOPE.md, "Fix"; wls.rs): its rounds, what the fit says of itself, and the answer. Definitions only.
 use mathlib.Core.Path.{_≡_}
 use Prim.Native.Nat.{ℕ, _+_, _-_, _<_, max}
 use mathlib.Core.Bool.{true, not, cond}

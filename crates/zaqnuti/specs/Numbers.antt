@@ -1,4 +1,4 @@
--- What an entry point answers: 0, or document 01's number of the refusal. Definitions only.
+-- What an entry point answers: 0, or the number of the refusal (docs/SCOPE.md, "Why a call turns back"). Definitions only.
 use Prim.Native.Nat.{ℕ}
 use mathlib.Core.Path.{_≡_}
 use mathlib.Core.Bool.{cond}

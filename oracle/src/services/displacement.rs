@@ -1,4 +1,4 @@
-//! The displacement, against `delta_position` within document 01's rules.
+//! The displacement, against `delta_position` within the rules of docs/SCOPE.md.
 
 use super::estimator::{self, turn_columns, Answer, Call as _};
 use super::Service;

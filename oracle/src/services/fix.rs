@@ -1,4 +1,4 @@
-//! The fix, against `solve_full` within document 01's rules, and the position alone, against the fix.
+//! The fix, against `solve_full` within the rules of docs/SCOPE.md, and the position alone, against the fix.
 
 use super::estimator::{self, turn_columns, Answer, Call as _};
 use super::Service;

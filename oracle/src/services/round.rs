@@ -182,7 +182,7 @@ fn rust_rows(rows: &Rows) -> Vec<Row> {
         .collect()
 }
 
-/// The Rust's step, and the numbers that document 01 adds: there the Rust may panic and is not asked.
+/// The Rust's step, and the numbers that docs/SCOPE.md adds: there the Rust may panic and is not asked.
 pub fn reference(input: &Input) -> Result<Column, u8> {
     let rows = &input.rows;
     if rows.count > MOST || !rows.whole() {

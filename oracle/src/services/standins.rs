@@ -1,4 +1,4 @@
-//! The stand-ins of document 01, each against its text in Rust.
+//! The stand-ins of docs/SCOPE.md, each against its text in Rust.
 
 use super::Service;
 use crate::random::{pattern, Random, SPECIAL};
@@ -24,7 +24,7 @@ struct Case {
     usual: fn(&mut Random) -> f64,
 }
 
-/// The stand-ins in the order of document 01; the place is the number in the stored answers.
+/// The stand-ins in the order of docs/SCOPE.md; the place is the number in the stored answers.
 const CASES: [Case; 8] = [
     Case {
         name: "square",

@@ -99,7 +99,7 @@ fn in_range(x: f64) -> bool {
     x.abs() <= 1e9
 }
 
-/// Document 01's number where the call turns back before the fit, and else what the Rust gives.
+/// The number where the call turns back before the fit, and else what the Rust gives.
 pub fn reference(input: &Input, result: usize, work: usize) -> Result<Vec<Vec3>, u8> {
     let (n, a, l) = (input.n, &input.anchors, &input.links);
     if n > MOST || a.count > MOST || l.count > MOST || !a.long() || !l.long() {
