@@ -1,5 +1,5 @@
 -- Every correction that a sound table gives is finite. Assumes nothing.
-use mathlib.Core.Path.{_≡_, refl, sym, ap, _∙_, subst}
+use mathlib.Core.Path.{_≡_, refl, sym, ap, _∙_}
 use mathlib.Core.List.{List, [], _∷_}
 use mathlib.Core.Bool.{Bool, true, false, cond, not, _&&_, Bool·beq, true≢false}
 use Prim.Native.Nat.{ℕ, suc, _+_, _*_, _^_, _-_, _≤_, _<_}
@@ -239,6 +239,3 @@ answer-finite l gap c v b t s h f =
     rw (earlier-series (signal c v b) t l, later-series (signal c v b) t l)
     (between-finite (signal c v b) gap t (lastOf (earlier (signal c v b) t) missing l) (firstOf (later (signal c v b) t) l) f
     (last-all (earlier (signal c v b) t) missing l tt good) (first-all (later (signal c v b) t) l good))
-
-pub metres-finite : (l : List Sample) (gap : Float) (c v b : ℕ) (t x : Float) → sound l ≡ true → Held l → T (fits binary64 t) → answerAt l gap c v b t ≡ Metres x → finite x ≡ true
-metres-finite l gap c v b t x s h f e = subst GivesFinite e (answer-finite l gap c v b t s h f)

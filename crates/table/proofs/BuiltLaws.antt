@@ -150,11 +150,6 @@ unfoldable has : ℕ → List ℕ → Bool
 has g [] = false
 has g (h ∷ hs) = eqb h g || has g hs
 
-ascends-weak : (p q : ℕ) (gs : List ℕ) → p ≤ q → ascends q gs ≡ true → ascends p gs ≡ true
-unfolding ascends
-ascends-weak p q [] h c = refl
-ascends-weak p q (g ∷ gs) h c = rw (le-leb p g (le-trans h (leb-true q g (and-left _ _ c)))) (and-right (leb q g) _ c)
-
 with-ascends : (p g : ℕ) (hs : List ℕ) → p ≤ g → ascends p hs ≡ true → ascends p (withSignal g hs) ≡ true
 unfolding ascends withSignal
 with-ascends p g [] h c = rw (le-leb p g h)

@@ -14,7 +14,7 @@ use Rattle.numeric.specs.Refusal.{numberOf}
 use Rattle.numeric.specs.declared.vec3.Vec3.{Vec3}
 use Rattle.numeric.specs.declared.refusal.Refusal.{Refusal}
 use Rattle.numeric.specs.declared.refusal.Refusal.the-variants.{TooMany}
-use Rattle.table.specs.Table.{Columns}
+use Rattle.table.specs.Table.{Columns, capacity, tableOf}
 use Rattle.table.specs.Add.{Outcome, refused, addingOf, addingNumber, countAfter, Adds}
 use Rattle.query.specs.Query.{queryNumber, GivesFinite}
 use Rattle.query.specs.Queries.{Reply, askingOf, askingNumber, Replies}
@@ -26,6 +26,7 @@ use Rattle.query.specs.declared.queries.Asking.the-variants as Asking
 use Rattle.query.specs.declared.query.Correction.{Correction}
 use Rattle.query.specs.declared.query.Correction.the-variants as Correction
 use Rattle.differential.specs.Record.{statesCount}
+use Rattle.differential.specs.Build.{Owned, callOf}
 use Rattle.differential.specs.AddEpoch.{tooMany, addedOf}
 use Rattle.differential.specs.declared.record.BaseEpoch.{BaseEpoch}
 use Rattle.differential.specs.declared.record.States.{States}
@@ -111,6 +112,14 @@ module _ (n room : ℕ) (t : List Sample) (time : Float) (k : ℕ) (rc rv rb : L
         states : (p : Bool) → present ≡ p → w ≡ cond p m 0 → places (stateAt sc sv sb sf) w ≡ take (cond p m 0) (places (stateAt sc sv sb sf) m)
         states true _ q = rw q (sym (places-all (stateAt sc sv sb sf) m))
         states false _ q = rw q (unfold places in refl)
+
+-- where the lent columns are long enough, an entry is the call of which `calls-build` says what a list of them leaves
+pub entry-call : (h : Owned) (time : Float) (k : ℕ) (rc rv rb : List ℕ) (rp : List Float) (present : Bool) (m : ℕ) (sc sv sb : List ℕ) (sf : List Float) (base rover : Vec3) (set : Settings)
+    → recordsShort k rc rv rb rp (cond present m 0) sc sv sb sf ≡ false
+    → entryOf (h .count) (capacity (h .columns)) (tableOf (h .count) (h .columns)) time k rc rv rb rp present m sc sv sb sf base rover set
+    ≡ callOf base rover set h (record { epoch = epochOf time k rc rv rb rp; states = statesIn present m sc sv sb sf })
+unfolding entryOf
+entry-call h time k rc rv rb rp present m sc sv sb sf base rover set e = rw e
 
 -- ---- the answers: x is that of the call inside
 pub adds-number : {o : Outcome} {x : Adding} {n : ℕ} {l l′ : Columns} (y : Adding) (number : ℕ) → x ≡ y → number ≡ addingNumber y
