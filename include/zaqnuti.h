@@ -53,8 +53,8 @@
  *
  *     fix             20,224
  *     position        20,224
- *     displacement    14,080
- *     line            38,144
+ *     displacement    16,128
+ *     line            40,192
  *     add_epoch       17,408
  *     query              512
  *     queries            512

@@ -559,14 +559,21 @@ fn a_long_input_is_streamed() {
 
 #[test]
 fn a_closed_pipe_ends_a_run_quietly() {
-    let mut child = Command::new(COMMAND)
-        .args(["fix", &geonet("rover.csv")])
-        .stdout(Stdio::piped())
-        .stderr(Stdio::piped())
+    // The reader has ended before the run begins, so that no line of it finds room in the pipe.
+    let mut reader = Command::new("true")
+        .stdin(Stdio::piped())
         .spawn()
         .unwrap();
-    drop(child.stdout.take());
-    let out = child.wait_with_output().unwrap();
+    let closed = reader.stdin.take().unwrap();
+    reader.wait().unwrap();
+    let out = Command::new(COMMAND)
+        .args(["fix", &geonet("rover.csv")])
+        .stdout(Stdio::from(closed))
+        .stderr(Stdio::piped())
+        .spawn()
+        .unwrap()
+        .wait_with_output()
+        .unwrap();
     assert_eq!(
         (out.status.code(), text(&out.stderr)),
         (Some(2), String::new())
