@@ -2,9 +2,13 @@
  * Zaqnuti: a position from pseudoranges, the displacement between two carrier
  * epochs, base-station corrections and a smoothed track.
  *
- * Link target/staticlib/libzaqnuti.a (`rt staticlib zaqnuti`): Linux on
- * x86-64, System V calling convention. It needs no other library, allocates
+ * Link libzaqnuti.a (`./run` leaves it in target/staticlib): Linux on x86-64,
+ * System V calling convention. Of other libraries it needs memcpy and memset,
+ * which every C library has and a program without one supplies. It allocates
  * nothing, reads no clock or file, and prints nothing.
+ *
+ * zaqnuti_easy.h has the same calls on structs, for people; this header is
+ * what the library exports, for machines.
  *
  * What holds of every function here
  *
@@ -47,10 +51,10 @@
  * recurses. Each page is touched in order, so that a stack that is too small
  * ends at its guard page.
  *
- *     fix             26,624
- *     position        26,624
- *     displacement    14,080
- *     line            38,144
+ *     fix             20,224
+ *     position        20,224
+ *     displacement    16,128
+ *     line            40,192
  *     add_epoch       17,408
  *     query              512
  *     queries            512
@@ -73,6 +77,13 @@
 #ifdef __cplusplus
 extern "C" {
 #endif
+
+/* The version of this header and its library: 10000 major + 100 minor + patch in the last. */
+#define ZAQNUTI_VERSION "0.1.0"
+#define ZAQNUTI_VERSION_MAJOR 0
+#define ZAQNUTI_VERSION_MINOR 1
+#define ZAQNUTI_VERSION_PATCH 0
+#define ZAQNUTI_VERSION_NUMBER 100
 
 /* Limits. */
 #define ZAQNUTI_RECORDS 64       /* records of an epoch, states beside it, rows, residuals */
@@ -97,6 +108,35 @@ enum zaqnuti_refusal {
     ZAQNUTI_TABLE_FULL = 11,           /* the epoch's corrections do not all fit in the table */
     ZAQNUTI_NO_CORRECTION = 12         /* the table gives no correction for the query */
 };
+
+/*
+ * Settings to begin with, as initializers. PHONE are the defaults of the
+ * Rust that this library follows, found on drives with phones; GEODETIC is
+ * what suited two receivers of a geodetic network with an epoch each 30 s
+ * (examples/geonet): their pseudoranges are better, and the mean of two range
+ * rates says less over 30 s than over one.
+ *
+ *     const double settings[4] = ZAQNUTI_FIX_PHONE;
+ */
+
+/* zaqnuti_fix: sigma_a, sigma_b (m), huber, mask (degrees); and the rounds. */
+#define ZAQNUTI_FIX_PHONE {0.3, 16.0, 1.0, 10.0}
+#define ZAQNUTI_FIX_GEODETIC {0.3, 0.3, 1.5, 10.0}
+#define ZAQNUTI_FIX_ROUNDS 25
+
+/* zaqnuti_displacement: screen, sigma_a, sigma_b (m), huber, mask (degrees); and the rounds. */
+#define ZAQNUTI_DISPLACEMENT_PHONE {0.5, 0.008, 0.002, 1.5, 10.0}
+#define ZAQNUTI_DISPLACEMENT_GEODETIC {2.0, 0.008, 0.002, 1.5, 10.0}
+#define ZAQNUTI_DISPLACEMENT_ROUNDS 4
+
+/* zaqnuti_add_epoch, zaqnuti_query, zaqnuti_queries: s, m, and GPS with Galileo. */
+#define ZAQNUTI_MAX_GAP 90.0
+#define ZAQNUTI_MAX_CORRECTION 100.0
+#define ZAQNUTI_CORRECTED {false, true, false, false, false, false, true, false}
+
+/* zaqnuti_smooth: in sigmas, and the iterations. */
+#define ZAQNUTI_TRACK_HUBER 2.0
+#define ZAQNUTI_TRACK_ITERATIONS 6
 
 /* ---- the fix */
 
@@ -205,108 +245,110 @@ size_t zaqnuti_line(
 /*
  * One epoch of a base station added to a table of corrections.
  *
- * cs, vs, bs     the table: constellation, svid and band of each sample,
- * ts, xs         its time (s of the week) and correction (m, to be subtracted
+ * table_..       the table: constellation, svid and band of each sample, its
+ *                time (s of the week) and correction (m, to be subtracted
  *                from a rover's pseudorange), sorted by constellation, svid,
  *                band and time. Its capacity is the shortest of the five
  *                columns, at most 2,048.
- * n              how many samples the table has; 0 is an empty table
+ * table_count    how many samples the table has; 0 is an empty table
  * time           the epoch's time, s of the week
- * k              how many ranges, at most 64
- * rc, rv, rb     constellation, svid and band of each range
- * rp             its pseudorange (m)
- * present        whether states are handed over; false adds nothing, and what
+ * ranges         how many ranges, at most 64
+ * range_..       constellation, svid and band of each range, and its
+ *                pseudorange (m)
+ * states_present whether states are handed over; false adds nothing, and what
  *                stands in the states' columns is not looked at
- * m              how many states, at most 64
- * sc, sv, sb     constellation, svid and band of each state
- * sf             eight floats for each state: x, y, z of the satellite at the
+ * states         how many states, at most 64
+ * state_..       constellation, svid and band of each state
+ * state_floats   eight for each state: x, y, z of the satellite at the
  *                rover's transmission time (m), its velocity (m/s), clock
  *                (m), modelled delay (m)
  * base, rover    their positions, x, y, z (m)
- * gap            the longest gap that a query may bridge (s); tested here too
- * max            corrections above it in magnitude are dropped (m)
- * on             whether each constellation 0 to 7 is corrected; those from 8
+ * max_gap        the longest gap that a query may bridge (s); tested here too
+ * max_correction corrections above it in magnitude are dropped (m)
+ * corrected      whether each constellation 0 to 7 is corrected; those from 8
  *                up yield nothing
  *
- * Where it answers, the columns and n hold the table with the epoch's samples
- * in their places; otherwise every byte of them is as it was.
+ * Where it answers, the columns and table_count hold the table with the
+ * epoch's samples in their places; otherwise every byte of them is as it was.
  * Refuses by 2 (more than 64 ranges or states, a column shorter than its
- * count needs, n above the capacity), 3 (gap, max), 4 (also a table that is
- * not sorted) and 11.
+ * count needs, table_count above the capacity), 3 (max_gap, max_correction),
+ * 4 (also a table that is not sorted) and 11.
  */
 uint8_t zaqnuti_add_epoch(
-    uint8_t *cs, size_t cs_length,
-    uint16_t *vs, size_t vs_length,
-    uint8_t *bs, size_t bs_length,
-    double *ts, size_t ts_length,
-    double *xs, size_t xs_length,
-    size_t *n,
+    uint8_t *table_constellation, size_t table_constellation_length,
+    uint16_t *table_svid, size_t table_svid_length,
+    uint8_t *table_band, size_t table_band_length,
+    double *table_time, size_t table_time_length,
+    double *table_metres, size_t table_metres_length,
+    size_t *table_count,
     double time,
-    size_t k,
-    const uint8_t *rc, size_t rc_length,
-    const uint16_t *rv, size_t rv_length,
-    const uint8_t *rb, size_t rb_length,
-    const double *rp, size_t rp_length,
-    bool present,
-    size_t m,
-    const uint8_t *sc, size_t sc_length,
-    const uint16_t *sv, size_t sv_length,
-    const uint8_t *sb, size_t sb_length,
-    const double *sf, size_t sf_length,
+    size_t ranges,
+    const uint8_t *range_constellation, size_t range_constellation_length,
+    const uint16_t *range_svid, size_t range_svid_length,
+    const uint8_t *range_band, size_t range_band_length,
+    const double *range_pseudorange, size_t range_pseudorange_length,
+    bool states_present,
+    size_t states,
+    const uint8_t *state_constellation, size_t state_constellation_length,
+    const uint16_t *state_svid, size_t state_svid_length,
+    const uint8_t *state_band, size_t state_band_length,
+    const double *state_floats, size_t state_floats_length,
     const double base[3],
     const double rover[3],
-    double gap,
-    double max,
-    const bool on[8]);
+    double max_gap,
+    double max_correction,
+    const bool corrected[8]);
 
 /*
- * The correction of the signal c, v, b at the time t (s of the week) in
- * metres, from the first n samples of a table as zaqnuti_add_epoch leaves it.
- * A gap between two samples is bridged where it is at most `gap` seconds.
+ * The correction of a signal (constellation, svid, band) at a time (s of the
+ * week) in metres, from the first table_count samples of a table as
+ * zaqnuti_add_epoch leaves it. A gap between two samples is bridged where it
+ * is at most max_gap seconds.
  *
- * Refuses by 2 (n above the capacity), 3 (gap), 4 (a float of the table, or
- * the table not sorted; a finite t above 1e9) and 12 (no sample, t outside
- * the samples or in too long a gap, or t not finite).
+ * Refuses by 2 (table_count above the capacity), 3 (max_gap), 4 (a float of
+ * the table, or the table not sorted; a finite time above 1e9) and 12 (no
+ * sample, the time outside the samples or in too long a gap, or not finite).
  */
 uint8_t zaqnuti_query(
-    const uint8_t *cs, size_t cs_length,
-    const uint16_t *vs, size_t vs_length,
-    const uint8_t *bs, size_t bs_length,
-    const double *ts, size_t ts_length,
-    const double *xs, size_t xs_length,
-    size_t n,
-    double gap,
-    uint8_t c,
-    uint16_t v,
-    uint8_t b,
-    double t,
+    const uint8_t *table_constellation, size_t table_constellation_length,
+    const uint16_t *table_svid, size_t table_svid_length,
+    const uint8_t *table_band, size_t table_band_length,
+    const double *table_time, size_t table_time_length,
+    const double *table_metres, size_t table_metres_length,
+    size_t table_count,
+    double max_gap,
+    uint8_t constellation,
+    uint16_t svid,
+    uint8_t band,
+    double time,
     double *metres);
 
 /*
- * The corrections of `count` signals and times, c, v, b and t, from a table
- * that is tested once for all of them: testing it costs about a hundred times
- * what finding a correction does, so an epoch's signals are best asked in one
+ * The corrections of `count` signals at as many times from a table that is
+ * tested once for all of them: testing it costs about a hundred times what
+ * finding a correction does, so an epoch's signals are best asked in one
  * call.
  *
  * numbers        for each place 0, or the number of its refusal: 4 or 12
  * metres         for each place its correction; as it was where it is refused
  *
  * Each place has what zaqnuti_query would answer for it. The call itself
- * refuses by 2 (n above the capacity, or one of the last six columns shorter
- * than count), 3 (gap) and 4 (the table): then every place is as it was.
+ * refuses by 2 (table_count above the capacity, or one of the last six columns
+ * shorter than count), 3 (max_gap) and 4 (the table): then every place is as
+ * it was.
  */
 uint8_t zaqnuti_queries(
-    const uint8_t *cs, size_t cs_length,
-    const uint16_t *vs, size_t vs_length,
-    const uint8_t *bs, size_t bs_length,
-    const double *ts, size_t ts_length,
-    const double *xs, size_t xs_length,
-    size_t n,
-    double gap,
-    const uint8_t *c, size_t c_length,
-    const uint16_t *v, size_t v_length,
-    const uint8_t *b, size_t b_length,
-    const double *t, size_t t_length,
+    const uint8_t *table_constellation, size_t table_constellation_length,
+    const uint16_t *table_svid, size_t table_svid_length,
+    const uint8_t *table_band, size_t table_band_length,
+    const double *table_time, size_t table_time_length,
+    const double *table_metres, size_t table_metres_length,
+    size_t table_count,
+    double max_gap,
+    const uint8_t *constellation, size_t constellation_length,
+    const uint16_t *svid, size_t svid_length,
+    const uint8_t *band, size_t band_length,
+    const double *time, size_t time_length,
     size_t count,
     uint8_t *numbers, size_t numbers_length,
     double *metres, size_t metres_length);
@@ -314,20 +356,21 @@ uint8_t zaqnuti_queries(
 /* ---- the track */
 
 /*
- * The track of n epochs that fits anchors (where the receiver was) and links
- * (how far it moved from one epoch to the next).
+ * The track of some epochs that fits anchors (where the receiver was) and
+ * links (how far it moved from one epoch to the next).
  *
- * n              how many epochs, 1 to 1,024
+ * epochs         how many epochs, 1 to 1,024
  * anchors, links how many of each, at most 1,024; at least one anchor
- * ai, li         the epoch of each anchor, below n, and the epoch at which
- *                each link starts, below n - 1; in any order
- * av, lv         three floats for each: position, or change in position (m)
- * ag, lg         three floats for each: one-sigma by axis (m), above 0
+ * .._epoch       the epoch of each anchor, below epochs, and the epoch at
+ *                which each link starts, below epochs - 1; in any order
+ * anchor_position, link_change
+ *                three floats for each: position, or change in position (m)
+ * .._sigma       three floats for each: one-sigma by axis (m), above 0
  * huber          in sigmas
  * iterations     reweighting passes, at most 50; 0 runs one, as 1 does
  * result         x, y, z of the first epoch, then of the next, and so on:
- *                3 n floats, finite
- * work           9 n + anchors + links floats
+ *                3 epochs floats, finite
+ * work           9 epochs + anchors + links floats
  *
  * The needed part of work is all zero after an answer and after 10; under 2
  * to 6 it is as it was. Nothing beyond the needed part of result and work is
@@ -337,15 +380,15 @@ uint8_t zaqnuti_queries(
  * work and keeps the last good track).
  */
 uint8_t zaqnuti_smooth(
-    size_t n,
+    size_t epochs,
     size_t anchors,
     size_t links,
-    const size_t *ai, size_t ai_length,
-    const double *av, size_t av_length,
-    const double *ag, size_t ag_length,
-    const size_t *li, size_t li_length,
-    const double *lv, size_t lv_length,
-    const double *lg, size_t lg_length,
+    const size_t *anchor_epoch, size_t anchor_epoch_length,
+    const double *anchor_position, size_t anchor_position_length,
+    const double *anchor_sigma, size_t anchor_sigma_length,
+    const size_t *link_epoch, size_t link_epoch_length,
+    const double *link_change, size_t link_change_length,
+    const double *link_sigma, size_t link_sigma_length,
     double huber,
     size_t iterations,
     double *result, size_t result_length,

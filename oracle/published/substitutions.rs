@@ -74,7 +74,7 @@ pub const SUBSTITUTIONS: &[Substitution] = &[
     // An included file may carry no inner comment and no inner attribute.
     sub(CORE_LIB, "//!", "//", 25),
     sub(CORE_LIB, "\n#![", "\n// #![", 3),
-    // The stand-ins of document 01, "The reference"; `sqrt` and `abs` are std's.
+    // The stand-ins of docs/SCOPE.md, "The reference"; `sqrt` and `abs` are std's.
     import_behind!(ROBUST, "use drifters_core::math::{Cholesky, Matrix};\n"),
     sub(ROBUST, "z.max(1e-9)", "z.greater(1e-9)", 1),
     sub(

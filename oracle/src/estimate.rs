@@ -1,4 +1,4 @@
-//! Inputs of the displacement and the fix, and what the published Rust answers within document 01's rules.
+//! Inputs of the displacement and the fix, and what the published Rust answers within the rules of docs/SCOPE.md.
 
 use crate::rules;
 use drifters_core::frames::Ecef;

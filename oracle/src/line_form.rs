@@ -1,4 +1,4 @@
-//! The line form of document 01, "The line form and its program": texts of inputs, a plain reader of
+//! The line form of docs/SCOPE.md, "The line form and its program": texts of inputs, a plain reader of
 //! texts, and the line of an answer.
 
 use crate::estimate::Displacement;

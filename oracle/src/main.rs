@@ -20,8 +20,7 @@ mod tally;
 mod vectors;
 
 use random::Random;
-use services::{Service, SERVICES};
-use std::path::Path;
+use services::{Service, KINDS, SERVICES};
 use std::process::ExitCode;
 use tally::Tally;
 use vectors::Stream;
@@ -29,7 +28,7 @@ use vectors::Stream;
 const USAGE: &str = "oracle compare [--seed S] [--count N] [SERVICE..]
 oracle bench [--instructions] [SERVICE..]
 oracle accuracy [--seed S] [--count N]
-oracle vectors [--seed S] FILE [TEXTS]";
+oracle vectors [--seed S] [FILE]";
 
 /// What the command line says.
 struct Arguments {
@@ -111,36 +110,30 @@ fn bench(given: &Arguments) -> Result<bool, String> {
     Ok(true)
 }
 
-/// Writes the stored answers of every service that has some; a service's kind is its place in the
-/// table. The stored texts of the line form go to a file of their own.
+/// Where the stored answers are.
+const ANSWERS: &str = concat!(env!("CARGO_MANIFEST_DIR"), "/../tests/answers.bin");
+
+/// Writes the stored answers of every kind.
 fn vectors(given: &Arguments) -> Result<bool, String> {
-    let (file, texts) = match given.words.as_slice() {
-        [file] => (file, None),
-        [file, texts] => (file, Some(texts)),
-        _ => return Err("vectors takes one file or two".to_string()),
+    let file = match given.words.as_slice() {
+        [] => ANSWERS,
+        [file] => file,
+        _ => return Err("vectors takes one file".to_string()),
     };
-    if let Some(texts) = texts {
-        line_vectors(given.seed, texts)?;
-    }
-    let mut stream = Stream::default();
-    for (place, service) in SERVICES.iter().enumerate() {
-        if let Some(make) = service.vectors {
-            let made = make(&mut Random::new(given.seed, service.name));
-            stream.add(place as u64 + 1, &made);
-            println!("{}: {} cases", service.name, made.cases.len());
-        }
-    }
-    stream
-        .write(Path::new(file))
-        .map_err(|e| format!("{file}: {e}"))?;
+    let bytes = stream(given.seed, |name, cases| println!("{name}: {cases} cases"));
+    std::fs::write(file, bytes).map_err(|e| format!("{file}: {e}"))?;
     Ok(true)
 }
 
-/// Writes the stored texts of the line form.
-fn line_vectors(seed: u64, file: &str) -> Result<(), String> {
-    let (count, bytes) = services::line::cases(&mut Random::new(seed, "line"));
-    println!("line: {count} texts");
-    std::fs::write(file, bytes).map_err(|e| format!("{file}: {e}"))
+/// The bytes of the stored answers; each kind is told with how many cases it has.
+fn stream(seed: u64, mut told: impl FnMut(&str, usize)) -> Vec<u8> {
+    let mut stream = Stream::default();
+    for (kind, name, make) in KINDS {
+        let made = make(&mut Random::new(seed, name));
+        stream.add(*kind, &made);
+        told(name, made.cases.len());
+    }
+    stream.0
 }
 
 fn run() -> Result<bool, String> {
@@ -171,5 +164,16 @@ fn main() -> ExitCode {
             eprintln!("oracle: {why}\n{USAGE}");
             ExitCode::from(2)
         }
+    }
+}
+
+#[cfg(test)]
+mod tests {
+    use super::*;
+
+    #[test]
+    fn the_stored_answers_are_those_of_the_rust() {
+        let stored = std::fs::read(ANSWERS).expect("tests/answers.bin");
+        assert!(stored == stream(1, |_, _| {}));
     }
 }

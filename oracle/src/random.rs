@@ -6,7 +6,7 @@ pub const NAN: u64 = 0x7FF8_0000_0000_0000;
 /// The sign bit of a pattern.
 pub const SIGN: u64 = 1 << 63;
 
-/// The patterns at which a float's class, or a rule of document 01, changes.
+/// The patterns at which a float's class, or a rule of docs/SCOPE.md, changes.
 pub const SPECIAL: [u64; 40] = [
     0x0000_0000_0000_0000, // 0
     0x8000_0000_0000_0000, // -0

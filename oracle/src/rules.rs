@@ -1,4 +1,4 @@
-//! Document 01, "Why a call turns back": numbers 2 to 9 of a displacement and a fix, in checking
+//! docs/SCOPE.md, "Why a call turns back": numbers 2 to 9 of a displacement and a fix, in checking
 //! order. Used only to say which number a refusal is, and where the Rust is not asked.
 
 use crate::estimate::{Displacement, Fix};

@@ -1,42 +1,58 @@
-//! Stored answers as one stream of 64-bit numbers, least byte first, which the program `vectors` replays.
+//! Stored answers as one stream of 64-bit numbers, least byte first, which `tests/replay` replays; its main.c has the format.
 
-use std::path::Path;
-use std::{fs, io};
+/// What is given in a case, and the answer.
+pub type Case = (Vec<u64>, Vec<u64>);
 
-/// The answers of one service: its cases, each as its numbers, of which so many at the end are its answer.
+/// The cases of one kind, and the altered ones, which the replay has to tell from the library's answers.
 pub struct Vectors {
-    pub cases: Vec<Vec<u64>>,
-    pub answer: usize,
+    pub cases: Vec<Case>,
+    pub altered: Vec<Case>,
 }
 
 impl Vectors {
-    /// Cases of one length, from their numbers one after the other.
-    pub fn alike(case: usize, answer: usize, numbers: Vec<u64>) -> Self {
-        Self {
-            cases: numbers.chunks_exact(case).map(<[u64]>::to_vec).collect(),
-            answer,
-        }
+    /// Cases with answers of one length; for each number of an answer, a copy of the last case, the one before it and so on is altered.
+    pub fn of(cases: Vec<Case>) -> Self {
+        let length = cases.first().map_or(0, |c| c.1.len());
+        let last_first = cases.iter().rev().cycle();
+        let altered = last_first
+            .take(length)
+            .enumerate()
+            .map(|(k, case)| turned(case, length - 1 - k))
+            .collect();
+        Self { cases, altered }
     }
 
-    /// As many cases of each answer's number as are wanted, out of those that `next` makes; it may make none.
-    pub fn of_each(
-        wanted: &[(u8, usize)],
-        answer: usize,
-        mut next: impl FnMut() -> Option<(u8, Vec<u64>)>,
-    ) -> Self {
-        let mut left = wanted.to_vec();
-        let mut cases = Vec::new();
-        while left.iter().any(|l| l.1 > 0) {
-            let Some((number, case)) = next() else {
-                continue;
-            };
-            if let Some(l) = left.iter_mut().find(|l| l.0 == number && l.1 > 0) {
-                l.1 -= 1;
-                cases.push(case);
-            }
-        }
-        Self { cases, answer }
+    /// Cases of one length, of which so many numbers at the end are the answer, from their numbers one after the other.
+    pub fn alike(case: usize, answer: usize, numbers: Vec<u64>) -> Self {
+        let split = |numbers: &[u64]| {
+            let (given, answer) = numbers.split_at(case - answer);
+            (given.to_vec(), answer.to_vec())
+        };
+        Self::of(numbers.chunks_exact(case).map(split).collect())
     }
+}
+
+/// As many cases of each answer's number as are wanted, out of those that `next` makes; it may make none.
+pub fn of_each(wanted: &[(u8, usize)], mut next: impl FnMut() -> Option<(u8, Case)>) -> Vec<Case> {
+    let mut left = wanted.to_vec();
+    let mut cases = Vec::new();
+    while left.iter().any(|l| l.1 > 0) {
+        let Some((number, case)) = next() else {
+            continue;
+        };
+        if let Some(l) = left.iter_mut().find(|l| l.0 == number && l.1 > 0) {
+            l.1 -= 1;
+            cases.push(case);
+        }
+    }
+    cases
+}
+
+/// A case with the lowest bit of one number of its answer turned.
+pub fn turned((given, answer): &Case, place: usize) -> Case {
+    let mut answer = answer.clone();
+    answer[place] ^= 1;
+    (given.clone(), answer)
 }
 
 /// The patterns of floats as they are handed over.
@@ -44,34 +60,54 @@ pub fn raw(floats: &[f64]) -> impl Iterator<Item = u64> + '_ {
     floats.iter().map(|x| x.to_bits())
 }
 
+/// How many bytes, and the bytes, eight in a number, the first one lowest.
+pub fn packed(bytes: &[u8]) -> Vec<u64> {
+    let number = |eight: &[u8]| eight.iter().rev().fold(0, |n, &b| n << 8 | u64::from(b));
+    let numbers = bytes.chunks(8).map(number);
+    [bytes.len() as u64].into_iter().chain(numbers).collect()
+}
+
 /// The stream so far.
 #[derive(Default)]
-pub struct Stream(Vec<u8>);
+pub struct Stream(pub Vec<u8>);
 
 impl Stream {
-    /// Adds the cases of a service, each behind the number of its kind and 0; then, behind 1, a case more for each number of the
-    /// answer, with the lowest bit of that number turned, so that the replay shows that it compares.
+    /// Adds the cases of a kind: behind its number, 0 or where they are altered 1, and how many numbers follow.
     pub fn add(&mut self, kind: u64, vectors: &Vectors) {
-        for case in &vectors.cases {
-            self.write_case(kind, 0, case);
-        }
-        let last_first = vectors.cases.iter().rev().cycle();
-        for (k, case) in last_first.take(vectors.answer).enumerate() {
-            let mut altered = case.clone();
-            let place = altered.len() - 1 - k;
-            altered[place] ^= 1;
-            self.write_case(kind, 1, &altered);
+        for (altered, cases) in [(0, &vectors.cases), (1, &vectors.altered)] {
+            for (given, answer) in cases {
+                let length = (given.len() + answer.len()) as u64;
+                for n in [kind, altered, length].iter().chain(given).chain(answer) {
+                    self.0.extend_from_slice(&n.to_le_bytes());
+                }
+            }
         }
     }
+}
 
-    fn write_case(&mut self, kind: u64, altered: u64, case: &[u64]) {
-        for n in [kind, altered].iter().chain(case) {
-            self.0.extend_from_slice(&n.to_le_bytes());
-        }
+#[cfg(test)]
+mod tests {
+    use super::*;
+
+    #[test]
+    fn a_stream_has_each_case_and_its_altered_copies() {
+        let mut stream = Stream::default();
+        stream.add(9, &Vectors::alike(3, 2, vec![5, 6, 7]));
+        let numbers: Vec<u64> = stream
+            .0
+            .chunks_exact(8)
+            .map(|n| u64::from_le_bytes(n.try_into().unwrap()))
+            .collect();
+        let cases = [[9, 0, 3, 5, 6, 7], [9, 1, 3, 5, 6, 6], [9, 1, 3, 5, 7, 7]];
+        assert_eq!(numbers, cases.concat());
     }
 
-    /// Writes the file.
-    pub fn write(&self, file: &Path) -> io::Result<()> {
-        fs::write(file, &self.0)
+    #[test]
+    fn bytes_are_packed_the_first_one_lowest() {
+        assert_eq!(packed(b""), [0]);
+        assert_eq!(
+            packed(b"abcdefghi"),
+            [9, u64::from_le_bytes(*b"abcdefgh"), u64::from(b'i')]
+        );
     }
 }

@@ -1,5 +1,8 @@
 //! Corrections from a base station: one base epoch added at a time, and queries.
 
+use alloc::vec;
+use alloc::vec::Vec;
+
 use crate::refusal::answered;
 use crate::{column, columns, sys, Refusal, SAMPLES};
 
@@ -91,6 +94,44 @@ pub struct Signal {
 }
 
 /// Correction time series, in metres, to be **subtracted** from a rover pseudorange.
+///
+/// ```
+/// use zaqnuti::differential::{BaseEpoch, BaseRange, Corrections, SatelliteState, Settings};
+/// use zaqnuti::{robust, Ecef, Refusal};
+///
+/// let base = Ecef::new(-3978242.4348, 3382841.1715, 3649902.7667);
+/// let sky = [
+///     (8, [-683949.7926, 26351230.7650, 79787.4804]),
+///     (11, [-14822915.6595, 8930208.3680, 20079386.0967]),
+///     (28, [-2383676.5779, 17483698.3984, 19982740.5748]),
+/// ];
+/// let states = sky.map(|(svid, position)| SatelliteState {
+///     constellation: 1,
+///     svid,
+///     band: 1,
+///     position,
+///     velocity: [0.0; 3],
+///     clock: 0.0,
+///     modelled: 0.0,
+/// });
+/// // What the base measures where the path to satellite 8 is so much too long.
+/// let epoch = |tow, error| {
+///     let range = |(svid, position)| BaseRange {
+///         constellation: 1,
+///         svid,
+///         band: 1,
+///         pseudorange: robust::geometry(position, base).1 + if svid == 8 { error } else { 0.0 },
+///     };
+///     BaseEpoch { tow, ranges: sky.map(range).to_vec() }
+/// };
+/// let mut table = Corrections::new(&Settings::default());
+/// let place = base.coordinates();
+/// table.add(&epoch(0.0, 1.0), Some(&states), place, place)?;
+/// table.add(&epoch(30.0, 2.0), Some(&states), place, place)?;
+/// assert!((table.at(1, 8, 1, 15.0)? - 1.5).abs() < 1e-6);
+/// assert_eq!(table.at(1, 8, 1, 31.0), Err(Refusal::NoCorrection));
+/// # Ok::<(), Refusal>(())
+/// ```
 #[derive(Clone, Debug)]
 pub struct Corrections {
     constellation: Vec<u8>,

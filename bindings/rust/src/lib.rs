@@ -15,14 +15,29 @@
 //! only lay out columns.
 //!
 //! ```
-//! use zaqnuti::{tdcp, Ecef, Refusal};
+//! use zaqnuti::{smooth::{self, Anchor, Link}, Refusal, Vec3};
 //!
-//! let none = tdcp::delta_position(&[], &[], 1.0, Ecef::default(), &tdcp::Settings::default());
-//! assert_eq!(none.unwrap_err(), Refusal::TooFewPairs);
-//! assert_eq!(Refusal::TooFewPairs.number(), 7);
+//! // Two fixes of some metres, and between them a displacement of centimetres.
+//! let anchor = |index, x| Anchor { index, position: Vec3::new(x, 0.0, 0.0), sigma: Vec3::new(2.0, 2.0, 2.0) };
+//! let link = Link { index: 0, delta: Vec3::new(10.0, 0.0, 0.0), sigma: Vec3::new(0.02, 0.02, 0.02) };
+//! let set = smooth::Settings::default();
+//! let track = smooth::smooth(2, &[anchor(0, 1.0), anchor(1, 9.0)], &[link], &set)?;
+//! assert!((track[0].x - 0.0).abs() < 0.01 && (track[1].x - 10.0).abs() < 0.01);
+//!
+//! // Without an anchor there is nothing to hang it on.
+//! let none = smooth::smooth(2, &[], &[link], &set);
+//! assert_eq!(none.unwrap_err(), Refusal::BadTrack);
+//! assert_eq!(Refusal::BadTrack.number(), 6);
+//! # Ok::<(), Refusal>(())
 //! ```
+//!
+//! The library is `no_std` and needs `alloc` for tables and tracks; the feature `std`, on by
+//! default, builds the command `zaqnuti` beside it.
+#![no_std]
 #![warn(missing_docs)]
 #![deny(unsafe_op_in_unsafe_fn)]
+
+extern crate alloc;
 
 pub mod differential;
 pub mod line;
@@ -43,6 +58,16 @@ pub const RECORDS: usize = 64;
 pub const SAMPLES: usize = 2048;
 /// The most epochs, anchors or links of a track.
 pub const EPOCHS: usize = 1024;
+/// The most rounds of an estimate, or passes of a track.
+pub const ROUNDS: usize = 50;
+/// The most clock slots: constellations with a clock of their own, those from 7 up as one.
+pub const SLOTS: usize = 6;
+/// The fewest carrier pairs of a displacement.
+pub const PAIRS: usize = 6;
+/// The largest magnitude of a setting, coordinate, time or float of a record.
+pub const MAGNITUDE: f64 = 1e9;
+/// The longest interval of a displacement, seconds: a week.
+pub const INTERVAL: f64 = 604_800.0;
 /// The most bytes of a text in the line form.
 pub const TEXT: usize = 32_768;
 /// The bytes that are always enough for its answer.
@@ -88,3 +113,8 @@ fn columns<R, const N: usize>(records: &[R], of: impl Fn(&R) -> [f64; N]) -> [[f
     }
     out
 }
+
+/// The README's program is compiled and run with the other examples.
+#[cfg(doctest)]
+#[doc = include_str!("../README.md")]
+struct Readme;

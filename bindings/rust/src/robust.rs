@@ -28,7 +28,7 @@ pub struct Clocks {
 
 impl Default for Clocks {
     fn default() -> Self {
-        Self::assign(std::iter::empty())
+        Self::assign(core::iter::empty())
     }
 }
 
@@ -67,7 +67,7 @@ impl Clocks {
 pub fn centre_scale(residuals: &[f64]) -> Result<(f64, f64), Refusal> {
     // One more than is allowed, so that the library refuses a longer sample.
     let patterns: [u64; crate::RECORDS + 1] =
-        std::array::from_fn(|i| residuals.get(i).map_or(0, |r| r.to_bits()));
+        core::array::from_fn(|i| residuals.get(i).map_or(0, |r| r.to_bits()));
     let mut out = [0.0; 2];
     // SAFETY: the first has as many patterns as are said, and the last is ours alone.
     let number = unsafe {

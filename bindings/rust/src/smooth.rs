@@ -1,5 +1,8 @@
 //! Fixed-interval trajectory smoothing by banded least squares.
 
+use alloc::vec;
+use alloc::vec::Vec;
+
 use crate::refusal::answered;
 use crate::{sys, Refusal, Vec3, EPOCHS};
 
@@ -70,6 +73,29 @@ impl Columns {
 /// One position for each of n epochs.
 ///
 /// Anchors and links may be given in any order, and an epoch may carry several of either.
+///
+/// ```
+/// use zaqnuti::smooth::{smooth, Anchor, Link, Settings};
+/// use zaqnuti::{Refusal, Vec3};
+///
+/// // Fixes 10 m apart with 3 m of error now and then; carrier displacements of 10 m.
+/// let fixes = [0.0, 10.0, 23.0, 30.0, 40.0, 47.0, 60.0];
+/// let anchors: Vec<Anchor> = fixes.iter().enumerate().map(|(index, &x)| Anchor {
+///     index,
+///     position: Vec3::new(x, 0.0, 0.0),
+///     sigma: Vec3::new(3.0, 3.0, 3.0),
+/// }).collect();
+/// let links: Vec<Link> = (0..6).map(|index| Link {
+///     index,
+///     delta: Vec3::new(10.0, 0.0, 0.0),
+///     sigma: Vec3::new(0.02, 0.02, 0.02),
+/// }).collect();
+/// let track = smooth(7, &anchors, &links, &Settings::default())?;
+/// for (i, point) in track.iter().enumerate() {
+///     assert!((point.x - 10.0 * i as f64).abs() < 0.01);
+/// }
+/// # Ok::<(), Refusal>(())
+/// ```
 pub fn smooth(
     n: usize,
     anchors: &[Anchor],

@@ -57,6 +57,22 @@ impl Default for Settings {
     }
 }
 
+impl Settings {
+    /// What suited a geodetic receiver on a roof with 30 s between its epochs, over which the mean
+    /// of two rates is rough; the default is what suits a phone each second.
+    pub const fn geodetic() -> Self {
+        Self {
+            screen: 2.0,
+            sigma_a: 0.008,
+            sigma_b: 0.002,
+            huber: 1.5,
+            mask: 10.0,
+            iterations: 4,
+            agreement: 3.0,
+        }
+    }
+}
+
 /// What a solved epoch pair yields.
 #[derive(Clone, Copy, Debug, PartialEq)]
 pub struct Delta {
@@ -95,6 +111,52 @@ impl Columns {
 /// The receiver's position change from the previous epoch to the current one, `dt` seconds later.
 ///
 /// `at` is where the receiver was at the earlier epoch.
+///
+/// ```
+/// use zaqnuti::tdcp::{delta_position, Carrier, Settings};
+/// use zaqnuti::{Ecef, Refusal};
+///
+/// let carrier = |(svid, adr, satellite, elevation, rate)| Carrier {
+///     constellation: 1,
+///     svid,
+///     band: 1575,
+///     adr,
+///     state: 1,
+///     satellite,
+///     elevation,
+///     rate,
+/// };
+/// // A station that stands still, 2005-04-02: svid, carrier, satellite, elevation, rate.
+/// let previous = [
+///     (7, -172322.1098, [10026487.6901, 18601864.0690, 16597421.8539], 16.1755, -486.0847),
+///     (8, 3414794.9918, [-683949.7926, 26351230.7650, 79787.4804], 20.0771, 469.9015),
+///     (11, 1530559.3591, [-14822915.6595, 8930208.3680, 20079386.0967], 69.4716, 204.4422),
+///     (19, 6983136.4300, [-23358517.4998, -5407967.0045, 11505396.1790], 31.7452, 377.2273),
+///     (20, -1119453.1766, [-23036169.0859, 13172079.7389, 766984.1650], 45.3946, -512.0204),
+///     (24, -434512.5769, [-4410870.9394, 25703724.4991, 4806330.1948], 34.8016, -424.6083),
+///     (28, -1022706.7203, [-2383676.5779, 17483698.3984, 19982740.5748], 47.2315, -410.9072),
+/// ]
+/// .map(carrier);
+/// let current = [
+///     (7, -174364.2447, [9968998.0205, 18580402.4659, 16657076.4539], 16.3293, -486.2937),
+///     (8, 3441460.0763, [-692717.6235, 26351720.7446, -16652.0015], 19.9352, 471.5250),
+///     (11, 1549264.3208, [-14837010.3040, 8853752.5973, 20103371.4909], 69.2833, 206.3201),
+///     (19, 7007012.7694, [-23391018.9750, -5437403.4416, 11424432.3600], 31.6030, 378.2940),
+///     (20, -1122232.9772, [-23037585.5171, 13163117.7662, 862296.7776], 45.6290, -509.5355),
+///     (24, -434678.4062, [-4418297.9855, 25685818.1622, 4899815.0556], 34.9773, -422.6873),
+///     (28, -1022449.8655, [-2450535.3896, 17517541.8337, 19943544.4509], 47.4114, -408.2052),
+/// ]
+/// .map(carrier);
+/// let at = Ecef::new(-3976219.5082, 3382372.5671, 3652512.9849);
+/// let moved = delta_position(&previous, &current, 30.0, at, &Settings::geodetic())?;
+/// assert_eq!((moved.used, moved.screened), (7, 0));
+/// let length = (moved.delta.x.powi(2) + moved.delta.y.powi(2) + moved.delta.z.powi(2)).sqrt();
+/// assert!(length < 0.1);
+///
+/// let few = delta_position(&previous[..5], &current, 30.0, at, &Settings::geodetic());
+/// assert_eq!(few.unwrap_err(), Refusal::TooFewPairs);
+/// # Ok::<(), Refusal>(())
+/// ```
 pub fn delta_position(
     previous: &[Carrier],
     current: &[Carrier],

@@ -49,6 +49,19 @@ impl Default for Settings {
     }
 }
 
+impl Settings {
+    /// What suited a geodetic receiver on a roof; the default is what suits a phone.
+    pub const fn geodetic() -> Self {
+        Self {
+            sigma_a: 0.3,
+            sigma_b: 0.3,
+            huber: 1.5,
+            mask: 10.0,
+            iterations: 25,
+        }
+    }
+}
+
 /// A solved epoch, and what the fit says of itself.
 #[derive(Clone, Copy, Debug, PartialEq)]
 pub struct Solution {
@@ -83,6 +96,42 @@ impl Columns {
 }
 
 /// The receiver's position from one epoch, with what the fit says of itself.
+///
+/// ```
+/// use zaqnuti::wls::{solve_full, Observation, Settings};
+/// use zaqnuti::{Ecef, Refusal};
+///
+/// // GPS over a station in Japan, 2005-04-02: svid, pseudorange, satellite, elevation.
+/// let sky = [
+///     (7, 24321128.9414, [10026487.6901, 18601864.0690, 16597421.8539], 16.1755),
+///     (8, 23399829.5900, [-683949.7926, 26351230.7650, 79787.4804], 20.0771),
+///     (11, 20374438.0990, [-14822915.6595, 8930208.3680, 20079386.0967], 69.4716),
+///     (19, 22607777.4750, [-23358517.4998, -5407967.0045, 11505396.1790], 31.7452),
+///     (20, 21543255.5857, [-23036169.0859, 13172079.7389, 766984.1650], 45.3946),
+///     (24, 22278154.6066, [-4410870.9394, 25703724.4991, 4806330.1948], 34.8016),
+///     (28, 21557461.4116, [-2383676.5779, 17483698.3984, 19982740.5748], 47.2315),
+/// ]
+/// .map(|(svid, pseudorange, satellite, elevation)| Observation {
+///     constellation: 1,
+///     band: 1,
+///     svid,
+///     modelled: 0.0,
+///     pseudorange,
+///     satellite,
+///     elevation,
+/// });
+/// // From the centre of the earth.
+/// let found = solve_full(&sky, Ecef::default(), &Settings::geodetic())?;
+/// let truth = Ecef::new(-3976219.5082, 3382372.5671, 3652512.9849);
+/// assert_eq!(found.used, 7);
+/// assert!((found.position.x - truth.x).abs() < 2.0);
+/// assert!((found.position.y - truth.y).abs() < 2.0);
+/// assert!((found.position.z - truth.z).abs() < 2.0);
+///
+/// let four = solve_full(&sky[..4], truth, &Settings::geodetic());
+/// assert_eq!(four.unwrap_err(), Refusal::TooFewRows);
+/// # Ok::<(), Refusal>(())
+/// ```
 pub fn solve_full(
     observations: &[Observation],
     guess: Ecef,

@@ -4,6 +4,8 @@ use std::collections::BTreeMap;
 use std::fs;
 use std::path::{Path, PathBuf};
 
+use zaqnuti::Refusal;
+
 /// For each function the parameters' types and the result's, in one notation: `*T` and `*const T` for pointers, `T` for numbers.
 type Signatures = BTreeMap<String, (Vec<String>, String)>;
 
@@ -68,25 +70,29 @@ fn rusty(text: &str, mark: &str, parameter: impl Fn(&str) -> Vec<String>) -> Sig
     out
 }
 
+/// What a caller lends as doubles and the sources take as their patterns, so that what a refusal leaves is promised to the last bit.
+const PATTERNS: [&str; 4] = ["delta", "solution", "position", "metres"];
+
 fn rattle() -> Signatures {
     let mut out = Signatures::new();
     for file in fs::read_dir(root().join("crates/zaqnuti/src")).unwrap() {
         let text = fs::read_to_string(file.unwrap().path()).unwrap();
         let parameter = |item: &str| {
-            let (_, kind) = item.split_once(':').unwrap();
+            let (name, kind) = item.split_once(':').unwrap();
             let kind = kind.trim();
             let Some(behind) = kind.strip_prefix('&') else {
                 return vec![kind.to_string()];
             };
             let (writable, kind) = match behind.strip_prefix("mut ") {
-                Some(kind) => (true, kind),
-                None => (false, behind),
+                Some(kind) if PATTERNS.contains(&name.trim()) => (true, kind.replace("u64", "f64")),
+                Some(kind) => (true, kind.to_string()),
+                None => (false, behind.to_string()),
             };
             if kind.starts_with('[') && !kind.contains(';') {
                 let element = kind.trim_matches(['[', ']']);
                 return vec![pointer(writable, element), "usize".to_string()];
             }
-            vec![pointer(writable, kind)]
+            vec![pointer(writable, &kind)]
         };
         out.extend(rusty(&text, "pub extern \"C\" fn ", parameter));
     }
@@ -177,4 +183,20 @@ fn header_and_rattle_agree() {
 #[test]
 fn sys_and_rattle_agree() {
     assert_eq!(sys(), rattle());
+}
+
+/// The names and numbers of crates/numeric/src/refusal.rt.
+#[test]
+fn refusals_and_rattle_agree() {
+    let text = fs::read_to_string(root().join("crates/numeric/src/refusal.rt")).unwrap();
+    let named = |line: &str| {
+        let (name, number) = line.trim().strip_prefix("Refusal::")?.split_once(" => ")?;
+        Some((
+            name.to_string(),
+            number.trim_end_matches(',').parse::<u8>().ok()?,
+        ))
+    };
+    let rattle: Vec<(String, u8)> = text.lines().filter_map(named).collect();
+    let here = Refusal::ALL.iter().map(|r| (format!("{r:?}"), r.number()));
+    assert_eq!(rattle, here.collect::<Vec<_>>());
 }

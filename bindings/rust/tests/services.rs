@@ -17,13 +17,15 @@ fn near(a: f64, b: f64, within: f64) -> bool {
 
 #[test]
 fn refusals_have_document_01s_numbers() {
-    for (i, refusal) in Refusal::ALL.into_iter().enumerate() {
+    assert_eq!(Refusal::ALL.len(), 21);
+    for (i, &refusal) in Refusal::ALL.iter().enumerate() {
         assert_eq!(usize::from(refusal.number()), i + 1);
         assert_eq!(Refusal::of(refusal.number()), Some(refusal));
         assert!(refusal.to_string().ends_with(&format!("({})", i + 1)));
     }
     assert_eq!(Refusal::of(0), None);
-    assert_eq!(Refusal::of(13), None);
+    assert_eq!(Refusal::of(13), Some(Refusal::BadTime));
+    assert_eq!(Refusal::of(22), None);
 }
 
 #[test]
@@ -134,7 +136,7 @@ fn a_displacement_refuses() {
     assert_eq!(why(&seven, &seven, 1.0, &set), Refusal::TooManySlots);
 }
 
-/// Document 01's example, without its LF.
+/// The example of docs/SCOPE.md, without its LF.
 const EXAMPLE: &str = "S,3FF0000000000000,0000000000000000,0000000000000000,0000000000000000,3FE0000000000000,3FF0000000000000,0000000000000000,3FF8000000000000,4024000000000000,4";
 
 #[test]

@@ -13,7 +13,8 @@ use lib.Ieee.Scale.{finite}
 use Rattle.exact.specs.Float.{+0}
 use Rattle.exact.specs.Products.{lessProducts}
 use Rattle.exact.proofs.Products.{less-finite}
-use Rattle.root.specs.Root.{rootOf, rootUnits, rootParts, nearestRoot, isqrt}
+use Rattle.root.specs.Root.{rootOf}
+use Rattle.root.specs.Digits.{rootUnits, rootParts, nearestRoot, isqrt}
 use Rattle.cholesky.specs.Factor.{cell, isPivot, Lower, factorOf}
 use Rattle.cholesky.proofs.FactorElements.{Rows, factorTo-rows}
 

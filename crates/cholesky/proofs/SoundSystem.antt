@@ -58,8 +58,8 @@ module _ (a l : List (List Float)) (b : List Float) (nine : length b ≡ 9) (e :
       go (inl q) = subst (λ (z : ℕ). T (finite (cell a i z))) (sym q) (less-start (cell a i i) (cell l i) (cell l i) i (factored .diagonal i ib .s-finite))
       go (inr q) = less-start (cell a i j) (cell l i) (cell l j) j (div-finite (lessProducts (cell a i j) (cell l i) (cell l j) j) (cell l j j) (subst (λ (z : Float). T (finite z)) (E .below-is i j ib q) (entries-finite i j ib (omega arith))))
 
-  entrforward-finite : (i j : ℕ) → i < 9 → j < 9 → T (finite (entry (cell a) i j))
-  entrforward-finite i j ib jb = go (leb j i) (leb→le j i) (nleb→lt j i)
+  entry-finite : (i j : ℕ) → i < 9 → j < 9 → T (finite (entry (cell a) i j))
+  entry-finite i j ib jb = go (leb j i) (leb→le j i) (nleb→lt j i)
     where
       go : (t : Bool) → (T t → j ≤ i) → (T (not t) → i < j) → T (finite (cond t (cell a i j) (cell a j i)))
       go true m k = lower-finite i j ib (m tt)
@@ -94,7 +94,7 @@ module _ (a l : List (List Float)) (b : List Float) (nine : length b ≡ 9) (e :
     unfolding y
     sound =
         record {
-          matrix-finite = entrforward-finite;
+          matrix-finite = entry-finite;
           right-finite = b-finite;
           factor-finite = entries-finite;
           step-finite = x-finite;

@@ -1,9 +1,11 @@
 -- What the calls on a matrix answer, from what factoring it gives. Definitions only.
+use Prim.Native.Nat.{ℕ}
 use mathlib.Core.Bool.{Bool, true, false}
 use mathlib.Core.List.{List}
 use lib.Ieee.{Float}
 use Rattle.cholesky.specs.declared.factor.Factoring.{Factoring}
 use Rattle.cholesky.specs.declared.factor.Factoring.the-variants as Factoring
+use Rattle.numeric.specs.Refusal.{numberOf}
 use Rattle.numeric.specs.declared.refusal.Refusal.the-variants.{FitFailed}
 use Rattle.cholesky.specs.Factor.{Factored, Refused, Lower}
 
@@ -15,6 +17,11 @@ accepted (Lower l) = true
 abbrev pub factoringOf : Factored → Factoring
 factoringOf Refused = Factoring.Refused FitFailed
 factoringOf (Lower l) = Factoring.Done
+
+-- the number of an answer: 0, or the refusal's
+abbrev pub factoringNumber : Factoring → ℕ
+factoringNumber (Factoring.Refused r) = numberOf r
+factoringNumber Factoring.Done = 0
 
 -- what the lent rows m hold afterwards: the factor, or what they held
 abbrev pub rowsAfter : Factored → List (List Float) → List (List Float)

@@ -1,22 +1,34 @@
 // The Cholesky factor of a matrix of nine rows, and the solution by it: matrix.rs, `Cholesky::new` and its `solve`.
 ghost use mathlib.Core.Path.{_≡_};
-ghost use mathlib.Core.Bool.{true};
+ghost use mathlib.Core.Bool.{true, false};
 ghost use Prim.Native.Nat.{_-_, _≤_, _<_};
 ghost use lib.Dec.{T};
 ghost use lib.ListN.{replicate};
 ghost use lib.Ieee.{binary64, fits};
 ghost use Rattle.cholesky.specs.Factor.{zeros, isPivot, factorOf, forwardTo, backTo, solutionOf, at, Unused, UnusedPlaces};
-ghost use Rattle.cholesky.specs.Answer.{accepted, rowsAfter, factoringOf};
+ghost use Rattle.cholesky.specs.Answer.{accepted, rowsAfter, factoringOf, factoringNumber};
 use numeric::real::is_finite;
 use numeric::refusal::Refusal;
-use root::sqrt::no_tangent;
-use root::sqrt::sqrt_near;
-use root::sqrt::tangent_at;
+use root::tangent::no_tangent;
+use root::tangent::sqrt_near;
+use root::tangent::tangent_at;
 
 // What factoring answers; the factor itself stands in the lent rows.
 pub enum Factoring {
     Refused(Refusal),
     Done,
+}
+
+impl Factoring {
+    // The number that a caller outside is given.
+    pub fn number(self) -> u8
+        ensures { λ r. ⌜ r ≡ factoringNumber self ⌝ }
+    {
+        match self {
+            Factoring::Refused(r) => r.number(),
+            Factoring::Done => 0,
+        }
+    }
 }
 
 // A pivot that is not finite or not above 0 is refused; a NaN is neither above 0 nor at most the largest number. It is not held against infinity, since the
@@ -42,13 +54,13 @@ fn few(j: usize) -> usize
     if j < 7 { j } else { 7 }
 }
 
-// Makes the factor of a in l, which holds zeros, and says whether there is one; where there is none, l is left with what was made of it. The unknowns from n
-// on are unused: the first n rows are made alone, and below them the identity's. Only the lower triangle of a is read.
+// Makes the factor of a in l, which holds zeros, and says whether there is one; where there is none, l holds zeros again. The unknowns from n on are
+// unused: the first n rows are made alone, and below them the identity's. Only the lower triangle of a is read.
 // The factor is made column by column, since the sums of a column do not wait for the root of its pivot. p is the pivot of column j, and q what
 // the next one has come to before column j: q less s * s / p is so near the next pivot that the tangent there gives its root at once.
 pub fn factor_used(n: usize, a: &[[f64; 9]; 9], l: &mut [[f64; 9]; 9]) -> bool
     requires { ⌜ (0 < n) × (n ≤ 9) × Unused n (now a) × (now l ≡ replicate 9 zeros) ⌝ }
-    ensures { λ r. ⌜ (r ≡ accepted (factorOf (now (a .entry)))) × (r ≡ true → (now (l .exit) ≡ rowsAfter (factorOf (now (a .entry))) (now (l .entry))) × Unused n (now (l .exit))) ⌝ }
+    ensures { λ r. ⌜ (r ≡ accepted (factorOf (now (a .entry)))) × (r ≡ true → (now (l .exit) ≡ rowsAfter (factorOf (now (a .entry))) (now (l .entry))) × Unused n (now (l .exit))) × (r ≡ false → now (l .exit) ≡ now (l .entry)) ⌝ }
 {
     let mut p = held(a[0][0]);
     let mut t = no_tangent();
@@ -84,6 +96,7 @@ pub fn factor_used(n: usize, a: &[[f64; 9]; 9], l: &mut [[f64; 9]; 9]) -> bool
                 l[i][j] = s / d;
             }
         } else {
+            *l = [[0.0; 9]; 9];
             return false;
         }
     }

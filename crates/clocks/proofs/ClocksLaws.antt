@@ -180,9 +180,7 @@ good-all (c ∷ cs) js good = go (has js (place c)) refl (λ ks. good-all cs ks)
     go true e rest = rest js good
     go false e rest = rest (js ++ (place c ∷ [])) (good-new js (place c) good e (omega arith))
 
-few : (cs : List ℕ) → clocksOf cs .count ≤ 8
+-- there are never more than eight clocks
+pub few : (cs : List ℕ) → clocksOf cs .count ≤ 8
 unfolding clocksOf clocksIn Good tally has
 few cs = omega (arith, good-all cs [] refl, tally-le (appearing [] cs) 8)
-
-pub few-of : {k : Clocks} (cs : List ℕ) → k ≡ clocksOf cs → k .count ≤ 8
-few-of cs e = rw e (few cs)

@@ -1,4 +1,4 @@
--- The receiver clocks, one for each constellation (document 01, "Clocks"; `Clocks` of robust.rs). Definitions only.
+-- The receiver clocks, one for each constellation (docs/SCOPE.md, "Clocks"; `Clocks` of robust.rs). Definitions only.
 use Prim.Native.Nat.{ℕ, _+_, _-_, _%_, _^_, min}
 use mathlib.Core.Bool.{Bool, false, cond, _||_}
 use mathlib.Core.List.{List, [], _∷_, _++_, map}

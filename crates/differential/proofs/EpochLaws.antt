@@ -18,14 +18,12 @@ use Rattle.numeric.specs.declared.vec3.Vec3.{Vec3}
 use Rattle.numeric.specs.declared.refusal.Refusal.{Refusal}
 use Rattle.numeric.specs.declared.refusal.Refusal.the-variants.{TooMany, SettingOutOfRange, RecordOutOfRange, TableFull}
 use Rattle.table.specs.Table.{ranged, sound}
-use Rattle.table.specs.Add.{Outcome, refused, added, counted, testOf, outcomeOf, addOf, insertAll, Adds}
+use Rattle.table.specs.Add.{Outcome, refused, added, counted, testOf, outcomeOf, addOf, insertAll}
 use Rattle.table.specs.declared.sample.Sample.{Sample}
 use Rattle.table.specs.declared.add.Samples.{Samples}
-use Rattle.table.specs.declared.add.Adding.{Adding}
-use Rattle.table.specs.declared.add.Adding.the-variants as Adding
 use Rattle.table.specs.declared.add.Test.the-variants.{Refused, Passed}
 use Rattle.table.proofs.TableLaws.{and-left, and-right}
-use Rattle.table.proofs.FiniteLaws.{Small, range-small}
+use Rattle.table.proofs.SmallLaws.{Small, range-small}
 use Rattle.differential.specs.Record.{rangesOf, statesCount, statesOf, placeInRange, rangeInRange, stateInRange}
 use Rattle.differential.specs.Raw.{rawsOf, Holds}
 use Rattle.differential.specs.Sample.{group, clockOf, kept, sampleOf, corrected, sampleAt, samplesOf, epochSamples}
@@ -95,7 +93,7 @@ module _ (time max : Float) (t : inRange time ≡ true) (m : inRange max ≡ tru
       go true e = rw (t, kept-range max (r .value ⊖ clock) m e)
       go false e = refl
 
-  samples-ranged : (raws : List Raw) → every ranged (samplesOf time max raws) ≡ true
+  pub samples-ranged : (raws : List Raw) → every ranged (samplesOf time max raws) ≡ true
   unfolding samplesOf sampleAt
   samples-ranged raws = every-collect ranged _ raws (λ r. go r (leb 8 (r .constellation) || ltb (length (group (r .constellation) raws)) 3))
     where
@@ -103,7 +101,7 @@ module _ (time max : Float) (t : inRange time ≡ true) (m : inRange max ≡ tru
       go r true = unfold every in refl
       go r false = corrected-ranged r (clockOf (group (r .constellation) raws))
 
-time-in-range : (e : BaseEpoch) (s : States) (base rover : Vec3) → recordsInRange e s base rover ≡ true → inRange (e .time) ≡ true
+pub time-in-range : (e : BaseEpoch) (s : States) (base rover : Vec3) → recordsInRange e s base rover ≡ true → inRange (e .time) ≡ true
 unfolding recordsInRange
 time-in-range e s base rover q =
     let p = placeInRange base && placeInRange rover in
@@ -111,13 +109,6 @@ time-in-range e s base rover q =
     and-right p (inRange (e .time)) (and-left (p && inRange (e .time)) r (and-left (p && inRange (e .time) && r) _ q))
 
 -- ---- an epoch that is refused before its samples are made, and one that is not
-pub adds-same : {o o′ : Outcome} {r : Adding} {cs vs bs : List ℕ} {ts xs : List Float} {cs′ vs′ bs′ : List ℕ} {ts′ xs′ : List Float} → o ≡ o′
-    → Adds o r cs vs bs ts xs cs′ vs′ bs′ ts′ xs′ → Adds o′ r cs vs bs ts xs cs′ vs′ bs′ ts′ xs′
-adds-same e a = rw (← e) a
-
-pub adds-nothing : {o : Outcome} (r : Refusal) (cs vs bs : List ℕ) (ts xs : List Float) → refused r ≡ o → Adds o (Adding.Refused r) cs vs bs ts xs cs vs bs ts xs
-adds-nothing r cs vs bs ts xs e = adds-same e (record { answer = refl; constellations = refl; svids = refl; bands = refl; times = refl; corrections = refl })
-
 -- the samples of the raw corrections are the epoch's
 pub epoch-holds : (e : BaseEpoch) (s : States) (base rover : Vec3) (set : Settings) (m : ℕ) → m ≡ statesCount s → (raws : Raws) → Holds (raws .count) (raws .raws) (rawsOf set base rover (take m (s .states)) (rangesOf e))
     → (new : Samples) → Holds (new .count) (new .samples) (samplesOf (e .time) (set .«max_correction») (take (raws .count) (raws .raws))) → Holds (new .count) (new .samples) (epochSamples base rover set e s)

@@ -5,7 +5,8 @@ use Prim.Native.Nat.{ℕ}
 use lib.Ieee.{Float, neg, lt, eq, add, sub, ofBits, ofInt, toBits, isNan}
 use Rattle.exact.specs.Float.{+0, whole}
 use Rattle.walk.specs.Walk.{collect}
-use Rattle.numeric.specs.Order.{sign, totalOrder, patternOf}
+use Rattle.exact.specs.Pattern.{sign}
+use Rattle.numeric.specs.Order.{totalOrder, patternOf}
 use Rattle.numeric.specs.Real.{abs}
 use Rattle.median.specs.Sorted.{medianOf, sortedBy, insertBy}
 use Rattle.table.specs.declared.sample.Sample.{Sample}

@@ -1,4 +1,4 @@
--- One base epoch added to the table: numbers 2, 3, 4 and 11 of document 01, and the table afterwards. Definitions only.
+-- One base epoch added to the table: numbers 2, 3, 4 and 11 of docs/SCOPE.md, and the table afterwards. Definitions only.
 use Prim.Native.Nat.{ℕ, _+_}
 use mathlib.Core.Bool.{Bool, cond, not, _&&_, _||_}
 use mathlib.Core.List.{List}

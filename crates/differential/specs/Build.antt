@@ -1,10 +1,13 @@
--- The table that `build` of differential.rs makes of a list of epochs, and a session of calls that add them one by one. Definitions only.
+-- The table that `build` of differential.rs makes of a list of epochs, and calls that add epochs one by one to a caller's columns. Definitions only.
 use Prim.Native.Nat.{ℕ}
-use mathlib.Core.List.{List, []}
+use mathlib.Core.Path.{_≡_}
+use mathlib.Core.Bool.{true}
+use mathlib.Core.List.{List, [], _∷_}
 use lib.ListN.{length}
 use Rattle.walk.specs.Walk.{collect, fold}
 use Rattle.numeric.specs.declared.vec3.Vec3.{Vec3}
-use Rattle.table.specs.Add.{Outcome, refused, added}
+use Rattle.table.specs.Table.{Columns, capacity, tableOf, sound}
+use Rattle.table.specs.Add.{Outcome, refused, added, addingOf, countAfter, columnsAfter}
 use Rattle.table.specs.Build.{builtOf}
 use Rattle.table.specs.declared.sample.Sample.{Sample}
 use Rattle.differential.specs.Sample.{epochSamples}
@@ -18,16 +21,41 @@ pub record Input : Type 0 where
   pub epoch : BaseEpoch
   pub states : States
 
+-- a caller's own columns, and how many samples there are in them
+pub record Owned : Type 0 where
+  pub count : ℕ
+  pub columns : Columns
+
+-- the columns hold the sound table t and nothing of it is lost, and their capacity is room
+pub record Keeps (room : ℕ) (h : Owned) (t : List Sample) : Type 0 where
+  pub table : tableOf (h .count) (h .columns) ≡ t
+  pub whole : h .count ≡ length t
+  pub steady : sound t ≡ true
+  pub same-room : capacity (h .columns) ≡ room
+
+-- i and then the rest where its call was accepted, and the rest alone where it was refused
+abbrev pub ifAdded : Outcome → Input → List Input → List Input
+ifAdded (refused r) i rest = rest
+ifAdded (added t) i rest = i ∷ rest
+
 module _ (base rover : Vec3) (set : Settings) where
   -- the samples of all epochs as they arrive, a series for each signal, sorted by time
   unfoldable pub buildOf : List Input → List Sample
   buildOf inputs = builtOf (collect (λ (i : Input). epochSamples base rover set (i .epoch) (i .states)) inputs)
 
-  -- one epoch more, where no call before it was refused
-  unfoldable pub nextOf : ℕ → Outcome → Input → Outcome
-  nextOf room (refused r) i = refused r
-  nextOf room (added t) i = addedOf (length t) room t (i .epoch) (i .states) base rover set
+  -- what a call comes to
+  abbrev pub callOf : Owned → Input → Outcome
+  callOf h i = addedOf (h .count) (capacity (h .columns)) (tableOf (h .count) (h .columns)) (i .epoch) (i .states) base rover set
 
-  -- calls that add the epochs one by one to an empty table of columns with the capacity room
-  unfoldable pub sessionOf : ℕ → List Input → Outcome
-  sessionOf room inputs = fold (nextOf room) (added []) inputs
+  -- what the caller has after it: the count and the columns as the call leaves them
+  unfoldable pub afterCall : Owned → Input → Owned
+  afterCall h i = record { count = countAfter (addingOf (callOf h i)) (h .count); columns = columnsAfter (callOf h i) (h .columns) }
+
+  -- calls one after the other, each on what the one before it left
+  unfoldable pub afterCalls : Owned → List Input → Owned
+  afterCalls h inputs = fold afterCall h inputs
+
+  -- the epochs whose calls were accepted
+  unfoldable pub acceptedOf : Owned → List Input → List Input
+  acceptedOf h [] = []
+  acceptedOf h (i ∷ inputs) = ifAdded (callOf h i) i (acceptedOf (afterCall h i) inputs)

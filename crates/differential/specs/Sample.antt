@@ -1,4 +1,4 @@
--- The samples of an epoch (document 01, "Corrections"; `build` of differential.rs, its loop over the constellations). Definitions only.
+-- The samples of an epoch (docs/SCOPE.md, "Corrections"; `build` of differential.rs, its loop over the constellations). Definitions only.
 use Prim.Native.Nat.{ℕ}
 use mathlib.Core.Bool.{Bool, cond, not, _&&_, _||_}
 use mathlib.Core.List.{List, [], _∷_, map}

@@ -1,7 +1,7 @@
 // One base epoch added to the table.
 ghost use mathlib.Core.Path.{_≡_};
-ghost use Rattle.table.specs.Table.{capacity, tableOf};
-ghost use Rattle.table.specs.Add.{Adds};
+ghost use Rattle.table.specs.Table.{lent, capacity, tableOf};
+ghost use Rattle.table.specs.Add.{addingOf, addingNumber, countAfter, Adds};
 ghost use Rattle.differential.specs.AddEpoch.{recordsTest, addedOf};
 use crate::raw::raws_of;
 use crate::record::BaseEpoch;
@@ -66,10 +66,9 @@ pub fn add_epoch(
     rover: Vec3,
     settings: Settings,
 ) -> Adding
-    ensures { λ r. ⌜ Adds (addedOf n (capacity (now (cs .entry)) (now (vs .entry)) (now (bs .entry)) (now (ts .entry)) (now (xs .entry)))
-        (tableOf n (now (cs .entry)) (now (vs .entry)) (now (bs .entry)) (now (ts .entry)) (now (xs .entry))) epoch states base rover settings) r
-        (now (cs .entry)) (now (vs .entry)) (now (bs .entry)) (now (ts .entry)) (now (xs .entry))
-        (now (cs .exit)) (now (vs .exit)) (now (bs .exit)) (now (ts .exit)) (now (xs .exit)) ⌝ }
+    ensures { λ r. ⌜ (let l = lent (now (cs .entry)) (now (vs .entry)) (now (bs .entry)) (now (ts .entry)) (now (xs .entry)) in
+        let o = addedOf n (capacity l) (tableOf n l) epoch states base rover settings in
+        (r ≡ addingOf o) × Adds o (addingNumber r) n (countAfter r n) l (lent (now (cs .exit)) (now (vs .exit)) (now (bs .exit)) (now (ts .exit)) (now (xs .exit)))) ⌝ }
 {
     let room = capacity_of(cs, vs, bs, ts, xs);
     let test = records_tested(n, room, epoch, states, base, rover, settings);

@@ -8,7 +8,7 @@ use differential::record::Settings;
 use differential::record::State;
 use differential::record::States;
 use numeric::vec3::Vec3;
-use table::query::query;
+use query::query::query;
 
 // The range of satellite `svid`, which is 20,000 km off.
 fn range(svid: u16, pseudorange: f64) -> Range {

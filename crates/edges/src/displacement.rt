@@ -3,10 +3,10 @@ use crate::report::displacement as report;
 use crate::sky::epoch;
 use crate::sky::equal;
 use crate::sky::start;
-use estimator::displacement::Displacement;
-use estimator::displacement::Settings;
-use estimator::displacement::delta_position;
 use records::record::Epoch;
+use tdcp::displacement::Displacement;
+use tdcp::displacement::Settings;
+use tdcp::displacement::delta_position;
 
 // What comes of two epochs a second apart.
 fn between(previous: Epoch, current: Epoch, rounds: u32) -> Displacement {

@@ -1,11 +1,11 @@
 // The trials of a fix.
 use crate::report::fix as report;
 use crate::sky::observations;
-use estimator::fix::Fix;
-use estimator::fix::Settings;
-use estimator::fix::solve_full;
 use numeric::vec3::Vec3;
 use records::record::Observations;
+use wls::fix::Fix;
+use wls::fix::Settings;
+use wls::fix::solve_full;
 
 // What comes of the observations, from a guess 100 km off.
 fn from(o: Observations) -> Fix {

@@ -1,4 +1,4 @@
-// The trials of document 01, "Trials at the edges", that are run: a line for each.
+// The trials of docs/SCOPE.md, "Trials at the edges", that are run: a line for each.
 mod corrections;
 mod displacement;
 mod fix;

@@ -1,12 +1,12 @@
 // A line for each trial: its name, and what came.
-use estimator::displacement::Displacement;
-use estimator::fix::Fix;
 use libc::STDOUT_FILENO;
 use numeric::order::pattern;
 use numeric::refusal::Refusal;
 use numeric::vec3::Vec3;
+use query::query::Correction;
 use table::add::Adding;
-use table::query::Correction;
+use tdcp::displacement::Displacement;
+use wls::fix::Fix;
 
 fn text(t: &[u8]) {
     io::write_all(STDOUT_FILENO, t);

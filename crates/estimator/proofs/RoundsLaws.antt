@@ -5,22 +5,23 @@ use native.Mathlib.Nat.{not-suc-le-zero}
 use native.Mathlib.Decide.{ℕ-discrete, decLt}
 use native.Mathlib.Omega.{arith}
 use mathlib.Core.Bool.{Bool, true, false, cond}
-use mathlib.Core.List.{List, [], map}
+use mathlib.Core.List.{List, []}
 use lib.Dec.{ltb}
 use borrow.Author.Tests.{lt-ltb, le-ltb}
-use lib.ListN.{length, getD, set, take, length-set, List·getD-eq-default}
+use lib.ListN.{length, set, length-set, List·getD-eq-default}
 use lib.Seq.{getD-set-same, getD-set-other}
 use lib.Ieee.{Float, nan, div, ofInt, ofBits}
 use Rattle.exact.specs.Float.{_⊕_, bits, decimal}
 use Rattle.cholesky.specs.Factor.{at}
 use Rattle.robust.specs.Round.{Round, Outcome, Refused, Solved}
 use Rattle.robust.specs.Normal.{Solving}
-use Rattle.robust.specs.Step.{counted}
 use Rattle.robust.specs.declared.row.Row.{Row}
-use Rattle.robust.specs.declared.row.Rows.{Rows}
+use Rattle.robust.specs.declared.round.Stepping.{Stepping}
+use Rattle.robust.specs.declared.round.Stepping.the-variants as Stepping
+use Rattle.numeric.specs.declared.refusal.Refusal.{Refusal}
+use Rattle.estimator.specs.declared.rules.Check.the-variants as Check
 use Rattle.robust.proofs.NineLaws.{nine-is}
-use Rattle.robust.proofs.Sums.{mapped-next}
-use Rattle.estimator.specs.Rounds.{End, Failed, Reached, Fit, moved, short, after, fitFrom, lastRows, Ended}
+use Rattle.estimator.specs.Rounds.{End, Stopped, Reached, Fit, moved, short, after, fitFrom, lastRows, Ended}
 
 -- 1e-3 and 1e-5, as a compiler reads them
 pub three-places : bits 0x3F50_624D_D2F1_A9FC ≡ decimal 1 3
@@ -84,7 +85,7 @@ module _ (roundAt : List Float → Outcome) (n : ℕ) (limit : Float) (count : �
     rows-end e rows l = rw e at (l .last)
 
     -- one round more, of which the code has the answer and the step
-    module _ (more : i < count) (ok : Bool) (before dx : List Float) (s : Solving (roundAt x) ok before dx) where
+    module _ (more : i < count) (a : Stepping) (before dx : List Float) (s : Solving (roundAt x) a before dx) where
       next : List Float → Fit
       next y = fitFrom roundAt n limit (count - (i + 1)) y
 
@@ -96,37 +97,37 @@ module _ (roundAt : List Float → Outcome) (n : ℕ) (limit : Float) (count : �
       unfolding fitFrom next
       here-rows rows l = let e : count - i ≡ suc (count - (i + 1)) = omega arith in rw e at (l .last)
 
-      pub left-failed : ok ≡ false → Left i x → Failed ≡ f .end
-      left-failed t l = go (roundAt x) s (here l)
+      pub left-stopped : (r : Refusal) → a ≡ Stepping.Refused r → Left i x → Stopped r ≡ f .end
+      left-stopped r t l = go (roundAt x) s (here l)
         where
-          go : (o : Outcome) → Solving o ok before dx → after n limit x next o .end ≡ f .end → Failed ≡ f .end
-          go Refused s e = e
-          go (Solved r) s e = absurd (let w : ok ≡ true = s .ok-is in let z : _≡_ {A = ℕ} 0 1 = cc in omega arith)
+          go : (o : Outcome) → Solving o a before dx → after n limit x next o .end ≡ f .end → Stopped r ≡ f .end
+          go (Refused q) s e = let w : a ≡ Stepping.Refused q = s .answer-is in let same : r ≡ q = cc in ap Stopped same ∙ e
+          go (Solved q) s e = absurd (let w : a ≡ Stepping.Done = s .answer-is in let z : _≡_ {A = ℕ} 0 1 = cc in omega arith)
 
       -- y is where the step leads, and `stop` whether it is short
-      module _ (t : ok ≡ true) (y : List Float) (stop : Bool) (moves : y ≡ moved n x dx) (stops : stop ≡ short limit dx) where
-        never : {A : Type 0} → Solving Refused ok before dx → A
-        never s = absurd (let w : ok ≡ false = s .ok-is in let z : _≡_ {A = ℕ} 0 1 = cc in omega arith)
+      module _ (t : a ≡ Stepping.Done) (y : List Float) (stop : Bool) (moves : y ≡ moved n x dx) (stops : stop ≡ short limit dx) where
+        never : {A : Type 0} (r : Refusal) → Solving (Refused r) a before dx → A
+        never r s = absurd (let w : a ≡ Stepping.Refused r = s .answer-is in let z : _≡_ {A = ℕ} 0 1 = cc in omega arith)
 
-        there : (r : Round) → Solving (Solved r) ok before dx → y ≡ moved n x (r .step)
+        there : (r : Round) → Solving (Solved r) a before dx → y ≡ moved n x (r .step)
         there r s = moves ∙ ap (moved n x) (s .step-is)
 
-        is-short : (r : Round) → Solving (Solved r) ok before dx → stop ≡ short limit (r .step)
+        is-short : (r : Round) → Solving (Solved r) a before dx → stop ≡ short limit (r .step)
         is-short r s = stops ∙ ap (short limit) (s .step-is)
 
         pub left-stops : stop ≡ true → Left i x → Reached y ≡ f .end
         left-stops w l = go (roundAt x) s (here l)
           where
-            go : (o : Outcome) → Solving o ok before dx → after n limit x next o .end ≡ f .end → Reached y ≡ f .end
-            go Refused s e = never s
+            go : (o : Outcome) → Solving o a before dx → after n limit x next o .end ≡ f .end → Reached y ≡ f .end
+            go (Refused r) s e = never r s
             go (Solved r) s e = let q : short limit (r .step) ≡ true = sym (is-short r s) ∙ w in ap Reached (there r s) ∙ (rw q at e)
 
         pub left-goes : stop ≡ false → Left i x → Left (i + 1) y
         unfolding next
         left-goes w l = go (roundAt x) s (here l)
           where
-            go : (o : Outcome) → Solving o ok before dx → after n limit x next o .end ≡ f .end → Left (i + 1) y
-            go Refused s e = never s
+            go : (o : Outcome) → Solving o a before dx → after n limit x next o .end ≡ f .end → Left (i + 1) y
+            go (Refused r) s e = never r s
             go (Solved r) s e = let q : short limit (r .step) ≡ false = sym (is-short r s) ∙ w in record { end = ap (λ (z : List Float). next z .end) (there r s) ∙ (rw q at e) }
 
         -- `new` are the rows of the round
@@ -135,42 +136,24 @@ module _ (roundAt : List Float → Outcome) (n : ℕ) (limit : Float) (count : �
           unfolding lastRows
           rows-stop w l = go (roundAt x) refl s (here-rows rows l)
             where
-              go : (o : Outcome) → roundAt x ≡ o → Solving o ok before dx → lastRows rows (after n limit x next o .rounds) ≡ lastRows [] (f .rounds) → new ≡ lastRows [] (f .rounds)
-              go Refused d s e = never s
+              go : (o : Outcome) → roundAt x ≡ o → Solving o a before dx → lastRows rows (after n limit x next o .rounds) ≡ lastRows [] (f .rounds) → new ≡ lastRows [] (f .rounds)
+              go (Refused r) d s e = never r s
               go (Solved r) d s e = let q : short limit (r .step) ≡ true = sym (is-short r s) ∙ w in sym (news r d) ∙ (rw q at e)
 
           pub rows-go : stop ≡ false → LeftRows i x rows → LeftRows (i + 1) y new
           unfolding lastRows next
           rows-go w l = go (roundAt x) refl s (here-rows rows l)
             where
-              go : (o : Outcome) → roundAt x ≡ o → Solving o ok before dx → lastRows rows (after n limit x next o .rounds) ≡ lastRows [] (f .rounds) → LeftRows (i + 1) y new
-              go Refused d s e = never s
+              go : (o : Outcome) → roundAt x ≡ o → Solving o a before dx → lastRows rows (after n limit x next o .rounds) ≡ lastRows [] (f .rounds) → LeftRows (i + 1) y new
+              go (Refused r) d s e = never r s
               go (Solved r) d s e =
                   let q : short limit (r .step) ≡ false = sym (is-short r s) ∙ w in
                   let h : lastRows (r .rows) (next (moved n x (r .step)) .rounds) ≡ lastRows [] (f .rounds) = rw q at e in
                   record { last = subst₂ (λ (a : List Row) (b : List Float). lastRows a (next b .rounds) ≡ lastRows [] (f .rounds)) (news r d) (sym (there r s)) h }
 
 -- the contract of a loop that lends x
-pub ended-failed : (e : End) (x y : List Float) → y ≡ x → Failed ≡ e → Ended e false x y
-ended-failed e x y k h = subst (λ z. Ended z false x y) h (record { ok-is = refl; state-is = k })
+pub ended-stopped : (e : End) (x y : List Float) {r : Refusal} → y ≡ x → Stopped r ≡ e → Ended e (Check.Refused r) x y
+ended-stopped e x y {r} k h = subst (λ z. Ended z (Check.Refused r) x y) h (record { answer-is = refl; state-is = k })
 
-pub ended-reached : (e : End) (x y : List Float) → Reached y ≡ e → Ended e true x y
-ended-reached e x y h = subst (λ z. Ended z true x y) h (record { ok-is = refl; state-is = refl })
-
--- ---- the rows of a round, made one after the other: the first j are what f gives of the first j of xs
-pub record Rowing {A : Type 0} (f : A → Row) (xs : List A) (count j : ℕ) (rows : Rows) : Type 0 where
-  pub count-is : rows .count ≡ count
-  pub long : length (rows .row) ≡ 64
-  pub so-far : take j (rows .row) ≡ map f (take j xs)
-
-module _ {A : Type 0} (f : A → Row) (xs : List A) (count : ℕ) where
-  pub rowing-next : (j : ℕ) (rows : Rows) (d : A) (v : Row) → j < 64 → j < length xs → v ≡ f (getD xs j d) → Rowing f xs count j rows → Rowing f xs count (j + 1) (record { count = rows .count; row = set (rows .row) j v })
-  rowing-next j rows d v jb jx e h =
-      record {
-        count-is = h .count-is;
-        long = length-set (rows .row) j v ∙ h .long;
-        so-far = mapped-next f xs (rows .row) d j v (omega (arith, h .long)) jx e (h .so-far);
-      }
-
-  pub rowing-end : (j : ℕ) (rows : Rows) → j ≡ count → Rowing f xs count j rows → counted rows ≡ map f (take count xs)
-  rowing-end j rows e h = ap (λ (z : ℕ). take z (rows .row)) (h .count-is) ∙ subst (λ (z : ℕ). take z (rows .row) ≡ map f (take z xs)) e (h .so-far)
+pub ended-reached : (e : End) (x y : List Float) → Reached y ≡ e → Ended e Check.Passed x y
+ended-reached e x y h = subst (λ z. Ended z Check.Passed x y) h (record { answer-is = refl; state-is = refl })

@@ -1,21 +1,14 @@
 -- Rules in checking order: what a call that tests them in parts knows. Assumes nothing.
-use mathlib.Core.Path.{_≡_, refl, sym, ap, _∙_, subst}
+use mathlib.Core.Path.{_≡_, refl, sym, ap, _∙_}
 use mathlib.Core.List.{List, [], _∷_, _++_}
-use mathlib.Core.Bool.{Bool, true, false, not, cond, _&&_}
-use Prim.Native.Nat.{ℕ, zero, suc, _+_, _≤_, _<_}
+use mathlib.Core.Bool.{Bool, true, false, cond}
+use Prim.Native.Nat.{ℕ, _+_, _≤_}
 use native.Mathlib.Omega.{arith}
-use lib.Dec.{T, ltb, eqb}
-use borrow.Author.Tests.{ltb-false, not-false}
-use lib.Ieee.Fits.{and-r}
-use Rattle.numeric.specs.Real.{inRange}
-use Rattle.numeric.specs.declared.vec3.Vec3.{Vec3}
+use borrow.Author.Tests.{ltb-false}
 use Rattle.numeric.specs.declared.refusal.Refusal.{Refusal}
-use Rattle.estimator.specs.Rules.{Rule, ruled}
-use Rattle.estimator.specs.Valid.{displacementCounts, fixSettingsPass, fixInput, fixCounts}
-use Rattle.records.specs.declared.record.Observations.{Observations}
-use Rattle.estimator.specs.declared.fix.Settings.{Settings as FixSettings}
-use Rattle.estimator.specs.declared.valid.Check.{Check}
-use Rattle.estimator.specs.declared.valid.Check.the-variants.{Refused, Passed}
+use Rattle.estimator.specs.Rules.{Rule, ruled, rowRules}
+use Rattle.estimator.specs.declared.rules.Check.{Check}
+use Rattle.estimator.specs.declared.rules.Check.the-variants.{Refused, Passed}
 
 -- what a check says
 abbrev pub checked : List Rule → Check
@@ -61,7 +54,7 @@ module _ {A : Type 0} (f : Refusal → A) (a : A) where
 -- ---- what has been passed
 
 -- the rule at the head does not apply, and the others have been passed
-head-passed : (r : Rule) (rs : List Rule) → Passed ≡ checked (r ∷ rs) → (r .applies ≡ false) × (Passed ≡ checked rs)
+pub head-passed : (r : Rule) (rs : List Rule) → Passed ≡ checked (r ∷ rs) → (r .applies ≡ false) × (Passed ≡ checked rs)
 unfolding ruled
 head-passed r rs e = go (r .applies) refl e
   where
@@ -78,37 +71,14 @@ unfolding ruled
 append-first [] ss e = refl
 append-first (r ∷ rs) ss e = let h = head-passed r (rs ++ ss) e in rw (h .0) (append-first rs ss (h .1))
 
-pub observations-fit : (observations : Observations) (guess : Vec3) (settings : FixSettings) → Passed ≡ checked (fixInput observations guess settings)
-    → observations .count ≤ 64
-unfolding fixInput
-observations-fit observations guess settings e = ltb-false 64 (observations .count) (head-passed _ _ e .0)
-
--- rule 3 refuses a fix of 0 rounds
-above-zero : (n : ℕ) → T (not (eqb n 0)) → 0 < n
-above-zero zero h = absurd h
-above-zero (suc n) h = omega arith
-
-pub some-rounds : (observations : Observations) (guess : Vec3) (settings : FixSettings) → Passed ≡ checked (fixInput observations guess settings) → 0 < settings .rounds
-unfolding fixInput fixSettingsPass
-some-rounds observations guess settings e =
-    let pass : fixSettingsPass settings ≡ true = not-false (fixSettingsPass settings) (head-passed _ _ (head-passed _ _ e .1) .0) in
-    let others = inRange (settings .«sigma_a») && inRange (settings .«sigma_b») && inRange (settings .huber) && inRange (settings .mask) && not (ltb 50 (settings .rounds)) in
-    above-zero (settings .rounds) (and-r others (not (eqb (settings .rounds) 0)) (subst T (sym pass) tt))
-
 -- what rules 8 and 9 leave
 pub record Enough (rows slots : ℕ) : Type 0 where
   pub redundant : 4 + slots ≤ rows
   pub few-slots : slots ≤ 6
 
-pub rows-passed : (rows slots : ℕ) → Passed ≡ checked (fixCounts rows slots) → Enough rows slots
-unfolding fixCounts
+pub rows-passed : (rows slots : ℕ) → Passed ≡ checked (rowRules rows slots) → Enough rows slots
+unfolding rowRules
 rows-passed rows slots e =
     let a = head-passed _ _ e in
     let b = head-passed _ _ (a .1) in
     record { redundant = ltb-false rows (4 + slots) (a .0); few-slots = ltb-false 6 slots (b .0) }
-
-pub counts-passed : (pairs kept slots : ℕ) → Passed ≡ checked (displacementCounts pairs kept slots) → (6 ≤ pairs) × Enough kept slots
-unfolding displacementCounts fixCounts
-counts-passed pairs kept slots e =
-    let a = head-passed _ _ e in
-    (ltb-false pairs 6 (a .0), rows-passed kept slots (a .1))

@@ -1,8 +1,8 @@
--- The rounds of a fit (document 01, "Their rounds"): the first begins where the reference begins, each later one with just what the one before left,
+-- The rounds of a fit (docs/SCOPE.md, "Their rounds"): the first begins where the reference begins, each later one with just what the one before left,
 -- and the last meets the stop or uses up the count. Definitions only.
 use mathlib.Core.Path.{_≡_}
 use Prim.Native.Nat.{ℕ, zero, suc}
-use mathlib.Core.Bool.{Bool, true, false, cond, _&&_}
+use mathlib.Core.Bool.{Bool, cond, _&&_}
 use mathlib.Core.List.{List, [], _∷_}
 use lib.Dec.{ltb}
 use lib.Ieee.{Float, lt}
@@ -10,13 +10,18 @@ use lib.Ieee.Scale.{finite}
 use Rattle.exact.specs.Float.{_⊕_}
 use Rattle.cholesky.specs.Factor.{at}
 use Rattle.numeric.specs.Real.{hypot}
+use Rattle.numeric.specs.declared.vec3.Vec3.{Vec3}
+use Rattle.numeric.specs.declared.refusal.Refusal.{Refusal}
 use Rattle.robust.specs.Nine.{nine}
 use Rattle.robust.specs.Round.{Round, Outcome, Refused, Solved}
 use Rattle.robust.specs.declared.row.Row.{Row}
+use Rattle.estimator.specs.Rules.{Rule, ruled}
+use Rattle.estimator.specs.declared.rules.Check.{Check}
+use Rattle.estimator.specs.declared.rules.Check.the-variants as Check
 
--- where the rounds end: in one whose pivot is refused, or at the state x
+-- where the rounds end: in one that is refused, and why, or at the state x
 pub data End : Type 0 where
-  Failed : End
+  Stopped : Refusal → End
   Reached : List Float → End
 
 -- the rounds that were solved, one after the other, and where they end
@@ -42,7 +47,7 @@ begun r f = record { rounds = r ∷ f .rounds; end = f .end }
 
 -- after a round at the state x: the end, or what follows from where its step leads
 abbrev pub after : ℕ → Float → List Float → (List Float → Fit) → Outcome → Fit
-after n limit x next Refused = record { rounds = []; end = Failed }
+after n limit x next (Refused r) = record { rounds = []; end = Stopped r }
 after n limit x next (Solved r) =
     let y = moved n x (r .step) in
     begun r (cond (short limit (r .step)) (ended y) (next y))
@@ -57,26 +62,34 @@ unfoldable pub lastRows : List Row → List Round → List Row
 lastRows rows [] = rows
 lastRows rows (r ∷ rs) = lastRows (r .rows) rs
 
--- What a fit comes to: `refused`, which is 10, where a pivot is refused or the position or displacement is not finite, and else the answer at the state reached.
-abbrev pub concluded : {A : Type 0} → A → (List Float → A) → End → A
-concluded refused answer Failed = refused
-concluded refused answer (Reached x) = cond (finite (at x 0) && finite (at x 1) && finite (at x 2)) (answer x) refused
+-- the position or displacement of a state
+abbrev pub vector : List Float → Vec3
+vector x = record { x = at x 0; y = at x 1; z = at x 2 }
+
+-- it is finite
+unfoldable pub finiteAt : List Float → Bool
+finiteAt x = finite (at x 0) && finite (at x 1) && finite (at x 2)
+
+-- What a fit comes to: what `refused` gives of why a round is refused, or of the first rule on the state reached that applies, and else the answer there.
+abbrev pub concluded : {A : Type 0} → (Refusal → A) → (List Float → List Rule) → (List Float → A) → End → A
+concluded refused rules answer (Stopped r) = refused r
+concluded refused rules answer (Reached x) = ruled refused (rules x) (answer x)
 
 -- P holds of every round
 unfoldable pub Each : (Round → Type 0) → List Round → Type 0
 Each P [] = Unit
 Each P (r ∷ rs) = P r × Each P rs
 
--- ---- the code's end: ok and the lent x, which is y afterwards
+-- ---- the code's end: its answer and the lent x, which is y afterwards
 
-abbrev pub accepted : End → Bool
-accepted Failed = false
-accepted (Reached z) = true
+abbrev pub checkOf : End → Check
+checkOf (Stopped r) = Check.Refused r
+checkOf (Reached z) = Check.Passed
 
 abbrev pub stateAfter : End → List Float → List Float
-stateAfter Failed x = x
+stateAfter (Stopped r) x = x
 stateAfter (Reached z) x = z
 
-pub record Ended (e : End) (ok : Bool) (x y : List Float) : Type 0 where
-  pub ok-is : ok ≡ accepted e
+pub record Ended (e : End) (answer : Check) (x y : List Float) : Type 0 where
+  pub answer-is : answer ≡ checkOf e
   pub state-is : y ≡ stateAfter e x

@@ -1,7 +1,10 @@
--- Why a call turns back (document 01): in checking order, the first rule that applies is given, and only then. Definitions only.
+-- Why a call turns back (docs/SCOPE.md): in checking order, the first rule that applies is given, and only then. Definitions only.
+use Prim.Native.Nat.{ℕ, _+_}
 use mathlib.Core.Bool.{Bool, cond}
 use mathlib.Core.List.{List, [], _∷_}
+use lib.Dec.{ltb}
 use Rattle.numeric.specs.declared.refusal.Refusal.{Refusal}
+use Rattle.numeric.specs.declared.refusal.Refusal.the-variants.{TooFewRows, TooManySlots}
 
 -- a refusal, and whether it applies
 pub record Rule : Type 0 where
@@ -15,3 +18,10 @@ rule r b = record { refusal = r; applies = b }
 unfoldable pub ruled : {A : Type 0} → (Refusal → A) → List Rule → A → A
 ruled refused [] a = a
 ruled refused (r ∷ rs) a = cond (r .applies) (refused (r .refusal)) (ruled refused rs a)
+
+-- 8 and 9, which a fix and a displacement share: of how many rows are kept, and how many clock slots those have
+unfoldable pub rowRules : ℕ → ℕ → List Rule
+rowRules rows slots =
+    rule TooFewRows (ltb rows (4 + slots))
+    ∷ rule TooManySlots (ltb 6 slots)
+    ∷ []

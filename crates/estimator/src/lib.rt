@@ -1,6 +1,3 @@
-// The fix and the displacement: the rules on what is handed over, and the rounds of the robust least squares.
-pub mod displacement;
-pub mod fix;
-mod quality;
-mod rounds;
-mod valid;
+// What a fix and a displacement share: rules in checking order, and the rounds of the robust least squares.
+pub mod rounds;
+pub mod rules;

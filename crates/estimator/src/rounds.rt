@@ -6,7 +6,7 @@ ghost use Rattle.estimator.specs.Rounds as spec;
 use numeric::real::hypot;
 
 // Adds the step to the first n elements of the state.
-pub(crate) fn move_by(n: usize, dx: [f64; 9], x: [f64; 9]) -> [f64; 9]
+pub fn move_by(n: usize, dx: [f64; 9], x: [f64; 9]) -> [f64; 9]
     requires { ⌜ n ≤ 9 ⌝ }
     ensures { λ r. ⌜ r ≡ spec.moved n x dx ⌝ }
 {
@@ -18,14 +18,14 @@ pub(crate) fn move_by(n: usize, dx: [f64; 9], x: [f64; 9]) -> [f64; 9]
 }
 
 // Whether the first three elements of a step are together shorter than the limit.
-pub(crate) fn is_short(limit: f64, dx: [f64; 9]) -> bool
+pub fn is_short(limit: f64, dx: [f64; 9]) -> bool
     ensures { λ r. ⌜ r ≡ spec.short limit dx ⌝ }
 {
     hypot(hypot(dx[0], dx[1]), dx[2]) < limit
 }
 
 // Place s of the state, a NaN where there is none.
-pub(crate) fn state_at(x: [f64; 9], s: usize) -> f64
+pub fn state_at(x: [f64; 9], s: usize) -> f64
     ensures { λ r. ⌜ r ≡ at x s ⌝ }
 {
     if s < 9 { x[s] } else { 0.0 / 0.0 }

@@ -1,9 +1,9 @@
 -- Worked values of exact numbers and of the rounded operations. Assumes nothing.
 use mathlib.Core.Path.{_≡_, refl}
-use Prim.Native.Nat.{_*_, _^_}
+use Prim.Native.Nat.{_-_, _*_, _^_}
 use lib.IntN.{pos}
 use lib.Signed.{leZ-yes, ltZ-yes}
-use lib.Ieee.{nan, inf, add, sub, mul, div, ofBits}
+use lib.Ieee.{nan, inf, fin, lt, le, eq, ne, add, sub, mul, div, ofBits}
 use mathlib.Core.Bool.{true, false}
 use Rattle.exact.specs.Float.{_⊕_, _⊖_, _⊗_, _⊘_, +0, 1·0, bits}
 use Rattle.exact.specs.Value.{scale, magnitude, value}
@@ -45,6 +45,77 @@ ten = record { whole = pos 10; places = 0 }
 tenth-over : 1ₑ <ₑ ten *ₑ exactly (bits 0x3FB9_9999_9999_999A)
 unfolding ten _<ₑ_ _*ₑ_ 1ₑ exactly value magnitude scale ofBits
 tenth-over = ltZ-yes tt
+
+-- ---- patterns
+-- the smallest double, the largest subnormal one and the smallest normal one, in units
+smallest : magnitude (bits 1) ≡ 1
+unfolding magnitude scale ofBits
+smallest = refl
+
+subnormal : magnitude (bits 0x000F_FFFF_FFFF_FFFF) ≡ 2 ^ 52 - 1
+unfolding magnitude scale ofBits
+subnormal = refl
+
+normal : magnitude (bits 0x0010_0000_0000_0000) ≡ 2 ^ 52
+unfolding magnitude scale ofBits
+normal = refl
+
+-- -0, an infinity, and NaNs of either sign, signaling and quiet
+minus-zero : bits 0x8000_0000_0000_0000 ≡ fin true 0 (pos 0)
+unfolding ofBits
+minus-zero = refl
+
+infinite : bits 0xFFF0_0000_0000_0000 ≡ inf true
+unfolding ofBits
+infinite = refl
+
+signaling : bits 0x7FF0_0000_0000_0001 ≡ nan
+unfolding ofBits
+signaling = refl
+
+quiet : bits 0xFFF8_0000_0000_0000 ≡ nan
+unfolding ofBits
+quiet = refl
+
+-- ---- comparisons
+-- -0 and +0 are equal, and neither is less
+zeros-equal : eq (bits 0x8000_0000_0000_0000) +0 ≡ true
+unfolding eq ofBits
+zeros-equal = refl
+
+zeros-not-less : lt (bits 0x8000_0000_0000_0000) +0 ≡ false
+unfolding lt ofBits
+zeros-not-less = refl
+
+-- a NaN is not even equal to itself
+nan-not-itself : eq nan nan ≡ false
+unfolding eq
+nan-not-itself = refl
+
+nan-not-below : le nan (inf false) ≡ false
+unfolding le
+nan-not-below = refl
+
+nan-other : ne nan 1·0 ≡ true
+unfolding ne
+nan-other = refl
+
+-- from -∞ up: the most negative double, the negative one nearest to 0, +0, 1 and the next, +∞
+least : lt (inf true) (bits 0xFFEF_FFFF_FFFF_FFFF) ≡ true
+unfolding lt ofBits
+least = refl
+
+below-zero : lt (bits 0x8000_0000_0000_0001) +0 ≡ true
+unfolding lt ofBits
+below-zero = refl
+
+next-after-one : lt 1·0 (bits 0x3FF0_0000_0000_0001) ≡ true
+unfolding lt ofBits
+next-after-one = refl
+
+greatest : le (bits 0x7FEF_FFFF_FFFF_FFFF) (inf false) ≡ true
+unfolding le ofBits
+greatest = refl
 
 -- ---- the operations
 -- 0.1 + 0.2 is the double above 0.3

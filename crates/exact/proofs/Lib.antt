@@ -13,6 +13,8 @@ pub mod Grid
 pub mod Units
 pub mod Rounded
 pub mod Operations
+pub mod Compared
+pub mod Pattern
 pub mod Whole
 pub mod Solve
 pub mod Accuracy

@@ -15,7 +15,7 @@ use lib.Ieee.Order.{drop, kept, round-mono}
 use lib.Ieee.Scale.{finite}
 use Rattle.exact.specs.Value.{scale, magnitude, value}
 use Rattle.exact.specs.Number.{Number, _-ₑ_, _*ₑ_, ∣_∣, _≤ₑ_, exactly}
-use Rattle.exact.specs.Rounded.{sign, Even, limit, Nearest, Rounded}
+use Rattle.exact.specs.Rounded.{isSignMinus, Even, limit, Nearest, Rounded}
 use Rattle.exact.proofs.Num.{Num, num, _∸_, _⊙_, _·_, apart}
 use Rattle.exact.proofs.Ops.{scale-pos, val, sgn}
 use Rattle.exact.proofs.Number.{Is, gap, is--, is-*, is-*ℕ, is-∣∣, is-scaled, is-same, is-over, is-exactly, le-of-is, is-of-le, lt-of-is, is-of-lt}
@@ -23,7 +23,7 @@ use Rattle.exact.proofs.Grid.{last-digit, grid, Against, equal, beaten,
 use Rattle.exact.proofs.Units.{representable, last-bit, same-float, round-finite, round-magnitude, round-sign, round-infinite, round-value}
 
 -- ---- a finite float by its sign and its magnitude
-val-is : (w : Float) → T (finite w) → val w ≡ sgn (sign w) (magnitude w)
+val-is : (w : Float) → T (finite w) → val w ≡ sgn (isSignMinus w) (magnitude w)
 unfolding val
 val-is nan f = absurd f
 val-is (inf s) f = absurd f
@@ -33,14 +33,14 @@ signedℤ : Bool → ℕ → ℤ
 signedℤ false g = pos g
 signedℤ true g = negℤ (pos g)
 
-value-is : (w : Float) → T (finite w) → value w ≡ signedℤ (sign w) (magnitude w)
+value-is : (w : Float) → T (finite w) → value w ≡ signedℤ (isSignMinus w) (magnitude w)
 unfolding value signedℤ
 value-is nan f = absurd f
 value-is (inf s) f = absurd f
 value-is (fin false m e) f = refl
 value-is (fin true m e) f = refl
 
-exactly-same : (w z : Float) → T (finite w) → T (finite z) → (sign w ≡ sign z) ⊎ (magnitude w ≡ 0) → magnitude w ≡ magnitude z → exactly w ≡ exactly z
+exactly-same : (w z : Float) → T (finite w) → T (finite z) → (isSignMinus w ≡ isSignMinus z) ⊎ (magnitude w ≡ 0) → magnitude w ≡ magnitude z → exactly w ≡ exactly z
 unfolding exactly
 exactly-same w z f g s e = ap (λ (v : ℤ). record { whole = v; places = 1074 }) (value-is w f ∙ go s ∙ sym (value-is z g))
   where
@@ -50,13 +50,13 @@ exactly-same w z f g s e = ap (λ (v : ℤ). record { whole = v; places = 1074 }
     zeros false true = unfold signedℤ in refl
     zeros false false = refl
 
-    go : (sign w ≡ sign z) ⊎ (magnitude w ≡ 0) → signedℤ (sign w) (magnitude w) ≡ signedℤ (sign z) (magnitude z)
+    go : (isSignMinus w ≡ isSignMinus z) ⊎ (magnitude w ≡ 0) → signedℤ (isSignMinus w) (magnitude w) ≡ signedℤ (isSignMinus z) (magnitude z)
     go (inl h) = ap₂ signedℤ h e
-    go (inr h) = ap (signedℤ (sign w)) h ∙ zeros (sign w) (sign z) ∙ ap (signedℤ (sign z)) (sym h ∙ e)
+    go (inr h) = ap (signedℤ (isSignMinus w)) h ∙ zeros (isSignMinus w) (isSignMinus z) ∙ ap (signedℤ (isSignMinus z)) (sym h ∙ e)
 
 magnitude-same : (w z : Float) → T (finite w) → T (finite z) → exactly w ≡ exactly z → magnitude w ≡ magnitude z
 unfolding exactly
-magnitude-same w z f g e = sym (alone (sign w) (magnitude w)) ∙ ap natAbs (sym (value-is w f) ∙ ap (λ (x : Number). x .whole) e ∙ value-is z g) ∙ alone (sign z) (magnitude z)
+magnitude-same w z f g e = sym (alone (isSignMinus w) (magnitude w)) ∙ ap natAbs (sym (value-is w f) ∙ ap (λ (x : Number). x .whole) e ∙ value-is z g) ∙ alone (isSignMinus z) (magnitude z)
   where
     alone : (s : Bool) (m : ℕ) → natAbs (signedℤ s m) ≡ m
     alone false m = unfold signedℤ in refl
@@ -112,7 +112,7 @@ module _ (s t : Bool) (A B E : ℕ) (P : 0 < E) (Q : 0 < B) {a b : Number} (ha :
   b-is : Is (limit *ₑ ∣ b ∣) (num (top * B) 0) E
   b-is = is-over (is-*ℕ limit-is (is-same (num B 0) (is-∣∣ hb) (gap-sgn t B))) (one-mul E)
 
-  distance : (w : Float) → T (finite w) → Is ∣ exactly w *ₑ b -ₑ a ∣ (num (far s t (sign w) (magnitude w) A B scale) 0) (scale * E)
+  distance : (w : Float) → T (finite w) → Is ∣ exactly w *ₑ b -ₑ a ∣ (num (far s t (isSignMinus w) (magnitude w) A B scale) 0) (scale * E)
   unfolding far
   distance w f = is-∣∣ (is-- (is-* (subst (λ (u : Num). Is (exactly w) u scale) (val-is w f) (is-exactly w)) hb) (is-scaled scale ha))
 
@@ -131,18 +131,18 @@ module _ (s t : Bool) (A B E : ℕ) (P : 0 < E) (Q : 0 < B) {a b : Number} (ha :
       zero-far B n = omega arith
 
   -- the distance of w is that of its magnitude at least
-  at-least : (w : Float) → apart (magnitude w * B) (A * scale) ≤ far s t (sign w) (magnitude w) A B scale
-  at-least w = go (either (sign w) s)
+  at-least : (w : Float) → apart (magnitude w * B) (A * scale) ≤ far s t (isSignMinus w) (magnitude w) A B scale
+  at-least w = go (either (isSignMinus w) s)
     where
       more : (v n : ℕ) → apart v n ≤ v + n
       more v n = omega arith
 
-      go : (sign w ≡ s) ⊎ (sign w ≡ not s) → apart (magnitude w * B) (A * scale) ≤ far s t (sign w) (magnitude w) A B scale
+      go : (isSignMinus w ≡ s) ⊎ (isSignMinus w ≡ not s) → apart (magnitude w * B) (A * scale) ≤ far s t (isSignMinus w) (magnitude w) A B scale
       go (inl e) = le-of-eq (sym (ap (λ (r : Bool). far s t r (magnitude w) A B scale) e ∙ far-like s t (magnitude w) A B scale))
       go (inr e) = le-trans (more (magnitude w * B) (A * scale)) (le-of-eq (sym (ap (λ (r : Bool). far s t r (magnitude w) A B scale) e ∙ far-unlike s t (magnitude w) A B scale)))
 
   -- a float of the other sign that is no farther is 0
-  other-zero : (w : Float) → sign w ≡ not s → far s t (sign w) (magnitude w) A B scale ≤ apart (g * B) (A * scale) → magnitude w ≡ 0
+  other-zero : (w : Float) → isSignMinus w ≡ not s → far s t (isSignMinus w) (magnitude w) A B scale ≤ apart (g * B) (A * scale) → magnitude w ≡ 0
   other-zero w e l =
       none (magnitude w) B (A * scale) (apart (g * B) (A * scale)) Q (le-trans (le-of-eq (sym (ap (λ (r : Bool). far s t r (magnitude w) A B scale) e ∙ far-unlike s t (magnitude w) A B scale))) l) from-zero
     where
@@ -180,7 +180,7 @@ module _ (s t : Bool) (A B E : ℕ) (P : 0 < E) (Q : 0 < B) {a b : Number} (ha :
     unfolding z g
     z-finite = round-finite s A B G
 
-    z-far : far s t (sign z) (magnitude z) A B scale ≡ apart (g * B) (A * scale)
+    z-far : far s t (isSignMinus z) (magnitude z) A B scale ≡ apart (g * B) (A * scale)
     unfolding z g
     z-far =
         ap₂ (λ (r : Bool) (v : ℕ). far s t r v A B scale) (round-sign s A B) (round-magnitude s A B G)
@@ -190,14 +190,14 @@ module _ (s t : Bool) (A B E : ℕ) (P : 0 < E) (Q : 0 < B) {a b : Number} (ha :
     unfolding g
     z-nearest w F f =
         le-of-is over-pos (distance z z-finite) (distance w f)
-        (subst (λ (d : ℕ). d + 0 ≤ far s t (sign w) (magnitude w) A B scale + 0) (sym z-far) (plus (le-trans (no-farther (A * scale) B Q (versus w F f)) (at-least w))))
+        (subst (λ (d : ℕ). d + 0 ≤ far s t (isSignMinus w) (magnitude w) A B scale + 0) (sym z-far) (plus (le-trans (no-farther (A * scale) B Q (versus w F f)) (at-least w))))
       where
         plus : {m n : ℕ} → m ≤ n → m + 0 ≤ n + 0
         plus {m} {n} h = omega arith
 
     -- the other way: w is no farther than z
-    no-nearer : (w : Float) → T (finite w) → ∣ exactly w *ₑ b -ₑ a ∣ ≤ₑ ∣ exactly z *ₑ b -ₑ a ∣ → far s t (sign w) (magnitude w) A B scale ≤ apart (g * B) (A * scale)
-    no-nearer w f h = minus (subst (λ (d : ℕ). far s t (sign w) (magnitude w) A B scale + 0 ≤ d + 0) z-far (is-of-le over-pos (distance w f) (distance z z-finite) h))
+    no-nearer : (w : Float) → T (finite w) → ∣ exactly w *ₑ b -ₑ a ∣ ≤ₑ ∣ exactly z *ₑ b -ₑ a ∣ → far s t (isSignMinus w) (magnitude w) A B scale ≤ apart (g * B) (A * scale)
+    no-nearer w f h = minus (subst (λ (d : ℕ). far s t (isSignMinus w) (magnitude w) A B scale + 0 ≤ d + 0) z-far (is-of-le over-pos (distance w f) (distance z z-finite) h))
       where
         minus : {m n : ℕ} → m + 0 ≤ n + 0 → m ≤ n
         minus {m} {n} h = omega arith
@@ -206,12 +206,12 @@ module _ (s t : Bool) (A B E : ℕ) (P : 0 < E) (Q : 0 < B) {a b : Number} (ha :
     unfolding z g
     z-even w F f h = go (versus w F f) (no-nearer w f h)
       where
-        alike : far s t (sign w) (magnitude w) A B scale ≤ apart (g * B) (A * scale) → (sign w ≡ s) ⊎ (sign w ≡ not s) → (sign w ≡ sign z) ⊎ (magnitude w ≡ 0)
+        alike : far s t (isSignMinus w) (magnitude w) A B scale ≤ apart (g * B) (A * scale) → (isSignMinus w ≡ s) ⊎ (isSignMinus w ≡ not s) → (isSignMinus w ≡ isSignMinus z) ⊎ (magnitude w ≡ 0)
         alike l (inl e) = inl (e ∙ sym (round-sign s A B))
         alike l (inr e) = inr (other-zero w e l)
 
-        go : Against (A * scale) B (magnitude w) → far s t (sign w) (magnitude w) A B scale ≤ apart (g * B) (A * scale) → (exactly w ≡ exactly z) ⊎ Even z
-        go (equal e) l = inl (exactly-same w z f z-finite (alike l (either (sign w) s)) (e ∙ sym (round-magnitude s A B G)))
+        go : Against (A * scale) B (magnitude w) → far s t (isSignMinus w) (magnitude w) A B scale ≤ apart (g * B) (A * scale) → (exactly w ≡ exactly z) ⊎ Even z
+        go (equal e) l = inl (exactly-same w z f z-finite (alike l (either (isSignMinus w) s)) (e ∙ sym (round-magnitude s A B G)))
         go (beaten m) l = absurd (not-le-of-lt m (le-trans (at-least w) l))
         go (tied c e q v o d) l =
             inr (last-bit z z-finite ∙ ap (λ (n : ℕ). n / 2 ^ (size n - 53) % 2) (round-magnitude s A B G) ∙ last-digit (kept 53 (A * scale) B) (drop 53 (A * scale) B) (kept-digits (A * scale) B Q) ∙ q)

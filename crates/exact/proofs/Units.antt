@@ -15,7 +15,7 @@ use lib.Ieee.Exact.{HasValue, units-val}
 use lib.Ieee.Order.{drop, kept}
 use lib.Ieee.Scale.{finite}
 use Rattle.exact.specs.Value.{scale, magnitude}
-use Rattle.exact.specs.Rounded.{sign}
+use Rattle.exact.specs.Rounded.{isSignMinus}
 use Rattle.exact.proofs.Num.{abs}
 use Rattle.exact.proofs.Ops.{exact, sgn, round-val}
 use Rattle.exact.proofs.Bridge.{abs-val}
@@ -63,7 +63,7 @@ last-bit (inf s) f = absurd f
 last-bit (fin s m e) f = let n = m * up e * 2 ^ 1074 / down e in parity s (size n - 53) (n / 2 ^ (size n - 53))
 
 -- ---- the sign and the magnitude fix a float that fits
-same-bits : (x y : Float) → T (finite x) → T (finite y) → sign x ≡ sign y → magnitude x ≡ magnitude y → toBits binary64 x ≡ toBits binary64 y
+same-bits : (x y : Float) → T (finite x) → T (finite y) → isSignMinus x ≡ isSignMinus y → magnitude x ≡ magnitude y → toBits binary64 x ≡ toBits binary64 y
 unfolding toBits magnitude scale
 same-bits nan y f g e h = absurd f
 same-bits (inf s) y f g e h = absurd f
@@ -71,16 +71,16 @@ same-bits (fin s m d) nan f g e h = absurd g
 same-bits (fin s m d) (inf t) f g e h = absurd g
 same-bits (fin s m d) (fin t n c) f g e h = ap₂ (λ (s : Bool) (n : ℕ). cond s (2 ^ 63) 0 + (size n - 53) * 2 ^ 52 + n / 2 ^ (size n - 53)) e h
 
-pub same-float : (x y : Float) → T (fits binary64 x) → T (fits binary64 y) → T (finite x) → T (finite y) → sign x ≡ sign y → magnitude x ≡ magnitude y → x ≡ y
+pub same-float : (x y : Float) → T (fits binary64 x) → T (fits binary64 y) → T (finite x) → T (finite y) → isSignMinus x ≡ isSignMinus y → magnitude x ≡ magnitude y → x ≡ y
 same-float x y F G f g e h = sym (ofBits-toBits binary64 x F) ∙ ap (λ (b : ℕ). ofBits binary64 b) (same-bits x y f g e h) ∙ ofBits-toBits binary64 y G
 
 -- ---- `round`: finite below 2 ^ 1024, which is 2 ^ 2098 units, and an infinity from there on
-has-finite : (x : Float) (s : Bool) (a c : ℕ) → HasValue x s a c → T (finite x)
+pub has-finite : (x : Float) (s : Bool) (a c : ℕ) → HasValue x s a c → T (finite x)
 has-finite nan s a c h = absurd h
 has-finite (inf t) s a c h = absurd h
 has-finite (fin t m e) s a c h = tt
 
-has-sign : (x : Float) (s : Bool) (a c : ℕ) → HasValue x s a c → sign x ≡ s
+pub has-sign : (x : Float) (s : Bool) (a c : ℕ) → HasValue x s a c → isSignMinus x ≡ s
 has-sign nan s a c h = absurd h
 has-sign (inf t) s a c h = absurd h
 has-sign (fin t m e) s a c h = h .0
@@ -112,10 +112,10 @@ module _ (s : Bool) (num den : ℕ) where
   unfolding scale
   round-infinite h = round-is binary64 s num den ∙ infinite (kept 53 (num * 2 ^ 1074) den) (drop 53 (num * 2 ^ 1074) den) h
 
-  pub round-sign : sign (round binary64 s num den) ≡ s
+  pub round-sign : isSignMinus (round binary64 s num den) ≡ s
   unfolding scale
   round-sign = go (ltb (grid (num * scale) den) (2 ^ 2098)) (ltb→lt (grid (num * scale) den) (2 ^ 2098)) (nltb→le (grid (num * scale) den) (2 ^ 2098))
     where
-      go : (b : Bool) → (T b → grid (num * scale) den < 2 ^ 2098) → (T (not b) → 2 ^ 2098 ≤ grid (num * scale) den) → sign (round binary64 s num den) ≡ s
+      go : (b : Bool) → (T b → grid (num * scale) den < 2 ^ 2098) → (T (not b) → 2 ^ 2098 ≤ grid (num * scale) den) → isSignMinus (round binary64 s num den) ≡ s
       go true l m = has-sign (round binary64 s num den) s (grid (num * scale) den) (2 ^ 1074) (round-value (l tt))
-      go false l m = ap sign (round-infinite (m tt))
+      go false l m = ap isSignMinus (round-infinite (m tt))

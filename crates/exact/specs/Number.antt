@@ -8,7 +8,7 @@ use Rattle.exact.specs.Value.{value}
 
 infixl 60 _+ₑ_ _-ₑ_
 infixl 70 _*ₑ_
-infix 50 _≤ₑ_ _<ₑ_
+infix 50 _≤ₑ_ _<ₑ_ _=ₑ_
 infix 80 2^-_
 -- the number whole / 2 ^ places
 pub record Number : Type 0 where
@@ -36,6 +36,10 @@ x ≤ₑ y = (x .whole *ℤ pos (2 ^ y .places)) ≤ℤ (y .whole *ℤ pos (2 ^ 
 unfoldable pub _<ₑ_ : Number → Number → Type 0
 x <ₑ y = (x .whole *ℤ pos (2 ^ y .places)) <ℤ (y .whole *ℤ pos (2 ^ x .places))
 
+-- the same number: neither is above the other
+unfoldable pub _=ₑ_ : Number → Number → Type 0
+x =ₑ y = (x ≤ₑ y) × (y ≤ₑ x)
+
 -- whether it is below 0
 unfoldable pub negative : Number → Bool
 negative x = not (nonNeg (x .whole))
@@ -46,6 +50,10 @@ unfoldable pub 0ₑ : Number
 
 unfoldable pub 1ₑ : Number
 1ₑ = record { whole = pos 1; places = 0 }
+
+-- the natural number n
+unfoldable pub natₑ : ℕ → Number
+natₑ n = record { whole = pos n; places = 0 }
 
 -- 2 to the power of -k
 unfoldable pub 2^-_ : ℕ → Number

@@ -10,11 +10,11 @@ use lib.Ieee.{Float, nan, inf, fin, binary64, unlike, neg, toBits, fits}
 use lib.Ieee.Scale.{finite}
 use Rattle.exact.specs.Number.{Number, _+ₑ_, _-ₑ_, _*ₑ_, ∣_∣, _≤ₑ_, _<ₑ_, negative, 1ₑ, exactly}
 
--- whether the sign is a minus
-abbrev pub sign : Float → Bool
-sign nan = false
-sign (inf s) = s
-sign (fin s m e) = s
+-- whether the sign is a minus (5.7.2); the one NaN has none
+abbrev pub isSignMinus : Float → Bool
+isSignMinus nan = false
+isSignMinus (inf s) = s
+isSignMinus (fin s m e) = s
 
 -- The least significant digit is even: the last bit of the pattern is 0 (3.4).
 abbrev pub Even : Float → Type 0
@@ -33,13 +33,13 @@ pub record Nearest (a b : Number) (z : Float) : Type 0 where
 -- z is the exact result a / b, where b is not 0, rounded; s is its sign
 pub record Rounded (s : Bool) (a b : Number) (z : Float) : Type 0 where
   pub fits-format : T (fits binary64 z)
-  pub signed : sign z ≡ s
+  pub signed : isSignMinus z ≡ s
   pub within : ∣ a ∣ <ₑ limit *ₑ ∣ b ∣ → Nearest a b z
   pub beyond : limit *ₑ ∣ b ∣ ≤ₑ ∣ a ∣ → z ≡ inf s
 
 -- A sum's sign is the exact sum's. An exact sum of 0 gives -0 where both operands bear a minus, and +0 otherwise (6.3).
 abbrev pub sumSign : Float → Float → Bool
-sumSign x y = sign x && sign y || negative (exactly x +ₑ exactly y)
+sumSign x y = isSignMinus x && isSignMinus y || negative (exactly x +ₑ exactly y)
 
 -- x ⊕ y is z (5.4.1): NaNs by 6.2, infinities by 6.1, infinities of unlike signs by 7.2
 abbrev pub IsSum : Float → Float → Float → Type 0

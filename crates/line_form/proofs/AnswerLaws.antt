@@ -8,11 +8,26 @@ use lib.Dec.{ltb}
 use borrow.Author.Tests.{lt-ltb, le-ltb, ltb-false}
 use lib.ListN.{length, take, drop}
 use lib.Seq.{take-at, take-length}
-use Rattle.estimator.specs.declared.displacement.Displacement.{Displacement}
+use Rattle.numeric.specs.declared.refusal.Refusal.the-variants.{BrokenForm}
+use Rattle.tdcp.specs.Displacement.{displacementOf, Accepted}
+use Rattle.tdcp.specs.declared.displacement.Delta.{Delta}
+use Rattle.tdcp.specs.declared.displacement.Displacement.{Displacement}
+use Rattle.tdcp.specs.declared.displacement.Displacement.the-variants.{Refused, Moved}
+use Rattle.tdcp.proofs.DisplacementSound.{displacement-accepted}
+use Rattle.line_form.specs.Text.{isText, inputOf, displacementIn}
 use Rattle.line_form.specs.Print.{answerText}
 use Rattle.line_form.specs.Written.{Put}
 use Rattle.line_form.specs.Reads.{Displaces}
 use Rattle.line_form.specs.Answer.{answerOf, lineAfter, countAfter, Answered}
+
+-- an accepted text has what an accepted displacement has
+text-accepted : (text : List ℕ) (d : Delta) → displacementIn text ≡ Moved d → Accepted (inputOf text) d
+unfolding displacementIn
+text-accepted text d e = go (isText text) e
+  where
+    go : (b : Bool) → cond b (displacementOf (inputOf text)) (Refused BrokenForm) ≡ Moved d → Accepted (inputOf text) d
+    go true q = displacement-accepted (inputOf text) d q
+    go false q = absurd (let z : _≡_ {A = ℕ} 0 1 = cc in omega arith)
 
 module _ (text buffer before after : List ℕ) (d : Displacement) (n : ℕ) (is : Displaces text d) (put : Put before after 0 (answerText d) n) where
   line : answerText d ≡ answerOf text
@@ -32,6 +47,7 @@ module _ (text buffer before after : List ℕ) (d : Displacement) (n : ℕ) (is 
       record {
         bytes = sym (ap (λ (t : Bool). cond t buffer (answerOf text ++ drop (length (answerOf text)) buffer)) e);
         count = sym (ap (λ (t : Bool). cond t 0 (length (answerOf text))) e);
+        accepted = text-accepted text;
       }
 
   first : take n after ≡ answerOf text
@@ -49,6 +65,7 @@ module _ (text buffer before after : List ℕ) (d : Displacement) (n : ℕ) (is 
             ∙ ap (λ (t : List ℕ). t ++ drop (length t) buffer) first
             ∙ sym (ap (λ (t : Bool). cond t buffer (answerOf text ++ drop (length (answerOf text)) buffer)) e);
         count = q ∙ ap length first ∙ sym (ap (λ (t : Bool). cond t 0 (length (answerOf text))) e);
+        accepted = text-accepted text;
       }
 
 -- what was written is within the buffer

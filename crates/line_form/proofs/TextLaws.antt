@@ -12,11 +12,11 @@ use lib.Ieee.{Float, isNan, nan, inf, fin}
 use lib.Ieee.Scale.{finite}
 use Rattle.walk.specs.Walk.{fold}
 use Rattle.numeric.specs.declared.refusal.Refusal.the-variants.{BrokenForm}
-use Rattle.estimator.specs.Displacement.{Input, input, displacementOf, Promised}
+use Rattle.tdcp.specs.Displacement.{Input, input, displacementOf, Promised}
 use Rattle.records.specs.declared.record.Carrier.{Carrier}
 use Rattle.records.specs.declared.record.Epoch.{Epoch}
-use Rattle.estimator.specs.declared.displacement.Displacement.{Displacement}
-use Rattle.estimator.specs.declared.displacement.Displacement.the-variants.{Refused, Moved}
+use Rattle.tdcp.specs.declared.displacement.Displacement.{Displacement}
+use Rattle.tdcp.specs.declared.displacement.Displacement.the-variants.{Refused, Moved}
 use Rattle.line_form.specs.Split.{split, countBefore}
 use Rattle.line_form.specs.Line.{isSettings, given, firstOf, lineOf}
 use Rattle.line_form.specs.Text.{whole, recordsForm, linesForm, isText, none, added, previousAfter, currentAfter, previousFrom, currentFrom, inputIn, inputOf, displacementIn}

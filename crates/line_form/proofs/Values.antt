@@ -9,15 +9,15 @@ use lib.Ieee.{ofInt, ofBits, toBits, neg, le, lt, isNan}
 use Rattle.exact.specs.Float.{+0, bits}
 use Rattle.walk.specs.Walk.{every, collect, fold}
 use Rattle.numeric.specs.Real.{abs, inRange}
-use Rattle.estimator.specs.Rules.{ruled}
+use Rattle.estimator.specs.Rules.{ruled, rowRules}
 use Rattle.records.specs.Record.{placeable}
 use Rattle.records.specs.Pair.{pairsOf}
-use Rattle.estimator.specs.Valid.{settingsPass, badInterval, displacementInput, displacementCounts}
-use Rattle.estimator.specs.Front.{displacementRules}
-use Rattle.estimator.specs.Displacement.{displacementOf}
+use Rattle.tdcp.specs.Valid.{settingsPass, badInterval, epochRules, intervalRules, displacementCounts}
+use Rattle.tdcp.specs.Front.{pairRules}
+use Rattle.tdcp.specs.Displacement.{movedBy, movedIn, displacementOf}
 use Rattle.numeric.specs.declared.refusal.Refusal.the-variants.{BrokenForm, TooFewPairs, NoCorrection}
 use Rattle.records.specs.declared.record.Carrier.{Carrier}
-use Rattle.estimator.specs.declared.displacement.Displacement.the-variants.{Refused, Moved}
+use Rattle.tdcp.specs.declared.displacement.Displacement.the-variants.{Refused, Moved}
 use Rattle.line_form.specs.Split.{split}
 use Rattle.line_form.specs.Field.{decimalValue, plain, isNumber, number, isState, state, hex, isFloat, patternIn}
 use Rattle.line_form.specs.Line.{isPlace, place, settingsForm, isSettings, given, carrierForm, carrier, lineOf}
@@ -100,7 +100,7 @@ fifteen = refl
 
 -- ---- texts
 
--- document 01's example: S,3FF0000000000000,0000000000000000, and so on
+-- the example of docs/SCOPE.md, "The line form and its program": S,3FF0000000000000,0000000000000000, and so on
 example : List ℕ
 example =
     83 ∷ 44 ∷ 51 ∷ 70 ∷ 70 ∷ 48 ∷ 48 ∷ 48 ∷ 48 ∷ 48 ∷ 48 ∷ 48 ∷ 48 ∷ 48 ∷ 48 ∷ 48 ∷ 48 ∷ 48 ∷ 44 ∷ 48 ∷ 48 ∷ 48 ∷ 48 ∷ 48 ∷ 48 ∷ 48 ∷ 48 ∷ 48 ∷ 48 ∷ 48 ∷
@@ -181,9 +181,9 @@ the-carrier : lineOf (80 ∷ 44 ∷ 54 ∷ 44 ∷ 49 ∷ 50 ∷ 44 ∷ 49 ∷ 53
 unfolding isText recordsForm split isSettings settingsForm lineOf carrierForm carrier isPlace place number isNumber plain every decimalValue state isState patternIn isFloat hex example one ofBits
 the-carrier = refl
 
--- document 01: the example alone gives R,7
+-- the example alone gives R,7
 the-answer : answerOf example ≡ 82 ∷ 44 ∷ 55 ∷ 10 ∷ []
-unfolding answerOf displacementIn inputOf given none fold isText recordsForm split isSettings settingsForm lineOf isPlace place number isNumber plain every decimalValue patternIn isFloat hex example displacementOf ruled displacementRules displacementInput displacementCounts settingsPass badInterval placeable abs inRange pairsOf collect digitsText digitCount ofInt ofBits neg le lt isNan
+unfolding answerOf displacementIn inputOf given none fold isText recordsForm split isSettings settingsForm lineOf isPlace place number isNumber plain every decimalValue patternIn isFloat hex example displacementOf movedIn movedBy ruled epochRules intervalRules pairRules displacementCounts rowRules settingsPass badInterval placeable abs inRange pairsOf collect digitsText digitCount ofInt ofBits neg le lt isNan
 the-answer = refl
 
 -- ---- answers

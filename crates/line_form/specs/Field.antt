@@ -1,4 +1,4 @@
--- The fields of a line (document 01, "The line form and its program"): which bytes are of the form, and what they say. Definitions only.
+-- The fields of a line (docs/SCOPE.md, "The line form and its program"): which bytes are of the form, and what they say. Definitions only.
 -- A field that breaks the form says 0: its text is refused, whatever the field would say.
 use Prim.Native.Nat.{ℕ, _+_, _*_, _-_, _^_}
 use mathlib.Core.Bool.{Bool, true, false, cond, not, _&&_, _||_}

@@ -1,4 +1,4 @@
--- One line of the form (document 01, "The line form and its program"). Definitions only.
+-- One line of the form (docs/SCOPE.md, "The line form and its program"). Definitions only.
 use Prim.Native.Nat.{ℕ, _+_, _^_}
 use mathlib.Core.Bool.{Bool, cond, _&&_}
 use mathlib.Core.List.{List, [], _∷_}

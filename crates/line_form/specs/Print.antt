@@ -1,12 +1,12 @@
--- The output line (document 01, "The line form and its program"). Definitions only.
+-- The output line (docs/SCOPE.md, "The line form and its program"). Definitions only.
 use Prim.Native.Nat.{ℕ, zero, suc, _+_, _/_, _%_}
 use mathlib.Core.Bool.{cond}
 use mathlib.Core.List.{List, [], _∷_, _++_}
 use lib.Dec.{ltb}
 use lib.Ieee.{Float, binary64, toBits}
 use Rattle.numeric.specs.Refusal.{numberOf}
-use Rattle.estimator.specs.declared.displacement.Displacement.{Displacement}
-use Rattle.estimator.specs.declared.displacement.Displacement.the-variants.{Refused, Moved}
+use Rattle.tdcp.specs.declared.displacement.Displacement.{Displacement}
+use Rattle.tdcp.specs.declared.displacement.Displacement.the-variants.{Refused, Moved}
 
 -- the digits below 16: 0 to 9 and A to F
 abbrev pub glyph : ℕ → ℕ

@@ -2,7 +2,7 @@
 use Prim.Native.Nat.{ℕ, _<_}
 use mathlib.Core.Path.{_≡_}
 use mathlib.Core.List.{List}
-use Rattle.estimator.specs.declared.displacement.Displacement.{Displacement}
+use Rattle.tdcp.specs.declared.displacement.Displacement.{Displacement}
 use Rattle.line_form.specs.Field.{isNumber, number, isState, state, isFloat, patternIn, floatIn}
 use Rattle.line_form.specs.Line.{isPlace, place, settingsForm, given, carrierForm, carrier}
 use Rattle.line_form.specs.Text.{displacementIn}

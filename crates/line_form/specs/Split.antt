@@ -1,4 +1,4 @@
--- Parts of a text: its lines, and the fields of a line (document 01, "The line form and its program"). Definitions only.
+-- Parts of a text: its lines, and the fields of a line (docs/SCOPE.md, "The line form and its program"). Definitions only.
 use Prim.Native.Nat.{ℕ, suc}
 use mathlib.Core.Bool.{cond}
 use mathlib.Core.List.{List, [], _∷_}

@@ -1,4 +1,4 @@
--- A whole text of the form, and the displacement that it asks for (document 01, "The line form and its program"). Definitions only.
+-- A whole text of the form, and the displacement that it asks for (docs/SCOPE.md, "The line form and its program"). Definitions only.
 use Prim.Native.Nat.{ℕ, _+_}
 use mathlib.Core.Bool.{Bool, true, false, cond, not, _&&_}
 use mathlib.Core.List.{List, [], _∷_}
@@ -8,11 +8,11 @@ use lib.IntN.{pos}
 use Rattle.exact.specs.Float.{+0}
 use Rattle.walk.specs.Walk.{fold}
 use Rattle.numeric.specs.declared.refusal.Refusal.the-variants.{BrokenForm}
-use Rattle.estimator.specs.Displacement.{Input, input, displacementOf}
+use Rattle.tdcp.specs.Displacement.{Input, input, displacementOf}
 use Rattle.records.specs.declared.record.Carrier.{Carrier}
 use Rattle.records.specs.declared.record.Epoch.{Epoch}
-use Rattle.estimator.specs.declared.displacement.Displacement.{Displacement}
-use Rattle.estimator.specs.declared.displacement.Displacement.the-variants.{Refused}
+use Rattle.tdcp.specs.declared.displacement.Displacement.{Displacement}
+use Rattle.tdcp.specs.declared.displacement.Displacement.the-variants.{Refused}
 use Rattle.line_form.specs.Split.{split}
 use Rattle.line_form.specs.Line.{isSettings, given, lineOf}
 use Rattle.line_form.specs.declared.line.Line.{Line}

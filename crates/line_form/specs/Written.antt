@@ -7,11 +7,11 @@ use lib.Dec.{T}
 use lib.ListN.{length, take, drop}
 use lib.Ieee.{isNan}
 use Rattle.numeric.specs.declared.vec3.Vec3.{Vec3}
-use Rattle.estimator.specs.declared.displacement.Displacement.{Displacement}
-use Rattle.estimator.specs.declared.displacement.Displacement.the-variants.{Refused, Moved}
+use Rattle.tdcp.specs.declared.displacement.Displacement.{Displacement}
+use Rattle.tdcp.specs.declared.displacement.Displacement.the-variants.{Refused, Moved}
 use Rattle.line_form.specs.Print.{ended, floatText}
 
--- a NaN has no pattern of its own; an accepted displacement has none (estimator, `Accepted`)
+-- a NaN has no pattern of its own; an accepted displacement has none (tdcp, `Accepted`)
 abbrev pub Numbers : Vec3 → Type 0
 Numbers v = (T (not (isNan (v .x)))) × (T (not (isNan (v .y)))) × (T (not (isNan (v .z))))
 

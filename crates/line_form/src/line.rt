@@ -10,9 +10,9 @@ use crate::field::number_of;
 use crate::field::state_of;
 use crate::split::field_at;
 use crate::split::fields_of;
-use estimator::displacement::Settings;
 use numeric::vec3::Vec3;
 use records::record::Carrier;
+use tdcp::displacement::Settings;
 
 pub(crate) struct Place {
     pub formed: bool,

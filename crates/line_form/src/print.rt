@@ -5,8 +5,8 @@ ghost use Prim.Native.Nat.{_+_, _≤_, _<_};
 ghost use lib.ListN.{length};
 ghost use Rattle.line_form.specs.Print.{glyph, digitsText, digitCount, decimalText, hexText, answerText};
 ghost use Rattle.line_form.specs.Written.{Numbers, Printable, vectorText, written, Put};
-use estimator::displacement::Displacement;
 use numeric::vec3::Vec3;
+use tdcp::displacement::Displacement;
 
 fn glyph_of(d: u64) -> u8
     requires { ⌜ d < 16 ⌝ }

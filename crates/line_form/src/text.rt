@@ -7,12 +7,12 @@ use crate::line::Line;
 use crate::line::first_of;
 use crate::line::line_of;
 use crate::split::find;
-use estimator::displacement::Displacement;
-use estimator::displacement::delta_position;
 use numeric::refusal::Refusal;
 use numeric::vec3::Vec3;
 use records::record::Carrier;
 use records::record::Epoch;
+use tdcp::displacement::Displacement;
+use tdcp::displacement::delta_position;
 
 fn no_carriers() -> Epoch
     ensures { λ r. ⌜ r ≡ none ⌝ }

@@ -1,10 +1,11 @@
--- Document 01's marked trials of the centre, by computation. Assumes nothing.
+-- The marked trials of the centre (docs/SCOPE.md, "Trials at the edges"), by computation. Assumes nothing.
 use Prim.Native.Nat.{ℕ}
 use mathlib.Core.Path.{_≡_, refl}
 use mathlib.Core.List.{List, [], _∷_}
 use lib.Ieee.{ofBits, ofInt, toBits, isNan, lt, eq, add, sub, mul, div}
 use Rattle.exact.specs.Float.{+0, 1·0, bits}
-use Rattle.numeric.specs.Order.{sign, totalOrder, patternOf}
+use Rattle.exact.specs.Pattern.{sign}
+use Rattle.numeric.specs.Order.{totalOrder, patternOf}
 use Rattle.numeric.specs.Real.{abs}
 use Rattle.median.specs.Sorted.{insertBy, sortedBy, medianOf}
 use Rattle.median.specs.Centre.{centreOf, deviationOf, deviationsOf, scaleOf, centreAndScaleOf, centreScaleOf}

@@ -1,4 +1,4 @@
--- The centre of residuals and their scale (document 01, "Centre"; `centre_scale` of robust.rs). Definitions only.
+-- The centre of residuals and their scale (docs/SCOPE.md, "Centre"; `centre_scale` of robust.rs). Definitions only.
 -- A residual is a pattern, since totalOrder tells NaNs of either sign apart.
 use Prim.Native.Nat.{ℕ}
 use mathlib.Core.Bool.{cond}
@@ -9,6 +9,7 @@ use lib.Ieee.{Float}
 use Rattle.exact.specs.Float.{_⊕_, _⊖_, _⊗_, +0, 1·0, bits, decimal}
 use Rattle.numeric.specs.Order.{patternOf}
 use Rattle.numeric.specs.Real.{abs}
+use Rattle.numeric.specs.Refusal.{numberOf}
 use Rattle.numeric.specs.declared.refusal.Refusal.the-variants.{TooMany}
 use Rattle.median.specs.Sorted.{medianOf}
 use Rattle.median.specs.declared.centre.Centre.{Centre}
@@ -47,3 +48,13 @@ centreAndScaleOf (x ∷ xs) = record { centre = centreOf (x ∷ xs); scale = sca
 -- refused by 2 if there are more than 64 residuals
 unfoldable pub centreScaleOf : List ℕ → Centre
 centreScaleOf xs = cond (ltb 64 (length xs)) (Refused TooMany) (Of (centreAndScaleOf xs))
+
+-- the number of an answer: 0, or the refusal's
+abbrev pub centreNumber : Centre → ℕ
+centreNumber (Refused r) = numberOf r
+centreNumber (Of c) = 0
+
+-- its values, where they are lent: centre and scale, or what was held before
+abbrev pub centreAfter : Centre → List Float → List Float
+centreAfter (Refused r) before = before
+centreAfter (Of c) before = c .centre ∷ c .scale ∷ []

@@ -1,4 +1,4 @@
--- A list sorted by IEEE 754 totalOrder, and its element at place len/2 (document 01, "Centre"). Definitions only.
+-- A list sorted by IEEE 754 totalOrder, and its element at place len/2 (docs/SCOPE.md, "Centre"). Definitions only.
 use Prim.Native.Nat.{ℕ, _+_, _/_, _^_, _<_}
 use mathlib.Core.Bool.{Bool, cond}
 use mathlib.Core.List.{List, [], _∷_}

@@ -5,7 +5,7 @@ ghost use Prim.Native.Nat.{_≤_};
 ghost use lib.ListN.{length};
 ghost use Rattle.numeric.specs.Order.{keyOf};
 ghost use Rattle.median.specs.Select.{Front};
-ghost use Rattle.median.specs.Centre.{deviationsOf, centreScaleOf};
+ghost use Rattle.median.specs.Centre.{deviationsOf, centreScaleOf, centreNumber};
 use crate::median::keys;
 use crate::median::middle;
 use numeric::order::float;
@@ -24,6 +24,18 @@ pub struct CentreScale {
 pub enum Centre {
     Refused(Refusal),
     Of(CentreScale),
+}
+
+impl Centre {
+    // The number that a caller outside is given.
+    pub fn number(self) -> u8
+        ensures { λ r. ⌜ r ≡ centreNumber self ⌝ }
+    {
+        match self {
+            Centre::Refused(r) => r.number(),
+            Centre::Of(_) => 0,
+        }
+    }
 }
 
 // Puts the keys of the absolute deviations of the residuals from the centre into the front of k.

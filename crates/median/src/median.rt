@@ -146,7 +146,7 @@ fn median_of(patterns: &[u64]) -> u64
     middle(&mut k, n)
 }
 
-// The median of the patterns, or of the first 64 if there are more.
+// The median of the patterns. Of more than 64 only the first 64 count; the callers here have no more.
 pub fn median(patterns: &[u64]) -> u64
     ensures { λ r. ⌜ r ≡ medianOf (take 64 (now (patterns .entry))) ⌝ }
 {

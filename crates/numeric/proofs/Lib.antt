@@ -5,3 +5,4 @@ pub mod OrderMagnitude
 pub mod OrderLaws
 pub mod OrderValues
 pub mod Zeros
+pub mod SightLaws

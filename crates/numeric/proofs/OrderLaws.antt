@@ -10,8 +10,9 @@ use lib.Ieee.{Float, nan, inf, fin, binary64, below, level, lt, eq, ne, toBits, 
 use lib.Ieee.Compare.{differs-from-itself, nan-differs}
 use lib.Ieee.Bits.{ofBits-toBits, toBits-ofBits, toBits-lt}
 use Rattle.exact.specs.Float.{bits}
-use Rattle.numeric.specs.Order.{sign, digits, isNaN, isQuiet, payload, equalOrder, payloadOrder, nanOrder, unordered, totalOrder, keyOf, patternAt, patternOf}
-use Rattle.numeric.proofs.OrderMagnitude.{unsigned, infinity, trichotomy, lt-bits, eq-bits, isNaN-above, isNan-bits, bits-nan}
+use Rattle.exact.specs.Pattern.{sign, digits}
+use Rattle.numeric.specs.Order.{isNanPattern, isQuiet, payload, equalOrder, payloadOrder, nanOrder, unordered, totalOrder, keyOf, patternAt, patternOf}
+use Rattle.numeric.proofs.OrderMagnitude.{unsigned, infinity, trichotomy, lt-bits, eq-bits, isNanPattern-above, isNan-bits, bits-nan}
 
 -- ---- numbers
 
@@ -133,15 +134,15 @@ totalOrder-ordered x y = go (ltb infinity (unsigned x)) (ltb infinity (unsigned 
     go true true e f =
         let h : infinity < unsigned x = ltb-true _ _ e in
         let k : infinity < unsigned y = ltb-true _ _ f in
-        at-nan x y (inl (bits-nan x h)) ∙ rw (isNaN-above x ∙ e, isNaN-above y ∙ f) (both-nan (sign x) (sign y) x y h k)
+        at-nan x y (inl (bits-nan x h)) ∙ rw (isNanPattern-above x ∙ e, isNanPattern-above y ∙ f) (both-nan (sign x) (sign y) x y h k)
     go true false e f =
         let h : infinity < unsigned x = ltb-true _ _ e in
         let k : unsigned y ≤ infinity = ltb-false _ _ f in
-        at-nan x y (inl (bits-nan x h)) ∙ rw (isNaN-above x ∙ e, isNaN-above y ∙ f) (left-nan (sign x) (sign y) (unsigned x) (unsigned y) (omega arith))
+        at-nan x y (inl (bits-nan x h)) ∙ rw (isNanPattern-above x ∙ e, isNanPattern-above y ∙ f) (left-nan (sign x) (sign y) (unsigned x) (unsigned y) (omega arith))
     go false true e f =
         let h : unsigned x ≤ infinity = ltb-false _ _ e in
         let k : infinity < unsigned y = ltb-true _ _ f in
-        at-nan x y (inr (bits-nan y k)) ∙ rw (isNaN-above x ∙ e) (right-nan (sign x) (sign y) (unsigned x) (unsigned y) (omega arith))
+        at-nan x y (inr (bits-nan y k)) ∙ rw (isNanPattern-above x ∙ e) (right-nan (sign x) (sign y) (unsigned x) (unsigned y) (omega arith))
 
 -- ---- the order of the keys
 
@@ -263,7 +264,7 @@ pub pattern-lt : (x : Float) → T (fits binary64 x) → patternOf x < 2 ^ 64
 pattern-lt x h = rw (pattern-bits x) (toBits-lt binary64 x h)
 
 -- writing what was read from a pattern gives the pattern, if it is no NaN's
-pub pattern-same : (b : ℕ) → b < 2 ^ 64 → isNaN b ≡ false → patternOf (bits b) ≡ b
+pub pattern-same : (b : ℕ) → b < 2 ^ 64 → isNanPattern b ≡ false → patternOf (bits b) ≡ b
 pattern-same b h n =
-    let m : isNan (bits b) ≡ false = isNan-bits b ∙ sym (isNaN-above b) ∙ n in
+    let m : isNan (bits b) ≡ false = isNan-bits b ∙ sym (isNanPattern-above b) ∙ n in
     pattern-bits (bits b) ∙ toBits-ofBits binary64 b h (rw m tt)

@@ -14,7 +14,8 @@ use lib.Ieee.Exact.{HasValue, odd-sign}
 use lib.Ieee.Fits.{down-pos}
 use lib.Ieee.Bits.{nanBits-is, nanBits-above}
 use Rattle.exact.specs.Float.{bits, +0, _⊘_}
-use Rattle.numeric.specs.Order.{sign, exponent, digits, isNaN}
+use Rattle.exact.specs.Pattern.{sign, exponent, digits}
+use Rattle.numeric.specs.Order.{isNanPattern}
 
 -- a pattern without its sign, bits 62 to 0
 abbrev pub unsigned : ℕ → ℕ
@@ -271,9 +272,9 @@ module _ (a b : ℕ) (ha : unsigned a ≤ infinity) (hb : unsigned b ≤ infinit
 -- ---- NaNs
 
 -- a NaN's pattern without the sign is above the infinities'
-pub isNaN-above : (b : ℕ) → isNaN b ≡ ltb infinity (unsigned b)
-unfolding isNaN exponent digits nanBits
-isNaN-above b = let e : b / 2 ^ 52 % 2 ^ 11 ≡ b % 2 ^ 63 / 2 ^ 52 = omega arith in rw e (nanBits-above binary64 b)
+pub isNanPattern-above : (b : ℕ) → isNanPattern b ≡ ltb infinity (unsigned b)
+unfolding isNanPattern exponent digits nanBits
+isNanPattern-above b = let e : b / 2 ^ 52 % 2 ^ 11 ≡ b % 2 ^ 63 / 2 ^ 52 = omega arith in rw e (nanBits-above binary64 b)
 
 pub isNan-bits : (b : ℕ) → isNan (bits b) ≡ ltb infinity (unsigned b)
 isNan-bits b = sym (nanBits-is binary64 b) ∙ nanBits-above binary64 b

@@ -5,7 +5,8 @@ use mathlib.Core.Bool.{Bool, true, not, _&&_}
 use mathlib.Core.List.{List, [], _∷_, map}
 use lib.Ieee.{nan, lt, eq, ofBits, toBits, isNan}
 use Rattle.exact.specs.Float.{1·0}
-use Rattle.numeric.specs.Order.{sign, exponent, digits, isNaN, isQuiet, payload, payloadOrder, unordered, totalOrder, keyOf, patternOf}
+use Rattle.exact.specs.Pattern.{sign, exponent, digits}
+use Rattle.numeric.specs.Order.{isNanPattern, isQuiet, payload, payloadOrder, unordered, totalOrder, keyOf, patternOf}
 
 chain : List ℕ
 chain =
@@ -37,12 +38,12 @@ ascending [] = true
 ascending (x ∷ l) = first x l && ascending l
 
 chain-ascends : ascending chain ≡ true
-unfolding chain ascending first totalOrder unordered payloadOrder sign isNaN isQuiet payload exponent digits lt eq ofBits
+unfolding chain ascending first totalOrder unordered payloadOrder sign isNanPattern isQuiet payload exponent digits lt eq ofBits
 chain-ascends = refl
 
 -- each is in order with itself
 chain-reflexive : map (λ (x : ℕ). totalOrder x x) chain ≡ map (λ (x : ℕ). true) chain
-unfolding chain totalOrder unordered payloadOrder sign isNaN isQuiet payload exponent digits lt eq ofBits
+unfolding chain totalOrder unordered payloadOrder sign isNanPattern isQuiet payload exponent digits lt eq ofBits
 chain-reflexive = refl
 
 -- +0 is in the middle of the places

@@ -1,10 +1,10 @@
 -- The laws of `abs`, `max`, `finite` and `inRange`, for every float. Assumes nothing.
 use mathlib.Core.Path.{_≡_, refl, sym, ap, _∙_, subst, ap₂}
-use Prim.Native.Nat.{ℕ, zero, suc, _+_, _*_, _^_, _≤_, _<_}
+use Prim.Native.Nat.{ℕ, zero, suc, _+_, _*_, _^_, _<_}
 use native.Mathlib.Nat.{mul-one, one-mul, zero-mul, mul-pos, pow-suc, zero-lt-suc}
 use native.Mathlib.Omega.{arith}
-use native.Mathlib.Decide.{decLt, ℕ-discrete}
-use mathlib.Core.Bool.{and-true, Bool, true, false, not, cond, _&&_, _||_}
+use native.Mathlib.Decide.{ℕ-discrete}
+use mathlib.Core.Bool.{and-true, Bool, true, false, cond, _&&_, _||_}
 use lib.Dec.{T, eqb, ltb, eqb→eq}
 use borrow.Author.Tests.{lt-ltb, le-ltb, eq-eqb, ne-eqb}
 use lib.IntN.{ℤ, pos, negsuc}
@@ -20,35 +20,6 @@ use Rattle.numeric.specs.Real.{abs, max, inRange}
 -- a test that fails does not pass
 never : {A : Type 0} → false ≡ true → A
 never e = absurd (let z : _≡_ {A = ℕ} 0 1 = cc in omega arith)
-
--- ---- abs
-
-pub abs-finite : (x : Float) → finite (abs x) ≡ finite x
-unfolding abs
-abs-finite nan = refl
-abs-finite (inf s) = refl
-abs-finite (fin s m e) = refl
-
-pub abs-nan : (x : Float) → abs x ≡ nan → x ≡ nan
-unfolding abs
-abs-nan nan h = refl
-abs-nan (inf s) h = cc
-abs-nan (fin s m e) h = cc
-
--- a ≤ b, as `le` tests it of numbers of one sign
-from-least : (a b : ℕ) → a ≤ b → (ltb a b || (eqb a b && true)) ≡ true
-from-least a b h = go (decLt a b)
-  where
-    go : Dec (a < b) → (ltb a b || (eqb a b && true)) ≡ true
-    go (yes l) = rw (lt-ltb a b l)
-    go (no f) = let e : a ≡ b = omega arith in rw (le-ltb a b (omega arith), eq-eqb a b e)
-
--- 0 is at most |x|, unless x is a NaN
-pub abs-from-zero : (x : Float) → le +0 (abs x) ≡ not (isNan x)
-unfolding abs le isNan ofBits
-abs-from-zero nan = refl
-abs-from-zero (inf s) = refl
-abs-from-zero (fin s m e) = from-least (0 * 1 * down e) (m * up e * 1) (omega (arith, zero-mul (down e)))
 
 -- ---- how `abs` is worked out
 
@@ -102,12 +73,6 @@ max-nan-left b = refl
 same : {A : Type 0} (t : Bool) (x : A) → cond t x x ≡ x
 same true x = refl
 same false x = refl
-
-pub max-nan-right : (a : Float) → max a nan ≡ a
-unfolding max isNan
-max-nan-right nan = refl
-max-nan-right (inf s) = refl
-max-nan-right (fin s m e) = refl
 
 -- ---- how `max` is worked out
 

@@ -8,7 +8,7 @@ use Rattle.exact.specs.Float.{_⊘_, +0, 1·0, bits, whole}
 use Rattle.root.specs.Root.{rootOf}
 use Rattle.numeric.specs.Real.{square, hypot, travelLimit, travelSine, travelCosine, pi, radians, factorial, _!, -1·0, elevationSine, abs, max, inRange}
 use Rattle.numeric.specs.Vec3.{add as vec-plus, sub as vec-minus, norm}
-use Rattle.numeric.specs.Sight.{earthRate, travelAngle, turned, gap, geometry}
+use Rattle.numeric.specs.Sight.{earthRate, travelAngle, turned, gap, along, geometry}
 use Rattle.numeric.specs.declared.vec3.Vec3.{Vec3}
 
 -- ---- square and hypot
@@ -180,5 +180,5 @@ earth-rate = refl
 
 -- a range of 23,403,217.284568273 m
 pub sight : geometry (vec (whole 15600000) (whole 7540000) (whole 20140000)) (vec (whole 6371000) (whole 1000) (neg (whole 2000))) ≡ record { x = bits 0xBFD9_3D04_F2BA_2812; y = bits 0xBFD4_9DCD_072D_30BB; z = bits 0xBFEB_8A73_C129_FB2E; range = bits 0x4176_51AD_148D_9776 }
-unfolding geometry gap turned travelAngle travelSine travelCosine le norm vec-minus sub add mul div neg rootOf ofInt ofBits
+unfolding geometry gap along turned travelAngle travelSine travelCosine le norm vec-minus sub add mul div neg rootOf ofInt ofBits
 sight = refl

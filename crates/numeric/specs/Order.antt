@@ -1,28 +1,17 @@
 -- The total order of IEEE 754-2019, 5.10, at binary64, on patterns: a pattern is 64 bits, as a natural number below 2 ^ 64. Definitions only.
 -- The order speaks of patterns, since it tells NaNs apart by sign and payload, and the one NaN of a float here has neither.
-use Prim.Native.Nat.{ℕ, _+_, _-_, _/_, _%_, _^_}
+use Prim.Native.Nat.{ℕ, _+_, _-_, _%_, _^_}
 use mathlib.Core.Bool.{Bool, true, false, not, _&&_, Bool·beq, cond}
 use lib.Dec.{leb, ltb, eqb}
 use lib.Ieee.{Float, binary64, toBits, isNan, lt, eq}
 use Rattle.exact.specs.Float.{bits}
+use Rattle.exact.specs.Pattern.{sign, exponent, digits}
 
--- ---- the fields of a pattern (3.4)
-
--- the sign, bit 63: true for negative
-unfoldable pub sign : ℕ → Bool
-sign b = leb (2 ^ 63) b
-
--- the exponent field, bits 62 to 52
-unfoldable pub exponent : ℕ → ℕ
-exponent b = b / 2 ^ 52 % 2 ^ 11
-
--- the digits below the leading one, bits 51 to 0
-unfoldable pub digits : ℕ → ℕ
-digits b = b % 2 ^ 52
+-- ---- NaNs, by the fields of a pattern
 
 -- a NaN: the exponent field is all ones, and the digits are not 0 (3.4 a)
-unfoldable pub isNaN : ℕ → Bool
-isNaN b = eqb (exponent b) 0x7FF && not (eqb (digits b) 0)
+unfoldable pub isNanPattern : ℕ → Bool
+isNanPattern b = eqb (exponent b) 0x7FF && not (eqb (digits b) 0)
 
 -- a quiet NaN: the first of its digits, bit 51, is 1; of a signaling NaN it is 0 (6.2.1)
 unfoldable pub isQuiet : ℕ → Bool
@@ -56,7 +45,7 @@ nanOrder true true x y = payloadOrder y x
 
 -- (d) x or y is a NaN: a negative NaN comes before every number (d 1), and every number before a positive NaN (d 2), and neither the other way round
 unfoldable pub unordered : ℕ → ℕ → Bool
-unordered x y = cond (isNaN x && isNaN y) (nanOrder (sign x) (sign y) x y) (cond (isNaN x) (sign x) (not (sign y)))
+unordered x y = cond (isNanPattern x && isNanPattern y) (nanOrder (sign x) (sign y) x y) (cond (isNanPattern x) (sign x) (not (sign y)))
 
 -- whether x comes before y or is y: (a) the numbers have x < y, (b) they have x > y, (c) they are equal, (d) they are unordered
 unfoldable pub totalOrder : ℕ → ℕ → Bool

@@ -1,4 +1,4 @@
--- The stand-ins with which document 01 has the Rust run ("The reference"), in its order, and the tests of a float that its refusals name. Definitions only.
+-- The stand-ins with which the Rust is run (docs/SCOPE.md, "The reference"), in its order, and the tests of a float that its refusals name. Definitions only.
 -- The root itself is `rootOf` of Root.antt. Every definition is for every float: a NaN and the infinities go through the operations as IEEE 754 has them.
 use Prim.Native.Nat.{ℕ, zero, suc, _*_}
 use mathlib.Core.Bool.{Bool, false, cond, _&&_}

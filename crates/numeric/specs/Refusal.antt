@@ -1,7 +1,7 @@
--- Document 01, "Why a call turns back": the number of each refusal. Definitions only.
+-- docs/SCOPE.md, "Why a call turns back": the number of each refusal. Definitions only.
 use Prim.Native.Nat.{ℕ}
 use Rattle.numeric.specs.declared.refusal.Refusal.{Refusal}
-use Rattle.numeric.specs.declared.refusal.Refusal.the-variants.{BrokenForm, TooMany, SettingOutOfRange, RecordOutOfRange, BadInterval, BadTrack, TooFewPairs, TooFewRows, TooManySlots, FitFailed, TableFull, NoCorrection}
+use Rattle.numeric.specs.declared.refusal.Refusal.the-variants.{BrokenForm, TooMany, SettingOutOfRange, RecordOutOfRange, BadInterval, BadTrack, TooFewPairs, TooFewRows, TooManySlots, FitFailed, TableFull, NoCorrection, BadTime, QualityNotFinite, OnReceiver, BadTrip, NoDistance, BadDropTime, NotTurned, NotCertified, BrokenRecords}
 
 abbrev pub numberOf : Refusal → ℕ
 -- program only: the text is above 32,768 bytes, or a line breaks the form
@@ -29,3 +29,22 @@ numberOf FitFailed = 10
 numberOf TableFull = 11
 -- the table gives no correction for the query
 numberOf NoCorrection = 12
+-- a week is above 15,000, a time of week is not finite or outside 0 to below 604,800, or a time handed in is before week 0 or past the start of week 15,001
+numberOf BadTime = 13
+-- chi or pdop of a fix is not finite
+numberOf QualityNotFinite = 14
+-- the range that the geometry of a satellite gives is zero or not finite
+numberOf OnReceiver = 15
+-- a displacement of a trip is not finite or longer than 1,000 m, a full trip has one more epoch, or a trip's numbers are out of bounds: a rate of 0,
+-- more than 65,535 epochs, or more than 1,000,000 mm or 65,535 pulses times its epochs
+numberOf BadTrip = 16
+-- the fuel figure is wanted at zero carrier distance
+numberOf NoDistance = 17
+-- the time to drop before is not finite
+numberOf BadDropTime = 18
+-- a coordinate to be turned to north, east, down is not finite or above 1e9 in magnitude, or a result is not finite
+numberOf NotTurned = 19
+-- GPS or Galileo is absent among the kept pairs of a city displacement
+numberOf NotCertified = 20
+-- a slice of carrier records to be read has a length that is no multiple of 59
+numberOf BrokenRecords = 21

@@ -24,13 +24,16 @@ turned s t =
     let cos = travelCosine t in
     record { x = s .x ⊗ cos ⊕ s .y ⊗ sin; y = neg (s .x) ⊗ sin ⊕ s .y ⊗ cos; z = s .z }
 
--- from the satellite, turned with the earth while its signal travels, to the receiver
-unfoldable pub gap : Vec3 → Vec3 → Vec3
-gap satellite receiver = sub receiver (turned satellite (travelAngle (norm (sub satellite receiver))))
+-- from the satellite, turned with the earth while its signal travels the distance, to the receiver
+unfoldable pub gap : Vec3 → Vec3 → Float → Vec3
+gap satellite receiver distance = sub receiver (turned satellite (travelAngle distance))
 
--- the unit vector along that way, and its length, the range
+-- the unit vector along the way d, which is as long as the range
+unfoldable pub along : Vec3 → Float → Sight
+along d range = record { x = d .x ⊘ range; y = d .y ⊘ range; z = d .z ⊘ range; range = range }
+
+-- the line of sight: the signal travels the distance of the two places
 unfoldable pub geometry : Vec3 → Vec3 → Sight
 geometry satellite receiver =
-    let d = gap satellite receiver in
-    let range = norm d in
-    record { x = d .x ⊘ range; y = d .y ⊘ range; z = d .z ⊘ range; range = range }
+    let d = gap satellite receiver (norm (sub satellite receiver)) in
+    along d (norm d)

@@ -1,4 +1,4 @@
-// Why a call turns back: document 01's numbers, each under its one name.
+// Why a call turns back (docs/SCOPE.md): each number under its one name.
 ghost use mathlib.Core.Path.{_≡_};
 ghost use Rattle.numeric.specs.Refusal.{numberOf};
 
@@ -15,6 +15,15 @@ pub enum Refusal {
     FitFailed,
     TableFull,
     NoCorrection,
+    BadTime,
+    QualityNotFinite,
+    OnReceiver,
+    BadTrip,
+    NoDistance,
+    BadDropTime,
+    NotTurned,
+    NotCertified,
+    BrokenRecords,
 }
 
 impl Refusal {
@@ -35,6 +44,15 @@ impl Refusal {
             Refusal::FitFailed => 10,
             Refusal::TableFull => 11,
             Refusal::NoCorrection => 12,
+            Refusal::BadTime => 13,
+            Refusal::QualityNotFinite => 14,
+            Refusal::OnReceiver => 15,
+            Refusal::BadTrip => 16,
+            Refusal::NoDistance => 17,
+            Refusal::BadDropTime => 18,
+            Refusal::NotTurned => 19,
+            Refusal::NotCertified => 20,
+            Refusal::BrokenRecords => 21,
         }
     }
 }

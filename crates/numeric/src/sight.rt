@@ -4,6 +4,7 @@ ghost use Rattle.numeric.specs.Sight as spec;
 use crate::real::travel_cosine;
 use crate::real::travel_sine;
 use crate::vec3::Vec3;
+use root::sqrt::sqrt;
 
 // The unit vector from the satellite to the receiver, and the range.
 pub struct Sight {
@@ -33,19 +34,56 @@ pub fn turned(s: Vec3, t: f64) -> Vec3
     }
 }
 
-// The line of sight from the satellite, turned with the earth while its signal travels, to the receiver. The turn changes the distance by so little that
-// its root helps to find the range.
-pub fn geometry(satellite: Vec3, receiver: Vec3) -> Sight
-    ensures { λ r. ⌜ r ≡ spec.geometry satellite receiver ⌝ }
+// From the satellite, turned with the earth while its signal travels the distance, to the receiver.
+fn gap(satellite: Vec3, receiver: Vec3, distance: f64) -> Vec3
+    ensures { λ r. ⌜ r ≡ spec.gap satellite receiver distance ⌝ }
 {
-    let distance = satellite.sub(receiver).norm();
     let t = travel_angle(distance);
-    let d = receiver.sub(turned(satellite, t));
-    let range = d.norm_beside(distance);
+    receiver.sub(turned(satellite, t))
+}
+
+// The unit vector along d, which is as long as the range.
+fn along(d: Vec3, range: f64) -> Sight
+    ensures { λ r. ⌜ r ≡ spec.along d range ⌝ }
+{
     Sight {
         x: d.x / range,
         y: d.y / range,
         z: d.z / range,
-        range,
+        range: range,
     }
+}
+
+// The line of sight from the satellite to the receiver. The turn changes the distance by so little that its root helps to find the range.
+pub fn geometry(satellite: Vec3, receiver: Vec3) -> Sight
+    ensures { λ r. ⌜ r ≡ spec.geometry satellite receiver ⌝ }
+{
+    let distance = satellite.sub(receiver).norm();
+    let d = gap(satellite, receiver, distance);
+    let range = d.norm_beside(distance);
+    along(d, range)
+}
+
+// The lines of sight of one satellite's places at two epochs.
+pub struct Sights {
+    pub now: Sight,
+    pub then: Sight,
+}
+
+// Both lines of sight, step by step side by side: neither waits for the other's roots, which take most of the time. The root is handed a float
+// and not a vector: what lies in memory field by field is slow to read back whole.
+pub fn sights_of(now: Vec3, then: Vec3, receiver: Vec3) -> Sights
+    ensures { λ r. ⌜ (r .now ≡ spec.geometry now receiver) × (r .then ≡ spec.geometry then receiver) ⌝ }
+{
+    let u = now.sub(receiver);
+    let v = then.sub(receiver);
+    let a = sqrt(u.x * u.x + u.y * u.y + u.z * u.z);
+    let b = sqrt(v.x * v.x + v.y * v.y + v.z * v.z);
+    let d = gap(now, receiver, a);
+    let e = gap(then, receiver, b);
+    let g = sqrt(d.x * d.x + d.y * d.y + d.z * d.z);
+    let h = sqrt(e.x * e.x + e.y * e.y + e.z * e.z);
+    let s = along(d, g);
+    let t = along(e, h);
+    Sights { now: s, then: t }
 }

@@ -3,9 +3,6 @@ use mathlib.Core.Path.{_≡_}
 use mathlib.Core.List.{List, []}
 use mathlib.Core.Bool.{Bool, true, false, _&&_}
 use lib.Ieee.{Float, nan, le}
-use Rattle.exact.specs.Float.{_⊘_}
-use Rattle.numeric.specs.Vec3.{sub, norm}
-use Rattle.numeric.specs.Sight.{travelAngle, turned, gap, geometry}
 use Rattle.numeric.specs.declared.vec3.Vec3.{Vec3}
 use Rattle.records.specs.Record.{usable}
 use Rattle.records.specs.Pair.{firstPair, pairAt}
@@ -14,7 +11,7 @@ use Rattle.records.specs.declared.pair.Pair.{Pair}
 
 -- what the logic has for a read past the end of an array of pairs
 abbrev pub blankPair : Pair
-blankPair = record { unit = record { x = nan; y = nan; z = nan }; constellation = 0; elevation = nan; observed = nan; detector = nan }
+blankPair = record { unit = record { x = nan; y = nan; z = nan }; constellation = 0; elevation = nan; observed = nan; detector = nan; range = nan; «previous_range» = nan }
 
 module _ (receiver : Vec3) (mask dt : Float) (previous : List Carrier) (c : Carrier) {r : Bool} (us : r ≡ usable c) where
   pub pair-tried : {ps : List Pair} → (r && le mask (c .elevation)) ≡ true → firstPair receiver dt previous c ≡ ps → pairAt receiver mask dt previous c ≡ ps
@@ -24,9 +21,3 @@ module _ (receiver : Vec3) (mask dt : Float) (previous : List Carrier) (c : Carr
   pub pair-not : (r && le mask (c .elevation)) ≡ false → pairAt receiver mask dt previous c ≡ []
   unfolding pairAt
   pair-not t = cc
-
--- a line of sight, step by step
-pub sight-is : (place receiver : Vec3) {gap₀ turn d : Vec3} {n angle g : Float} → gap₀ ≡ sub place receiver → n ≡ norm gap₀ → angle ≡ travelAngle n → turn ≡ turned place angle → d ≡ sub receiver turn → g ≡ norm d
-    → record { x = d .x ⊘ g; y = d .y ⊘ g; z = d .z ⊘ g; range = g } ≡ geometry place receiver
-unfolding geometry gap
-sight-is place receiver e₁ e₂ e₃ e₄ e₅ e₆ = rw (e₆, e₅, e₄, e₃, e₂, e₁)

@@ -7,7 +7,7 @@ use lib.Ieee.{Float, nan}
 use Rattle.walk.specs.Walk.{places}
 use Rattle.records.specs.declared.pair.Pair.{Pair}
 
--- pair i of the columns, without a detector, which no round asks for
+-- pair i of the columns, without its detector and ranges, which no round asks for
 abbrev pub pairIn : List Float → List Float → List Float → List ℕ → List Float → List Float → ℕ → Pair
 pairIn x y z constellation elevation observed i =
     record {
@@ -16,6 +16,8 @@ pairIn x y z constellation elevation observed i =
       elevation = getD elevation i nan;
       observed = getD observed i nan;
       detector = nan;
+      range = nan;
+      «previous_range» = nan;
     }
 
 -- as many pairs as there are observed numbers

@@ -1,4 +1,4 @@
--- The observations that a fix has as rows (document 01, "Fix"; wls.rs). Definitions only.
+-- The observations that a fix has as rows (docs/SCOPE.md, "Fix"; wls.rs). Definitions only.
 use Prim.Native.Nat.{ℕ}
 use mathlib.Core.Bool.{Bool}
 use mathlib.Core.List.{List, map}

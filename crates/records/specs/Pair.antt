@@ -1,4 +1,4 @@
--- The carrier pairs of two epochs (document 01, "Displacement"; tdcp.rs). Definitions only.
+-- The carrier pairs of two epochs (docs/SCOPE.md, "Displacement"; tdcp.rs). Definitions only.
 use mathlib.Core.Bool.{cond, _&&_}
 use mathlib.Core.List.{List, [], _∷_}
 use lib.Ieee.{Float, le}
@@ -15,7 +15,7 @@ abbrev pub half : Float
 half = bits 0x3FE0_0000_0000_0000
 
 -- What the current carrier c and the previous carrier p give a receiver, dt seconds apart: `observed` is the phase change less the geometric one,
--- and `detector` the phase change less what the mean of the two rates predicts.
+-- `detector` the phase change less what the mean of the two rates predicts, and the ranges are those of the two satellite places.
 unfoldable pub pairOf : Vec3 → Float → Carrier → Carrier → Pair
 pairOf receiver dt c p =
     let now = geometry (c .satellite) receiver in
@@ -27,6 +27,8 @@ pairOf receiver dt c p =
       elevation = c .elevation;
       observed = phase ⊖ (now .range ⊖ then .range);
       detector = phase ⊖ half ⊗ (c .rate ⊕ p .rate) ⊗ dt;
+      range = now .range;
+      «previous_range» = then .range;
     }
 
 -- the pair of c and the first usable previous carrier of equal constellation, svid and band, if there is one; the previous elevation isn't tested

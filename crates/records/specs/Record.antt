@@ -1,4 +1,4 @@
--- Which records a call takes, and which carriers a displacement can use (document 01, "Why a call turns back", 4, and "Displacement"). Definitions only.
+-- Which records a call takes, and which carriers a displacement can use (docs/SCOPE.md, "Why a call turns back", 4, and "Displacement"). Definitions only.
 use Prim.Native.Nat.{ℕ, suc, _-_, _/_, _%_, _^_, _≤_}
 use mathlib.Core.Path.{_≡_}
 use mathlib.Core.Bool.{Bool, not, cond, _&&_, _||_}

@@ -1,4 +1,4 @@
--- The pairs that the screen keeps (document 01, "Displacement"; tdcp.rs). Definitions only.
+-- The pairs that the screen keeps (docs/SCOPE.md, "Displacement"; tdcp.rs). Definitions only.
 use Prim.Native.Nat.{ℕ}
 use mathlib.Core.Bool.{Bool}
 use mathlib.Core.List.{List, map}

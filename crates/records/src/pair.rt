@@ -1,7 +1,6 @@
 // The carrier pairs of two epochs.
 ghost use mathlib.Core.Path.{_≡_};
 ghost use mathlib.Core.Bool.{true, _&&_};
-ghost use Rattle.numeric.specs.Sight.{geometry};
 ghost use Rattle.records.specs.Record.{counted, same, usable, Holds};
 ghost use Rattle.records.specs.Carriers.{carrierColumns, epochOf, epochFits};
 ghost use Rattle.records.specs.Pair as spec;
@@ -9,20 +8,19 @@ use crate::carriers::carrier_at;
 use crate::record::Carrier;
 use crate::record::is_same;
 use crate::record::is_usable;
-use numeric::sight::Sight;
-use numeric::sight::travel_angle;
-use numeric::sight::turned;
+use numeric::sight::sights_of;
 use numeric::vec3::Vec3;
-use root::sqrt::sqrt;
 
 // What a current carrier and its previous one give: `observed` is the phase change less the geometric one, which is the measurement,
-// and `detector` the phase change less what the rates predict, by which a slip is found.
+// `detector` the phase change less what the rates predict, by which a slip is found, and the ranges those of the two satellite places.
 pub struct Pair {
     pub unit: Vec3,
     pub constellation: u8,
     pub elevation: f64,
     pub observed: f64,
     pub detector: f64,
+    pub range: f64,
+    pub previous_range: f64,
 }
 
 // The first `count` of the pairs count.
@@ -46,6 +44,8 @@ pub fn no_pairs() -> Pairs
         elevation: 0.0,
         observed: 0.0,
         detector: 0.0,
+        range: 0.0,
+        previous_range: 0.0,
     };
     let none = [nothing; 64];
     Pairs {
@@ -62,40 +62,6 @@ pub fn is_partner(p: Carrier, c: Carrier) -> bool
         return false;
     }
     is_usable(p)
-}
-
-// The lines of sight of a pair's two satellite places.
-pub struct Sights {
-    pub now: Sight,
-    pub then: Sight,
-}
-
-// Both lines of sight, step by step side by side: neither waits for the other's roots, which take most of the time. The root is handed a float
-// and not a vector: what lies in memory field by field is slow to read back whole.
-pub fn sights_of(now: Vec3, then: Vec3, receiver: Vec3) -> Sights
-    ensures { λ r. ⌜ (r .now ≡ geometry now receiver) × (r .then ≡ geometry then receiver) ⌝ }
-{
-    let u = now.sub(receiver);
-    let v = then.sub(receiver);
-    let a = travel_angle(sqrt(u.x * u.x + u.y * u.y + u.z * u.z));
-    let b = travel_angle(sqrt(v.x * v.x + v.y * v.y + v.z * v.z));
-    let d = receiver.sub(turned(now, a));
-    let e = receiver.sub(turned(then, b));
-    let g = sqrt(d.x * d.x + d.y * d.y + d.z * d.z);
-    let h = sqrt(e.x * e.x + e.y * e.y + e.z * e.z);
-    let s = Sight {
-        x: d.x / g,
-        y: d.y / g,
-        z: d.z / g,
-        range: g,
-    };
-    let t = Sight {
-        x: e.x / h,
-        y: e.y / h,
-        z: e.z / h,
-        range: h,
-    };
-    Sights { now: s, then: t }
 }
 
 // The pair of the current carrier c and the previous carrier p.
@@ -117,6 +83,8 @@ pub fn pair_of(receiver: Vec3, dt: f64, c: Carrier, p: Carrier) -> Pair
         elevation: c.elevation,
         observed: phase - (now.range - then.range),
         detector: phase - 0.5 * (c.rate + p.rate) * dt,
+        range: now.range,
+        previous_range: then.range,
     }
 }
 

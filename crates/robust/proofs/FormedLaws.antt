@@ -3,6 +3,7 @@ use mathlib.Core.Path.{_≡_, refl, sym, ap, _∙_, fun-ext, subst}
 use Prim.Native.Nat.{ℕ, _+_, _≤_, _<_}
 use native.Mathlib.Omega.{arith}
 use mathlib.Core.Bool.{Bool, true, false, cond, _&&_}
+use Rattle.numeric.specs.declared.refusal.Refusal.the-variants.{FitFailed}
 use mathlib.Core.List.{List}
 use lib.Dec.{ltb, leb, eqb}
 use borrow.Author.Tests.{le-ltb, le-leb, eq-eqb, ne-eqb}
@@ -17,6 +18,7 @@ use Rattle.robust.specs.Nine.{nine}
 use Rattle.robust.specs.Round.{weight, wide, total, cellOf, sideOf, triangleOf, matrixOf, rightOf, solved, roundBy}
 use Rattle.robust.specs.Normal.{Formed, Solving}
 use Rattle.robust.specs.declared.row.Row.{Row}
+use Rattle.robust.specs.declared.round.Stepping.the-variants as Stepping
 use Rattle.robust.proofs.NineLaws.{nine-at, cell-at}
 use Rattle.robust.proofs.Sums.{sumTo, sumTo-zero, sumTo-next, sum-places}
 
@@ -94,18 +96,18 @@ module _ (w : Row → Float) (rows : List Row) (n : ℕ) (a : List (List Float))
   unfolding roundBy
   round-is = rw (f .matrix-is, f .right-is)
 
-  pub solving-yes : (l z : List (List Float)) (s : List Float) → l ≡ rowsAfter (factorOf a) z → ok ≡ true → s ≡ solutionOf l b → Solving (roundBy w rows n) true x s
-  solving-yes l z s l-is t e = subst (λ o. Solving o true x s) (sym round-is) (go (factorOf a) ok-is l-is)
+  pub solving-yes : (l z : List (List Float)) (s : List Float) → l ≡ rowsAfter (factorOf a) z → ok ≡ true → s ≡ solutionOf l b → Solving (roundBy w rows n) Stepping.Done x s
+  solving-yes l z s l-is t e = subst (λ o. Solving o Stepping.Done x s) (sym round-is) (go (factorOf a) ok-is l-is)
     where
-      go : (v : Factored) → ok ≡ factor.accepted v → l ≡ rowsAfter v z → Solving (solved rows a b v) true x s
+      go : (v : Factored) → ok ≡ factor.accepted v → l ≡ rowsAfter v z → Solving (solved rows a b v) Stepping.Done x s
       go Refused p q = absurd (let z : _≡_ {A = ℕ} 0 1 = cc in omega arith)
-      go (Lower k) p q = record { ok-is = refl; step-is = e ∙ ap (λ (z : List (List Float)). solutionOf z b) q }
+      go (Lower k) p q = record { answer-is = refl; step-is = e ∙ ap (λ (z : List (List Float)). solutionOf z b) q }
 
-  pub solving-no : ok ≡ false → Solving (roundBy w rows n) false x x
-  solving-no t = subst (λ o. Solving o false x x) (sym round-is) (go (factorOf a) ok-is)
+  pub solving-no : ok ≡ false → Solving (roundBy w rows n) (Stepping.Refused FitFailed) x x
+  solving-no t = subst (λ o. Solving o (Stepping.Refused FitFailed) x x) (sym round-is) (go (factorOf a) ok-is)
     where
-      go : (v : Factored) → ok ≡ factor.accepted v → Solving (solved rows a b v) false x x
-      go Refused p = record { ok-is = refl; step-is = refl }
+      go : (v : Factored) → ok ≡ factor.accepted v → Solving (solved rows a b v) (Stepping.Refused FitFailed) x x
+      go Refused p = record { answer-is = refl; step-is = refl }
       go (Lower k) p = absurd (let z : _≡_ {A = ℕ} 0 1 = cc in omega arith)
 
 -- ---- the unknowns from n on are unused, and so are those from m on, where m is at least n

@@ -12,3 +12,4 @@ pub mod Places
 pub mod AllPlaces
 pub mod StepLaws
 pub mod RoundValues
+pub mod ResidualsFinite

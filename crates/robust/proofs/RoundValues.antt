@@ -8,7 +8,8 @@ use Rattle.exact.specs.Products.{lessProducts}
 use Rattle.exact.specs.Float.{_⊘_, +0, 1·0, bits, whole, decimal}
 use Rattle.root.specs.Root.{rootOf}
 use Rattle.numeric.specs.Real.{abs, max}
-use Rattle.numeric.specs.Order.{sign, totalOrder, patternOf}
+use Rattle.exact.specs.Pattern.{sign}
+use Rattle.numeric.specs.Order.{totalOrder, patternOf}
 use Rattle.cholesky.specs.Factor.{zeros, isPivot, withElement, below, pivotOf, rowOf, next, factorTo, factorOf, withForward, forwardTo, withBack, backTo, solutionOf}
 use Rattle.numeric.specs.declared.refusal.Refusal.the-variants.{TooMany, RecordOutOfRange}
 use Rattle.median.specs.Sorted.{insertBy, sortedBy, medianOf}

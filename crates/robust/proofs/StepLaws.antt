@@ -1,5 +1,5 @@
 -- The round called by itself, by what its parts answer. Assumes nothing.
-use mathlib.Core.Path.{_≡_, refl, sym, ap, _∙_, subst}
+use mathlib.Core.Path.{_≡_, sym, ap, _∙_, subst}
 use Prim.Native.Nat.{ℕ, _≤_, _<_}
 use native.Mathlib.Omega.{arith}
 use mathlib.Core.Bool.{Bool, true, false}
@@ -9,7 +9,7 @@ use lib.ListN.{length}
 use lib.Ieee.{Float}
 use Rattle.walk.specs.Walk.{every}
 use Rattle.numeric.specs.declared.refusal.Refusal.{Refusal}
-use Rattle.numeric.specs.declared.refusal.Refusal.the-variants.{TooMany, RecordOutOfRange, FitFailed}
+use Rattle.numeric.specs.declared.refusal.Refusal.the-variants.{TooMany, RecordOutOfRange}
 use Rattle.median.specs.Centre.{centreAndScaleOf, centreScaleOf}
 use Rattle.median.specs.declared.centre.Centre.the-variants.{Refused as NoCentre, Of}
 use Rattle.median.specs.declared.centre.CentreScale.{CentreScale}
@@ -18,6 +18,7 @@ use Rattle.robust.specs.Normal.{Solving}
 use Rattle.robust.specs.Step.{counted, indexed, firstOf, refused, outcome, stepOf}
 use Rattle.robust.specs.Columns.{Columns, rowsIn}
 use Rattle.robust.specs.declared.row.Rows.{Rows}
+use Rattle.robust.specs.declared.round.Stepping.{Stepping}
 use Rattle.robust.specs.declared.round.Stepping.the-variants as Stepping
 use Rattle.robust.proofs.ColumnLaws.{residuals-of}
 
@@ -31,12 +32,12 @@ module _ (columns : Columns) (few : length (columns .residual) ≤ 64) where
   pub never-refused : {A : Type 0} (r : Refusal) → NoCentre r ≡ centreScaleOf (columns .residual) → A
   never-refused r e = absurd (let h = e ∙ centre-of (columns .residual) few in let z : _≡_ {A = ℕ} 0 1 = cc in omega arith)
 
-  pub round-solving : (n : ℕ) (huber : Float) (c : CentreScale) (ok : Bool) (x y : List Float) → Of c ≡ centreScaleOf (columns .residual) → Solving (roundBy (weight c huber) (rowsIn columns) n) ok x y → Solving (roundOf (rowsIn columns) n huber) ok x y
+  pub round-solving : (n : ℕ) (huber : Float) (c : CentreScale) (a : Stepping) (x y : List Float) → Of c ≡ centreScaleOf (columns .residual) → Solving (roundBy (weight c huber) (rowsIn columns) n) a x y → Solving (roundOf (rowsIn columns) n huber) a x y
   unfolding roundOf
-  round-solving n huber c ok x y e s =
+  round-solving n huber c a x y e s =
       let h = e ∙ centre-of (columns .residual) few in
       let q : c ≡ centreAndScaleOf (columns .residual) = cc in
-      subst (λ z. Solving (roundBy (weight z huber) (rowsIn columns) n) ok x y) (q ∙ ap centreAndScaleOf (sym (residuals-of columns))) s
+      subst (λ z. Solving (roundBy (weight z huber) (rowsIn columns) n) a x y) (q ∙ ap centreAndScaleOf (sym (residuals-of columns))) s
 
 module _ (rows : Rows) (n : ℕ) (huber : Float) (dx : List Float) where
   pub step-many : 64 < rows .count → refused TooMany dx ≡ stepOf rows n huber dx
@@ -58,17 +59,18 @@ module _ (rows : Rows) (n : ℕ) (huber : Float) (dx : List Float) where
         unfolding stepOf
         step-round = rw (le-ltb 64 (rows .count) few, le-ltb 9 n nine, ← is, t)
 
-        module _ (ok : Bool) (x y : List Float) (s : Solving (roundOf (counted rows) n huber) ok x y) where
-          pub step-done : (z : List Float) → ok ≡ true → z ≡ firstOf n y → record { answer = Stepping.Done; dx = z } ≡ stepOf rows n huber dx
+        -- what the round answers
+        module _ (a : Stepping) (x y : List Float) (s : Solving (roundOf (counted rows) n huber) a x y) where
+          pub step-done : (z : List Float) → a ≡ Stepping.Done → z ≡ firstOf n y → record { answer = Stepping.Done; dx = z } ≡ stepOf rows n huber dx
           step-done z e h = go (roundOf (counted rows) n huber) s ∙ step-round
             where
-              go : (o : Outcome) → Solving o ok x y → record { answer = Stepping.Done; dx = z } ≡ outcome n dx o
-              go Refused s = absurd (let w : ok ≡ false = s .ok-is in let z : _≡_ {A = ℕ} 0 1 = cc in omega arith)
+              go : (o : Outcome) → Solving o a x y → record { answer = Stepping.Done; dx = z } ≡ outcome n dx o
+              go (Refused r) s = absurd (let w : a ≡ Stepping.Refused r = s .answer-is in let z : _≡_ {A = ℕ} 0 1 = cc in omega arith)
               go (Solved r) s = rw (h, s .step-is)
 
-          pub step-failed : ok ≡ false → refused FitFailed dx ≡ stepOf rows n huber dx
-          step-failed e = go (roundOf (counted rows) n huber) s ∙ step-round
+          pub step-refused : (r : Refusal) → a ≡ Stepping.Refused r → refused r dx ≡ stepOf rows n huber dx
+          step-refused r e = go (roundOf (counted rows) n huber) s ∙ step-round
             where
-              go : (o : Outcome) → Solving o ok x y → refused FitFailed dx ≡ outcome n dx o
-              go Refused s = refl
-              go (Solved r) s = absurd (let w : ok ≡ true = s .ok-is in let z : _≡_ {A = ℕ} 0 1 = cc in omega arith)
+              go : (o : Outcome) → Solving o a x y → refused r dx ≡ outcome n dx o
+              go (Refused q) s = let w : a ≡ Stepping.Refused q = s .answer-is in let same : r ≡ q = cc in rw same
+              go (Solved q) s = absurd (let w : a ≡ Stepping.Done = s .answer-is in let z : _≡_ {A = ℕ} 0 1 = cc in omega arith)

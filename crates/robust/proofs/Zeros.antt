@@ -7,7 +7,7 @@ use mathlib.Core.Bool.{Bool, true, false, Bool·beq, cond}
 use lib.Dec.{T, ltb, ltb→lt}
 use lib.IntN.{ℤ, pos}
 use borrow.Author.Tests.{lt-ltb, le-ltb}
-use lib.Ieee.{Float, nan, inf, fin, binary64, up, down, unlike, size, span, climb, odd, units, round, sum, add, mul, ofBits, fits}
+use lib.Ieee.{Float, nan, inf, fin, binary64, up, down, unlike, odd, units, round, sum, add, mul, ofBits, fits}
 use lib.Ieee.Fits.{down-pos, up-pos, round-is}
 use lib.Ieee.Scale.{finite, round-same}
 use Rattle.exact.specs.Float.{_⊕_, _⊗_, 1·0}

@@ -1,13 +1,18 @@
--- One round of the robust least squares (document 01, "Round" and "Their rounds"; `step` of robust.rs). Definitions only.
+-- One round of the robust least squares (docs/SCOPE.md, "Round" and "Their rounds"; `step` of robust.rs). Definitions only.
 -- A row's residual is a pattern, since the centre is taken in totalOrder.
+use mathlib.Core.Path.{_≡_}
 use Prim.Native.Nat.{ℕ}
-use mathlib.Core.Bool.{cond, _&&_}
+use mathlib.Core.Bool.{true, cond, _&&_}
 use mathlib.Core.List.{List, _∷_, map, foldl}
 use lib.Dec.{ltb, leb, eqb}
 use lib.ListN.{set, replicate}
 use lib.Ieee.{Float, le}
+use lib.Ieee.Scale.{finite}
+use Rattle.walk.specs.Walk.{every}
 use Rattle.exact.specs.Float.{_⊕_, _⊖_, _⊗_, _⊘_, +0, 1·0, bits, decimal}
 use Rattle.numeric.specs.Real.{abs, max}
+use Rattle.numeric.specs.declared.refusal.Refusal.{Refusal}
+use Rattle.numeric.specs.declared.refusal.Refusal.the-variants.{FitFailed}
 use Rattle.cholesky.specs.Factor.{at, Factored, Refused as NoFactor, Lower, factorOf, solutionOf}
 use Rattle.cholesky.specs.Sound as system
 use Rattle.median.specs.Centre.{centreAndScaleOf}
@@ -62,18 +67,18 @@ pub record Round : Type 0 where
   pub factor : List (List Float)
   pub step : List Float
 
--- a round whose matrix has a refused pivot comes to nothing
+-- a round comes to nothing, and why, or is solved
 pub data Outcome : Type 0 where
-  Refused : Outcome
+  Refused : Refusal → Outcome
   Solved : Round → Outcome
 
 -- the round of the rows, with the matrix a, the right side b and the factor l
 abbrev pub made : List Row → List (List Float) → List Float → List (List Float) → Round
 made rows a b l = record { rows = rows; matrix = a; right = b; factor = l; step = solutionOf l b }
 
--- the round, from what factoring its matrix gives
+-- the round, from what factoring its matrix gives: 10 where a pivot is refused
 abbrev pub solved : List Row → List (List Float) → List Float → Factored → Outcome
-solved rows a b NoFactor = Refused
+solved rows a b NoFactor = Refused FitFailed
 solved rows a b (Lower l) = Solved (made rows a b l)
 
 unfoldable pub roundBy : (Row → Float) → List Row → ℕ → Outcome
@@ -86,3 +91,7 @@ roundOf rows n huber = roundBy (weight (centreAndScaleOf (map (λ (r : Row). r .
 -- demand 3 for one round: matrix, right side, factor and step are finite, and the step solves the equations up to rounding
 abbrev pub Sound : Round → Type 0
 Sound r = system.Sound (r .matrix) (r .right) (r .factor) (r .step)
+
+-- every residual of a round is a finite number, so that neither the sign nor the payload of a NaN has a part in its centre
+unfoldable pub FiniteResiduals : Round → Type 0
+FiniteResiduals r = every (λ (row : Row). finite (bits (row .residual))) (r .rows) ≡ true

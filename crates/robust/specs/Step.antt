@@ -1,4 +1,4 @@
--- The round called by itself (document 01, "The reference" and "Round"). It takes every float, and refuses only by 2, 4 and 10. Definitions only.
+-- The round called by itself (docs/SCOPE.md, "The reference" and "Round"). It takes every float, and refuses only by 2, 4 and 10. Definitions only.
 use Prim.Native.Nat.{ℕ}
 use mathlib.Core.Bool.{Bool, not, cond, _||_}
 use mathlib.Core.List.{List}
@@ -9,7 +9,7 @@ use Rattle.walk.specs.Walk.{every}
 use Rattle.exact.specs.Float.{+0}
 use Rattle.cholesky.specs.Factor.{at}
 use Rattle.numeric.specs.declared.refusal.Refusal.{Refusal}
-use Rattle.numeric.specs.declared.refusal.Refusal.the-variants.{TooMany, RecordOutOfRange, FitFailed}
+use Rattle.numeric.specs.declared.refusal.Refusal.the-variants.{TooMany, RecordOutOfRange}
 use Rattle.robust.specs.Nine.{nine}
 use Rattle.robust.specs.Round.{Outcome, Refused, Solved, roundOf}
 use Rattle.robust.specs.declared.row.Row.{Row}
@@ -39,7 +39,7 @@ abbrev pub refused : Refusal → List Float → Stepped
 refused r dx = record { answer = Stepping.Refused r; dx = dx }
 
 abbrev pub outcome : ℕ → List Float → Outcome → Stepped
-outcome n dx Refused = refused FitFailed dx
+outcome n dx (Refused r) = refused r dx
 outcome n dx (Solved r) = record { answer = Stepping.Done; dx = firstOf n (r .step) }
 
 unfoldable pub stepOf : Rows → ℕ → Float → List Float → Stepped

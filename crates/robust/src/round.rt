@@ -23,7 +23,7 @@ use numeric::real::is_finite;
 use numeric::refusal::Refusal;
 use numeric::vec3::Vec3;
 
-// What the round called by itself answers; the step itself stands in the lent dx.
+// What a round answers; the step itself stands in the lent dx.
 pub enum Stepping {
     Refused(Refusal),
     Done,
@@ -207,7 +207,7 @@ fn used_of(n: usize) -> usize
     n
 }
 
-// The round of the counted rows: its step in x, or false and x as it was where a pivot is refused.
+// The round of the columns' rows: its step in dx, or dx as it was where it is refused.
 pub fn round_step(
     x: &[f64; 64],
     y: &[f64; 64],
@@ -218,12 +218,12 @@ pub fn round_step(
     n: usize,
     huber: f64,
     dx: &mut [f64; 9],
-) -> bool
+) -> Stepping
     requires { ⌜ (length (now residual) ≤ 64) × (n ≤ 9) ⌝ }
     ensures { λ r. ⌜ code.Solving (spec.roundOf (rowsIn (columns (now (x .entry)) (now (y .entry)) (now (z .entry)) (now (clock .entry)) (now (sigma .entry)) (now (residual .entry)))) n huber) r (now (dx .entry)) (now (dx .exit)) ⌝ }
 {
     let Centre::Of(c) = centre_scale(residual) else {
-        return false;
+        return Stepping::Refused(Refusal::TooMany);
     };
     let mut a = [[0.0; 9]; 9];
     let mut b = [0.0; 9];
@@ -233,9 +233,9 @@ pub fn round_step(
     if factor_used(m, &a, &mut l) {
         let s = solve_used(m, &l, b);
         *dx = s;
-        true
+        Stepping::Done
     } else {
-        false
+        Stepping::Refused(Refusal::FitFailed)
     }
 }
 
@@ -281,7 +281,7 @@ pub fn step(rows: Rows, unknowns: usize, huber: f64, dx: &mut [f64; 9]) -> Stepp
         residual[k] = r.residual;
     }
     let mut t = [0.0; 9];
-    if round_step(
+    if let Stepping::Refused(r) = round_step(
         &x,
         &y,
         &z,
@@ -292,10 +292,9 @@ pub fn step(rows: Rows, unknowns: usize, huber: f64, dx: &mut [f64; 9]) -> Stepp
         huber,
         &mut t,
     ) {
-        let s = first_of(unknowns, t);
-        *dx = s;
-        Stepping::Done
-    } else {
-        Stepping::Refused(Refusal::FitFailed)
+        return Stepping::Refused(r);
     }
+    let s = first_of(unknowns, t);
+    *dx = s;
+    Stepping::Done
 }

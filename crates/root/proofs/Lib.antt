@@ -7,5 +7,5 @@ pub mod Normal
 pub mod NormalRoot
 pub mod Special
 pub mod Theorems
-pub mod Facts
+pub mod RootValues
 pub mod RoundExact

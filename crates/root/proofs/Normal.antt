@@ -26,7 +26,7 @@ least-is : least ≡ fin false 1 (negsuc 1021)
 unfolding ofBits
 least-is = refl
 
-infinity-is : infinity ≡ inf false
+pub infinity-is : infinity ≡ inf false
 unfolding div ofBits
 infinity-is = refl
 

@@ -14,7 +14,8 @@ use Rattle.root.proofs.Reading.{rescale, read-normal}
 use lib.Dec.{T, leb, leb→le, nleb→lt}
 use native.Mathlib.Decide.{decLe, decLt}
 use lib.Pow.{pow-add, pow-pos, pow-mono, shl-lt}
-use Rattle.root.specs.Root.{Nearest, IsParts, IsPositiveRoot, isqrt, nearestRoot, rootParts, rootUnits, rootOf}
+use Rattle.root.specs.Root.{NearestWhole, IsPositiveRoot, rootOf}
+use Rattle.root.specs.Digits.{IsParts, isqrt, nearestRoot, rootParts, rootUnits}
 use Rattle.root.proofs.Squares.{double, square-next, up-square, nearest-same, nearest-next}
 
 -- ---- the whole part of a root
@@ -36,12 +37,12 @@ isqrt-floor (suc b) n h = floor-step n (isqrt b (n / 4)) (isqrt-floor b (n / 4) 
 
 -- ---- the nearest whole number to a root is one number
 
-apart : (n q r : ℕ) → Nearest n q → Nearest n r → q < r → ⊥
+apart : (n q r : ℕ) → NearestWhole n q → NearestWhole n r → q < r → ⊥
 apart n q r a b h =
     let l : 2 * q + 1 ≤ 2 * r - 1 = omega arith in
     omega (arith, mul-le-mul l l, a .below, b .above)
 
-pub nearest-unique : (n q r : ℕ) → Nearest n q → Nearest n r → q ≡ r
+pub nearest-unique : (n q r : ℕ) → NearestWhole n q → NearestWhole n r → q ≡ r
 nearest-unique n q r a b = go (decLt q r) (decLt r q)
   where
     go : Dec (q < r) → Dec (r < q) → q ≡ r
@@ -49,7 +50,7 @@ nearest-unique n q r a b = go (decLt q r) (decLt r q)
     go (no f) (yes h) = absurd (apart n r q b a h)
     go (no f) (no g) = omega arith
 
-pub nearestRoot-is : (n s : ℕ) → 0 < n → Floor n s → Nearest n (nearestRoot n s)
+pub nearestRoot-is : (n s : ℕ) → 0 < n → Floor n s → NearestWhole n (nearestRoot n s)
 nearestRoot-is n s p h = go (leb n (s * s + s)) (leb→le n (s * s + s)) (nleb→lt n (s * s + s))
   where
     over : s * s + (n - s * s) ≡ n
@@ -58,7 +59,7 @@ nearestRoot-is n s p h = go (leb n (s * s + s)) (leb→le n (s * s + s)) (nleb�
     most : n - s * s ≤ 2 * s
     most = omega (arith, h .0, h .1, square-next s)
 
-    go : (b : Bool) → (T b → n ≤ s * s + s) → (T (not b) → s * s + s < n) → Nearest n (cond b s (s + 1))
+    go : (b : Bool) → (T b → n ≤ s * s + s) → (T (not b) → s * s + s < n) → NearestWhole n (cond b s (s + 1))
     go true a b = nearest-same n s (n - s * s) p over most (omega (arith, a tt))
     go false a b = nearest-next n s (n - s * s) over most (omega (arith, b tt))
 
@@ -106,7 +107,7 @@ bounds m y a b = elim (under-is m y) [
   | inr e ↦ record { from = omega (arith, e .1); upto = omega (arith, e .1) }
 ]
 
-root-from : (n q : ℕ) → Bounds n → Nearest n q → 2 ^ 52 ≤ q
+root-from : (n q : ℕ) → Bounds n → NearestWhole n q → 2 ^ 52 ≤ q
 root-from n q b h = go (decLe (2 ^ 52) q)
   where
     less : 2 * q + 1 ≤ 2 ^ 53 - 1 → ⊥
@@ -116,7 +117,7 @@ root-from n q b h = go (decLe (2 ^ 52) q)
     go (yes l) = l
     go (no f) = absurd (less (omega arith))
 
-root-below : (n q : ℕ) → Bounds n → Nearest n q → q < 2 ^ 53
+root-below : (n q : ℕ) → Bounds n → NearestWhole n q → q < 2 ^ 53
 root-below n q b h = go (decLt q (2 ^ 53))
   where
     more : 2 ^ 54 - 1 ≤ 2 * q - 1 → ⊥
@@ -152,7 +153,7 @@ root-fits : (q y : ℕ) → q < 2 ^ 53 → y < 2098 → T (fits binary64 (root q
 unfolding root
 root-fits q y h l = odd-fits binary64 53 false q (y / 2 + 485) h (le-of-lt h) (lt-of-lt-of-le (shl-lt 53 (y / 2 + 485) h) (pow-mono (room y l)))
 
-pub positive-root : (x : Float) (m y q : ℕ) → IsParts x m y → Nearest (under m y) q → IsPositiveRoot x (root q y)
+pub positive-root : (x : Float) (m y q : ℕ) → IsParts x m y → NearestWhole (under m y) q → IsPositiveRoot x (root q y)
 positive-root x m y q p h =
     let b : Bounds (under m y) = bounds m y (p .from) (p .below) in
     let q-lt : q < 2 ^ 53 = root-below (under m y) q b h in
@@ -223,13 +224,13 @@ rootParts-is : (m y : ℕ) → rootParts m y ≡ root (nearestRoot (under m y) (
 unfolding rootParts root
 rootParts-is m y = refl
 
-under-nearest : (m y : ℕ) → 2 ^ 52 ≤ m → m < 2 ^ 53 → Nearest (under m y) (nearestRoot (under m y) (isqrt 53 (under m y)))
+under-nearest : (m y : ℕ) → 2 ^ 52 ≤ m → m < 2 ^ 53 → NearestWhole (under m y) (nearestRoot (under m y) (isqrt 53 (under m y)))
 under-nearest m y l h =
     let b : Bounds (under m y) = bounds m y l h in
     nearestRoot-is (under m y) (isqrt 53 (under m y)) (omega (arith, b .from)) (isqrt-floor 53 (under m y) (omega (arith, b .upto)))
 
 -- whatever q is the nearest to the root of `under m y`, the root of x is made of it
-pub rootOf-is : (x : Float) (m y q : ℕ) → IsParts x m y → Nearest (under m y) q → rootOf x ≡ root q y
+pub rootOf-is : (x : Float) (m y q : ℕ) → IsParts x m y → NearestWhole (under m y) q → rootOf x ≡ root q y
 rootOf-is x m y q p h =
     rootOf-units x (p .a) (p .is) (parts-pos x m y p)
     ∙ rootUnits-parts (p .a) m y (p .same) (p .from) (p .below)
@@ -239,7 +240,7 @@ rootOf-is x m y q p h =
 pub rootOf-positive : (x : Float) (m y : ℕ) → IsParts x m y → IsPositiveRoot x (rootOf x)
 rootOf-positive x m y p =
     let q = nearestRoot (under m y) (isqrt 53 (under m y)) in
-    let h : Nearest (under m y) q = under-nearest m y (p .from) (p .below) in
+    let h : NearestWhole (under m y) q = under-nearest m y (p .from) (p .below) in
     subst (λ (r : Float). IsPositiveRoot x r) (sym (rootOf-is x m y q p h)) (positive-root x m y q p h)
 
 -- ---- the code's numbers
@@ -269,11 +270,11 @@ pub record Result (x : Float) (y q : ℕ) : Type 0 where
   pub below : q < 2 ^ 53
   pub is : ofBits binary64 ((y / 2 + 485) * 2 ^ 52 + q) ≡ rootOf x
 
-pub result : (x : Float) (m y q : ℕ) → IsParts x m y → Nearest (m * (1 + y % 2) * 2 ^ 52) q → Result x y q
+pub result : (x : Float) (m y q : ℕ) → IsParts x m y → NearestWhole (m * (1 + y % 2) * 2 ^ 52) q → Result x y q
 unfolding root
 result x m y q p h =
     let b : Bounds (under m y) = bounds m y (p .from) (p .below) in
-    let n : Nearest (under m y) q = subst (λ (z : ℕ). Nearest z q) (wide-is m y) h in
+    let n : NearestWhole (under m y) q = subst (λ (z : ℕ). NearestWhole z q) (wide-is m y) h in
     let f : 2 ^ 52 ≤ q = root-from (under m y) q b n in
     let l : q < 2 ^ 53 = root-below (under m y) q b n in
     record {

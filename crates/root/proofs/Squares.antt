@@ -3,7 +3,7 @@ use mathlib.Core.Path.{_≡_, refl, sym, ap, _∙_}
 use Prim.Native.Nat.{ℕ, zero, suc, _+_, _-_, _*_, _/_, _%_, _^_, _≤_, _<_}
 use native.Mathlib.Nat.{mul-add, add-mul, mul-comm, add-assoc, add-comm, add-left-comm, mul-le-mul, mul-assoc, mul-right-comm}
 use native.Mathlib.Omega.{arith}
-use Rattle.root.specs.Root.{Nearest}
+use Rattle.root.specs.Root.{NearestWhole}
 
 crossed : (a b : ℕ) → (a + b) * (a + b) ≡ a * a + a * b + (a * b + b * b)
 crossed a b = simp (mul-add, add-mul, mul-comm, add-assoc, add-comm, add-left-comm) refl
@@ -27,18 +27,18 @@ down-square q h =
     omega (arith, square-sum a 1)
 
 -- the nearest, by q * q - q < n ≤ q * q + q
-pub nearest-of : (n q : ℕ) → 0 < q → q * q < n + q → n ≤ q * q + q → Nearest n q
+pub nearest-of : (n q : ℕ) → 0 < q → q * q < n + q → n ≤ q * q + q → NearestWhole n q
 nearest-of n q p a b = record { above = omega (arith, down-square q p); below = omega (arith, up-square q) }
 
 pub square-next : (s : ℕ) → (s + 1) * (s + 1) ≡ s * s + 2 * s + 1
 square-next s = omega (arith, square-sum s 1)
 
 -- the nearest, from the root's whole part s and what is left over
-pub nearest-same : (n s rem : ℕ) → 0 < n → s * s + rem ≡ n → rem ≤ 2 * s → rem ≤ s → Nearest n s
+pub nearest-same : (n s rem : ℕ) → 0 < n → s * s + rem ≡ n → rem ≤ 2 * s → rem ≤ s → NearestWhole n s
 nearest-same n zero rem p e l h = absurd (omega arith)
 nearest-same n (suc s) rem p e l h = nearest-of n (suc s) (omega arith) (omega arith) (omega arith)
 
-pub nearest-next : (n s rem : ℕ) → s * s + rem ≡ n → rem ≤ 2 * s → s < rem → Nearest n (s + 1)
+pub nearest-next : (n s rem : ℕ) → s * s + rem ≡ n → rem ≤ 2 * s → s < rem → NearestWhole n (s + 1)
 nearest-next n s rem e l h = nearest-of n (s + 1) (omega arith) (omega (arith, square-next s)) (omega (arith, square-next s))
 
 -- ---- the square of the digits q of n, from the parts of q
@@ -82,7 +82,7 @@ unwrapped : (s w v over x : ℕ) → 2 ^ 62 ≤ s → s < 2 ^ 64 → 2 ^ 62 ≤ 
 unwrapped s w v over x s-from s-lt w-from w-lt v-lt o-lt e f h = omega arith
 
 pub agreed : (w q a b v over x : ℕ) → Cut q a b → a < 2 ^ 32 → 2 ^ 52 ≤ w → w < 2 ^ 54 → v ≡ a * (b * 2 + 1) / 2 ^ 21 → over < 2 ^ 64 → (over + w * 1024) % 2 ^ 64 ≡ a * a → x ≡ (over + v) % 2 ^ 64 → x < a / 2 ^ 20 - 1
-    → Nearest (w * 2 ^ 52) q
+    → NearestWhole (w * 2 ^ 52) q
 agreed w q a b v over x c a-lt l h v-is o-lt e f t =
     let d : v * 2 ^ 21 ≤ 2 * (a * b) + a = omega (arith, c .middle) in
     let u : 2 * (a * b) + a < (v + 1) * 2 ^ 21 = omega (arith, c .middle) in

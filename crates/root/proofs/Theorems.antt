@@ -12,7 +12,8 @@ use lib.Ieee.{Float, nan, inf, fin, down, binary64, odd, fits, ofFields, ofBits,
 use lib.Ieee.Fits.{down-pos}
 use lib.Ieee.Exact.{HasValue}
 use lib.Ieee.Bits.{ofBits-toBits}
-use Rattle.root.specs.Root.{Nearest, IsParts, IsPositiveRoot, IsRoot, rootOf}
+use Rattle.root.specs.Root.{NearestWhole, IsPositiveRoot, IsRoot, rootOf}
+use Rattle.root.specs.Digits.{IsParts}
 use Rattle.root.proofs.Reading.{rescale, value-unique, read-nan, read-signed}
 use Rattle.root.proofs.RootLaws.{nearest-unique, rootOf-positive, r-scaled}
 use Rattle.root.proofs.Parts.{normal-parts, leading}
@@ -121,7 +122,7 @@ positive-unique x r t p o =
     let e : p .n * 4 ^ p .k ≡ o .n * 4 ^ o .k = same-value x false (p .n * 4 ^ p .k) (o .n * 4 ^ o .k) (4 ^ 589) (p .x-is) (o .x-is) in
     let k : p .k ≡ o .k = same-scale (p .n) (p .k) (o .n) (o .k) (p .n-from) (p .n-below) (o .n-from) (o .n-below) e in
     let n : p .n ≡ o .n = eq-of-mul-eq-mul-right (4 ^ o .k) (four-pos (o .k)) (p .n) (o .n) (ap (λ (z : ℕ). p .n * 4 ^ z) (sym k) ∙ e) in
-    let q : p .q ≡ o .q = nearest-unique (o .n) (p .q) (o .q) (subst (λ (z : ℕ). Nearest z (p .q)) n (p .nearest)) (o .nearest) in
+    let q : p .q ≡ o .q = nearest-unique (o .n) (p .q) (o .q) (subst (λ (z : ℕ). NearestWhole z (p .q)) n (p .nearest)) (o .nearest) in
     let v : HasValue r false (o .q * 2 ^ o .k) (2 ^ 589) = subst (λ (z : ℕ). HasValue r false (o .q * 2 ^ z) (2 ^ 589)) k (subst (λ (z : ℕ). HasValue r false (z * 2 ^ p .k) (2 ^ 589)) q (p .r-is)) in
     value-unique r t false (o .q * 2 ^ (o .k + 485)) (p .r-fits) (o .r-fits) (units r (o .q) (o .k) v) (units t (o .q) (o .k) (o .r-is))
   where

@@ -1,2 +1,3 @@
 // The square root of an f64, correctly rounded.
 pub mod sqrt;
+pub mod tangent;

@@ -5,9 +5,9 @@ ghost use mathlib.Core.Bool.{true, false};
 ghost use lib.Ieee as Ieee;
 ghost use lib.Ieee.{binary64};
 ghost use lib.Ieee.Exact.{HasValue};
-ghost use Rattle.root.specs.Root.{Nearest, rootOf, IsParts};
+ghost use Rattle.root.specs.Root.{NearestWhole, rootOf};
+ghost use Rattle.root.specs.Digits.{IsParts};
 use root_table::place_of;
-use root_table::wide_place_of;
 use std::num::wrapping_add_u64;
 use std::num::wrapping_sub_u64;
 
@@ -40,7 +40,7 @@ fn split(b: u64) -> Parts
 // rem what is left over them.
 fn slow(w: u64) -> u64
     requires { ⌜ (2 ^ 52 ≤ w) × (w < 2 ^ 54) ⌝ }
-    ensures { λ r. ⌜ Nearest (w * 2 ^ 52) r ⌝ }
+    ensures { λ r. ⌜ NearestWhole (w * 2 ^ 52) r ⌝ }
 {
     let mut s: u64 = 0;
     let mut rem: u64 = 0;
@@ -86,7 +86,7 @@ fn guess(m: u64, p: u64) -> f64
 // 2 ^ 42 more. That must be above 0 and below 2 * q. A negative x wraps to a huge one.
 fn agrees(w: u64, n: u64) -> bool
     requires { ⌜ (2 ^ 52 ≤ w) × (w < 2 ^ 54) ⌝ }
-    ensures { λ r. ⌜ (r ≡ true → Nearest (w * 2 ^ 52) (n % 2 ^ 52 + 2 ^ 52)) ⌝ }
+    ensures { λ r. ⌜ (r ≡ true → NearestWhole (w * 2 ^ 52) (n % 2 ^ 52 + 2 ^ 52)) ⌝ }
 {
     let a = n / 0x0020_0000 % 0x8000_0000 + 0x8000_0000;
     let b = n % 0x0020_0000;
@@ -99,7 +99,7 @@ fn agrees(w: u64, n: u64) -> bool
 // The whole number nearest to the root of w * 2 ^ 52: g or a neighbour of it, where the test says so.
 fn settled(w: u64, g: u64) -> u64
     requires { ⌜ (2 ^ 52 ≤ w) × (w < 2 ^ 54) × (2 ^ 52 ≤ g) × (g < 2 ^ 53) ⌝ }
-    ensures { λ r. ⌜ Nearest (w * 2 ^ 52) r ⌝ }
+    ensures { λ r. ⌜ NearestWhole (w * 2 ^ 52) r ⌝ }
 {
     if agrees(w, g) {
         return g;
@@ -116,7 +116,7 @@ fn settled(w: u64, g: u64) -> u64
 // The whole number nearest to the root of m * (1 + p) * 2 ^ 52.
 fn nearest(m: u64, p: u64) -> u64
     requires { ⌜ (2 ^ 52 ≤ m) × (m < 2 ^ 53) × (p < 2) ⌝ }
-    ensures { λ r. ⌜ Nearest (m * (1 + p) * 2 ^ 52) r ⌝ }
+    ensures { λ r. ⌜ NearestWhole (m * (1 + p) * 2 ^ 52) r ⌝ }
 {
     let w = m * (1 + p);
     let s = guess(m, p);
@@ -210,7 +210,7 @@ fn normal(b: u64) -> f64
 }
 
 // Whether s is seen to be the root of x: true only where it is and x is a positive normal number.
-fn is_root(x: f64, s: f64) -> bool
+pub(crate) fn is_root(x: f64, s: f64) -> bool
     ensures { λ r. ⌜ (r ≡ true → s ≡ rootOf x) ⌝ }
 {
     if x >= 2.2250738585072014e-308 {
@@ -257,68 +257,6 @@ pub fn sqrt_beside(x: f64, r: f64) -> f64
     let z = d * (k * k);
     let tz = t * z;
     let s = h + (t - tz + tz * (z + z));
-    if is_root(x, s) {
-        return s;
-    }
-    sqrt(x)
-}
-
-// A guess of the roots of the floats x next to `at`, by the tangent there: high + (low + (x - at) * slope). high is a root's first digits, low is
-// small beside it, and slope is near 1 / (2 * √at). Nothing is proved of how near a guess is: `is_root` tests it.
-pub struct Tangent {
-    pub at: f64,
-    pub high: f64,
-    pub low: f64,
-    pub slope: f64,
-}
-
-// A tangent whose guess is 0, which `is_root` never takes.
-pub fn no_tangent() -> Tangent {
-    Tangent {
-        at: 0.0,
-        high: 0.0,
-        low: 0.0,
-        slope: 0.0,
-    }
-}
-
-// The tangent at the positive float whose bits are b, as in `from_table`, by wider ranges, for |u| up to 2 ^ -8, and one more part of the sum.
-fn from_wide_table(b: u64) -> Tangent
-    requires { ⌜ b < 0x7ff0_0000_0000_0000 ⌝ }
-{
-    let f = b % 0x0020_0000_0000_0000;
-    let e = b / 0x0020_0000_0000_0000;
-    let p = wide_place_of(f / 0x0000_4000_0000_0000);
-    let u = (f64::from_bits(f + 0x3fe0_0000_0000_0000) - p.square) * p.half;
-    let uu = u * u;
-    let high = p.root * f64::from_bits((e + 512) * 0x0010_0000_0000_0000);
-    let inverse = f64::from_bits((1534 - e) * 0x0010_0000_0000_0000);
-    let more = 0.49999999985939 - 0.62499999945 * u + uu * (0.8750365 - 1.31258 * u);
-    let at = f64::from_bits(b);
-    Tangent {
-        at: at,
-        high: high,
-        low: high * u * (1.0 - 0.500000000000001 * u + uu * more),
-        slope: p.root * p.half * inverse * (1.0 - u + 1.5 * uu),
-    }
-}
-
-// The tangent at x, where x is a positive normal number.
-pub fn tangent_at(x: f64) -> Tangent {
-    if x >= 2.2250738585072014e-308 {
-        if x >= 1.0 / 0.0 {
-            return no_tangent();
-        }
-        return from_wide_table(f64::to_bits(x));
-    }
-    no_tangent()
-}
-
-// The square root of x, correctly rounded, quicker where g is the tangent at a float within 2 ^ -40 of x.
-pub fn sqrt_near(x: f64, g: Tangent) -> f64
-    ensures { λ r. ⌜ r ≡ rootOf x ⌝ }
-{
-    let s = g.high + (g.low + (x - g.at) * g.slope);
     if is_root(x, s) {
         return s;
     }

@@ -13,7 +13,7 @@ use lib.Ieee.Fits.{down-pos}
 use lib.Ieee.Exact.{HasValue}
 use borrow.Author.Tests.{ltb-true, eqb-true, lt-ltb, le-ltb, eq-eqb}
 use Rattle.exact.specs.Float.{+0}
-use Rattle.root.specs.Root.{Nearest, IsPositiveRoot, rootOf}
+use Rattle.root.specs.Root.{NearestWhole, IsPositiveRoot, rootOf}
 use Rattle.root.proofs.Theorems.{rootOf-root}
 
 never : {A : Type 0} → false ≡ true → A
@@ -21,7 +21,7 @@ never e = absurd (let z : _≡_ {A = ℕ} 0 1 = cc in omega arith)
 
 -- ---- whole numbers
 
-nearest-mono : (n o q r : ℕ) → n ≤ o → Nearest n q → Nearest o r → q ≤ r
+nearest-mono : (n o q r : ℕ) → n ≤ o → NearestWhole n q → NearestWhole o r → q ≤ r
 nearest-mono n o q r h a b = go (decLt r q)
   where
     go : Dec (r < q) → q ≤ r
@@ -42,7 +42,7 @@ scales n k o d l h e =
     let j : 4 ≤ 4 ^ suc d = pow-le-pow-right {n = 4} (omega arith) {i = 1} {j = suc d} (omega arith) in
     omega (arith, mul-le-mul l j)
 
-roots-mono : (n k q o l r : ℕ) → 2 ^ 104 ≤ n → o < 2 ^ 106 → q < 2 ^ 53 → 2 ^ 52 ≤ r → Nearest n q → Nearest o r → n * 4 ^ k ≤ o * 4 ^ l → q * 2 ^ k ≤ r * 2 ^ l
+roots-mono : (n k q o l r : ℕ) → 2 ^ 104 ≤ n → o < 2 ^ 106 → q < 2 ^ 53 → 2 ^ 52 ≤ r → NearestWhole n q → NearestWhole o r → n * 4 ^ k ≤ o * 4 ^ l → q * 2 ^ k ≤ r * 2 ^ l
 roots-mono n k q o l r nf ob qb rf a b h = go (decLt k l) (decLt l k)
   where
     step : q ≤ r * 2

@@ -1,4 +1,4 @@
--- What the call answers and leaves in the lent memory: document 01, "Why a call turns back", as far as it is about a track. Definitions only.
+-- What the call answers and leaves in the lent memory: docs/SCOPE.md, "Why a call turns back", as far as it is about a track. Definitions only.
 use mathlib.Core.Path.{_≡_}
 use mathlib.Core.Bool.{Bool, true, _&&_, cond}
 use mathlib.Core.List.{List, _++_}

@@ -1,4 +1,4 @@
--- Document 01, "Trials at the edges": the marked trials of a track. Definitions only.
+-- docs/SCOPE.md, "Trials at the edges": the marked trials of a track. Definitions only.
 use mathlib.Core.Path.{_≡_}
 use mathlib.Core.List.{[], _∷_}
 use Rattle.exact.specs.Float.{1·0, whole}

@@ -8,9 +8,9 @@ use native.Mathlib.Nat.{le-trans, le-refl}
 use lib.Dec.{ltb, leb, eqb}
 use borrow.Author.Tests.{ltb-true, ltb-false, leb-true, eqb-true, eqb-false, le-leb, ne-eqb}
 use Rattle.walk.specs.Walk.{collect}
-use Rattle.table.specs.Table.{placeOf, rises, signalOf, timeKey}
+use Rattle.table.specs.Table.{placeOf, rises, signalOf, timeKey, ofSignal, seriesOf}
 use Rattle.table.specs.Add.{insertAll}
-use Rattle.table.specs.Build.{builtOf, ofSignal, put, seriesOf, signals, sortTimes, withSignal}
+use Rattle.table.specs.Build.{builtOf, put, signals, sortTimes, withSignal}
 use Rattle.table.specs.declared.sample.Sample.{Sample}
 use Rattle.table.proofs.TableLaws.{and-left, and-right}
 use Rattle.table.proofs.UnitLaws.{never, key-lt}
@@ -149,11 +149,6 @@ ascends p (g ∷ gs) = leb p g && ascends (suc g) gs
 unfoldable has : ℕ → List ℕ → Bool
 has g [] = false
 has g (h ∷ hs) = eqb h g || has g hs
-
-ascends-weak : (p q : ℕ) (gs : List ℕ) → p ≤ q → ascends q gs ≡ true → ascends p gs ≡ true
-unfolding ascends
-ascends-weak p q [] h c = refl
-ascends-weak p q (g ∷ gs) h c = rw (le-leb p g (le-trans h (leb-true q g (and-left _ _ c)))) (and-right (leb q g) _ c)
 
 with-ascends : (p g : ℕ) (hs : List ℕ) → p ≤ g → ascends p hs ≡ true → ascends p (withSignal g hs) ≡ true
 unfolding ascends withSignal

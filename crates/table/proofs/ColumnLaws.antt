@@ -10,8 +10,8 @@ use lib.ListN.{length, getD, take, drop, set}
 use lib.Seq.{drop-drop, getD-set-other}
 use lib.Dec.{ltb}
 use lib.Ieee.{Float, nan}
-use Rattle.table.specs.Table.{blank, placeOf, rows, tableOf}
-use Rattle.table.specs.Add.{insertAll, Inserted, insert, opened, pushed, spotOf}
+use Rattle.table.specs.Table.{Columns, beside, blank, placeOf, rows, tableOf}
+use Rattle.table.specs.Add.{insertAll, Inserted, insert, opened, past, pushed, spotOf}
 use Rattle.table.specs.declared.sample.Sample.{Sample}
 
 -- ---- rows
@@ -19,41 +19,83 @@ use Rattle.table.specs.declared.sample.Sample.{Sample}
 both-suc : (a b : ℕ) → min (suc a) (suc b) ≡ suc (min a b)
 both-suc a b = omega arith
 
-pub rows-length : (cs vs bs : List ℕ) (ts xs : List Float) → length (rows cs vs bs ts xs) ≡ min (length cs) (min (length vs) (min (length bs) (min (length ts) (length xs))))
-unfolding rows
-rows-length [] vs bs ts xs = omega arith
-rows-length (c ∷ cs) [] bs ts xs = omega arith
-rows-length (c ∷ cs) (v ∷ vs) [] ts xs = omega arith
-rows-length (c ∷ cs) (v ∷ vs) (b ∷ bs) [] xs = omega arith
-rows-length (c ∷ cs) (v ∷ vs) (b ∷ bs) (t ∷ ts) [] = omega arith
-rows-length (c ∷ cs) (v ∷ vs) (b ∷ bs) (t ∷ ts) (x ∷ xs) = simp both-suc (ap suc (rows-length cs vs bs ts xs))
+beside-length : (cs vs bs : List ℕ) (ts xs : List Float) → length (beside cs vs bs ts xs) ≡ min (length cs) (min (length vs) (min (length bs) (min (length ts) (length xs))))
+unfolding beside
+beside-length [] vs bs ts xs = omega arith
+beside-length (c ∷ cs) [] bs ts xs = omega arith
+beside-length (c ∷ cs) (v ∷ vs) [] ts xs = omega arith
+beside-length (c ∷ cs) (v ∷ vs) (b ∷ bs) [] xs = omega arith
+beside-length (c ∷ cs) (v ∷ vs) (b ∷ bs) (t ∷ ts) [] = omega arith
+beside-length (c ∷ cs) (v ∷ vs) (b ∷ bs) (t ∷ ts) (x ∷ xs) = simp both-suc (ap suc (beside-length cs vs bs ts xs))
 
-pub rows-times : (cs vs bs : List ℕ) (ts xs : List Float) (n : ℕ) → n ≤ length (rows cs vs bs ts xs) → n ≤ length ts
-rows-times cs vs bs ts xs n h = omega (arith, rows-length cs vs bs ts xs)
+beside-at : (cs vs bs : List ℕ) (ts xs : List Float) (i : ℕ) → i < length (beside cs vs bs ts xs)
+    → _≡_ {A = Sample} (record { constellation = getD cs i 0; svid = getD vs i 0; band = getD bs i 0; time = getD ts i nan; correction = getD xs i nan }) (getD (beside cs vs bs ts xs) i blank)
+unfolding beside
+beside-at [] vs bs ts xs i h = absurd (not-suc-le-zero h)
+beside-at (c ∷ cs) [] bs ts xs i h = absurd (not-suc-le-zero h)
+beside-at (c ∷ cs) (v ∷ vs) [] ts xs i h = absurd (not-suc-le-zero h)
+beside-at (c ∷ cs) (v ∷ vs) (b ∷ bs) [] xs i h = absurd (not-suc-le-zero h)
+beside-at (c ∷ cs) (v ∷ vs) (b ∷ bs) (t ∷ ts) [] i h = absurd (not-suc-le-zero h)
+beside-at (c ∷ cs) (v ∷ vs) (b ∷ bs) (t ∷ ts) (x ∷ xs) zero h = refl
+beside-at (c ∷ cs) (v ∷ vs) (b ∷ bs) (t ∷ ts) (x ∷ xs) (suc i) h = beside-at cs vs bs ts xs i (le-of-suc-le-suc h)
 
-pub record Within (i : ℕ) (cs vs bs : List ℕ) (ts xs : List Float) : Type 0 where
-  pub in-c : i < length cs
-  pub in-v : i < length vs
-  pub in-b : i < length bs
-  pub in-t : i < length ts
-  pub in-x : i < length xs
+-- the place i is in every column
+pub record Within (i : ℕ) (l : Columns) : Type 0 where
+  pub in-c : i < length (l .constellations)
+  pub in-v : i < length (l .svids)
+  pub in-b : i < length (l .bands)
+  pub in-t : i < length (l .times)
+  pub in-x : i < length (l .corrections)
 
-pub rows-within : (cs vs bs : List ℕ) (ts xs : List Float) (i : ℕ) → i < length (rows cs vs bs ts xs) → Within i cs vs bs ts xs
-rows-within cs vs bs ts xs i h = go (rw (rows-length cs vs bs ts xs) at h)
-  where
-    go : i < min (length cs) (min (length vs) (min (length bs) (min (length ts) (length xs)))) → Within i cs vs bs ts xs
-    go k = record { in-c = omega arith; in-v = omega arith; in-b = omega arith; in-t = omega arith; in-x = omega arith }
+-- columns of the same lengths
+pub record Alike (l l′ : Columns) : Type 0 where
+  pub long-c : length (l′ .constellations) ≡ length (l .constellations)
+  pub long-v : length (l′ .svids) ≡ length (l .svids)
+  pub long-b : length (l′ .bands) ≡ length (l .bands)
+  pub long-t : length (l′ .times) ≡ length (l .times)
+  pub long-x : length (l′ .corrections) ≡ length (l .corrections)
 
-pub rows-at : (cs vs bs : List ℕ) (ts xs : List Float) (i : ℕ) → i < length (rows cs vs bs ts xs)
-    → _≡_ {A = Sample} (record { constellation = getD cs i 0; svid = getD vs i 0; band = getD bs i 0; time = getD ts i nan; correction = getD xs i nan }) (getD (rows cs vs bs ts xs) i blank)
-unfolding rows
-rows-at [] vs bs ts xs i h = absurd (not-suc-le-zero h)
-rows-at (c ∷ cs) [] bs ts xs i h = absurd (not-suc-le-zero h)
-rows-at (c ∷ cs) (v ∷ vs) [] ts xs i h = absurd (not-suc-le-zero h)
-rows-at (c ∷ cs) (v ∷ vs) (b ∷ bs) [] xs i h = absurd (not-suc-le-zero h)
-rows-at (c ∷ cs) (v ∷ vs) (b ∷ bs) (t ∷ ts) [] i h = absurd (not-suc-le-zero h)
-rows-at (c ∷ cs) (v ∷ vs) (b ∷ bs) (t ∷ ts) (x ∷ xs) zero h = refl
-rows-at (c ∷ cs) (v ∷ vs) (b ∷ bs) (t ∷ ts) (x ∷ xs) (suc i) h = rows-at cs vs bs ts xs i (le-of-suc-le-suc h)
+pub alike-same : (l : Columns) → Alike l l
+alike-same l = record { long-c = refl; long-v = refl; long-b = refl; long-t = refl; long-x = refl }
+
+pub alike-next : {l l′ l″ : Columns} → Alike l l′ → Alike l′ l″ → Alike l l″
+alike-next a b =
+    record {
+      long-c = b .long-c ∙ a .long-c;
+      long-v = b .long-v ∙ a .long-v;
+      long-b = b .long-b ∙ a .long-b;
+      long-t = b .long-t ∙ a .long-t;
+      long-x = b .long-x ∙ a .long-x;
+    }
+
+module _ (l : Columns) where
+  pub rows-length : length (rows l) ≡ min (length (l .constellations)) (min (length (l .svids)) (min (length (l .bands)) (min (length (l .times)) (length (l .corrections)))))
+  unfolding rows
+  rows-length = beside-length (l .constellations) (l .svids) (l .bands) (l .times) (l .corrections)
+
+  pub rows-times : (n : ℕ) → n ≤ length (rows l) → n ≤ length (l .times)
+  rows-times n h = omega (arith, rows-length)
+
+  pub rows-short : length (rows l) ≤ length (l .constellations)
+  rows-short = go (min (length (l .svids)) (min (length (l .bands)) (min (length (l .times)) (length (l .corrections))))) rows-length
+    where
+      go : (k : ℕ) → length (rows l) ≡ min (length (l .constellations)) k → length (rows l) ≤ length (l .constellations)
+      go k e = omega arith
+
+  pub rows-within : (i : ℕ) → i < length (rows l) → Within i l
+  rows-within i h = go (rw rows-length at h)
+    where
+      go : i < min (length (l .constellations)) (min (length (l .svids)) (min (length (l .bands)) (min (length (l .times)) (length (l .corrections))))) → Within i l
+      go k = record { in-c = omega arith; in-v = omega arith; in-b = omega arith; in-t = omega arith; in-x = omega arith }
+
+  pub rows-at : (i : ℕ) → i < length (rows l)
+      → _≡_ {A = Sample} (record { constellation = getD (l .constellations) i 0; svid = getD (l .svids) i 0; band = getD (l .bands) i 0; time = getD (l .times) i nan; correction = getD (l .corrections) i nan }) (getD (rows l) i blank)
+  unfolding rows
+  rows-at i h = beside-at (l .constellations) (l .svids) (l .bands) (l .times) (l .corrections) i h
+
+-- columns of the same lengths have as many rows
+pub rows-alike : (l l′ : Columns) → Alike l l′ → length (rows l′) ≡ length (rows l)
+rows-alike l l′ a = rows-length l′ ∙ rw (a .long-c, a .long-v, a .long-b, a .long-t, a .long-x) (sym (rows-length l))
 
 -- ---- one element more in a column
 
@@ -154,33 +196,33 @@ module _ {A : Type 0} where
 
 -- ---- the rows of the columns with one element more
 
-rows-pushed : (k c v b : ℕ) (t x : Float) (cs vs bs : List ℕ) (ts xs : List Float)
-    → rows (pushed c k cs) (pushed v k vs) (pushed b k bs) (pushed t k ts) (pushed x k xs) ≡ pushed (record { constellation = c; svid = v; band = b; time = t; correction = x }) k (rows cs vs bs ts xs)
-unfolding rows pushed
-rows-pushed k c v b t x [] vs bs ts xs = refl
-rows-pushed zero c v b t x (c₁ ∷ cs) [] bs ts xs = refl
-rows-pushed zero c v b t x (c₁ ∷ cs) (v₁ ∷ vs) [] ts xs = refl
-rows-pushed zero c v b t x (c₁ ∷ cs) (v₁ ∷ vs) (b₁ ∷ bs) [] xs = refl
-rows-pushed zero c v b t x (c₁ ∷ cs) (v₁ ∷ vs) (b₁ ∷ bs) (t₁ ∷ ts) [] = refl
-rows-pushed zero c v b t x (c₁ ∷ cs) (v₁ ∷ vs) (b₁ ∷ bs) (t₁ ∷ ts) (x₁ ∷ xs) = refl
-rows-pushed (suc k) c v b t x (c₁ ∷ cs) [] bs ts xs = refl
-rows-pushed (suc k) c v b t x (c₁ ∷ cs) (v₁ ∷ vs) [] ts xs = refl
-rows-pushed (suc k) c v b t x (c₁ ∷ cs) (v₁ ∷ vs) (b₁ ∷ bs) [] xs = refl
-rows-pushed (suc k) c v b t x (c₁ ∷ cs) (v₁ ∷ vs) (b₁ ∷ bs) (t₁ ∷ ts) [] = refl
-rows-pushed (suc k) c v b t x (c₁ ∷ cs) (v₁ ∷ vs) (b₁ ∷ bs) (t₁ ∷ ts) (x₁ ∷ xs) =
-    ap (λ (l : List Sample). record { constellation = c; svid = v; band = b; time = t; correction = x } ∷ l) (rows-pushed k c₁ v₁ b₁ t₁ x₁ cs vs bs ts xs)
+beside-pushed : (k c v b : ℕ) (t x : Float) (cs vs bs : List ℕ) (ts xs : List Float)
+    → beside (pushed c k cs) (pushed v k vs) (pushed b k bs) (pushed t k ts) (pushed x k xs) ≡ pushed (record { constellation = c; svid = v; band = b; time = t; correction = x }) k (beside cs vs bs ts xs)
+unfolding beside pushed
+beside-pushed k c v b t x [] vs bs ts xs = refl
+beside-pushed zero c v b t x (c₁ ∷ cs) [] bs ts xs = refl
+beside-pushed zero c v b t x (c₁ ∷ cs) (v₁ ∷ vs) [] ts xs = refl
+beside-pushed zero c v b t x (c₁ ∷ cs) (v₁ ∷ vs) (b₁ ∷ bs) [] xs = refl
+beside-pushed zero c v b t x (c₁ ∷ cs) (v₁ ∷ vs) (b₁ ∷ bs) (t₁ ∷ ts) [] = refl
+beside-pushed zero c v b t x (c₁ ∷ cs) (v₁ ∷ vs) (b₁ ∷ bs) (t₁ ∷ ts) (x₁ ∷ xs) = refl
+beside-pushed (suc k) c v b t x (c₁ ∷ cs) [] bs ts xs = refl
+beside-pushed (suc k) c v b t x (c₁ ∷ cs) (v₁ ∷ vs) [] ts xs = refl
+beside-pushed (suc k) c v b t x (c₁ ∷ cs) (v₁ ∷ vs) (b₁ ∷ bs) [] xs = refl
+beside-pushed (suc k) c v b t x (c₁ ∷ cs) (v₁ ∷ vs) (b₁ ∷ bs) (t₁ ∷ ts) [] = refl
+beside-pushed (suc k) c v b t x (c₁ ∷ cs) (v₁ ∷ vs) (b₁ ∷ bs) (t₁ ∷ ts) (x₁ ∷ xs) =
+    ap (λ (l : List Sample). record { constellation = c; svid = v; band = b; time = t; correction = x } ∷ l) (beside-pushed k c₁ v₁ b₁ t₁ x₁ cs vs bs ts xs)
 
-rows-opened : (p k c v b : ℕ) (t x : Float) (cs vs bs : List ℕ) (ts xs : List Float)
-    → rows (opened p k c cs) (opened p k v vs) (opened p k b bs) (opened p k t ts) (opened p k x xs) ≡ opened p k (record { constellation = c; svid = v; band = b; time = t; correction = x }) (rows cs vs bs ts xs)
-unfolding rows opened pushed
-rows-opened zero k c v b t x cs vs bs ts xs = rows-pushed k c v b t x cs vs bs ts xs
-rows-opened (suc p) k c v b t x [] vs bs ts xs = refl
-rows-opened (suc p) k c v b t x (c₁ ∷ cs) [] bs ts xs = refl
-rows-opened (suc p) k c v b t x (c₁ ∷ cs) (v₁ ∷ vs) [] ts xs = refl
-rows-opened (suc p) k c v b t x (c₁ ∷ cs) (v₁ ∷ vs) (b₁ ∷ bs) [] xs = refl
-rows-opened (suc p) k c v b t x (c₁ ∷ cs) (v₁ ∷ vs) (b₁ ∷ bs) (t₁ ∷ ts) [] = refl
-rows-opened (suc p) k c v b t x (c₁ ∷ cs) (v₁ ∷ vs) (b₁ ∷ bs) (t₁ ∷ ts) (x₁ ∷ xs) =
-    ap (λ (l : List Sample). record { constellation = c₁; svid = v₁; band = b₁; time = t₁; correction = x₁ } ∷ l) (rows-opened p k c v b t x cs vs bs ts xs)
+beside-opened : (p k c v b : ℕ) (t x : Float) (cs vs bs : List ℕ) (ts xs : List Float)
+    → beside (opened p k c cs) (opened p k v vs) (opened p k b bs) (opened p k t ts) (opened p k x xs) ≡ opened p k (record { constellation = c; svid = v; band = b; time = t; correction = x }) (beside cs vs bs ts xs)
+unfolding beside opened pushed
+beside-opened zero k c v b t x cs vs bs ts xs = beside-pushed k c v b t x cs vs bs ts xs
+beside-opened (suc p) k c v b t x [] vs bs ts xs = refl
+beside-opened (suc p) k c v b t x (c₁ ∷ cs) [] bs ts xs = refl
+beside-opened (suc p) k c v b t x (c₁ ∷ cs) (v₁ ∷ vs) [] ts xs = refl
+beside-opened (suc p) k c v b t x (c₁ ∷ cs) (v₁ ∷ vs) (b₁ ∷ bs) [] xs = refl
+beside-opened (suc p) k c v b t x (c₁ ∷ cs) (v₁ ∷ vs) (b₁ ∷ bs) (t₁ ∷ ts) [] = refl
+beside-opened (suc p) k c v b t x (c₁ ∷ cs) (v₁ ∷ vs) (b₁ ∷ bs) (t₁ ∷ ts) (x₁ ∷ xs) =
+    ap (λ (l : List Sample). record { constellation = c₁; svid = v₁; band = b₁; time = t₁; correction = x₁ } ∷ l) (beside-opened p k c v b t x cs vs bs ts xs)
 
 -- ---- the table with one sample more
 
@@ -206,22 +248,39 @@ insert-opened s (suc n) (a ∷ l) k h e = go (ltb (placeOf s) (placeOf a)) refl 
     go true q e ih = let z : k ≡ suc n = omega arith in rw z (ap (λ (m : List Sample). s ∷ m) (take-pushed a n l (le-of-suc-le-suc h)))
     go false q e ih = ap (λ (m : List Sample). a ∷ m) (ih (omega arith))
 
-pub spot-within : (n p : ℕ) (s : Sample) (cs vs bs : List ℕ) (ts xs : List Float) → n < length (rows cs vs bs ts xs) → p ≡ spotOf s (tableOf n cs vs bs ts xs) → p ≤ n
-spot-within n p s cs vs bs ts xs h e = let l = rows cs vs bs ts xs in omega (arith, e, spot-le s (take n l), lib.Seq.length-take-le n l (omega arith))
+pub spot-within : (n p : ℕ) (s : Sample) (l : Columns) → n < length (rows l) → p ≡ spotOf s (tableOf n l) → p ≤ n
+spot-within n p s l h e = omega (arith, e, spot-le s (take n (rows l)), lib.Seq.length-take-le n (rows l) (omega arith))
 
-pub inserted : (n p : ℕ) (s : Sample) (cs vs bs : List ℕ) (ts xs : List Float) → n < length (rows cs vs bs ts xs) → p ≡ spotOf s (tableOf n cs vs bs ts xs)
-    → Inserted n s cs vs bs ts xs (opened p (n - p) (s .constellation) cs) (opened p (n - p) (s .svid) vs) (opened p (n - p) (s .band) bs) (opened p (n - p) (s .time) ts) (opened p (n - p) (s .correction) xs)
-unfolding insertAll
-inserted n p s cs vs bs ts xs h e =
-    let l = rows cs vs bs ts xs in
-    let b = spot-within n p s cs vs bs ts xs h e in
+-- the columns with s at the place p, the k samples from there on moved up by one
+abbrev pub openedAll : ℕ → ℕ → Sample → Columns → Columns
+openedAll p k s l =
     record {
-      table =
-          rw (add-one, rows-opened p (n - p) (s .constellation) (s .svid) (s .band) (s .time) (s .correction) cs vs bs ts xs, e)
-          (insert-opened s n l (n - spotOf s (take n l)) h (omega (arith, e)));
-      past-c = past-opened p n (s .constellation) cs b;
-      past-v = past-opened p n (s .svid) vs b;
-      past-b = past-opened p n (s .band) bs b;
-      past-t = past-opened p n (s .time) ts b;
-      past-x = past-opened p n (s .correction) xs b;
+      constellations = opened p k (s .constellation) (l .constellations);
+      svids = opened p k (s .svid) (l .svids);
+      bands = opened p k (s .band) (l .bands);
+      times = opened p k (s .time) (l .times);
+      corrections = opened p k (s .correction) (l .corrections);
+    }
+
+rows-opened : (p k : ℕ) (s : Sample) (l : Columns) → rows (openedAll p k s l) ≡ opened p k s (rows l)
+unfolding rows
+rows-opened p k s l = beside-opened p k (s .constellation) (s .svid) (s .band) (s .time) (s .correction) (l .constellations) (l .svids) (l .bands) (l .times) (l .corrections)
+
+rest-opened : (p n : ℕ) (s : Sample) (l : Columns) → p ≤ n → past (n + 1) (openedAll p (n - p) s l) ≡ past (n + 1) l
+rest-opened p n s l b =
+    rw (
+      past-opened p n (s .constellation) (l .constellations) b,
+      past-opened p n (s .svid) (l .svids) b,
+      past-opened p n (s .band) (l .bands) b,
+      past-opened p n (s .time) (l .times) b,
+      past-opened p n (s .correction) (l .corrections) b,
+    )
+
+pub inserted : (n p : ℕ) (s : Sample) (l : Columns) → n < length (rows l) → p ≡ spotOf s (tableOf n l) → Inserted n s l (openedAll p (n - p) s l)
+unfolding insertAll
+inserted n p s l h e =
+    let b = spot-within n p s l h e in
+    record {
+      table = rw (add-one, rows-opened p (n - p) s l, e) (insert-opened s n (rows l) (n - spotOf s (take n (rows l))) h (omega (arith, e)));
+      rest = rest-opened p n s l b;
     }

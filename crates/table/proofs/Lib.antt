@@ -1,12 +1,11 @@
 -- What the proofs of more than one function use, and the theorems.
 pub mod UnitLaws
+pub mod SmallLaws
 pub mod TableLaws
 pub mod ColumnLaws
-pub mod QueryLaws
-pub mod FiniteLaws
-pub mod QueriesLaws
 pub mod SeriesLaws
 pub mod BuiltLaws
+pub mod SpotLaws
 pub mod InsertLaws
 pub mod AddLaws
 pub mod PlaceLaws

@@ -35,11 +35,11 @@ lex g h j k w jl kl = first (ltb g h) refl
     first true e = le-leb (g * w + j) (h * w + k) (omega (arith, above g h j k (ltb-true g h e) jl))
     first false e = second (eqb g h) refl (ltb-false g h e)
 
-digits : (c v b k : ℕ) → ((c * 2 ^ 16 + v) * 2 ^ 8 + b) * 2 ^ 64 + k ≡ c * 2 ^ 88 + (v * 2 ^ 72 + (b * 2 ^ 64 + k))
+digits : (c v b k : ℕ) → ((c * 2 ^ 16 + v) * 2 ^ 32 + b) * 2 ^ 64 + k ≡ c * 2 ^ 112 + (v * 2 ^ 96 + (b * 2 ^ 64 + k))
 digits c v b k = omega arith
 
 -- a and b as the columns hold them
-pub place-order : (a b : Sample) → a .svid < 2 ^ 16 → b .svid < 2 ^ 16 → a .band < 2 ^ 8 → b .band < 2 ^ 8 → T (fits binary64 (a .time)) → T (fits binary64 (b .time))
+pub place-order : (a b : Sample) → a .svid < 2 ^ 16 → b .svid < 2 ^ 16 → a .band < 2 ^ 32 → b .band < 2 ^ 32 → T (fits binary64 (a .time)) → T (fits binary64 (b .time))
     → leb (placeOf a) (placeOf b)
     ≡ (ltb (a .constellation) (b .constellation)
     || (eqb (a .constellation) (b .constellation)
@@ -56,8 +56,8 @@ place-order a b va vb ba bb fa fb =
     rw (
       digits (a .constellation) (a .svid) (a .band) j,
       digits (b .constellation) (b .svid) (b .band) k,
-      lex (a .constellation) (b .constellation) (a .svid * 2 ^ 72 + (a .band * 2 ^ 64 + j)) (b .svid * 2 ^ 72 + (b .band * 2 ^ 64 + k)) (2 ^ 88) (omega arith) (omega arith),
-      lex (a .svid) (b .svid) (a .band * 2 ^ 64 + j) (b .band * 2 ^ 64 + k) (2 ^ 72) (omega arith) (omega arith),
+      lex (a .constellation) (b .constellation) (a .svid * 2 ^ 96 + (a .band * 2 ^ 64 + j)) (b .svid * 2 ^ 96 + (b .band * 2 ^ 64 + k)) (2 ^ 112) (omega arith) (omega arith),
+      lex (a .svid) (b .svid) (a .band * 2 ^ 64 + j) (b .band * 2 ^ 64 + k) (2 ^ 96) (omega arith) (omega arith),
       lex (a .band) (b .band) j k (2 ^ 64) jl kl,
       totalOrder-key (patternOf (a .time)) (patternOf (b .time)) (pattern-lt (a .time) fa) (pattern-lt (b .time) fb),
     )

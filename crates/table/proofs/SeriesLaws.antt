@@ -7,9 +7,9 @@ use native.Mathlib.Omega.{arith}
 use lib.Dec.{ltb, leb, eqb}
 use borrow.Author.Tests.{ltb-true, ltb-false, leb-true, eqb-true, lt-ltb, le-ltb, le-leb, eq-eqb}
 use Rattle.walk.specs.Walk.{collect}
-use Rattle.table.specs.Table.{placeOf, rises, signalOf, timeKey}
+use Rattle.table.specs.Table.{placeOf, rises, signalOf, timeKey, ofSignal, seriesOf}
 use Rattle.table.specs.Add.{insert, insertAll}
-use Rattle.table.specs.Build.{ofSignal, put, seriesOf, sortTimes}
+use Rattle.table.specs.Build.{put, sortTimes}
 use Rattle.table.specs.declared.sample.Sample.{Sample}
 use Rattle.table.proofs.TableLaws.{and-left, and-right}
 

@@ -1,7 +1,7 @@
--- The order of the table, and what is first and last in it. Assumes nothing.
-use mathlib.Core.Path.{_≡_, refl, sym, ap, _∙_}
+-- The order of the table, and the pass that tests it. Assumes nothing.
+use mathlib.Core.Path.{_≡_, refl, sym, _∙_}
 use mathlib.Core.List.{List, [], _∷_}
-use mathlib.Core.Bool.{Bool, true, false, cond, _&&_, _||_}
+use mathlib.Core.Bool.{Bool, true, false, _&&_, _||_}
 use Prim.Native.Nat.{ℕ, zero, suc, _+_, _*_, _^_, _≤_, _<_}
 use native.Mathlib.Nat.{not-suc-le-zero, le-of-suc-le-suc}
 use native.Mathlib.Omega.{arith}
@@ -12,8 +12,6 @@ use Rattle.walk.specs.Walk.{every}
 use Rattle.walk.proofs.Walk.{left-at, left-end}
 use Rattle.numeric.specs.Real.{inRange}
 use Rattle.table.specs.Table.{blank, placeOf, ranged, rises, sound}
-use Rattle.table.specs.Query.{Found, firstOf, lastOf, missing, the}
-use Rattle.table.specs.Add.{spotOf}
 use Rattle.table.specs.declared.sample.Sample.{Sample}
 
 -- ---- two numbers in one: by the first, and where that is equal by the second
@@ -136,34 +134,3 @@ module _ (l : List Sample) (n : ℕ) (fits : n ≤ length l) (i : ℕ) {w : Bool
     pass-on t r =
         let yea : leb p (placeOf (getD l i blank)) ≡ true = rw (← is) (le-leb p (g * 2 ^ 64 + k) (ltb-false _ _ t)) in
         rw is (rw (left-at l n fits i blank h, yea, r) at inv)
-
--- ---- the first and the last sample that pass, and the spot of a sample
-pub first-at : (q : Sample → Bool) (l : List Sample) (i : ℕ) → i < length l → ((j : ℕ) → j < i → q (getD l j blank) ≡ false) → q (getD l i blank) ≡ true → firstOf q l ≡ the (getD l i blank)
-unfolding firstOf
-first-at q [] i h nay yea = absurd (not-suc-le-zero h)
-first-at q (a ∷ l) zero h nay yea = rw yea
-first-at q (a ∷ l) (suc i) h nay yea = rw (nay 0 (omega arith)) (first-at q l i (le-of-suc-le-suc h) (λ j g. nay (suc j) (omega arith)) yea)
-
-pub first-none : (q : Sample → Bool) (l : List Sample) → ((j : ℕ) → j < length l → q (getD l j blank) ≡ false) → firstOf q l ≡ missing
-unfolding firstOf
-first-none q [] nay = refl
-first-none q (a ∷ l) nay = rw (nay 0 (omega arith)) (first-none q l (λ j g. nay (suc j) (omega arith)))
-
-pub last-none : (q : Sample → Bool) (f : Found) (l : List Sample) → ((j : ℕ) → j < length l → q (getD l j blank) ≡ false) → lastOf q f l ≡ f
-unfolding lastOf
-last-none q f [] nay = refl
-last-none q f (a ∷ l) nay = rw (nay 0 (omega arith)) (last-none q f l (λ j g. nay (suc j) (omega arith)))
-
-pub last-at : (q : Sample → Bool) (f : Found) (l : List Sample) (i : ℕ) → i < length l → q (getD l i blank) ≡ true → ((j : ℕ) → i < j → j < length l → q (getD l j blank) ≡ false) → lastOf q f l ≡ the (getD l i blank)
-unfolding lastOf
-last-at q f [] i h yea nay = absurd (not-suc-le-zero h)
-last-at q f (a ∷ l) zero h yea nay = rw yea (last-none q (the a) l (λ j g. nay (suc j) (omega arith) (omega arith)))
-last-at q f (a ∷ l) (suc i) h yea nay = last-at q (cond (q a) (the a) f) l i (le-of-suc-le-suc h) yea (λ j g k. nay (suc j) (omega arith) (omega arith))
-
-pub spot-is : (s : Sample) (l : List Sample) (p : ℕ) → p ≤ length l → ((j : ℕ) → j < p → ltb (placeOf s) (placeOf (getD l j blank)) ≡ false)
-    → ((j : ℕ) → p ≤ j → j < length l → ltb (placeOf s) (placeOf (getD l j blank)) ≡ true) → p ≡ spotOf s l
-unfolding spotOf
-spot-is s [] zero h nay yea = refl
-spot-is s [] (suc p) h nay yea = absurd (not-suc-le-zero h)
-spot-is s (a ∷ l) zero h nay yea = rw (yea 0 (omega arith) (omega arith))
-spot-is s (a ∷ l) (suc p) h nay yea = rw (nay 0 (omega arith)) (ap suc (spot-is s l p (le-of-suc-le-suc h) (λ j g. nay (suc j) (omega arith)) (λ j g k. yea (suc j) (omega arith) (omega arith))))

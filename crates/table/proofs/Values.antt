@@ -1,20 +1,12 @@
--- Worked values of the query, among them document 01's (m10) and (m11), of many queries, and of adding. Assumes nothing.
+-- A worked value of adding. Assumes nothing.
 use mathlib.Core.Path.{_≡_, refl}
-use mathlib.Core.Bool.{false}
 use mathlib.Core.List.{List, [], _∷_}
-use lib.Ieee.{Float, nan, inf, lt, le, eq, add, sub, mul, div, ofBits, ofInt, toBits, isNan}
-use Rattle.exact.specs.Float.{whole, bits, +0}
-use Rattle.walk.specs.Walk.{every, places}
+use lib.Ieee.{Float, ofInt, toBits, isNan}
+use Rattle.exact.specs.Float.{whole}
 use Rattle.numeric.specs.Order.{keyOf, patternOf}
-use Rattle.numeric.specs.Real.{abs, inRange}
-use Rattle.numeric.specs.declared.refusal.Refusal.the-variants.{TooMany, NoCorrection, RecordOutOfRange}
-use Rattle.table.specs.Table.{timeKey, rises, ranged, sound}
-use Rattle.table.specs.Query.{near, firstOf, lastOf, line, bridged, between, answerAt, queryOf, metresAfter}
-use Rattle.table.specs.Queries.{Reply, refusal, short, queriesOf, written, placesAfter, numberAfter}
+use Rattle.table.specs.Table.{timeKey}
 use Rattle.table.specs.Add.{insert, insertAll}
 use Rattle.table.specs.declared.sample.Sample.{Sample}
-use Rattle.table.specs.declared.query.Correction.{Correction}
-use Rattle.table.specs.declared.query.Correction.the-variants.{Refused, Metres}
 
 abbrev sample : Float → Float → Sample
 sample t x = record { constellation = 1; svid = 5; band = 1; time = t; correction = x }
@@ -22,69 +14,6 @@ sample t x = record { constellation = 1; svid = 5; band = 1; time = t; correctio
 -- samples (10 s, 1 m) and (20 s, 3 m)
 abbrev two : List Sample
 two = sample (whole 10) (whole 1) ∷ sample (whole 20) (whole 3) ∷ []
-
--- the query of these, with the gap limit and the time
-abbrev asked : Float → Float → Correction
-asked gap t = queryOf 2 2048 two gap 1 5 1 t
-
--- (m10) gap limit 90: 15 s gives 2 m
-pub m10 : asked (whole 90) (whole 15) ≡ Metres (whole 2)
-unfolding queryOf answerAt between bridged line near firstOf lastOf inRange abs sound ranged rises timeKey keyOf patternOf every lt le eq add sub mul div ofBits ofInt toBits isNan
-m10 = refl
-
--- (m11) gap limit 5: 12
-pub m11 : asked (whole 5) (whole 15) ≡ Refused NoCorrection
-unfolding queryOf answerAt between bridged line near firstOf lastOf inRange abs sound ranged rises timeKey keyOf patternOf every lt le eq add sub mul div ofBits ofInt toBits isNan
-m11 = refl
-
--- a gap equal to the limit is bridged
-pub gap-at-limit : asked (whole 10) (whole 15) ≡ Metres (whole 2)
-unfolding queryOf answerAt between bridged line near firstOf lastOf inRange abs sound ranged rises timeKey keyOf patternOf every lt le eq add sub mul div ofBits ofInt toBits isNan
-gap-at-limit = refl
-
--- a sample is answered whatever the gaps beside it are, and past the last one there is no correction
-pub on-sample : asked (whole 5) (whole 20) ≡ Metres (whole 3)
-unfolding queryOf answerAt between bridged line near firstOf lastOf inRange abs sound ranged rises timeKey keyOf patternOf every lt le eq add sub mul div ofBits ofInt toBits isNan
-on-sample = refl
-
-pub past-end : asked (whole 90) (whole 21) ≡ Refused NoCorrection
-unfolding queryOf answerAt between bridged line near firstOf lastOf inRange abs sound ranged rises timeKey keyOf patternOf every lt le eq add sub mul div ofBits ofInt toBits isNan
-past-end = refl
-
--- a time that is not finite is 12, and one above 1e9 is 4
-pub at-nan : asked (whole 90) nan ≡ Refused NoCorrection
-unfolding queryOf answerAt between bridged line near firstOf lastOf inRange abs sound ranged rises timeKey keyOf patternOf every lt le eq add sub mul div ofBits ofInt toBits isNan
-at-nan = refl
-
-pub at-infinity : asked (whole 90) (inf false) ≡ Refused NoCorrection
-unfolding queryOf answerAt between bridged line near firstOf lastOf inRange abs sound ranged rises timeKey keyOf patternOf every lt le eq add sub mul div ofBits ofInt toBits isNan
-at-infinity = refl
-
-pub far-time : asked (whole 90) (whole 2000000000) ≡ Refused RecordOutOfRange
-unfolding queryOf answerAt between bridged line near firstOf lastOf inRange abs sound ranged rises timeKey keyOf patternOf every lt le eq add sub mul div ofBits ofInt toBits isNan
-far-time = refl
-
--- the time +0 followed by −0 is not sorted
-pub zeros-unsorted : queryOf 2 2048 (sample +0 (whole 1) ∷ sample (bits 0x8000_0000_0000_0000) (whole 1) ∷ []) (whole 90) 1 5 1 +0 ≡ Refused RecordOutOfRange
-unfolding queryOf answerAt between bridged line near firstOf lastOf inRange abs sound ranged rises timeKey keyOf patternOf every lt le eq add sub mul div ofBits ofInt toBits isNan
-zeros-unsorted = refl
-
--- three queries in one call, at 15 s, past the end and above 1e9: each place has its number, and metres only where there are some
-abbrev three : Reply
-three = queriesOf 2 2048 two (whole 90) (1 ∷ 1 ∷ 1 ∷ []) (5 ∷ 5 ∷ 5 ∷ []) (1 ∷ 1 ∷ 1 ∷ []) (whole 15 ∷ whole 21 ∷ whole 2000000000 ∷ []) 3 (7 ∷ 7 ∷ 7 ∷ 7 ∷ []) (whole 8 ∷ whole 8 ∷ whole 8 ∷ [])
-
-pub three-numbers : placesAfter numberAfter three (7 ∷ 7 ∷ 7 ∷ 7 ∷ []) ≡ 0 ∷ 12 ∷ 4 ∷ 7 ∷ []
-unfolding queriesOf short places written queryOf answerAt between bridged line near firstOf lastOf inRange abs sound ranged rises timeKey keyOf patternOf every lt le eq add sub mul div ofBits ofInt toBits isNan
-three-numbers = refl
-
-pub three-metres : placesAfter metresAfter three (whole 8 ∷ whole 8 ∷ whole 8 ∷ []) ≡ whole 2 ∷ whole 8 ∷ whole 8 ∷ []
-unfolding queriesOf short places written queryOf answerAt between bridged line near firstOf lastOf inRange abs sound ranged rises timeKey keyOf patternOf every lt le eq add sub mul div ofBits ofInt toBits isNan
-three-metres = refl
-
--- a lent column that is too short is 2
-pub short-column : queriesOf 2 2048 two (whole 90) (1 ∷ []) (5 ∷ []) (1 ∷ []) (whole 15 ∷ []) 1 [] (whole 8 ∷ []) ≡ refusal TooMany
-unfolding queriesOf short
-short-column = refl
 
 -- a sample of equal time goes after the one that is there
 pub equal-time : insertAll two (sample (whole 10) (whole 7) ∷ []) ≡ sample (whole 10) (whole 1) ∷ sample (whole 10) (whole 7) ∷ sample (whole 20) (whole 3) ∷ []

@@ -1,15 +1,15 @@
--- Samples added to the table (document 01, "Corrections", and number 11). Definitions only.
+-- Samples added to the table (docs/SCOPE.md, "Corrections", and number 11). Definitions only.
 use Prim.Native.Nat.{ℕ, zero, suc, _+_}
 use mathlib.Core.Path.{_≡_}
 use mathlib.Core.Bool.{cond, not, _&&_, _||_}
 use mathlib.Core.List.{List, [], _∷_, _++_, map}
 use lib.Dec.{ltb}
 use lib.ListN.{length, take, drop}
-use lib.Ieee.{Float}
 use Rattle.walk.specs.Walk.{every}
+use Rattle.numeric.specs.Refusal.{numberOf}
 use Rattle.numeric.specs.declared.refusal.Refusal.{Refusal}
 use Rattle.numeric.specs.declared.refusal.Refusal.the-variants.{TooMany, RecordOutOfRange, TableFull}
-use Rattle.table.specs.Table.{tableOf, placeOf, ranged, sound}
+use Rattle.table.specs.Table.{Columns, tableOf, placeOf, ranged, sound}
 use Rattle.table.specs.declared.sample.Sample.{Sample}
 use Rattle.table.specs.declared.add.Adding.{Adding}
 use Rattle.table.specs.declared.add.Adding.the-variants.{Refused, Count}
@@ -35,23 +35,45 @@ pub data Outcome : Type 0 where
   added : List Sample → Outcome
 
 -- the answer: the refusal, or how many samples the table has now
-abbrev pub answerOf : Outcome → Adding
-answerOf (refused r) = Refused r
-answerOf (added t) = Count (length t)
+abbrev pub addingOf : Outcome → Adding
+addingOf (refused r) = Refused r
+addingOf (added t) = Count (length t)
 
--- a column afterwards, f being its field: as it was where adding is refused, else the table's values and past them what was there
-abbrev pub columnAfter : {A : Type 0} → (Sample → A) → Outcome → List A → List A
-columnAfter f (refused r) column = column
-columnAfter f (added t) column = map f t ++ drop (length t) column
+-- 0, or the number of the refusal
+abbrev pub addingNumber : Adding → ℕ
+addingNumber (Refused r) = numberOf r
+addingNumber (Count k) = 0
 
--- the answer and the columns afterwards are those of the outcome
-pub record Adds (o : Outcome) (r : Adding) (cs vs bs : List ℕ) (ts xs : List Float) (cs′ vs′ bs′ : List ℕ) (ts′ xs′ : List Float) : Type 0 where
-  pub answer : r ≡ answerOf o
-  pub constellations : cs′ ≡ columnAfter (λ (s : Sample). s .constellation) o cs
-  pub svids : vs′ ≡ columnAfter (λ (s : Sample). s .svid) o vs
-  pub bands : bs′ ≡ columnAfter (λ (s : Sample). s .band) o bs
-  pub times : ts′ ≡ columnAfter (λ (s : Sample). s .time) o ts
-  pub corrections : xs′ ≡ columnAfter (λ (s : Sample). s .correction) o xs
+-- how many samples the table has after an answer, n before it
+abbrev pub countAfter : Adding → ℕ → ℕ
+countAfter (Refused r) n = n
+countAfter (Count k) n = k
+
+-- a column with the values of the table t, f being its field, and past them what was there
+abbrev pub columnWith : {A : Type 0} → (Sample → A) → List Sample → List A → List A
+columnWith f t column = map f t ++ drop (length t) column
+
+-- the columns with the table t, and past it what was there
+abbrev pub columnsWith : List Sample → Columns → Columns
+columnsWith t l =
+    record {
+      constellations = columnWith (λ (s : Sample). s .constellation) t (l .constellations);
+      svids = columnWith (λ (s : Sample). s .svid) t (l .svids);
+      bands = columnWith (λ (s : Sample). s .band) t (l .bands);
+      times = columnWith (λ (s : Sample). s .time) t (l .times);
+      corrections = columnWith (λ (s : Sample). s .correction) t (l .corrections);
+    }
+
+-- the columns afterwards: as they were where adding is refused, else with the table
+abbrev pub columnsAfter : Outcome → Columns → Columns
+columnsAfter (refused r) l = l
+columnsAfter (added t) l = columnsWith t l
+
+-- the number, the count and the columns afterwards are those of the outcome
+pub record Adds (o : Outcome) (number n n′ : ℕ) (l l′ : Columns) : Type 0 where
+  pub number-is : number ≡ addingNumber (addingOf o)
+  pub count : n′ ≡ countAfter (addingOf o) n
+  pub columns : l′ ≡ columnsAfter o l
 
 -- the samples that are counted
 abbrev pub counted : Samples → List Sample
@@ -93,15 +115,22 @@ opened zero k v l = pushed v k l
 opened (suc p) k v [] = []
 opened (suc p) k v (x ∷ xs) = x ∷ opened p k v xs
 
+-- the columns from the place k on
+abbrev pub past : ℕ → Columns → Columns
+past k l =
+    record {
+      constellations = drop k (l .constellations);
+      svids = drop k (l .svids);
+      bands = drop k (l .bands);
+      times = drop k (l .times);
+      corrections = drop k (l .corrections);
+    }
+
 -- the k samples ss were put into the n samples of the table, and what lies past them is as it was
-pub record InsertedAll (n k : ℕ) (ss : List Sample) (cs vs bs : List ℕ) (ts xs : List Float) (cs′ vs′ bs′ : List ℕ) (ts′ xs′ : List Float) : Type 0 where
-  pub table : tableOf (n + k) cs′ vs′ bs′ ts′ xs′ ≡ insertAll (tableOf n cs vs bs ts xs) ss
-  pub past-c : drop (n + k) cs′ ≡ drop (n + k) cs
-  pub past-v : drop (n + k) vs′ ≡ drop (n + k) vs
-  pub past-b : drop (n + k) bs′ ≡ drop (n + k) bs
-  pub past-t : drop (n + k) ts′ ≡ drop (n + k) ts
-  pub past-x : drop (n + k) xs′ ≡ drop (n + k) xs
+pub record InsertedAll (n k : ℕ) (ss : List Sample) (l l′ : Columns) : Type 0 where
+  pub table : tableOf (n + k) l′ ≡ insertAll (tableOf n l) ss
+  pub rest : past (n + k) l′ ≡ past (n + k) l
 
 -- the same for one sample
-abbrev pub Inserted : ℕ → Sample → List ℕ → List ℕ → List ℕ → List Float → List Float → List ℕ → List ℕ → List ℕ → List Float → List Float → Type 0
+abbrev pub Inserted : ℕ → Sample → Columns → Columns → Type 0
 Inserted n s = InsertedAll n 1 (s ∷ [])

@@ -4,16 +4,8 @@ use mathlib.Core.Bool.{cond}
 use mathlib.Core.List.{List, [], _∷_}
 use lib.Dec.{eqb, ltb}
 use Rattle.walk.specs.Walk.{collect}
-use Rattle.table.specs.Table.{signalOf, timeKey}
+use Rattle.table.specs.Table.{signalOf, timeKey, seriesOf}
 use Rattle.table.specs.declared.sample.Sample.{Sample}
-
--- the sample where it is of the signal g
-abbrev pub ofSignal : ℕ → Sample → List Sample
-ofSignal g s = cond (eqb (signalOf s) g) (s ∷ []) []
-
--- the samples of the signal g, as they arrived
-abbrev pub seriesOf : ℕ → List Sample → List Sample
-seriesOf g l = collect (ofSignal g) l
 
 -- s into a sorted list of samples that arrived after it: before the first that it does not follow in time
 unfoldable pub put : Sample → List Sample → List Sample

@@ -1,6 +1,3 @@
 pub mod Table
-pub mod Query
-pub mod Queries
-pub mod Search
 pub mod Add
 pub mod Build

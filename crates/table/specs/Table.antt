@@ -1,44 +1,60 @@
--- The table of correction samples in five lent columns: its rows, its order, and when it is sound. Definitions only.
+-- The table of correction samples in lent columns: its rows, its order, when it is sound, and the series of one signal. Definitions only.
 use Prim.Native.Nat.{ℕ, _+_, _*_, _^_, min}
-use mathlib.Core.Bool.{Bool, true, _&&_}
+use mathlib.Core.Bool.{Bool, true, cond, _&&_}
 use mathlib.Core.List.{List, [], _∷_}
-use lib.Dec.{leb}
+use lib.Dec.{eqb, leb}
 use lib.ListN.{length, take}
 use lib.Ieee.{Float, nan}
-use Rattle.walk.specs.Walk.{every}
+use Rattle.walk.specs.Walk.{every, collect}
 use Rattle.numeric.specs.Order.{keyOf, patternOf}
 use Rattle.numeric.specs.Real.{inRange}
 use Rattle.table.specs.declared.sample.Sample.{Sample}
 
 -- ---- the columns
 
--- The rows of the columns of constellations, svids, bands, times and corrections: as many as the shortest column has.
-unfoldable pub rows : List ℕ → List ℕ → List ℕ → List Float → List Float → List Sample
-rows [] vs bs ts xs = []
-rows (c ∷ cs) [] bs ts xs = []
-rows (c ∷ cs) (v ∷ vs) [] ts xs = []
-rows (c ∷ cs) (v ∷ vs) (b ∷ bs) [] xs = []
-rows (c ∷ cs) (v ∷ vs) (b ∷ bs) (t ∷ ts) [] = []
-rows (c ∷ cs) (v ∷ vs) (b ∷ bs) (t ∷ ts) (x ∷ xs) =
-    record { constellation = c; svid = v; band = b; time = t; correction = x } ∷ rows cs vs bs ts xs
+-- the lent columns of a table
+pub record Columns : Type 0 where
+  pub constellations : List ℕ
+  pub svids : List ℕ
+  pub bands : List ℕ
+  pub times : List Float
+  pub corrections : List Float
+
+-- the columns as a call is lent them
+abbrev pub lent : List ℕ → List ℕ → List ℕ → List Float → List Float → Columns
+lent cs vs bs ts xs = record { constellations = cs; svids = vs; bands = bs; times = ts; corrections = xs }
+
+-- the samples that lie side by side in five columns: as many as the shortest has
+unfoldable pub beside : List ℕ → List ℕ → List ℕ → List Float → List Float → List Sample
+beside [] vs bs ts xs = []
+beside (c ∷ cs) [] bs ts xs = []
+beside (c ∷ cs) (v ∷ vs) [] ts xs = []
+beside (c ∷ cs) (v ∷ vs) (b ∷ bs) [] xs = []
+beside (c ∷ cs) (v ∷ vs) (b ∷ bs) (t ∷ ts) [] = []
+beside (c ∷ cs) (v ∷ vs) (b ∷ bs) (t ∷ ts) (x ∷ xs) =
+    record { constellation = c; svid = v; band = b; time = t; correction = x } ∷ beside cs vs bs ts xs
+
+-- the rows of the columns
+unfoldable pub rows : Columns → List Sample
+rows l = beside (l .constellations) (l .svids) (l .bands) (l .times) (l .corrections)
 
 -- what a read past the end gives
 abbrev pub blank : Sample
 blank = record { constellation = 0; svid = 0; band = 0; time = nan; correction = nan }
 
--- document 01, number 11: the capacity is the shortest lent column, at most 2,048
-abbrev pub capacity : List ℕ → List ℕ → List ℕ → List Float → List Float → ℕ
-capacity cs vs bs ts xs = min 2048 (length (rows cs vs bs ts xs))
+-- docs/SCOPE.md, number 11: the capacity is the shortest lent column, at most 2,048
+abbrev pub capacity : Columns → ℕ
+capacity l = min 2048 (length (rows l))
 
 -- the table: the first n rows
-abbrev pub tableOf : ℕ → List ℕ → List ℕ → List ℕ → List Float → List Float → List Sample
-tableOf n cs vs bs ts xs = take n (rows cs vs bs ts xs)
+abbrev pub tableOf : ℕ → Columns → List Sample
+tableOf n l = take n (rows l)
 
 -- ---- the order by constellation, svid, band and time
 
--- a satellite's signal as one number: its digits are the constellation, the svid, of 16 bits, and the band, of 8 bits
+-- a satellite's signal as one number: its digits are the constellation, the svid, of 16 bits, and the band, for which there is room of 32 bits
 abbrev pub signal : ℕ → ℕ → ℕ → ℕ
-signal c v b = (c * 2 ^ 16 + v) * 2 ^ 8 + b
+signal c v b = (c * 2 ^ 16 + v) * 2 ^ 32 + b
 
 abbrev pub signalOf : Sample → ℕ
 signalOf s = signal (s .constellation) (s .svid) (s .band)
@@ -60,7 +76,7 @@ rises p (s ∷ ss) = leb p (placeOf s) && rises (placeOf s) ss
 abbrev pub sorted : List Sample → Bool
 sorted ss = rises 0 ss
 
--- ---- document 01, number 4
+-- ---- docs/SCOPE.md, number 4
 
 -- time and correction are finite and not above 1e9 in magnitude
 unfoldable pub ranged : Sample → Bool
@@ -68,3 +84,13 @@ ranged s = inRange (s .time) && inRange (s .correction)
 
 unfoldable pub sound : List Sample → Bool
 sound ss = every ranged ss && sorted ss
+
+-- ---- one satellite's series
+
+-- the sample where it is of the signal g
+abbrev pub ofSignal : ℕ → Sample → List Sample
+ofSignal g s = cond (eqb (signalOf s) g) (s ∷ []) []
+
+-- the samples of the signal g, in the order in which they stand
+abbrev pub seriesOf : ℕ → List Sample → List Sample
+seriesOf g ss = collect (ofSignal g) ss

@@ -4,8 +4,8 @@ ghost use mathlib.Core.Bool.{true};
 ghost use Prim.Native.Nat.{_+_, _-_, _≤_, _<_};
 ghost use lib.ListN.{length, take};
 ghost use Rattle.walk.specs.Walk.{every};
-ghost use Rattle.table.specs.Table.{rows, capacity, tableOf, ranged, sound};
-ghost use Rattle.table.specs.Add.{spotOf, opened, Inserted, InsertedAll, counted, testOf, addOf, Adds};
+ghost use Rattle.table.specs.Table.{lent, rows, capacity, tableOf, ranged, sound};
+ghost use Rattle.table.specs.Add.{spotOf, opened, Inserted, InsertedAll, counted, testOf, addOf, addingOf, addingNumber, countAfter, Adds};
 use crate::sample::Sample;
 use crate::sample::capacity_of;
 use crate::sample::is_ranged;
@@ -34,9 +34,9 @@ pub enum Adding {
 
 // How many samples at the front of a sound table the sample s does not precede.
 fn spot_of(cs: &[u8], vs: &[u16], bs: &[u8], ts: &[f64], xs: &[f64], n: usize, s: Sample) -> usize
-    requires { ⌜ n ≤ length (rows (now cs) (now vs) (now bs) (now ts) (now xs)) ⌝ }
-    requires { ⌜ sound (tableOf n (now cs) (now vs) (now bs) (now ts) (now xs)) ≡ true ⌝ }
-    ensures { λ r. ⌜ r ≡ spotOf s (tableOf n (now (cs .entry)) (now (vs .entry)) (now (bs .entry)) (now (ts .entry)) (now (xs .entry))) ⌝ }
+    requires { ⌜ n ≤ length (rows (lent (now cs) (now vs) (now bs) (now ts) (now xs))) ⌝ }
+    requires { ⌜ sound (tableOf n (lent (now cs) (now vs) (now bs) (now ts) (now xs))) ≡ true ⌝ }
+    ensures { λ r. ⌜ r ≡ spotOf s (tableOf n (lent (now (cs .entry)) (now (vs .entry)) (now (bs .entry)) (now (ts .entry)) (now (xs .entry)))) ⌝ }
 {
     let mut p = n;
     while p > 0 {
@@ -98,10 +98,10 @@ fn insert(
     n: usize,
     s: Sample,
 )
-    requires { ⌜ n < length (rows (now cs) (now vs) (now bs) (now ts) (now xs)) ⌝ }
-    requires { ⌜ sound (tableOf n (now cs) (now vs) (now bs) (now ts) (now xs)) ≡ true ⌝ }
-    ensures { λ _. ⌜ Inserted n s (now (cs .entry)) (now (vs .entry)) (now (bs .entry)) (now (ts .entry)) (now (xs .entry))
-        (now (cs .exit)) (now (vs .exit)) (now (bs .exit)) (now (ts .exit)) (now (xs .exit)) ⌝ }
+    requires { ⌜ n < length (rows (lent (now cs) (now vs) (now bs) (now ts) (now xs))) ⌝ }
+    requires { ⌜ sound (tableOf n (lent (now cs) (now vs) (now bs) (now ts) (now xs))) ≡ true ⌝ }
+    ensures { λ _. ⌜ Inserted n s (lent (now (cs .entry)) (now (vs .entry)) (now (bs .entry)) (now (ts .entry)) (now (xs .entry)))
+        (lent (now (cs .exit)) (now (vs .exit)) (now (bs .exit)) (now (ts .exit)) (now (xs .exit))) ⌝ }
 {
     let p = spot_of(cs, vs, bs, ts, xs, n, s);
     open_u8(cs, p, n, s.constellation);
@@ -123,11 +123,11 @@ fn insert_all(
     m: usize,
 )
     requires { ⌜ m ≤ 64 ⌝ }
-    requires { ⌜ n + m ≤ length (rows (now cs) (now vs) (now bs) (now ts) (now xs)) ⌝ }
-    requires { ⌜ sound (tableOf n (now cs) (now vs) (now bs) (now ts) (now xs)) ≡ true ⌝ }
+    requires { ⌜ n + m ≤ length (rows (lent (now cs) (now vs) (now bs) (now ts) (now xs))) ⌝ }
+    requires { ⌜ sound (tableOf n (lent (now cs) (now vs) (now bs) (now ts) (now xs))) ≡ true ⌝ }
     requires { ⌜ every ranged (take m new) ≡ true ⌝ }
-    ensures { λ _. ⌜ InsertedAll n m (take m new) (now (cs .entry)) (now (vs .entry)) (now (bs .entry)) (now (ts .entry)) (now (xs .entry))
-        (now (cs .exit)) (now (vs .exit)) (now (bs .exit)) (now (ts .exit)) (now (xs .exit)) ⌝ }
+    ensures { λ _. ⌜ InsertedAll n m (take m new) (lent (now (cs .entry)) (now (vs .entry)) (now (bs .entry)) (now (ts .entry)) (now (xs .entry)))
+        (lent (now (cs .exit)) (now (vs .exit)) (now (bs .exit)) (now (ts .exit)) (now (xs .exit))) ⌝ }
 {
     let mut i: usize = 0;
     while i < m {
@@ -156,8 +156,8 @@ fn all_ranged(new: Samples) -> bool
 
 // Numbers 2, 4 and 11, in this order.
 fn tested(cs: &[u8], vs: &[u16], bs: &[u8], ts: &[f64], xs: &[f64], n: usize, new: Samples) -> Test
-    ensures { λ r. ⌜ r ≡ testOf n (capacity (now (cs .entry)) (now (vs .entry)) (now (bs .entry)) (now (ts .entry)) (now (xs .entry)))
-        (tableOf n (now (cs .entry)) (now (vs .entry)) (now (bs .entry)) (now (ts .entry)) (now (xs .entry))) new ⌝ }
+    ensures { λ r. ⌜ (let l = lent (now (cs .entry)) (now (vs .entry)) (now (bs .entry)) (now (ts .entry)) (now (xs .entry)) in
+        r ≡ testOf n (capacity l) (tableOf n l) new) ⌝ }
 {
     let m = new.count;
     let room = capacity_of(cs, vs, bs, ts, xs);
@@ -189,10 +189,9 @@ pub fn add(
     n: usize,
     new: Samples,
 ) -> Adding
-    ensures { λ r. ⌜ Adds (addOf n (capacity (now (cs .entry)) (now (vs .entry)) (now (bs .entry)) (now (ts .entry)) (now (xs .entry)))
-        (tableOf n (now (cs .entry)) (now (vs .entry)) (now (bs .entry)) (now (ts .entry)) (now (xs .entry))) new) r
-        (now (cs .entry)) (now (vs .entry)) (now (bs .entry)) (now (ts .entry)) (now (xs .entry))
-        (now (cs .exit)) (now (vs .exit)) (now (bs .exit)) (now (ts .exit)) (now (xs .exit)) ⌝ }
+    ensures { λ r. ⌜ (let l = lent (now (cs .entry)) (now (vs .entry)) (now (bs .entry)) (now (ts .entry)) (now (xs .entry)) in
+        let o = addOf n (capacity l) (tableOf n l) new in
+        (r ≡ addingOf o) × Adds o (addingNumber r) n (countAfter r n) l (lent (now (cs .exit)) (now (vs .exit)) (now (bs .exit)) (now (ts .exit)) (now (xs .exit)))) ⌝ }
 {
     let test = tested(cs, vs, bs, ts, xs, n, new);
     match test {

@@ -5,7 +5,7 @@ ghost use Prim.Native.Nat.{_+_, _*_, _^_, _≤_, _<_, min};
 ghost use lib.ListN.{length, getD};
 ghost use lib.Dec.{ltb};
 ghost use Rattle.numeric.specs.Real.{inRange};
-ghost use Rattle.table.specs.Table.{rows, blank, capacity, tableOf, signal, timeKey, placeOf, ranged, sound};
+ghost use Rattle.table.specs.Table.{lent, rows, blank, capacity, tableOf, signal, timeKey, placeOf, ranged, sound};
 use numeric::order::key;
 use numeric::order::pattern;
 use numeric::real::in_range;
@@ -19,14 +19,14 @@ pub struct Sample {
 }
 
 // A satellite's signal as one number: constellation, svid and band are its digits.
-pub(crate) fn signal_of(constellation: u8, svid: u16, band: u8) -> u64
+pub fn signal_of(constellation: u8, svid: u16, band: u8) -> u64
     ensures { λ r. ⌜ r ≡ signal constellation svid band ⌝ }
 {
-    ((constellation as u64) * 0x1_0000 + (svid as u64)) * 0x100 + (band as u64)
+    ((constellation as u64) * 0x1_0000 + (svid as u64)) * 0x1_0000_0000 + (band as u64)
 }
 
 // The place of a time in totalOrder.
-pub(crate) fn time_key(t: f64) -> u64
+pub fn time_key(t: f64) -> u64
     ensures { λ r. ⌜ r ≡ timeKey t ⌝ }
 {
     key(pattern(t))
@@ -41,7 +41,7 @@ fn lesser(a: usize, b: usize) -> usize
 
 // How many samples the columns have room for.
 pub fn capacity_of(cs: &[u8], vs: &[u16], bs: &[u8], ts: &[f64], xs: &[f64]) -> usize
-    ensures { λ r. ⌜ r ≡ capacity (now (cs .entry)) (now (vs .entry)) (now (bs .entry)) (now (ts .entry)) (now (xs .entry)) ⌝ }
+    ensures { λ r. ⌜ r ≡ capacity (lent (now (cs .entry)) (now (vs .entry)) (now (bs .entry)) (now (ts .entry)) (now (xs .entry))) ⌝ }
 {
     lesser(
         2048,
@@ -53,16 +53,9 @@ pub fn capacity_of(cs: &[u8], vs: &[u16], bs: &[u8], ts: &[f64], xs: &[f64]) -> 
 }
 
 // The row at i.
-pub(crate) fn sample_at(
-    cs: &[u8],
-    vs: &[u16],
-    bs: &[u8],
-    ts: &[f64],
-    xs: &[f64],
-    i: usize,
-) -> Sample
-    requires { ⌜ i < length (rows (now cs) (now vs) (now bs) (now ts) (now xs)) ⌝ }
-    ensures { λ r. ⌜ r ≡ getD (rows (now (cs .entry)) (now (vs .entry)) (now (bs .entry)) (now (ts .entry)) (now (xs .entry))) i blank ⌝ }
+pub fn sample_at(cs: &[u8], vs: &[u16], bs: &[u8], ts: &[f64], xs: &[f64], i: usize) -> Sample
+    requires { ⌜ i < length (rows (lent (now cs) (now vs) (now bs) (now ts) (now xs))) ⌝ }
+    ensures { λ r. ⌜ r ≡ getD (rows (lent (now (cs .entry)) (now (vs .entry)) (now (bs .entry)) (now (ts .entry)) (now (xs .entry)))) i blank ⌝ }
 {
     Sample {
         constellation: cs[i],
@@ -74,7 +67,7 @@ pub(crate) fn sample_at(
 }
 
 // Whether a stands before b in the table's order.
-pub(crate) fn precedes(a: Sample, b: Sample) -> bool
+pub fn precedes(a: Sample, b: Sample) -> bool
     ensures { λ r. ⌜ r ≡ ltb (placeOf a) (placeOf b) ⌝ }
 {
     let g = signal_of(a.constellation, a.svid, a.band);
@@ -85,7 +78,7 @@ pub(crate) fn precedes(a: Sample, b: Sample) -> bool
 }
 
 // Whether time and correction are in range.
-pub(crate) fn is_ranged(s: Sample) -> bool
+pub fn is_ranged(s: Sample) -> bool
     ensures { λ r. ⌜ r ≡ ranged s ⌝ }
 {
     in_range(s.time) & in_range(s.correction)
@@ -106,9 +99,9 @@ fn is_below(s: u64, t: f64, h: u64, u: f64) -> bool
 }
 
 // Whether rule 4 lets the first n samples pass, in one pass.
-pub(crate) fn is_sound(cs: &[u8], vs: &[u16], bs: &[u8], ts: &[f64], xs: &[f64], n: usize) -> bool
-    requires { ⌜ n ≤ length (rows (now cs) (now vs) (now bs) (now ts) (now xs)) ⌝ }
-    ensures { λ r. ⌜ r ≡ sound (tableOf n (now (cs .entry)) (now (vs .entry)) (now (bs .entry)) (now (ts .entry)) (now (xs .entry))) ⌝ }
+pub fn is_sound(cs: &[u8], vs: &[u16], bs: &[u8], ts: &[f64], xs: &[f64], n: usize) -> bool
+    requires { ⌜ n ≤ length (rows (lent (now cs) (now vs) (now bs) (now ts) (now xs))) ⌝ }
+    ensures { λ r. ⌜ r ≡ sound (tableOf n (lent (now (cs .entry)) (now (vs .entry)) (now (bs .entry)) (now (ts .entry)) (now (xs .entry)))) ⌝ }
 {
     if n == 0 {
         return true;

@@ -5,12 +5,12 @@ use lib.ListN.{replicate}
 use lib.Ieee.{Float}
 use Rattle.exact.specs.Float.{+0, 1·0, bits}
 use Rattle.numeric.specs.declared.vec3.Vec3.{Vec3}
-use Rattle.estimator.specs.Displacement.{Input, input}
+use Rattle.tdcp.specs.Displacement.{Input, input}
 use Rattle.records.specs.declared.record.Carrier.{Carrier}
 use Rattle.records.specs.declared.record.Epoch.{Epoch}
-use Rattle.estimator.specs.declared.displacement.Settings.{Settings}
-use Rattle.estimator.specs.declared.displacement.Displacement.{Displacement}
-use Rattle.estimator.specs.declared.displacement.Displacement.the-variants.{Refused, Moved}
+use Rattle.tdcp.specs.declared.displacement.Settings.{Settings}
+use Rattle.tdcp.specs.declared.displacement.Displacement.{Displacement}
+use Rattle.tdcp.specs.declared.displacement.Displacement.the-variants.{Refused, Moved}
 
 -- 10
 abbrev pub ten : Float

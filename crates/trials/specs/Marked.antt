@@ -1,4 +1,4 @@
--- Document 01, "Trials at the edges", those marked for proof: one list, in its order. Definitions only.
+-- docs/SCOPE.md, "Trials at the edges", those marked for proof: one list, in its order. Definitions only.
 use Prim.Native.Nat.{ℕ}
 use mathlib.Core.Path.{_≡_}
 use mathlib.Core.List.{List, [], _∷_, map}
@@ -18,10 +18,10 @@ use Rattle.median.specs.declared.centre.Centre.the-variants.{Of}
 use Rattle.clocks.specs.Clocks.{slot, clocksOf}
 use Rattle.records.specs.Record.{usable}
 use Rattle.records.specs.declared.record.Carrier.{Carrier}
-use Rattle.table.specs.Query.{queryOf}
+use Rattle.query.specs.Query.{queryOf}
 use Rattle.table.specs.declared.sample.Sample.{Sample}
-use Rattle.table.specs.declared.query.Correction.the-variants as Correction
-use Rattle.table.specs.declared.query.Correction.the-variants.{Metres}
+use Rattle.query.specs.declared.query.Correction.the-variants as Correction
+use Rattle.query.specs.declared.query.Correction.the-variants.{Metres}
 use Rattle.smooth.specs.Trials.{m12, m13}
 
 -- all of a list's statements

@@ -1,14 +1,14 @@
 // The marked trial of a carrier's state, through a displacement.
 ghost use mathlib.Core.Path.{_≡_};
 ghost use mathlib.Core.Bool.{true};
-ghost use Rattle.estimator.specs.Displacement.{displacementOf};
+ghost use Rattle.tdcp.specs.Displacement.{displacementOf};
 ghost use Rattle.trials.specs.Carriers.{sixIn, usedOf};
-use estimator::displacement::Displacement;
-use estimator::displacement::Settings;
-use estimator::displacement::delta_position;
 use numeric::vec3::Vec3;
 use records::record::Carrier;
 use records::record::Epoch;
+use tdcp::displacement::Displacement;
+use tdcp::displacement::Settings;
+use tdcp::displacement::delta_position;
 
 // How many pairs a displacement of zero rounds uses of six carriers in this state at either epoch, 0 where it is refused.
 fn used_in(state: i32) -> usize

@@ -2,10 +2,10 @@
 ghost use mathlib.Core.Path.{_≡_};
 ghost use mathlib.Core.Bool.{true};
 ghost use Rattle.exact.specs.Float.{whole};
-ghost use Rattle.table.specs.Query.{queryOf};
+ghost use Rattle.query.specs.Query.{queryOf};
 ghost use Rattle.trials.specs.Marked.{twoSamples};
-use table::query::Correction;
-use table::query::query;
+use query::query::Correction;
+use query::query::query;
 
 // The correction at 15 s of samples (10 s, 1 m), (20 s, 3 m).
 fn half_way(gap: f64) -> Correction

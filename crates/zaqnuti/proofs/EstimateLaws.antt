@@ -11,24 +11,25 @@ use Rattle.numeric.specs.declared.refusal.Refusal.the-variants.{TooMany}
 use Rattle.numeric.specs.declared.vec3.Vec3.{Vec3}
 use Rattle.records.specs.Record.{Holds}
 use Rattle.records.specs.declared.record.Observations.{Observations}
-use Rattle.estimator.specs.Displacement as displacement
-use Rattle.estimator.specs.Displacement.{displacementOf}
-use Rattle.estimator.specs.Fix as fix
-use Rattle.estimator.specs.Fix.{fixOf, positionOf}
-use Rattle.estimator.specs.declared.displacement.Displacement.{Displacement}
-use Rattle.estimator.specs.declared.displacement.Displacement.the-variants as Displacement
-use Rattle.estimator.specs.declared.fix.Fix.{Fix}
-use Rattle.estimator.specs.declared.fix.Fix.the-variants as Fix
-use Rattle.estimator.specs.declared.displacement.Delta.{Delta}
-use Rattle.estimator.specs.declared.displacement.Settings.{Settings as DisplacementSettings}
-use Rattle.estimator.specs.declared.fix.Solution.{Solution}
-use Rattle.estimator.specs.declared.fix.Settings.{Settings as FixSettings}
-use Rattle.estimator.proofs.DisplacementSound.{displacement-accepted}
-use Rattle.estimator.proofs.FixSound.{fix-accepted}
-use Rattle.estimator.proofs.CountedLaws.{displacement-many-rounds, fix-counted, fix-many-rounds}
+use Rattle.tdcp.specs.Displacement as displacement
+use Rattle.tdcp.specs.Displacement.{displacementOf, displacementNumber}
+use Rattle.wls.specs.Fix as fix
+use Rattle.wls.specs.Fix.{fixOf, positionOf, fixNumber, positionNumber}
+use Rattle.tdcp.specs.declared.displacement.Displacement.{Displacement}
+use Rattle.tdcp.specs.declared.displacement.Displacement.the-variants as Displacement
+use Rattle.wls.specs.declared.fix.Fix.{Fix}
+use Rattle.wls.specs.declared.fix.Fix.the-variants as Fix
+use Rattle.tdcp.specs.declared.displacement.Delta.{Delta}
+use Rattle.tdcp.specs.declared.displacement.Settings.{Settings as DisplacementSettings}
+use Rattle.wls.specs.declared.fix.Solution.{Solution}
+use Rattle.wls.specs.declared.fix.Settings.{Settings as FixSettings}
+use Rattle.tdcp.proofs.DisplacementSound.{displacement-accepted}
+use Rattle.wls.proofs.FixSound.{fix-accepted}
+use Rattle.tdcp.proofs.CountedLaws.{displacement-many-rounds}
+use Rattle.wls.proofs.CountedLaws.{fix-counted, fix-many-rounds}
 use Rattle.records.specs.Carriers.{CarrierColumns, epochFits}
 use Rattle.zaqnuti.specs.Columns.{ObservationColumns, observationAt, observationsOf, observationsFit}
-use Rattle.zaqnuti.specs.Estimates.{displacementSettings, displacementInput, columnDisplacementOf, displacementNumber, deltaAfter, countsAfter, DisplacementAnswers, fixSettings, fixInput, columnFixOf, fixNumber, solutionAfter, usedAfter, FixAnswers, positionNumber, positionAfter, PositionAnswers}
+use Rattle.zaqnuti.specs.Estimates.{displacementSettings, displacementInput, columnDisplacementOf, deltaAfter, countsAfter, DisplacementAnswers, fixSettings, fixInput, columnFixOf, solutionAfter, usedAfter, FixAnswers, positionAfter, PositionAnswers}
 use Rattle.zaqnuti.proofs.ColumnLaws.{held-count, held-all}
 
 -- ---- a displacement
@@ -73,7 +74,7 @@ module _ (p : CarrierColumns) (m : ℕ) (c : CarrierColumns) (n : ℕ) (dt : Flo
       go false e = absurd (not-moved v e)
 
   -- the contract's parts, from the answer d that was given
-  pub displacement-answers : {d : Displacement} {number : ℕ} {delta₀ delta : List Float} {counts₀ counts : List ℕ} → d ≡ columnDisplacementOf p m c n dt receiver settings → number ≡ displacementNumber d → delta ≡ deltaAfter d delta₀ → counts ≡ countsAfter d counts₀
+  pub displacement-answers : {d : Displacement} {number : ℕ} {delta₀ delta : List ℕ} {counts₀ counts : List ℕ} → d ≡ columnDisplacementOf p m c n dt receiver settings → number ≡ displacementNumber d → delta ≡ deltaAfter d delta₀ → counts ≡ countsAfter d counts₀
       → DisplacementAnswers (displacementInput p m c n dt receiver settings) (columnDisplacementOf p m c n dt receiver settings) number delta₀ delta counts₀ counts
   displacement-answers {delta₀ = delta₀} {counts₀ = counts₀} q a b e =
       record {
@@ -122,7 +123,7 @@ module _ (c : ObservationColumns) (n : ℕ) (guess : Vec3) (settings : FixSettin
       go true e = fix-accepted (fixInput c n guess settings) v e
       go false e = absurd (not-at v e)
 
-  pub fix-answers : {f : Fix} {number : ℕ} {solution₀ solution : List Float} {used₀ used : ℕ} → f ≡ columnFixOf c n guess settings → number ≡ fixNumber f → solution ≡ solutionAfter f solution₀ → used ≡ usedAfter f used₀
+  pub fix-answers : {f : Fix} {number : ℕ} {solution₀ solution : List ℕ} {used₀ used : ℕ} → f ≡ columnFixOf c n guess settings → number ≡ fixNumber f → solution ≡ solutionAfter f solution₀ → used ≡ usedAfter f used₀
       → FixAnswers (fixInput c n guess settings) (columnFixOf c n guess settings) number solution₀ solution used₀ used
   fix-answers {solution₀ = solution₀} {used₀ = used₀} q a b e =
       record {
@@ -132,7 +133,7 @@ module _ (c : ObservationColumns) (n : ℕ) (guess : Vec3) (settings : FixSettin
         accepted = at-accepted;
       }
 
-  pub position-answers : {f : Fix} {number : ℕ} {position₀ position : List Float} → f ≡ columnFixOf c n guess settings → number ≡ positionNumber (positionOf f) → position ≡ positionAfter (positionOf f) position₀
+  pub position-answers : {f : Fix} {number : ℕ} {position₀ position : List ℕ} → f ≡ columnFixOf c n guess settings → number ≡ positionNumber (positionOf f) → position ≡ positionAfter (positionOf f) position₀
       → PositionAnswers (fixInput c n guess settings) (columnFixOf c n guess settings) number position₀ position
   position-answers {position₀ = position₀} q a b =
       record {

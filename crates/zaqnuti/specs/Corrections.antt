@@ -7,33 +7,19 @@ use mathlib.Core.Path.{_≡_}
 use lib.ListN.{length, getD, take}
 use lib.Ieee.{Float, nan}
 use Rattle.walk.specs.Walk.{places}
-use Rattle.numeric.specs.Refusal.{numberOf}
+use Rattle.numeric.specs.Order.{patternOf}
 use Rattle.numeric.specs.declared.vec3.Vec3.{Vec3}
 use Rattle.numeric.specs.declared.refusal.Refusal.the-variants.{TooMany}
-use Rattle.table.specs.Query.{metresAfter}
-use Rattle.table.specs.Queries.{Reply, refusal, answers, placesAfter, numberAfter, AllFinite}
-use Rattle.table.specs.Add.{Outcome, refused, added, columnAfter}
+use Rattle.table.specs.Add.{Outcome, refused}
 use Rattle.table.specs.declared.sample.Sample.{Sample}
+use Rattle.query.specs.declared.query.Correction.{Correction}
+use Rattle.query.specs.declared.query.Correction.the-variants as Correction
 use Rattle.differential.specs.AddEpoch.{addedOf}
 use Rattle.differential.specs.declared.record.Range.{Range}
 use Rattle.differential.specs.declared.record.BaseEpoch.{BaseEpoch}
 use Rattle.differential.specs.declared.record.State.{State}
 use Rattle.differential.specs.declared.record.States.{States}
 use Rattle.differential.specs.declared.record.Settings.{Settings}
-
--- ---- many queries
-
--- 0, or the number of the refusal of the whole call
-abbrev pub replyNumber : Reply → ℕ
-replyNumber (refusal r) = numberOf r
-replyNumber (answers l) = 0
-
--- the number and the columns of numbers and metres afterwards are those of the reply, and every correction given is finite
-pub record Answers (o : Reply) (r : ℕ) (numbers : List ℕ) (metres : List Float) (numbers′ : List ℕ) (metres′ : List Float) : Type 0 where
-  pub number : r ≡ replyNumber o
-  pub numbers-after : numbers′ ≡ placesAfter numberAfter o numbers
-  pub metres-after : metres′ ≡ placesAfter metresAfter o metres
-  pub all-finite : AllFinite o
 
 -- ---- an epoch
 
@@ -57,46 +43,26 @@ stateAt cs vs bs fs i =
       modelled = getD fs (i * 8 + 7) nan;
     }
 
-abbrev pub statesOf : Bool → ℕ → List ℕ → List ℕ → List ℕ → List Float → States
-statesOf present m cs vs bs fs = record { present = present; count = m; states = places (stateAt cs vs bs fs) m }
+abbrev pub statesIn : Bool → ℕ → List ℕ → List ℕ → List ℕ → List Float → States
+statesIn present m cs vs bs fs = record { present = present; count = m; states = places (stateAt cs vs bs fs) m }
 
--- three floats as a place
-abbrev pub placeOf : List Float → Vec3
-placeOf p = record { x = getD p 0 nan; y = getD p 1 nan; z = getD p 2 nan }
+-- three floats as a point
+abbrev pub pointOf : List Float → Vec3
+pointOf p = record { x = getD p 0 nan; y = getD p 1 nan; z = getD p 2 nan }
 
 abbrev pub settingsOf : Float → Float → List Bool → Settings
 settingsOf gap max on = record { «max_gap» = gap; «max_correction» = max; constellations = on }
 
 -- number 2: a lent column is shorter than the k ranges or m states need
-unfoldable pub short : ℕ → List ℕ → List ℕ → List ℕ → List Float → ℕ → List ℕ → List ℕ → List ℕ → List Float → Bool
-short k rc rv rb rp m sc sv sb sf =
+unfoldable pub recordsShort : ℕ → List ℕ → List ℕ → List ℕ → List Float → ℕ → List ℕ → List ℕ → List ℕ → List Float → Bool
+recordsShort k rc rv rb rp m sc sv sb sf =
     ltb (length rc) k || ltb (length rv) k || ltb (length rb) k || ltb (length rp) k || ltb (length sc) m || ltb (length sv) m || ltb (length sb) m || ltb (length sf) (m * 8)
 
 -- the epoch and the states that the columns hold, added; states are not looked at under the mark that there are none
 unfoldable pub entryOf : ℕ → ℕ → List Sample → Float → ℕ → List ℕ → List ℕ → List ℕ → List Float → Bool → ℕ → List ℕ → List ℕ → List ℕ → List Float → Vec3 → Vec3 → Settings → Outcome
 entryOf n room t time k rc rv rb rp present m sc sv sb sf base rover set =
-    cond (short k rc rv rb rp (cond present m 0) sc sv sb sf) (refused TooMany)
-    (addedOf n room t (epochOf time k rc rv rb rp) (statesOf present m sc sv sb sf) base rover set)
-
--- 0, or the number of the refusal
-abbrev pub outcomeNumber : Outcome → ℕ
-outcomeNumber (refused r) = numberOf r
-outcomeNumber (added t) = 0
-
--- the lent count afterwards
-abbrev pub countAfter : Outcome → ℕ → ℕ
-countAfter (refused r) n = n
-countAfter (added t) n = length t
-
--- the number, the count and the columns afterwards are those of the outcome
-pub record Enters (o : Outcome) (r : ℕ) (cs vs bs : List ℕ) (ts xs : List Float) (n : ℕ) (cs′ vs′ bs′ : List ℕ) (ts′ xs′ : List Float) (n′ : ℕ) : Type 0 where
-  pub number : r ≡ outcomeNumber o
-  pub count : n′ ≡ countAfter o n
-  pub constellations : cs′ ≡ columnAfter (λ (s : Sample). s .constellation) o cs
-  pub svids : vs′ ≡ columnAfter (λ (s : Sample). s .svid) o vs
-  pub bands : bs′ ≡ columnAfter (λ (s : Sample). s .band) o bs
-  pub times : ts′ ≡ columnAfter (λ (s : Sample). s .time) o ts
-  pub corrections : xs′ ≡ columnAfter (λ (s : Sample). s .correction) o xs
+    cond (recordsShort k rc rv rb rp (cond present m 0) sc sv sb sf) (refused TooMany)
+    (addedOf n room t (epochOf time k rc rv rb rp) (statesIn present m sc sv sb sf) base rover set)
 
 -- ---- what the contracts of the steps say
 
@@ -111,3 +77,10 @@ pub record StatesRead (present : Bool) (m : ℕ) (l : List State) (s : States) :
   pub mark : s .present ≡ present
   pub count : s .count ≡ m
   pub states-are : take m (s .states) ≡ l
+
+-- ---- a query
+
+-- the pattern of the correction in metres; a refusal leaves what was lent, to the last bit
+abbrev pub patternAfter : Correction → ℕ → ℕ
+patternAfter (Correction.Refused r) before = before
+patternAfter (Correction.Metres x) before = patternOf x

@@ -1,4 +1,4 @@
--- What an entry point answers: 0, or document 01's number of the refusal. Definitions only.
+-- What an entry point answers: 0, or the number of the refusal (docs/SCOPE.md, "Why a call turns back"). Definitions only.
 use Prim.Native.Nat.{ℕ}
 use mathlib.Core.Path.{_≡_}
 use mathlib.Core.Bool.{cond}
@@ -8,8 +8,6 @@ use Rattle.numeric.specs.Refusal.{numberOf}
 use Rattle.numeric.specs.declared.refusal.Refusal.the-variants.{TooMany, FitFailed}
 use Rattle.cholesky.specs.Factor.{Factored, Refused, Lower}
 use Rattle.numeric.specs.declared.sight.Sight.{Sight}
-use Rattle.median.specs.declared.centre.Centre.{Centre}
-use Rattle.median.specs.declared.centre.Centre.the-variants as Centre
 use Rattle.robust.specs.Step.{Stepped, refused, stepOf}
 use Rattle.robust.specs.declared.round.Stepping.{Stepping}
 use Rattle.robust.specs.declared.round.Stepping.the-variants as Stepping
@@ -19,15 +17,6 @@ use Rattle.zaqnuti.specs.Columns.{RowColumns, rowsFrom, rowsFit}
 abbrev pub factorNumber : Factored → ℕ
 factorNumber Refused = numberOf FitFailed
 factorNumber (Lower l) = 0
-
-abbrev pub centreNumber : Centre → ℕ
-centreNumber (Centre.Refused r) = numberOf r
-centreNumber (Centre.Of c) = 0
-
--- what the lent floats hold after a centre: centre and scale, or what they held
-abbrev pub centreAfter : Centre → List Float → List Float
-centreAfter (Centre.Refused r) before = before
-centreAfter (Centre.Of c) before = c .centre ∷ c .scale ∷ []
 
 -- what a round called by itself answers
 abbrev pub stepNumber : Stepping → ℕ

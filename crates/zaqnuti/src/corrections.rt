@@ -4,24 +4,25 @@ ghost use mathlib.Core.Bool.{cond};
 ghost use Prim.Native.Nat.{_*_, _≤_};
 ghost use lib.ListN.{length, take};
 ghost use Rattle.walk.specs.Walk.{places};
-ghost use Rattle.table.specs.Table.{capacity, tableOf};
-ghost use Rattle.table.specs.Query.{queryOf, queryNumber, metresAfter, GivesFinite};
-ghost use Rattle.table.specs.Queries.{queriesOf};
-ghost use Rattle.table.specs.Add.{Adds};
-ghost use Rattle.zaqnuti.specs.Corrections.{rangeAt, stateAt, placeOf, settingsOf, short, entryOf, EpochRead, StatesRead, Answers, Enters};
+ghost use Rattle.table.specs.Table.{lent, capacity, tableOf};
+ghost use Rattle.query.specs.Query.{queryOf, queryNumber, GivesFinite};
+ghost use Rattle.query.specs.Queries.{queriesOf, Replies};
+ghost use Rattle.table.specs.Add.{addingOf, addingNumber, countAfter, Adds};
+ghost use Rattle.zaqnuti.specs.Corrections.{rangeAt, stateAt, pointOf, settingsOf, recordsShort, entryOf, EpochRead, StatesRead, patternAfter};
 use differential::add_epoch::add_epoch;
 use differential::record::BaseEpoch;
 use differential::record::Range;
 use differential::record::Settings;
 use differential::record::State;
 use differential::record::States;
+use numeric::order::pattern;
 use numeric::refusal::Refusal;
 use numeric::vec3::Vec3;
+use query::queries::Asking;
+use query::queries::queries;
+use query::query::Correction;
+use query::query::query;
 use table::add::Adding;
-use table::queries::Asking;
-use table::queries::queries;
-use table::query::Correction;
-use table::query::query;
 
 // The correction of the signal c, v, b at the time t in metres and 0, or the number of the refusal, which leaves metres as it was.
 #[no_mangle]
@@ -37,20 +38,17 @@ pub extern "C" fn zaqnuti_query(
     v: u16,
     b: u8,
     t: f64,
-    metres: &mut f64,
+    metres: &mut u64,
 ) -> u8
-    ensures { λ r. ⌜ (r ≡ queryNumber (queryOf n (capacity (now (cs .entry)) (now (vs .entry)) (now (bs .entry)) (now (ts .entry)) (now (xs .entry)))
-        (tableOf n (now (cs .entry)) (now (vs .entry)) (now (bs .entry)) (now (ts .entry)) (now (xs .entry))) gap c v b t))
-        × (now (metres .exit) ≡ metresAfter (queryOf n (capacity (now (cs .entry)) (now (vs .entry)) (now (bs .entry)) (now (ts .entry)) (now (xs .entry)))
-        (tableOf n (now (cs .entry)) (now (vs .entry)) (now (bs .entry)) (now (ts .entry)) (now (xs .entry))) gap c v b t) (now (metres .entry)))
-        × GivesFinite (queryOf n (capacity (now (cs .entry)) (now (vs .entry)) (now (bs .entry)) (now (ts .entry)) (now (xs .entry)))
-        (tableOf n (now (cs .entry)) (now (vs .entry)) (now (bs .entry)) (now (ts .entry)) (now (xs .entry))) gap c v b t) ⌝ }
+    ensures { λ r. ⌜ (let l = lent (now (cs .entry)) (now (vs .entry)) (now (bs .entry)) (now (ts .entry)) (now (xs .entry)) in
+        let q = queryOf n (capacity l) (tableOf n l) gap c v b t in
+        (r ≡ queryNumber q) × (now (metres .exit) ≡ patternAfter q (now (metres .entry))) × GivesFinite q) ⌝ }
 {
     let answer = query(cs, vs, bs, ts, xs, n, gap, c, v, b, t);
     match answer {
         Correction::Refused(r) => r.number(),
         Correction::Metres(x) => {
-            *metres = x;
+            *metres = pattern(x);
             0
         }
     }
@@ -75,10 +73,9 @@ pub extern "C" fn zaqnuti_queries(
     numbers: &mut [u8],
     metres: &mut [f64],
 ) -> u8
-    ensures { λ r. ⌜ Answers (queriesOf n (capacity (now (cs .entry)) (now (vs .entry)) (now (bs .entry)) (now (ts .entry)) (now (xs .entry)))
-        (tableOf n (now (cs .entry)) (now (vs .entry)) (now (bs .entry)) (now (ts .entry)) (now (xs .entry))) gap
-        (now (c .entry)) (now (v .entry)) (now (b .entry)) (now (t .entry)) count (now (numbers .entry)) (now (metres .entry))) r
-        (now (numbers .entry)) (now (metres .entry)) (now (numbers .exit)) (now (metres .exit)) ⌝ }
+    ensures { λ r. ⌜ (let l = lent (now (cs .entry)) (now (vs .entry)) (now (bs .entry)) (now (ts .entry)) (now (xs .entry)) in
+        Replies (queriesOf n (capacity l) (tableOf n l) gap (now (c .entry)) (now (v .entry)) (now (b .entry)) (now (t .entry)) count (now (numbers .entry)) (now (metres .entry))) r
+        (now (numbers .entry)) (now (metres .entry)) (now (numbers .exit)) (now (metres .exit))) ⌝ }
 {
     let answer = queries(
         cs,
@@ -202,7 +199,7 @@ fn is_short(
     sf: &[f64],
 ) -> bool
     requires { ⌜ m ≤ 64 ⌝ }
-    ensures { λ r. ⌜ r ≡ short k (now (rc .entry)) (now (rv .entry)) (now (rb .entry)) (now (rp .entry)) m (now (sc .entry)) (now (sv .entry)) (now (sb .entry)) (now (sf .entry)) ⌝ }
+    ensures { λ r. ⌜ r ≡ recordsShort k (now (rc .entry)) (now (rv .entry)) (now (rb .entry)) (now (rp .entry)) m (now (sc .entry)) (now (sv .entry)) (now (sb .entry)) (now (sf .entry)) ⌝ }
 {
     (rc.len() < k)
         | (rv.len() < k)
@@ -245,12 +242,11 @@ fn add_from(
     rover: Vec3,
     settings: Settings,
 ) -> Adding
-    ensures { λ r. ⌜ Adds (entryOf n (capacity (now (cs .entry)) (now (vs .entry)) (now (bs .entry)) (now (ts .entry)) (now (xs .entry)))
-        (tableOf n (now (cs .entry)) (now (vs .entry)) (now (bs .entry)) (now (ts .entry)) (now (xs .entry))) time
+    ensures { λ r. ⌜ (let l = lent (now (cs .entry)) (now (vs .entry)) (now (bs .entry)) (now (ts .entry)) (now (xs .entry)) in
+        let o = entryOf n (capacity l) (tableOf n l) time
         k (now (rc .entry)) (now (rv .entry)) (now (rb .entry)) (now (rp .entry))
-        present m (now (sc .entry)) (now (sv .entry)) (now (sb .entry)) (now (sf .entry)) base rover settings) r
-        (now (cs .entry)) (now (vs .entry)) (now (bs .entry)) (now (ts .entry)) (now (xs .entry))
-        (now (cs .exit)) (now (vs .exit)) (now (bs .exit)) (now (ts .exit)) (now (xs .exit)) ⌝ }
+        present m (now (sc .entry)) (now (sv .entry)) (now (sb .entry)) (now (sf .entry)) base rover settings in
+        (r ≡ addingOf o) × Adds o (addingNumber r) n (countAfter r n) l (lent (now (cs .exit)) (now (vs .exit)) (now (bs .exit)) (now (ts .exit)) (now (xs .exit)))) ⌝ }
 {
     let w = wanted(present, m);
     if (64 < k) | (64 < w) {
@@ -292,13 +288,12 @@ pub extern "C" fn zaqnuti_add_epoch(
     max: f64,
     on: &[bool; 8],
 ) -> u8
-    ensures { λ r. ⌜ Enters (entryOf (now (n .entry)) (capacity (now (cs .entry)) (now (vs .entry)) (now (bs .entry)) (now (ts .entry)) (now (xs .entry)))
-        (tableOf (now (n .entry)) (now (cs .entry)) (now (vs .entry)) (now (bs .entry)) (now (ts .entry)) (now (xs .entry))) time
+    ensures { λ r. ⌜ (let l = lent (now (cs .entry)) (now (vs .entry)) (now (bs .entry)) (now (ts .entry)) (now (xs .entry)) in
+        Adds (entryOf (now (n .entry)) (capacity l) (tableOf (now (n .entry)) l) time
         k (now (rc .entry)) (now (rv .entry)) (now (rb .entry)) (now (rp .entry))
         present m (now (sc .entry)) (now (sv .entry)) (now (sb .entry)) (now (sf .entry))
-        (placeOf (now (base .entry))) (placeOf (now (rover .entry))) (settingsOf gap max (now (on .entry)))) r
-        (now (cs .entry)) (now (vs .entry)) (now (bs .entry)) (now (ts .entry)) (now (xs .entry)) (now (n .entry))
-        (now (cs .exit)) (now (vs .exit)) (now (bs .exit)) (now (ts .exit)) (now (xs .exit)) (now (n .exit)) ⌝ }
+        (pointOf (now (base .entry))) (pointOf (now (rover .entry))) (settingsOf gap max (now (on .entry)))) r
+        (now (n .entry)) (now (n .exit)) l (lent (now (cs .exit)) (now (vs .exit)) (now (bs .exit)) (now (ts .exit)) (now (xs .exit)))) ⌝ }
 {
     let b = *base;
     let r = *rover;

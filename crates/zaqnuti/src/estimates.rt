@@ -1,4 +1,4 @@
-// Entry points of the displacement and the fix.
+// Entry points of the displacement and the fix. What a caller lends as doubles is taken as their patterns, so that a refusal is promised to leave every bit.
 ghost use mathlib.Core.Path.{_≡_};
 ghost use Prim.Native.Nat.{min};
 ghost use Rattle.records.specs.Carriers.{vectorAt, carrierColumns};
@@ -8,13 +8,14 @@ use crate::columns::epoch_fits;
 use crate::columns::observations_fit;
 use crate::columns::observations_of;
 use crate::columns::vector;
-use estimator::displacement::Displacement;
-use estimator::displacement::Settings as DisplacementSettings;
-use estimator::displacement::delta_in;
-use estimator::fix::Fix;
-use estimator::fix::Settings as FixSettings;
-use estimator::fix::solve_full;
+use numeric::order::pattern;
 use numeric::refusal::Refusal;
+use tdcp::displacement::Displacement;
+use tdcp::displacement::Settings as DisplacementSettings;
+use tdcp::displacement::delta_in;
+use wls::fix::Fix;
+use wls::fix::Settings as FixSettings;
+use wls::fix::solve_full;
 
 // The rounds as an estimator takes them: from 51 on they are refused alike.
 pub(crate) fn rounds_of(rounds: usize) -> u32
@@ -72,7 +73,7 @@ pub extern "C" fn zaqnuti_displacement(
     receiver: &[f64; 3],
     settings: &[f64; 5],
     rounds: usize,
-    delta: &mut [f64; 3],
+    delta: &mut [u64; 3],
     counts: &mut [usize; 2],
 ) -> u8
     ensures { λ r. ⌜ spec.DisplacementAnswers
@@ -122,7 +123,10 @@ pub extern "C" fn zaqnuti_displacement(
     match answer {
         Displacement::Moved(d) => {
             let v = d.delta;
-            *delta = [v.x, v.y, v.z];
+            let x = pattern(v.x);
+            let y = pattern(v.y);
+            let z = pattern(v.z);
+            *delta = [x, y, z];
             *counts = [d.used, d.screened];
             0
         }
@@ -159,7 +163,7 @@ pub extern "C" fn zaqnuti_fix(
     guess: &[f64; 3],
     settings: &[f64; 4],
     rounds: usize,
-    solution: &mut [f64; 5],
+    solution: &mut [u64; 5],
     used: &mut usize,
 ) -> u8
     ensures { λ r. ⌜ spec.FixAnswers
@@ -171,7 +175,12 @@ pub extern "C" fn zaqnuti_fix(
     match answer {
         Fix::At(f) => {
             let p = f.position;
-            *solution = [p.x, p.y, p.z, f.chi, f.pdop];
+            let x = pattern(p.x);
+            let y = pattern(p.y);
+            let z = pattern(p.z);
+            let chi = pattern(f.chi);
+            let pdop = pattern(f.pdop);
+            *solution = [x, y, z, chi, pdop];
             *used = f.used;
             0
         }
@@ -188,7 +197,7 @@ pub extern "C" fn zaqnuti_position(
     guess: &[f64; 3],
     settings: &[f64; 4],
     rounds: usize,
-    position: &mut [f64; 3],
+    position: &mut [u64; 3],
 ) -> u8
     ensures { λ r. ⌜ spec.PositionAnswers
         (spec.fixInput (observationColumns (now (constellation .entry)) (now (floats .entry))) count (vectorAt (now (guess .entry)) 0) (spec.fixSettings (now (settings .entry)) rounds))
@@ -199,7 +208,10 @@ pub extern "C" fn zaqnuti_position(
     match answer {
         Fix::At(f) => {
             let p = f.position;
-            *position = [p.x, p.y, p.z];
+            let x = pattern(p.x);
+            let y = pattern(p.y);
+            let z = pattern(p.z);
+            *position = [x, y, z];
             0
         }
         Fix::Refused(r) => r.number(),

@@ -1,11 +1,11 @@
 // Entry points of the centre, the line of sight, the one-sigma and the round.
 ghost use mathlib.Core.Path.{_≡_};
-ghost use Rattle.median.specs.Centre.{centreScaleOf};
+ghost use Rattle.median.specs.Centre.{centreScaleOf, centreNumber, centreAfter};
 ghost use Rattle.numeric.specs.Sight as sight;
 ghost use Rattle.robust.specs.Sigma.{elevationSigma};
 ghost use Rattle.records.specs.Carriers.{vectorAt};
 ghost use Rattle.zaqnuti.specs.Columns.{rowColumns};
-ghost use Rattle.zaqnuti.specs.Numbers.{centreNumber, centreAfter, sightAfter, columnStepOf, StepAnswers};
+ghost use Rattle.zaqnuti.specs.Numbers.{sightAfter, columnStepOf, StepAnswers};
 use crate::columns::rows_fit;
 use crate::columns::rows_of;
 use crate::columns::vector;

@@ -1,6 +1,6 @@
 //! The functions of the crate `libm` that the published `math/real.rs` names.
 //!
-//! The root and `hypot` are document 01's stand-ins. The others are `std`'s: no compared service
+//! The root and `hypot` are the stand-ins of docs/SCOPE.md. The others are `std`'s: no compared service
 //! reaches them.
 
 use standins::StandIn;

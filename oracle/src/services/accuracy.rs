@@ -15,7 +15,6 @@ pub const SERVICE: Service = Service {
     count: 100_000,
     compare,
     bench: None,
-    vectors: None,
 };
 
 /// 1 in units of 2^-1074.

@@ -16,7 +16,6 @@ pub const SERVICE: Service = Service {
     count: 2_000_000,
     compare,
     bench: Some(time),
-    vectors: Some(vectors),
 };
 
 /// How many residuals a call takes.
@@ -128,7 +127,7 @@ fn time(random: &mut Random) {
 }
 
 /// How many residuals, their patterns, number, centre, scale (zeros where refused).
-fn vectors(random: &mut Random) -> Vectors {
+pub fn vectors(random: &mut Random) -> Vectors {
     let lengths = [0, 1, 2, 3, 4, 5, MOST - 1, MOST, MOST + 1];
     let one = |k: usize| {
         let length = match lengths.get(k) {
@@ -140,14 +139,9 @@ fn vectors(random: &mut Random) -> Vectors {
             0..=MOST => (0, reference(&residuals)),
             _ => (TOO_MANY, [0.0; 2]),
         };
-        let mut case = vec![length as u64];
-        case.extend(residuals);
-        case.push(u64::from(number));
-        case.extend(answer.map(pattern));
-        case
+        let given = [length as u64].into_iter().chain(residuals).collect();
+        let [centre, scale] = answer.map(pattern);
+        (given, vec![u64::from(number), centre, scale])
     };
-    Vectors {
-        cases: (0..40).map(one).collect(),
-        answer: 3,
-    }
+    Vectors::of((0..40).map(one).collect())
 }

@@ -4,6 +4,7 @@ use super::Service;
 use crate::ffi;
 use crate::random::Random;
 use crate::tally::Tally;
+use crate::vectors::Vectors;
 use drifters_gnss::robust::Clocks;
 
 pub const SERVICE: Service = Service {
@@ -11,7 +12,6 @@ pub const SERVICE: Service = Service {
     count: 4_000_000,
     compare,
     bench: None,
-    vectors: None,
 };
 
 /// A state: the slots of eight constellations, and how many are given.
@@ -63,10 +63,22 @@ fn ours((mut slot, mut count): State, list: &[u8]) -> State {
     (slot, count)
 }
 
-/// The Rust's state after some constellations.
+/// The loop of the Rust from any state.
 fn theirs((slot, count): State, list: &[u8]) -> State {
     let after = Clocks { slot, count }.assign_more(list.iter().copied());
     (after.slot, after.count)
+}
+
+/// The Rust's state after some constellations; a count above 7 hands the state back, where the Rust goes on.
+fn reference(before: State, given: &[u8]) -> State {
+    if before.1 > 7 {
+        before
+    } else if before == NONE {
+        let all = Clocks::assign(given.iter().copied());
+        (all.slot, all.count)
+    } else {
+        theirs(before, given)
+    }
 }
 
 fn compare(tally: &mut Tally, random: &mut Random, count: u64) {
@@ -77,16 +89,8 @@ fn compare(tally: &mut Tally, random: &mut Random, count: u64) {
         } else {
             (state(random), vec![constellation(random)])
         };
-        // A count above 7 hands the state back, where the Rust goes on.
-        let expected = if before.1 > 7 {
-            unchanged += 1;
-            before
-        } else if before == NONE {
-            let all = Clocks::assign(given.iter().copied());
-            (all.slot, all.count)
-        } else {
-            theirs(before, &given)
-        };
+        let expected = reference(before, &given);
+        unchanged += u64::from(before.1 > 7);
         full += u64::from(before == NONE && expected.1 > 6);
         // Our beginning overwrites whatever the state held.
         let mut begun = state(random);
@@ -111,4 +115,32 @@ fn compare(tally: &mut Tally, random: &mut Random, count: u64) {
     tally.note(format!(
         "{full} lists of seven slots or more, {unchanged} states with a count above 7"
     ));
+}
+
+/// The numbers of a state.
+fn numbers((slot, count): State) -> impl Iterator<Item = u64> {
+    slot.into_iter().chain([count]).map(|n| n as u64)
+}
+
+/// 1 where the state is that of none given, else 0, slot 8, count, how many constellations, each of them, one that is asked for; slot 8 and
+/// count afterwards, the slot that is asked for, the unknowns.
+pub fn vectors(random: &mut Random) -> Vectors {
+    let one = |place: usize| {
+        let (before, list) = if place % 2 == 0 {
+            (NONE, list(random))
+        } else {
+            (state(random), vec![constellation(random)])
+        };
+        let asked = constellation(random);
+        let (slot, count) = reference(before, &list);
+        let mut given = vec![u64::from(before == NONE)];
+        given.extend(numbers(before));
+        given.push(list.len() as u64);
+        given.extend(list.iter().chain([&asked]).map(|&c| u64::from(c)));
+        let clocks = Clocks { slot, count };
+        let mut answer: Vec<u64> = numbers((slot, count)).collect();
+        answer.extend([clocks.slot(asked), count.wrapping_add(3)].map(|n| n as u64));
+        (given, answer)
+    };
+    Vectors::of((0..100).map(one).collect())
 }

@@ -1,13 +1,13 @@
 //! Corrections: sessions of base epochs and queries against the published `build` and `at`, the whole table after each epoch.
 
 pub mod lent;
+pub mod stored;
 
 use self::lent::{floats, in_range, Asked, Columns, Epoch, Out, Table};
 use super::Service;
 use crate::bench;
-use crate::random::{pattern, Random};
+use crate::random::Random;
 use crate::tally::Tally;
-use crate::vectors::{raw, Vectors};
 use drifters_gnss::differential::{build, Corrections, SatelliteState, Settings};
 use drifters_gnss::rinex::{Base, BaseEpoch, BaseRange};
 use std::collections::BTreeMap;
@@ -18,7 +18,6 @@ pub const SERVICE: Service = Service {
     count: 400_000,
     compare,
     bench: Some(time),
-    vectors: Some(vectors),
 };
 
 /// What the Rust builds of the epochs.
@@ -620,161 +619,4 @@ fn time(random: &mut Random) {
             },
         );
     }
-}
-
-/// How many samples a lent table of a case has room for.
-const ROOM: usize = 32;
-
-/// The rows of a table: constellation, svid, band, time, correction.
-fn rows(t: &Table) -> Vec<u64> {
-    (0..t.n.min(ROOM))
-        .flat_map(|i| {
-            let signal = [u64::from(t.cs[i]), u64::from(t.vs[i]), u64::from(t.bs[i])];
-            signal
-                .into_iter()
-                .chain([t.ts[i].to_bits(), t.xs[i].to_bits()])
-        })
-        .collect()
-}
-
-/// A base, a rover, settings, and a table of what some epochs gave, zeros past its samples.
-fn session(random: &mut Random) -> Option<([f64; 3], [f64; 3], Settings, Vec<Epoch>, Table)> {
-    let base: [f64; 3] = [-2.7e6 + random.unit() * 1e5, -4.3e6, 3.85e6];
-    let rover: [f64; 3] = std::array::from_fn(|i| base[i] + random.unit() * 1e4);
-    let set = settings(random);
-    let empty = Table {
-        cs: vec![0; ROOM],
-        vs: vec![0; ROOM],
-        bs: vec![0; ROOM],
-        ts: vec![0.0; ROOM],
-        xs: vec![0.0; ROOM],
-        n: 0,
-    };
-    let count = random.place(4);
-    let epochs: Vec<Epoch> = (0..count).map(|_| epoch(random, base, false)).collect();
-    if epochs
-        .iter()
-        .any(|e| refusal(&empty, e, &base, &rover, &set) != 0)
-    {
-        return None;
-    }
-    let c = reference(&epochs, base, rover, &set);
-    (c.samples() <= ROOM).then(|| (base, rover, set, epochs, empty.with(&c.series)))
-}
-
-/// One float or row of a table that is spoilt, or one sample more than there is room for.
-fn spoil(random: &mut Random, t: &mut Table) {
-    match random.below(4) {
-        0 => t.n = ROOM + 1,
-        1 if t.n > 0 => t.ts[random.place(t.n)] = odd(random),
-        2 if t.n > 0 => t.xs[random.place(t.n)] = odd(random),
-        _ if t.n > 1 => t.vs.swap(0, random.place(t.n)),
-        _ => {}
-    }
-}
-
-/// An epoch: 0, samples, rows 5 each (32 at most), time, ranges, whether there are states, states, base 3, rover 3, gap, maximum, the enabled
-/// constellations as bits; of each range, of 64 at most, constellation, svid, band, pseudorange; of each state, of 64 at most, constellation, svid,
-/// band, position 3, velocity 3, clock, modelled; number, samples and rows afterwards.
-fn epoch_case(random: &mut Random) -> Option<(u8, Vec<u64>)> {
-    let (mut base, rover, mut set, mut epochs, whole) = session(random)?;
-    let e = epoch(random, base, false);
-    let mut table = whole.clone();
-    match random.below(8) {
-        0 => base[random.place(3)] = odd(random),
-        1 => set.max_correction = odd(random),
-        2 => spoil(random, &mut table),
-        _ => {}
-    }
-    let few = |n: usize| n <= 14 || n == 65;
-    if !(few(e.ranges.len()) && few(e.states.len())) {
-        return None;
-    }
-    let mut number = refusal(&table, &e, &base, &rover, &set);
-    let mut after = table.clone();
-    if number == 0 {
-        // Another base, another setting or another table is only for a call that is refused.
-        epochs.push(e.clone());
-        let old = reference(&epochs[..epochs.len() - 1], base, rover, &set);
-        if old.samples() > ROOM || table.bits() != whole.with(&old.series).bits() {
-            return None;
-        }
-        let c = reference(&epochs, base, rover, &set);
-        if c.samples() > ROOM {
-            number = 11;
-        } else {
-            after = table.with(&c.series);
-        }
-    }
-    let mut case = vec![0, table.n as u64];
-    case.extend(rows(&table));
-    case.extend([e.time.to_bits(), e.ranges.len() as u64]);
-    case.extend([u64::from(e.present), e.states.len() as u64]);
-    case.extend(raw(&base).chain(raw(&rover)));
-    case.extend(raw(&[set.max_gap, set.max_correction]));
-    let on = set.constellations.iter().enumerate();
-    case.push(on.map(|(c, &on)| u64::from(on) << c).sum());
-    for r in e.ranges.iter().take(64) {
-        case.extend([
-            u64::from(r.constellation),
-            u64::from(r.svid),
-            u64::from(r.band),
-        ]);
-        case.push(r.pseudorange.to_bits());
-    }
-    for s in e.states.iter().take(64) {
-        case.extend([
-            u64::from(s.constellation),
-            u64::from(s.svid),
-            u64::from(s.band),
-        ]);
-        case.extend(raw(&floats(s)));
-    }
-    case.extend([u64::from(number), after.n as u64]);
-    case.extend(rows(&after));
-    Some((number, case))
-}
-
-/// A query: 1, samples, rows 5 each (32 at most), gap, constellation, svid, band, time; number, metres (0 where refused).
-fn query_case(random: &mut Random) -> Option<(u8, Vec<u64>)> {
-    let (base, rover, set, epochs, whole) = session(random)?;
-    let mut table = whole.clone();
-    if random.below(8) == 0 {
-        spoil(random, &mut table);
-    }
-    let (key, time, gap) = question(random, &whole);
-    let theirs = Corrections {
-        max_gap: gap,
-        ..reference(&epochs, base, rover, &set)
-    }
-    .at(key.0, key.1, key.2, time);
-    let number = match theirs {
-        _ if table.n > ROOM => 2,
-        _ if !in_range(gap) => 3,
-        _ if !table.sound() || (time.is_finite() && !in_range(time)) => 4,
-        _ if table.bits() != whole.bits() => return None,
-        None => 12,
-        Some(_) => 0,
-    };
-    let metres = theirs.filter(|_| number == 0).unwrap_or(0.0);
-    let mut case = vec![1, table.n as u64];
-    case.extend(rows(&table));
-    case.extend([
-        gap.to_bits(),
-        u64::from(key.0),
-        u64::from(key.1),
-        u64::from(key.2),
-    ]);
-    case.extend([time.to_bits(), u64::from(number), pattern(metres)]);
-    Some((number, case))
-}
-
-/// Epochs and queries, each as its function says.
-fn vectors(random: &mut Random) -> Vectors {
-    let epochs = [(0, 18), (2, 3), (3, 2), (4, 5), (11, 3)];
-    let queries = [(0, 20), (2, 2), (3, 2), (4, 4), (12, 10)];
-    let mut out = Vectors::of_each(&epochs, 2, || epoch_case(random));
-    let asked = Vectors::of_each(&queries, 2, || query_case(random));
-    out.cases.extend(asked.cases);
-    out
 }

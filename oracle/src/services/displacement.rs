@@ -1,4 +1,4 @@
-//! The displacement, against `delta_position` within document 01's rules.
+//! The displacement, against `delta_position` within the rules of docs/SCOPE.md.
 
 use super::estimator::{self, turn_columns, Answer, Call as _};
 use super::Service;
@@ -7,7 +7,7 @@ use crate::ffi::{self, Carriers};
 use crate::line_form;
 use crate::random::Random;
 use crate::sky;
-use crate::vectors::{raw, Vectors};
+use crate::vectors::{of_each, raw, Case, Vectors};
 use std::hint::black_box;
 
 pub const SERVICE: Service = Service {
@@ -15,7 +15,6 @@ pub const SERVICE: Service = Service {
     count: 500_000,
     compare: estimator::compare::<3, 2, Call>,
     bench: Some(|random| estimator::time::<3, 2, Call>(random, "displacement", 768)),
-    vectors: Some(vectors),
 };
 
 /// A call as the library takes it.
@@ -106,7 +105,37 @@ const ROOM: usize = 64;
 
 /// dt, receiver 3, settings 5, rounds, how many previous records, how many current ones; of each record, of 64 an epoch at most, constellation,
 /// svid, band, state, adr, satellite 3, elevation, rate; number, used, screened, displacement 3 (zeros where refused).
-fn vectors(random: &mut Random) -> Vectors {
+fn case(random: &mut Random) -> Option<(u8, Case)> {
+    let input: Displacement = sky::input(random);
+    let call = Call::of(&input);
+    let (p, c) = (call.previous.columns.count, call.current.columns.count);
+    // Few records, but for the number of too many.
+    if p.max(c) > ROOM + 1 || (p + c > 40 && p.max(c) <= ROOM) {
+        return None;
+    }
+    let answer = input.answer();
+    let number = *answer.as_ref().err().unwrap_or(&0);
+    let (counts, delta) = match &answer {
+        Ok(d) => ([d.used, d.screened], [d.delta.x, d.delta.y, d.delta.z]),
+        Err(_) => ([0; 2], [0.0; 3]),
+    };
+    let mut given = vec![call.dt.to_bits()];
+    given.extend(raw(&call.receiver).chain(raw(&call.settings)));
+    given.extend([call.rounds, p, c].map(|n| n as u64));
+    for e in [&call.previous, &call.current] {
+        for k in 0..e.columns.count.min(ROOM) {
+            given.extend([u64::from(e.columns.constellation[k]), u64::from(e.svid[k])]);
+            given.extend([u64::from(e.band[k]), e.state[k] as u64]);
+            given.extend(raw(&e.columns.floats[6 * k..6 * k + 6]));
+        }
+    }
+    let mut stored = vec![u64::from(number)];
+    stored.extend(counts.map(|n| n as u64));
+    stored.extend(delta.map(f64::to_bits));
+    Some((number, (given, stored)))
+}
+
+pub fn vectors(random: &mut Random) -> Vectors {
     let wanted = [
         (0, 18),
         (2, 1),
@@ -118,35 +147,5 @@ fn vectors(random: &mut Random) -> Vectors {
         (9, 2),
         (10, 3),
     ];
-    Vectors::of_each(&wanted, 6, || {
-        let input: Displacement = sky::input(random);
-        let call = Call::of(&input);
-        let (p, c) = (call.previous.columns.count, call.current.columns.count);
-        let records = || input.previous.iter().chain(&input.current);
-        // Few records, but for the number of too many; and no state below -1, which is stored as all ones.
-        let long = p.max(c) > ROOM + 1 || (p + c > 40 && p.max(c) <= ROOM);
-        if long || records().any(|r| r.state < -1) {
-            return None;
-        }
-        let answer = input.answer();
-        let number = *answer.as_ref().err().unwrap_or(&0);
-        let (counts, delta) = match &answer {
-            Ok(d) => ([d.used, d.screened], [d.delta.x, d.delta.y, d.delta.z]),
-            Err(_) => ([0; 2], [0.0; 3]),
-        };
-        let mut case = vec![call.dt.to_bits()];
-        case.extend(raw(&call.receiver).chain(raw(&call.settings)));
-        case.extend([call.rounds, p, c].map(|n| n as u64));
-        for e in [&call.previous, &call.current] {
-            for k in 0..e.columns.count.min(ROOM) {
-                case.extend([u64::from(e.columns.constellation[k]), u64::from(e.svid[k])]);
-                case.extend([u64::from(e.band[k]), e.state[k] as u64]);
-                case.extend(raw(&e.columns.floats[6 * k..6 * k + 6]));
-            }
-        }
-        case.push(u64::from(number));
-        case.extend(counts.map(|n| n as u64));
-        case.extend(delta.map(f64::to_bits));
-        Some((number, case))
-    })
+    Vectors::of(of_each(&wanted, || case(random)))
 }

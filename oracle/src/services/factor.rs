@@ -15,7 +15,6 @@ pub const SERVICE: Service = Service {
     count: 1_000_000,
     compare,
     bench: Some(time),
-    vectors: Some(vectors),
 };
 
 /// The number of a refused pivot.
@@ -112,7 +111,7 @@ fn time(random: &mut Random) {
 }
 
 /// A matrix of 81, the number (0 or 10), the factor of 81 (zeros where refused).
-fn vectors(random: &mut Random) -> Vectors {
+pub fn vectors(random: &mut Random) -> Vectors {
     let mut numbers = Vec::new();
     let mut identity = [[0.0; 9]; 9];
     (0..9).for_each(|i| identity[i][i] = 1.0);

@@ -1,4 +1,4 @@
-//! The fix, against `solve_full` within document 01's rules, and the position alone, against the fix.
+//! The fix, against `solve_full` within the rules of docs/SCOPE.md, and the position alone, against the fix.
 
 use super::estimator::{self, turn_columns, Answer, Call as _};
 use super::Service;
@@ -7,7 +7,7 @@ use crate::ffi::{self, observations, Columns};
 use crate::random::{pattern, Random};
 use crate::sky;
 use crate::tally::hex;
-use crate::vectors::{raw, Vectors};
+use crate::vectors::{of_each, raw, Vectors};
 use std::hint::black_box;
 
 pub const SERVICE: Service = Service {
@@ -15,7 +15,6 @@ pub const SERVICE: Service = Service {
     count: 300_000,
     compare: estimator::compare::<5, 1, Call>,
     bench: Some(|random| estimator::time::<5, 1, Call>(random, "fix", 384)),
-    vectors: Some(vectors),
 };
 
 /// A call as the library takes it.
@@ -116,9 +115,9 @@ const ROOM: usize = 64;
 
 /// Guess 3, settings 4, rounds, how many records; of each record, of 64 at most, constellation, pseudorange, satellite 3, elevation; number, used,
 /// position 3, chi, pdop (zeros where refused).
-fn vectors(random: &mut Random) -> Vectors {
+pub fn vectors(random: &mut Random) -> Vectors {
     let wanted = [(0, 18), (2, 1), (3, 3), (4, 3), (8, 3), (9, 2), (10, 4)];
-    Vectors::of_each(&wanted, 7, || {
+    let next = || {
         let input: Fix = sky::input(random);
         let call = Call::of(&input);
         let o = &call.observations;
@@ -135,14 +134,15 @@ fn vectors(random: &mut Random) -> Vectors {
             }
             Err(_) => (0, [0.0; 5]),
         };
-        let mut case: Vec<u64> = raw(&call.guess).chain(raw(&call.settings)).collect();
-        case.extend([call.rounds, o.count].map(|n| n as u64));
+        let mut given: Vec<u64> = raw(&call.guess).chain(raw(&call.settings)).collect();
+        given.extend([call.rounds, o.count].map(|n| n as u64));
         for k in 0..o.count.min(ROOM) {
-            case.push(u64::from(o.constellation[k]));
-            case.extend(raw(&o.floats[5 * k..5 * k + 5]));
+            given.push(u64::from(o.constellation[k]));
+            given.extend(raw(&o.floats[5 * k..5 * k + 5]));
         }
-        case.extend([u64::from(number), used as u64]);
-        case.extend(solution.map(pattern));
-        Some((number, case))
-    })
+        let mut stored = vec![u64::from(number), used as u64];
+        stored.extend(solution.map(pattern));
+        Some((number, (given, stored)))
+    };
+    Vectors::of(of_each(&wanted, next))
 }

@@ -3,7 +3,7 @@
 mod stored;
 pub mod texts;
 
-pub use stored::cases;
+pub use stored::vectors;
 
 use super::Service;
 use crate::estimate::Displacement;
@@ -20,7 +20,6 @@ pub const SERVICE: Service = Service {
     count: 40_000,
     compare,
     bench: Some(time),
-    vectors: None,
 };
 
 /// How many bytes lie before and after a lent buffer.

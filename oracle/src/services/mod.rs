@@ -25,7 +25,7 @@ use crate::vectors::Vectors;
 
 /// What can be asked of one service.
 pub struct Service {
-    /// The name on the command line, in the table and of the stored answers.
+    /// The name on the command line and in the table.
     pub name: &'static str,
     /// How many inputs are compared where the command line does not say.
     pub count: u64,
@@ -33,9 +33,31 @@ pub struct Service {
     pub compare: fn(&mut Tally, &mut Random, u64),
     /// Prints its rows of the table of times.
     pub bench: Option<fn(&mut Random)>,
-    /// Makes the stored answers, from the Rust alone.
-    pub vectors: Option<fn(&mut Random) -> Vectors>,
 }
+
+/// What makes the cases of a kind, from the Rust alone.
+type Make = fn(&mut Random) -> Vectors;
+
+/// Every kind of stored answers: its number, which no other kind is given, its name, and what makes it.
+pub const KINDS: &[(u64, &str, Make)] = &[
+    (1, "root", root::vectors),
+    (2, "order", order::vectors),
+    (3, "standins", standins::vectors),
+    (4, "factor", factor::vectors),
+    (5, "solve", solve::vectors),
+    (7, "clocks", clocks::vectors),
+    (8, "centre", centre::vectors),
+    (9, "sigma", sigma::vectors),
+    (10, "sight", sight::vectors),
+    (11, "round", round::vectors),
+    (12, "displacement", displacement::vectors),
+    (13, "fix", fix::vectors),
+    (15, "track", track::vectors),
+    (16, "epoch", corrections::stored::epochs),
+    (17, "line", line::vectors),
+    (18, "query", corrections::stored::query),
+    (19, "queries", corrections::stored::queries),
+];
 
 /// Every service, lowest first.
 pub const SERVICES: &[Service] = &[

@@ -12,7 +12,6 @@ pub const SERVICE: Service = Service {
     count: 10_000_000,
     compare,
     bench: Some(time),
-    vectors: Some(vectors),
 };
 
 /// Two patterns: unrelated, equal, neighbours, of unlike signs, of like exponents, both NaNs.
@@ -86,7 +85,7 @@ fn time(random: &mut Random) {
 }
 
 /// Two patterns, and 1 where the first comes before the second or is equal, else 0.
-fn vectors(random: &mut Random) -> Vectors {
+pub fn vectors(random: &mut Random) -> Vectors {
     let pairs = (0..2000).map(|_| match random.below(2) {
         0 => (random.pick(&SPECIAL), random.pick(&SPECIAL)),
         _ => pair(random),

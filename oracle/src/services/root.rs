@@ -12,7 +12,6 @@ pub const SERVICE: Service = Service {
     count: 10_000_000,
     compare,
     bench: Some(time),
-    vectors: Some(vectors),
 };
 
 /// The fraction bits of a pattern.
@@ -112,7 +111,7 @@ fn time(random: &mut Random) {
 }
 
 /// A pattern and the pattern of its root, 7FF8000000000000 for every NaN.
-fn vectors(random: &mut Random) -> Vectors {
+pub fn vectors(random: &mut Random) -> Vectors {
     let specials = SPECIAL.into_iter().map(f64::from_bits);
     let others: Vec<f64> = (0..2000)
         .map(|k| {

@@ -8,7 +8,7 @@ use crate::numbers::Numbers;
 use crate::random::{exp2, pattern, Random};
 use crate::sky;
 use crate::tally::{hex, Tally};
-use crate::vectors::{raw, Vectors};
+use crate::vectors::{of_each, raw, Vectors};
 use crate::{bench, ffi};
 use drifters_gnss::robust::{step, Row};
 use std::hint::black_box;
@@ -18,7 +18,6 @@ pub const SERVICE: Service = Service {
     count: 1_000_000,
     compare,
     bench: Some(time),
-    vectors: Some(vectors),
 };
 
 /// How many rows a call takes.
@@ -183,7 +182,7 @@ fn rust_rows(rows: &Rows) -> Vec<Row> {
         .collect()
 }
 
-/// The Rust's step, and the numbers that document 01 adds: there the Rust may panic and is not asked.
+/// The Rust's step, and the numbers that docs/SCOPE.md adds: there the Rust may panic and is not asked.
 pub fn reference(input: &Input) -> Result<Column, u8> {
     let rows = &input.rows;
     if rows.count > MOST || !rows.whole() {
@@ -276,8 +275,9 @@ fn time(random: &mut Random) {
 }
 
 /// Rows, unknowns, huber; of each row, of 64 at most, unit, clock, residual, sigma; number, step 9 (zeros where refused).
-fn vectors(random: &mut Random) -> Vectors {
-    Vectors::of_each(&[(0, 24), (2, 2), (4, 4), (10, 6)], 10, || {
+pub fn vectors(random: &mut Random) -> Vectors {
+    let wanted = [(0, 24), (2, 2), (4, 4), (10, 6)];
+    let next = || {
         let input = input(random);
         let rows = &input.rows;
         // A case has room for 64 rows; more of them are refused with or without their floats.
@@ -286,15 +286,16 @@ fn vectors(random: &mut Random) -> Vectors {
         }
         let answer = reference(&input);
         let number = answer.err().unwrap_or(0);
-        let mut case = vec![rows.count as u64, input.unknowns as u64];
-        case.push(input.huber.to_bits());
+        let mut given = vec![rows.count as u64, input.unknowns as u64];
+        given.push(input.huber.to_bits());
         for k in 0..rows.count.min(MOST) {
-            case.extend(raw(&rows.units[3 * k..3 * k + 3]));
-            case.extend([rows.clocks[k] as u64, rows.residuals[k]]);
-            case.extend(raw(&rows.sigmas[k..k + 1]));
+            given.extend(raw(&rows.units[3 * k..3 * k + 3]));
+            given.extend([rows.clocks[k] as u64, rows.residuals[k]]);
+            given.extend(raw(&rows.sigmas[k..k + 1]));
         }
-        case.push(u64::from(number));
-        case.extend(answer.unwrap_or([0.0; 9]).map(pattern));
-        Some((number, case))
-    })
+        let mut stored = vec![u64::from(number)];
+        stored.extend(answer.unwrap_or([0.0; 9]).map(pattern));
+        Some((number, (given, stored)))
+    };
+    Vectors::of(of_each(&wanted, next))
 }

@@ -16,7 +16,6 @@ pub const SERVICE: Service = Service {
     count: 5_000_000,
     compare,
     bench: Some(time),
-    vectors: Some(vectors),
 };
 
 /// The range at which the travel angle is 2^-10, about.
@@ -132,14 +131,11 @@ fn time(random: &mut Random) {
 }
 
 /// Satellite 3, receiver 3, unit vector 3, range.
-fn vectors(random: &mut Random) -> Vectors {
+pub fn vectors(random: &mut Random) -> Vectors {
     let one = |_| {
         let (satellite, at) = pair(random);
-        let given = raw(&satellite).chain(raw(&at));
-        given.chain(by_wls(satellite, at).map(pattern)).collect()
+        let given = raw(&satellite).chain(raw(&at)).collect();
+        (given, by_wls(satellite, at).map(pattern).to_vec())
     };
-    Vectors {
-        cases: (0..60).map(one).collect(),
-        answer: 4,
-    }
+    Vectors::of((0..60).map(one).collect())
 }

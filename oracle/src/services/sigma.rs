@@ -12,7 +12,6 @@ pub const SERVICE: Service = Service {
     count: 10_000_000,
     compare,
     bench: None,
-    vectors: Some(vectors),
 };
 
 /// An elevation: of the sky, next to where the limit of 3 degrees lies, or any float.
@@ -56,16 +55,12 @@ fn compare(tally: &mut Tally, random: &mut Random, count: u64) {
 }
 
 /// Elevation, a, b, sigma.
-fn vectors(random: &mut Random) -> Vectors {
+pub fn vectors(random: &mut Random) -> Vectors {
     let one = |_| {
         let given = input(random);
         let [elevation, a, b] = given;
-        let mut case = given.map(f64::to_bits).to_vec();
-        case.push(pattern(elevation_sigma(elevation, a, b)));
-        case
+        let answer = pattern(elevation_sigma(elevation, a, b));
+        (given.map(f64::to_bits).to_vec(), vec![answer])
     };
-    Vectors {
-        cases: (0..60).map(one).collect(),
-        answer: 1,
-    }
+    Vectors::of((0..60).map(one).collect())
 }

@@ -16,7 +16,6 @@ pub const SERVICE: Service = Service {
     count: 1_000_000,
     compare,
     bench: Some(time),
-    vectors: Some(vectors),
 };
 
 /// The Rust's solution for any lower triangle, whether or not a factor.
@@ -102,7 +101,7 @@ fn time(random: &mut Random) {
 }
 
 /// A factor of 81 (its lower triangle is read), a right side of 9, the solution of 9.
-fn vectors(random: &mut Random) -> Vectors {
+pub fn vectors(random: &mut Random) -> Vectors {
     let mut numbers = Vec::new();
     for _ in 0..30 {
         let (l, b) = input(random);

@@ -14,7 +14,6 @@ pub const SERVICE: Service = Service {
     count: 100_000,
     compare,
     bench: None,
-    vectors: None,
 };
 
 /// The largest ratio of left side to bound in a round, and whether all four are finite and the bound

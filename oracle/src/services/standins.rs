@@ -1,4 +1,4 @@
-//! The stand-ins of document 01, each against its text in Rust.
+//! The stand-ins of docs/SCOPE.md, each against its text in Rust.
 
 use super::Service;
 use crate::random::{pattern, Random, SPECIAL};
@@ -13,7 +13,6 @@ pub const SERVICE: Service = Service {
     count: 8_000_000,
     compare,
     bench: Some(time),
-    vectors: Some(vectors),
 };
 
 /// One stand-in; those of one operand leave the second alone.
@@ -25,7 +24,7 @@ struct Case {
     usual: fn(&mut Random) -> f64,
 }
 
-/// The stand-ins in the order of document 01; the place is the number in the stored answers.
+/// The stand-ins in the order of docs/SCOPE.md; the place is the number in the stored answers.
 const CASES: [Case; 8] = [
     Case {
         name: "square",
@@ -134,7 +133,7 @@ fn time(random: &mut Random) {
 }
 
 /// Number of the stand-in (its place in `CASES`), two operands, answer.
-fn vectors(random: &mut Random) -> Vectors {
+pub fn vectors(random: &mut Random) -> Vectors {
     let mut numbers = Vec::new();
     for (number, case) in CASES.iter().enumerate() {
         for k in 0..100 {

@@ -3,7 +3,7 @@
 use super::Service;
 use crate::random::{exp2, Random};
 use crate::tally::{hex, Tally};
-use crate::vectors::{raw, Vectors};
+use crate::vectors::{of_each, raw, Vectors};
 use crate::{bench, ffi};
 use drifters_core::math::Vec3;
 use drifters_gnss::smooth::{smooth, Anchor, Link, Settings};
@@ -14,7 +14,6 @@ pub const SERVICE: Service = Service {
     count: 200_000,
     compare,
     bench: Some(time),
-    vectors: Some(vectors),
 };
 
 /// The most epochs, anchors and links of a call.
@@ -100,7 +99,7 @@ fn in_range(x: f64) -> bool {
     x.abs() <= 1e9
 }
 
-/// Document 01's number where the call turns back before the fit, and else what the Rust gives.
+/// The number where the call turns back before the fit, and else what the Rust gives.
 pub fn reference(input: &Input, result: usize, work: usize) -> Result<Vec<Vec3>, u8> {
     let (n, a, l) = (input.n, &input.anchors, &input.links);
     if n > MOST || a.count > MOST || l.count > MOST || !a.long() || !l.long() {
@@ -406,9 +405,9 @@ const ROOM: usize = 8;
 
 /// Epochs, anchors, links, huber, iterations; of each anchor and then of each link index, value 3, sigma 3; number, the result's 24 floats afterwards
 /// and how many floats of the work are zeros afterwards, where all of both were 1 before.
-fn vectors(random: &mut Random) -> Vectors {
+pub fn vectors(random: &mut Random) -> Vectors {
     let wanted = [(0, 20), (2, 2), (3, 3), (4, 4), (6, 5), (10, 4)];
-    Vectors::of_each(&wanted, 26, || {
+    let next = || {
         let n = 1 + random.place(4);
         let mut input = sound(random, n);
         if random.below(2) == 0 {
@@ -423,13 +422,13 @@ fn vectors(random: &mut Random) -> Vectors {
         let (room, work) = (3 * ROOM, 11 * ROOM);
         let answer = reference(&input, room, work);
         let number = *answer.as_ref().err().unwrap_or(&0);
-        let mut case = vec![n as u64, a.count as u64, l.count as u64];
-        case.extend([input.huber.to_bits(), input.iterations as u64]);
+        let mut given = vec![n as u64, a.count as u64, l.count as u64];
+        given.extend([input.huber.to_bits(), input.iterations as u64]);
         for c in [a, l] {
             for j in 0..c.count {
-                case.push(c.index[j] as u64);
-                case.extend(raw(&c.value[3 * j..3 * j + 3]));
-                case.extend(raw(&c.sigma[3 * j..3 * j + 3]));
+                given.push(c.index[j] as u64);
+                given.extend(raw(&c.value[3 * j..3 * j + 3]));
+                given.extend(raw(&c.sigma[3 * j..3 * j + 3]));
             }
         }
         let zeros = match number {
@@ -439,9 +438,10 @@ fn vectors(random: &mut Random) -> Vectors {
         let track = answer.unwrap_or_default();
         let mut result: Vec<f64> = track.iter().flat_map(|p| [p.x, p.y, p.z]).collect();
         result.resize(room, 1.0);
-        case.push(u64::from(number));
-        case.extend(raw(&result));
-        case.push(zeros as u64);
-        Some((number, case))
-    })
+        let mut stored = vec![u64::from(number)];
+        stored.extend(raw(&result));
+        stored.push(zeros as u64);
+        Some((number, (given, stored)))
+    };
+    Vectors::of(of_each(&wanted, next))
 }

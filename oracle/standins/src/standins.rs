@@ -1,4 +1,4 @@
-//! The stand-ins with which the published Rust is run: document 01, "The reference".
+//! The stand-ins with which the published Rust is run: docs/SCOPE.md, "The reference".
 //!
 //! Each operation is rounded once and none is fused: Rust fuses nothing by itself.
 

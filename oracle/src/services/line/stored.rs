@@ -1,12 +1,11 @@
-//! The stored texts that the program `line_vectors` replays, with their answers' lines: a case is the
-//! number 1, or 2 where the line is altered, the text's length and its bytes, the line's length and its
-//! bytes. A number has eight bytes, the least first.
+//! The stored texts with their answers' lines: the text's length and its bytes, the line's length and its bytes.
 
 use super::texts::{of_length, text, EXAMPLE, WHOLES};
 use crate::estimate::Displacement;
 use crate::line_form::{answer, carrier_line, line, lines, settings_line, text as text_of, BYTES};
 use crate::random::Random;
 use crate::sky::Input;
+use crate::vectors::{packed, Vectors};
 use drifters_gnss::tdcp::Settings;
 use std::collections::BTreeMap;
 
@@ -95,9 +94,12 @@ fn of_each(random: &mut Random) -> Vec<Vec<u8>> {
     let mut out = Vec::new();
     while found.values().any(|&k| k < EACH) {
         let one = text(random);
+        if one.len() > SHORT {
+            continue;
+        }
         let number = answer(&one).err().unwrap_or(0);
         let so_far = found.entry(number).or_default();
-        if *so_far < EACH && one.len() <= SHORT {
+        if *so_far < EACH {
             *so_far += 1;
             out.push(one);
         }
@@ -115,8 +117,8 @@ fn accepted(random: &mut Random) -> Displacement {
     }
 }
 
-/// How many cases there are, and their bytes.
-pub fn cases(random: &mut Random) -> (usize, Vec<u8>) {
+/// The texts, and one of them with its line altered.
+pub fn vectors(random: &mut Random) -> Vectors {
     let good = accepted(random);
     let good_lines = lines(&good);
     let still = lines(&six_equal_pairs(&good));
@@ -131,22 +133,12 @@ pub fn cases(random: &mut Random) -> (usize, Vec<u8>) {
     texts.extend(of_each(random));
     texts.push(text_of(&of_length(random, BYTES)));
     texts.push(text_of(&of_length(random, BYTES + 1)));
-    let mut out = Vec::new();
-    for text in &texts {
-        extend(&mut out, 1, text, &line(&answer(text)));
-    }
-    for altered in alterations(&line(&answer(&texts[2]))) {
-        extend(&mut out, 2, &texts[2], &altered);
-    }
-    (texts.len(), out)
-}
-
-/// Adds a case.
-fn extend(out: &mut Vec<u8>, mark: u64, text: &[u8], line: &[u8]) {
-    out.extend(mark.to_le_bytes());
-    for bytes in [text, line] {
-        out.extend((bytes.len() as u64).to_le_bytes());
-        out.extend(bytes);
+    let case = |text: &Vec<u8>| (packed(text), packed(&line(&answer(text))));
+    let good = packed(&texts[2]);
+    let altered = alterations(&line(&answer(&texts[2])));
+    Vectors {
+        cases: texts.iter().map(case).collect(),
+        altered: altered.iter().map(|l| (good.clone(), packed(l))).collect(),
     }
 }
 

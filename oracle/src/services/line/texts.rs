@@ -6,7 +6,7 @@ use crate::random::Random;
 use crate::sky;
 use drifters_gnss::tdcp::Carrier;
 
-/// The example of document 01, which gives `R,7`.
+/// The example of docs/SCOPE.md, which gives `R,7`.
 pub const EXAMPLE: &str = "S,3FF0000000000000,0000000000000000,0000000000000000,0000000000000000,3FE0000000000000,3FF0000000000000,0000000000000000,3FF8000000000000,4024000000000000,4\n";
 
 /// Whole numbers at the edges of each width, some that wrap to a small one, and what is none in the form.

@@ -89,7 +89,7 @@ returns c =
     let h : Closing n 9 a l = rw e at (t .loop2 .inv .2) in
     let f = t .before .before .before .before .before .before .before .before .held .ensures .1 in
     let z : factorOf a ≡ Lower l = closing-end n a l (omega arith) (s .pre .2) f h in
-    (rw z, λ _. (rw z, closing-unused n a l (omega arith) (s .pre .2) f h))
+    (rw z, λ _. (rw z, closing-unused n a l (omega arith) (s .pre .2) f h), λ e. absurd (false≢true (sym e)))
 
 loop3-holds : tie.Need-loop3-holds I2 μ2 I3 μ3 I5 μ5 I4 μ4 I μ
 loop3-holds c = (omega arith, omega arith, rw less-zero, rw less-zero)
@@ -144,11 +144,12 @@ loop4-again c =
 
 returns-2 : tie.Need-returns-2 I2 μ2 I3 μ3 I5 μ5 I4 μ4 I μ
 returns-2 c =
-    let h = c .before .before .before in
+    let b = c .before in
+    let h = b .before .before .before in
     let s = h .before .before .before .before in
     let a = s .args .a .now in
-    let z : factorOf a ≡ Refused = columns-stop a (h .loop .l) (s .args .n) (h .loop .j) (omega arith) (omega arith) (h .loop .inv .1) (h .loop .p) (h .loop .inv .2) (sym (c .before .is-pivot .ensures) ∙ c .if1 .left) in
-    (rw z, λ e. absurd (false≢true e))
+    let z : factorOf a ≡ Refused = columns-stop a (h .loop .l) (s .args .n) (h .loop .j) (omega arith) (omega arith) (h .loop .inv .1) (h .loop .p) (h .loop .inv .2) (sym (b .before .is-pivot .ensures) ∙ b .if1 .left) in
+    (rw z, λ e. absurd (false≢true e), λ _. sym (s .pre .3))
 
 loop-again : tie.Need-loop-again I2 μ2 I3 μ3 I5 μ5 I4 μ4 I μ
 loop-again c =

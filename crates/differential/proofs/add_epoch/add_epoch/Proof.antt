@@ -3,8 +3,9 @@ use mathlib.Core.Path.{sym, ap, _∙_}
 use Prim.Native.Nat.{ℕ}
 use native.Mathlib.Omega.{arith}
 use Rattle.differential.specs.AddEpoch.{recordsTest}
+use Rattle.table.proofs.AddLaws.{told-same, told-nothing}
 use Rattle.differential.proofs.TestLaws.{passed-records}
-use Rattle.differential.proofs.EpochLaws.{adds-same, adds-nothing, epoch-refused, epoch-passed, epoch-holds}
+use Rattle.differential.proofs.EpochLaws.{epoch-refused, epoch-passed, epoch-holds}
 use borrow.Author.Needs.{needs}
 use Rattle.differential.proofs.add_epoch.add_epoch.Statement.{statement}
 use Rattle.differential.proofs.add_epoch.add_epoch.Tie as tie
@@ -54,7 +55,7 @@ returns : tie.Need-returns
 returns c =
     let a = c .before .before .before .before .before .before .before .before .before .before .before .before .before .before .before .args in
     let q = sym (c .before .test .given .1) ∙ c .before .before .before .records-tested .ensures ∙ ap (λ (k : ℕ). recordsTest (a .n) k (a .epoch) (a .states) (a .base) (a .rover) (a .settings)) (c .before .before .before .before .capacity-of .ensures) in
-    adds-nothing _ _ _ _ _ _ (epoch-refused _ _ _ (a .epoch) (a .states) (a .base) (a .rover) (a .settings) _ q)
+    told-nothing _ _ _ (epoch-refused _ _ _ (a .epoch) (a .states) (a .base) (a .rover) (a .settings) _ q)
 
 same-length-6 : tie.Need-same-length-6
 same-length-6 c = search needs
@@ -76,7 +77,7 @@ returns-2 c =
     let a = c .before .before .before .before .before .before .before .before .before .before .before .before .before .before .before .before .before .before .before .before .before .before .before .before .before .before .before .before .before .before .before .before .before .args in
     let q = sym (c .before .before .before .before .before .before .before .before .before .before .before .before .before .before .before .before .before .before .before .enum-told .given .1) ∙ c .before .before .before .before .before .before .before .before .before .before .before .before .before .before .before .before .before .before .before .before .before .records-tested .ensures ∙ ap (λ (k : ℕ). recordsTest (a .n) k (a .epoch) (a .states) (a .base) (a .rover) (a .settings)) (c .before .before .before .before .before .before .before .before .before .before .before .before .before .before .before .before .before .before .before .before .before .before .capacity-of .ensures) in
     let h = epoch-holds (a .epoch) (a .states) (a .base) (a .rover) (a .settings) _ (c .before .before .before .before .before .before .before .before .before .before .before .before .before .before .before .before .before .before .states-count .ensures) _ (c .before .before .before .before .before .before .before .before .before .before .before .before .before .before .before .before .before .raws-of .ensures) _ (c .before .before .before .before .before .before .before .before .before .before .before .before .before .before .before .before .samples-of .ensures) in
-    adds-same (epoch-passed _ _ _ (a .epoch) (a .states) (a .base) (a .rover) (a .settings) (passed-records _ _ _ _ _ _ _ q) _ h) (c .before .before .before .before .before .before .before .before .before .before .add .ensures)
+    told-same (epoch-passed _ _ _ (a .epoch) (a .states) (a .base) (a .rover) (a .settings) (passed-records _ _ _ _ _ _ _ q) _ h) (c .before .before .before .before .before .before .before .before .before .before .add .ensures)
 
 pub add-epoch-spec : {M : Type 1} → statement M
 add-epoch-spec = tie.close (tie.spec capacity-of-requires records-tested-requires enum-known-test enum-told states-count-requires raws-of-requires samples-of-requires add-requires same-length same-length-2 same-length-3 same-length-4 same-length-5 returns same-length-6 same-length-7 same-length-8 same-length-9 same-length-10 returns-2)

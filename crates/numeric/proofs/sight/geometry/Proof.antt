@@ -1,5 +1,5 @@
 -- `numeric::sight::geometry` meets its contract. Assumes nothing.
-use Rattle.numeric.specs.Sight.{gap, geometry}
+use Rattle.numeric.proofs.SightLaws.{sight-is}
 use borrow.Author.Needs.{needs}
 use Rattle.numeric.proofs.sight.geometry.Statement.{statement}
 use Rattle.numeric.proofs.sight.geometry.Tie as tie
@@ -10,21 +10,21 @@ sub-requires c κs = search needs
 norm-requires : tie.Need-norm-requires
 norm-requires c κs = search needs
 
-travel-angle-requires : tie.Need-travel-angle-requires
-travel-angle-requires c κs = search needs
-
-turned-requires : tie.Need-turned-requires
-turned-requires c κs = search needs
-
-sub-requires-2 : tie.Need-sub-requires-2
-sub-requires-2 c κs = search needs
+gap-requires : tie.Need-gap-requires
+gap-requires c κs = search needs
 
 norm-beside-requires : tie.Need-norm-beside-requires
 norm-beside-requires c κs = search needs
 
+along-requires : tie.Need-along-requires
+along-requires c κs = search needs
+
 returns : tie.Need-returns
-unfolding geometry gap
-returns c = let d = c .before .before .before in let e = d .before .before in rw (d .norm-beside .ensures, d .before .sub2 .ensures, e .turned .ensures, e .before .travel-angle .ensures, e .before .before .norm .ensures, e .before .before .before .sub .ensures)
+returns c =
+    let d = c .before .before in
+    sight-is _ _ (d .before .before .sub .ensures) (d .before .norm .ensures) (d .gap .ensures) (c .before .norm-beside .ensures) (c .along .ensures)
 
 pub geometry-spec : {M : Type 1} → statement M
-geometry-spec = tie.close (tie.spec sub-requires norm-requires travel-angle-requires turned-requires sub-requires-2 norm-beside-requires returns)
+geometry-spec =
+    tie.close
+    (tie.spec sub-requires norm-requires gap-requires norm-beside-requires along-requires returns)

@@ -1,11 +1,11 @@
 -- `robust::round::round_step` meets its contract. Assumes nothing.
 use mathlib.Core.Path.{refl, sym, _∙_}
-use mathlib.Core.Bool.{Bool}
 use mathlib.Core.List.{List}
 use lib.Ieee.{Float}
 use Rattle.robust.specs.Round.{weight, roundBy, roundOf}
 use Rattle.robust.specs.Normal.{Solving}
 use Rattle.robust.specs.Columns.{Columns, columns, rowsIn}
+use Rattle.robust.specs.declared.round.Stepping.{Stepping}
 use Rattle.robust.proofs.FormedLaws.{solving-yes, solving-no, matrix-unused, right-unused}
 use Rattle.robust.proofs.StepLaws.{never-refused, round-solving}
 use native.Mathlib.Omega.{arith}
@@ -17,8 +17,8 @@ abbrev given : tie.Start → Columns
 given c = columns (c .args .x .now) (c .args .y .now) (c .args .z .now) (c .args .clock .now) (c .args .sigma .now) (c .args .residual .now)
 
 -- the weights are by the centre and the scale of the residuals
-solve : (c : tie.After-normal) {ok : Bool} {x y : List Float} → let s = c .before .before .before .before .before .before .before .before in Solving (roundBy (weight (c .before .before .before .before .c .given .0 .0) (s .args .huber)) (rowsIn (given s)) (s .args .n)) ok x y → Solving (roundOf (rowsIn (given s)) (s .args .n) (s .args .huber)) ok x y
-solve c {ok} {x} {y} r = let s = c .before .before .before .before .before .before .before .before in round-solving (given s) (omega arith) (s .args .n) (s .args .huber) _ ok x y (sym (c .before .before .before .before .c .given .1) ∙ c .before .before .before .before .before .before .centre-scale .ensures) r
+solve : (c : tie.After-normal) {a : Stepping} {x y : List Float} → let s = c .before .before .before .before .before .before .before .before in Solving (roundBy (weight (c .before .before .before .before .c .given .0 .0) (s .args .huber)) (rowsIn (given s)) (s .args .n)) a x y → Solving (roundOf (rowsIn (given s)) (s .args .n) (s .args .huber)) a x y
+solve c {a} {x} {y} r = let s = c .before .before .before .before .before .before .before .before in round-solving (given s) (omega arith) (s .args .n) (s .args .huber) _ a x y (sym (c .before .before .before .before .c .given .1) ∙ c .before .before .before .before .before .before .centre-scale .ensures) r
 
 centre-scale-requires : tie.Need-centre-scale-requires
 centre-scale-requires c κs = search needs

@@ -1,7 +1,7 @@
 -- `robust::round::step` meets its contract. Assumes nothing.
 use Prim.Native.Nat.{ℕ, _-_, _≤_}
 use mathlib.Core.Path.{_≡_, refl, sym, ap, _∙_, subst}
-use mathlib.Core.Bool.{Bool, true, false}
+use mathlib.Core.Bool.{true, false}
 use mathlib.Core.List.{List, map-id}
 use lib.ListN.{length, drop, take}
 use lib.Seq.{length-take-le}
@@ -14,9 +14,10 @@ use Rattle.robust.specs.Normal.{Solving}
 use Rattle.robust.specs.Columns.{columns, rowsIn}
 use Rattle.robust.specs.Step.{counted, indexed, Stepped}
 use Rattle.robust.specs.declared.row.Row.{Row}
+use Rattle.robust.specs.declared.round.Stepping.{Stepping}
 use Rattle.robust.proofs.Sums.{blank}
 use Rattle.robust.proofs.ColumnLaws.{Column, column-start, column-next, rows-are}
-use Rattle.robust.proofs.StepLaws.{step-many, step-wide, step-index, step-done, step-failed}
+use Rattle.robust.proofs.StepLaws.{step-many, step-wide, step-index, step-done, step-refused}
 use borrow.Author.Needs.{needs}
 use native.Mathlib.Omega.{arith}
 use Rattle.robust.proofs.round.step.Statement.{statement}
@@ -49,8 +50,8 @@ held c =
     subst (λ (z : ℕ). rowsIn (columns (h .x) (h .y) (h .z) (h .clock) (h .sigma) (take z (h .residual))) ≡ take z (s .args .t1 .row)) last (rows ∙ map-id _)
 
 -- the round of the columns is that of the counted rows
-round : (c : tie.After-loop Inv-loop μ-loop) {ok : Bool} {x y : List Float} → let h = c .before .loop in let s = c .before .before .before .before .args in Solving (roundOf (rowsIn (columns (h .x) (h .y) (h .z) (h .clock) (h .sigma) (take (s .t1 .count) (h .residual)))) (s .unknowns) (s .huber)) ok x y → Solving (roundOf (counted (s .t1)) (s .unknowns) (s .huber)) ok x y
-round c {ok} {x} {y} r = let s = c .before .before .before .before .args in subst (λ (z : List Row). Solving (roundOf z (s .unknowns) (s .huber)) ok x y) (held c) r
+round : (c : tie.After-loop Inv-loop μ-loop) {a : Stepping} {x y : List Float} → let h = c .before .loop in let s = c .before .before .before .before .args in Solving (roundOf (rowsIn (columns (h .x) (h .y) (h .z) (h .clock) (h .sigma) (take (s .t1 .count) (h .residual)))) (s .unknowns) (s .huber)) a x y → Solving (roundOf (counted (s .t1)) (s .unknowns) (s .huber)) a x y
+round c {a} {x} {y} r = let s = c .before .before .before .before .args in subst (λ (z : List Row). Solving (roundOf z (s .unknowns) (s .huber)) a x y) (held c) r
 
 returns : tie.Need-returns Inv-loop μ-loop
 returns c = let s = c .before in both (step-many (s .args .t1) (s .args .unknowns) (s .args .huber) (s .args .dx .now) (omega arith))
@@ -126,14 +127,20 @@ slice-aggregate-round-step c = let h = c .before .before .before .before .before
 round-step-requires : tie.Need-round-step-requires Inv-loop μ-loop
 round-step-requires c κs = let h = c .before .before .before .before .before .before .before .before .loop in let s = c .before .before .before .before .before .before .before .before .before .before .before in let e = length-take-le (s .args .t1 .count) (h .residual) (omega (arith, h .inv .7 .long)) in (omega (arith, e), omega arith)
 
+enum-known-r : tie.Need-enum-known-r Inv-loop μ-loop
+enum-known-r c = search needs
+
+returns-4 : tie.Need-returns-4 Inv-loop μ-loop
+returns-4 c = let s = c .before .before .before .before .before .before .before .before .before .before .before .before .before .before .before in let r = c .before .before .before .round-step in both (step-refused (s .args .t1) (s .args .unknowns) (s .args .huber) (s .args .dx .now) (omega arith) (omega arith) true (all (c .before .before .before .before .before .before .before .before .before .before .before)) refl (r .result) _ _ (round (c .before .before .before .before .before .before .before .before .before .before .before) (r .ensures)) _ (c .before .r2 .given .1))
+
+enum-told : tie.Need-enum-told Inv-loop μ-loop
+enum-told c = search needs
+
 first-of-requires : tie.Need-first-of-requires Inv-loop μ-loop
 first-of-requires c κs = search needs
 
-returns-4 : tie.Need-returns-4 Inv-loop μ-loop
-returns-4 c = let s = c .before .before .before .before .before .before .before .before .before .before .before .before .before .before in let r = c .before .before .round-step in both (step-done (s .args .t1) (s .args .unknowns) (s .args .huber) (s .args .dx .now) (omega arith) (omega arith) true (all (c .before .before .before .before .before .before .before .before .before .before)) refl (r .result) _ _ (round (c .before .before .before .before .before .before .before .before .before .before) (r .ensures)) (c .first-of .result) (c .before .if4 .taken) (c .first-of .ensures))
-
 returns-5 : tie.Need-returns-5 Inv-loop μ-loop
-returns-5 c = let s = c .before .before .before .before .before .before .before .before .before .before .before .before .before in let r = c .before .round-step in both (step-failed (s .args .t1) (s .args .unknowns) (s .args .huber) (s .args .dx .now) (omega arith) (omega arith) true (all (c .before .before .before .before .before .before .before .before .before)) refl (r .result) _ _ (round (c .before .before .before .before .before .before .before .before .before) (r .ensures)) (c .if4 .left))
+returns-5 c = let s = c .before .before .before .before .before .before .before .before .before .before .before .before .before .before .before in let r = c .before .before .before .round-step in both (step-done (s .args .t1) (s .args .unknowns) (s .args .huber) (s .args .dx .now) (omega arith) (omega arith) true (all (c .before .before .before .before .before .before .before .before .before .before .before)) refl (r .result) _ _ (round (c .before .before .before .before .before .before .before .before .before .before .before) (r .ensures)) (c .first-of .result) (c .before .enum-told .given .1) (c .first-of .ensures))
 
 pub step-spec : {M : Type 1} → statement M
 step-spec =
@@ -165,6 +172,8 @@ step-spec =
     array-share-prefix-residual
     slice-aggregate-round-step
     round-step-requires
-    first-of-requires
+    enum-known-r
     returns-4
+    enum-told
+    first-of-requires
     returns-5)

@@ -2,7 +2,7 @@
 use mathlib.Core.Path.{_≡_, subst}
 use Prim.Native.Nat.{_+_, _*_, _%_, _^_}
 use native.Mathlib.Omega.{arith}
-use Rattle.root.specs.Root.{Nearest}
+use Rattle.root.specs.Root.{NearestWhole}
 use borrow.Author.Needs.{needs}
 use Rattle.root.proofs.sqrt.settled.Statement.{statement}
 use Rattle.root.proofs.sqrt.settled.Tie as tie
@@ -15,7 +15,7 @@ returns c =
     let d = c .before .before in
     let g = d .args .g in
     let e : g % 2 ^ 52 + 2 ^ 52 ≡ g = omega arith in
-    subst (Nearest (d .args .w * 2 ^ 52)) e (c .before .agrees .ensures (c .if1 .taken))
+    subst (NearestWhole (d .args .w * 2 ^ 52)) e (c .before .agrees .ensures (c .if1 .taken))
 
 add-agrees : tie.Need-add-agrees
 add-agrees c = search needs

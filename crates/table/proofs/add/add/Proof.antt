@@ -3,7 +3,7 @@ use mathlib.Core.Path.{sym, _∙_}
 use Prim.Native.Nat.{_+_, _≤_}
 use native.Mathlib.Omega.{arith}
 use lib.ListN.{length}
-use Rattle.table.specs.Table.{rows}
+use Rattle.table.specs.Table.{lent, rows}
 use Rattle.table.proofs.AddLaws.{passed, add-refused, add-passed}
 use borrow.Author.Needs.{needs}
 use Rattle.table.proofs.add.add.Statement.{statement}
@@ -22,7 +22,8 @@ insert-all-requires : tie.Need-insert-all-requires
 insert-all-requires c κs =
     let p = passed _ _ _ _ (sym (c .before .before .before .before .before .before .enum-told .given .1) ∙ c .before .before .before .before .before .before .before .before .tested .ensures) in
     let a = c .before .before .before .before .before .before .before .before .before .before .before .before .before .before .before .before .before .before .before .args in
-    let fit : a .n + a .new .count ≤ length (rows (a .cs .now) (a .vs .now) (a .bs .now) (a .ts .now) (a .xs .now)) = omega (arith, p .fit) in
+    let columns = lent (a .cs .now) (a .vs .now) (a .bs .now) (a .ts .now) (a .xs .now) in
+    let fit : a .n + a .new .count ≤ length (rows columns) = omega (arith, p .fit) in
     (p .short, (fit, (p .steady, p .every-ranged)))
 
 add-t34 : tie.Need-add-t34
@@ -46,7 +47,7 @@ same-length-5 : tie.Need-same-length-5
 same-length-5 c = search needs
 
 returns : tie.Need-returns
-returns c = add-refused _ _ _ _ _ _ _ _ _ (sym (c .before .test .given .1) ∙ c .before .before .before .tested .ensures)
+returns c = add-refused _ _ _ _ _ (sym (c .before .test .given .1) ∙ c .before .before .before .tested .ensures)
 
 same-length-6 : tie.Need-same-length-6
 same-length-6 c = search needs
@@ -68,9 +69,10 @@ returns-2 c =
     let e = sym (c .before .before .before .before .before .before .before .before .before .before .before .before .before .before .before .before .before .enum-told .given .1) ∙ c .before .before .before .before .before .before .before .before .before .before .before .before .before .before .before .before .before .before .before .tested .ensures in
     let p = passed _ _ _ _ e in
     let a = c .before .before .before .before .before .before .before .before .before .before .before .before .before .before .before .before .before .before .before .before .before .before .before .before .before .before .before .before .before .before .args in
-    let fit : a .n + a .new .count ≤ length (rows (a .cs .now) (a .vs .now) (a .bs .now) (a .ts .now) (a .xs .now)) = omega (arith, p .fit) in
+    let columns = lent (a .cs .now) (a .vs .now) (a .bs .now) (a .ts .now) (a .xs .now) in
+    let fit : a .n + a .new .count ≤ length (rows columns) = omega (arith, p .fit) in
     let k = c .before .before .before .before .before .before .before .before .before .before .insert-all .kept in
-    add-passed _ _ _ _ _ _ _ _ _ _ _ _ _ (c .before .before .before .before .before .before .before .before .before .before .insert-all .ensures) (k .0) (k .1 .0) (k .1 .1 .0) (k .1 .1 .1 .0) (k .1 .1 .1 .1 .0) fit e
+    add-passed _ _ _ _ _ (c .before .before .before .before .before .before .before .before .before .before .insert-all .ensures) (record { long-c = k .0; long-v = k .1 .0; long-b = k .1 .1 .0; long-t = k .1 .1 .1 .0; long-x = k .1 .1 .1 .1 .0 }) fit e
 
 pub add-spec : {M : Type 1} → statement M
 add-spec = tie.close (tie.spec tested-requires enum-known-test enum-told insert-all-requires add-t34 same-length same-length-2 same-length-3 same-length-4 same-length-5 returns same-length-6 same-length-7 same-length-8 same-length-9 same-length-10 returns-2)

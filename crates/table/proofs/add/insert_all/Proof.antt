@@ -4,12 +4,14 @@ use mathlib.Core.Path.{_≡_}
 use Prim.Native.Nat.{_≤_, _-_}
 use native.Mathlib.Omega.{arith}
 use lib.ListN.{length}
-use Rattle.table.proofs.InsertLaws.{Adding, adding-start, adding-next, adding-end, adding-room, ranged-at, rows-short}
+use Rattle.table.proofs.InsertLaws.{Inserting, inserting-start, inserting-next, inserting-end, inserting-room, ranged-at}
+use Rattle.table.specs.Table.{lent}
+use Rattle.table.proofs.ColumnLaws.{rows-short}
 use Rattle.table.proofs.add.insert_all.Statement.{statement}
 use Rattle.table.proofs.add.insert_all.Tie as tie
 
 abbrev Inv-loop : tie.InvT-loop
-Inv-loop cs₀ vs₀ bs₀ ts₀ xs₀ n m new i₀ cs vs bs ts xs i = Adding n m new cs₀ vs₀ bs₀ ts₀ xs₀ cs vs bs ts xs i
+Inv-loop cs₀ vs₀ bs₀ ts₀ xs₀ n m new i₀ cs vs bs ts xs i = Inserting n m new (lent cs₀ vs₀ bs₀ ts₀ xs₀) (lent cs vs bs ts xs) i
 
 abbrev μ-loop : tie.MeasureT-loop
 μ-loop cs₀ vs₀ bs₀ ts₀ xs₀ n m new i₀ cs vs bs ts xs i = m - i
@@ -18,7 +20,7 @@ len : (c : tie.Start Inv-loop μ-loop) → length (c .args .t7) ≡ 64
 len c = search length-mapped
 
 loop-holds : tie.Need-loop-holds Inv-loop μ-loop
-loop-holds c = adding-start _ _ _ _ _ _ _ _ (c .before .before .before .before .before .pre .1 .1 .0)
+loop-holds c = inserting-start _ _ _ _ (c .before .before .before .before .before .pre .1 .1 .0)
 
 mul-s : tie.Need-mul-s Inv-loop μ-loop
 mul-s c = omega arith
@@ -30,13 +32,14 @@ add-insert : tie.Need-add-insert Inv-loop μ-loop
 add-insert c =
     let s = c .before .before .before .before .before .before .before .before .before .before .before .before .before in
     let a = s .args in
-    omega (arith, s .pre .1 .0, rows-short (a .cs .now) (a .vs .now) (a .bs .now) (a .ts .now) (a .xs .now), s .good .0 .0, c .before .before .before .before .before .before .loop-test .taken)
+    let columns = lent (a .cs .now) (a .vs .now) (a .bs .now) (a .ts .now) (a .xs .now) in
+    omega (arith, s .pre .1 .0, rows-short columns, s .good .0 .0, c .before .before .before .before .before .before .loop-test .taken)
 
 insert-requires : tie.Need-insert-requires Inv-loop μ-loop
 insert-requires c κs =
     let s = c .before .before .before .before .before .before .before .before .before .before .before .before .before in
     let h = c .before .before .before .before .before .before .before .loop in
-    let e = adding-room _ _ _ _ _ _ _ _ _ _ _ _ _ _ (h .inv) in
+    let e = inserting-room _ _ _ _ _ _ (h .inv) in
     (omega (arith, e, s .pre .1 .0, c .before .before .before .before .before .before .loop-test .taken), h .inv .steady)
 
 add-i : tie.Need-add-i Inv-loop μ-loop
@@ -51,25 +54,25 @@ loop-again c =
     let h = c .before .before .before .before .before .before .before .before .before .before .before .before .before .before .before .before .before .before .loop in
     let l : s .args .m ≤ length (s .args .t7) = omega (arith, len s, s .pre .0) in
     let k = c .before .before .before .before .before .before .before .before .before .before .insert .kept in
-    adding-next _ _ _ _ _ _ _ _ _ _ _ _ _ _ (h .inv) _ _ _ _ _ (c .before .before .before .before .before .before .before .before .before .before .before .before .before .before .before .before .before .loop-test .taken) l (ranged-at _ _ _ l (c .before .before .before .before .before .before .before .before .before .before .before .before .before .before .before .before .before .loop-test .taken) (s .pre .1 .1 .1)) (c .before .before .before .before .before .before .before .before .before .before .insert .ensures) (k .0) (k .1 .0) (k .1 .1 .0) (k .1 .1 .1 .0) (k .1 .1 .1 .1 .0)
+    inserting-next _ _ _ _ _ _ (h .inv) _ (c .before .before .before .before .before .before .before .before .before .before .before .before .before .before .before .before .before .loop-test .taken) l (ranged-at _ _ _ l (c .before .before .before .before .before .before .before .before .before .before .before .before .before .before .before .before .before .loop-test .taken) (s .pre .1 .1 .1)) (c .before .before .before .before .before .before .before .before .before .before .insert .ensures) (record { long-c = k .0; long-v = k .1 .0; long-b = k .1 .1 .0; long-t = k .1 .1 .1 .0; long-x = k .1 .1 .1 .1 .0 })
 
 same-length : tie.Need-same-length Inv-loop μ-loop
-same-length c = c .before .loop .inv .long-c
+same-length c = c .before .loop .inv .alike .long-c
 
 same-length-2 : tie.Need-same-length-2 Inv-loop μ-loop
-same-length-2 c = c .before .loop .inv .long-v
+same-length-2 c = c .before .loop .inv .alike .long-v
 
 same-length-3 : tie.Need-same-length-3 Inv-loop μ-loop
-same-length-3 c = c .before .loop .inv .long-b
+same-length-3 c = c .before .loop .inv .alike .long-b
 
 same-length-4 : tie.Need-same-length-4 Inv-loop μ-loop
-same-length-4 c = c .before .loop .inv .long-t
+same-length-4 c = c .before .loop .inv .alike .long-t
 
 same-length-5 : tie.Need-same-length-5 Inv-loop μ-loop
-same-length-5 c = c .before .loop .inv .long-x
+same-length-5 c = c .before .loop .inv .alike .long-x
 
 returns : tie.Need-returns Inv-loop μ-loop
-returns c = adding-end _ _ _ _ _ _ _ _ _ _ _ _ _ _ (c .before .loop .inv) (c .loop-test .left)
+returns c = inserting-end _ _ _ _ _ _ (c .before .loop .inv) (c .loop-test .left)
 
 pub insert-all-spec : {M : Type 1} → statement M
 insert-all-spec =

@@ -1,18 +1,18 @@
 -- `table::add::spot_of` meets its contract. Assumes nothing.
 use borrow.Author.Tests.{not-true, not-false}
-use Rattle.table.proofs.QueryLaws.{Spotting, spotting-start, spotting-front, spotting-found, spotting-down}
+use Rattle.table.proofs.SpotLaws.{Spotting, spotting-start, spotting-front, spotting-found, spotting-down}
 use lib.Seq.{length-take-le, getD-take}
 use Prim.Native.Nat.{_<_, _-_}
 use native.Mathlib.Omega.{arith}
 use borrow.Author.Needs.{needs}
 use lib.ListN.{take}
-use Rattle.table.specs.Table.{blank, rows}
+use Rattle.table.specs.Table.{lent, blank, rows}
 use Rattle.table.proofs.TableLaws.{sound-at}
 use Rattle.table.proofs.add.spot_of.Statement.{statement}
 use Rattle.table.proofs.add.spot_of.Tie as tie
 
 abbrev Inv-loop : tie.InvT-loop
-Inv-loop cs vs bs ts xs n s p₀ p = Spotting s (take n (rows cs vs bs ts xs)) n p
+Inv-loop cs vs bs ts xs n s p₀ p = Spotting s (take n (rows (lent cs vs bs ts xs))) n p
 
 abbrev μ-loop : tie.MeasureT-loop
 μ-loop cs vs bs ts xs n s p₀ p = p
@@ -33,10 +33,11 @@ returns : tie.Need-returns Inv-loop μ-loop
 returns c =
     let s = c .before .before .before .before .before .before .before .before .before .before in
     let a = s .args in
+    let columns = lent (a .cs .now) (a .vs .now) (a .bs .now) (a .ts .now) (a .xs .now) in
     let h = c .before .before .before .before .loop in
     let t : 0 < h .p = c .before .before .before .loop-test .taken in
     let b : h .p - 1 < a .n = omega (arith, h .inv) in
-    let at = getD-take (a .n) (rows (a .cs .now) (a .vs .now) (a .bs .now) (a .ts .now) (a .xs .now)) (h .p - 1) blank b in
+    let at = getD-take (a .n) (rows columns) (h .p - 1) blank b in
     spotting-found _ _ _ _ (h .inv) t (sound-at _ (s .pre .1)) (cc (at, not-true (c .before .precedes .result) (c .if1 .taken)))
 
 sub-p : tie.Need-sub-p Inv-loop μ-loop
@@ -49,10 +50,11 @@ loop-again : tie.Need-loop-again Inv-loop μ-loop
 loop-again c =
     let s = c .before .before .before .before .before .before .before .before .before .before in
     let a = s .args in
+    let columns = lent (a .cs .now) (a .vs .now) (a .bs .now) (a .ts .now) (a .xs .now) in
     let h = c .before .before .before .before .loop in
     let t : 0 < h .p = c .before .before .before .loop-test .taken in
     let b : h .p - 1 < a .n = omega (arith, h .inv) in
-    let at = getD-take (a .n) (rows (a .cs .now) (a .vs .now) (a .bs .now) (a .ts .now) (a .xs .now)) (h .p - 1) blank b in
+    let at = getD-take (a .n) (rows columns) (h .p - 1) blank b in
     spotting-down _ _ _ _ (h .inv) t (cc (at, not-false (c .before .precedes .result) (c .if1 .left)))
 
 returns-2 : tie.Need-returns-2 Inv-loop μ-loop

@@ -3,18 +3,19 @@ use lib.IntN.{pos, negsuc}
 use lib.Ieee.{ofInt, ofBits, toBits, neg, add, sub, mul, div, le, lt, eq, isNan}
 use Rattle.walk.specs.Walk.{every, first, collect}
 use Rattle.numeric.specs.Real.{abs, inRange}
-use Rattle.numeric.specs.Order.{sign, exponent, digits, isNaN, isQuiet, payload, payloadOrder, unordered, totalOrder, patternOf}
+use Rattle.exact.specs.Pattern.{sign, exponent, digits}
+use Rattle.numeric.specs.Order.{isNanPattern, isQuiet, payload, payloadOrder, unordered, totalOrder, patternOf}
 use Rattle.median.specs.Sorted.{insertBy, sortedBy, medianOf}
 use Rattle.median.specs.Centre.{centreOf}
-use Rattle.estimator.specs.Rules.{ruled}
+use Rattle.estimator.specs.Rules.{ruled, rowRules}
 use Rattle.records.specs.Record.{placeable, isElevation, sound, unsigned, bitSet, usable, same}
 use Rattle.clocks.specs.Clocks.{has, appearing, slotFrom, clocksIn, clocksOf}
 use Rattle.records.specs.Pair.{pairOf, firstPair, pairAt, pairsOf}
 use Rattle.records.specs.Screen.{centre, within, keptOf}
-use Rattle.estimator.specs.Valid.{settingsPass, badInterval, displacementInput, displacementCounts}
-use Rattle.estimator.specs.Front.{displacementRules}
-use Rattle.estimator.specs.Rounds.{fitFrom}
-use Rattle.estimator.specs.Displacement.{fitOver, fitOf, displacementOf}
+use Rattle.tdcp.specs.Valid.{settingsPass, badInterval, epochRules, intervalRules, displacementCounts}
+use Rattle.tdcp.specs.Front.{pairRules}
+use Rattle.estimator.specs.Rounds.{fitFrom, finiteAt}
+use Rattle.tdcp.specs.Displacement.{fitOver, fitBy, endRules, movedBy, movedIn, displacementOf}
 use Rattle.trials.specs.Carriers.{sixIn, usedOf}
 use borrow.Author.Needs.{needs}
 use Rattle.trials.proofs.carriers.states.Statement.{statement}
@@ -29,7 +30,7 @@ record Used : Type 0 where
   in-minus-1 : usedOf (displacementOf (sixIn (negsuc 0))) ≡ 0
 
 used : Used
-unfolding displacementOf fitOf fitOver fitFrom ruled every first collect abs inRange placeable isElevation sound unsigned bitSet usable same has appearing slotFrom clocksIn clocksOf pairOf firstPair pairAt pairsOf centre within keptOf settingsPass badInterval displacementInput displacementCounts displacementRules sign exponent digits isNaN isQuiet payload payloadOrder unordered totalOrder patternOf insertBy sortedBy medianOf centreOf ofInt ofBits toBits neg add sub mul div le lt eq isNan
+unfolding displacementOf movedIn movedBy endRules finiteAt fitBy fitOver fitFrom ruled every first collect abs inRange placeable isElevation sound unsigned bitSet usable same has appearing slotFrom clocksIn clocksOf pairOf firstPair pairAt pairsOf centre within keptOf settingsPass badInterval epochRules intervalRules displacementCounts rowRules pairRules sign exponent digits isNanPattern isQuiet payload payloadOrder unordered totalOrder patternOf insertBy sortedBy medianOf centreOf ofInt ofBits toBits neg add sub mul div le lt eq isNan
 used = record { in-1 = refl; in-0 = refl; in-3 = refl; in-5 = refl; in-minus-1 = refl }
 
 used-in-requires : tie.Need-used-in-requires

@@ -2,7 +2,8 @@ use mathlib.Core.Path.{_≡_, refl, sym, ap, _∙_}
 use mathlib.Core.Bool.{Bool, true, false, _&&_}
 use mathlib.Core.List.{[], _∷_}
 use lib.Ieee.{binary64, ofBits, ofInt, toBits, isNan, add, sub, mul, div, lt, eq}
-use Rattle.numeric.specs.Order.{sign, totalOrder, patternOf}
+use Rattle.exact.specs.Pattern.{sign}
+use Rattle.numeric.specs.Order.{totalOrder, patternOf}
 use Rattle.numeric.specs.Real.{abs}
 use Rattle.median.specs.Sorted.{insertBy, sortedBy, medianOf}
 use Rattle.median.specs.Centre.{centreOf, deviationOf, scaleOf, centreAndScaleOf, centreScaleOf}

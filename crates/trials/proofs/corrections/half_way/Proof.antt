@@ -1,5 +1,5 @@
 use lib.Ieee.{ofBits, ofInt}
-use Rattle.table.specs.Table.{rows}
+use Rattle.table.specs.Table.{beside, rows}
 use borrow.Author.Needs.{needs}
 use Rattle.trials.proofs.corrections.half_way.Statement.{statement}
 use Rattle.trials.proofs.corrections.half_way.Tie as tie
@@ -23,7 +23,7 @@ query-requires : tie.Need-query-requires
 query-requires c κs = search needs
 
 returns : tie.Need-returns
-unfolding rows ofBits ofInt
+unfolding rows beside ofBits ofInt
 returns c = c .query .ensures .0
 
 pub half-way-spec : {M : Type 1} → statement M

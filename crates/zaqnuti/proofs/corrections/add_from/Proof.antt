@@ -1,6 +1,6 @@
 -- `zaqnuti::corrections::add_from` meets its contract. Assumes nothing.
 use mathlib.Core.Path.{sym, _∙_}
-use Rattle.differential.proofs.EpochLaws.{adds-same, adds-nothing}
+use Rattle.table.proofs.AddLaws.{told-same, told-nothing}
 use Rattle.zaqnuti.proofs.CorrectionLaws.{few, not-short, entry-many, entry-short, entry-added}
 use borrow.Author.Needs.{needs}
 use Rattle.zaqnuti.proofs.corrections.add_from.Statement.{statement}
@@ -12,7 +12,7 @@ wanted-requires c κs = search needs
 returns : tie.Need-returns
 returns c =
     let a = c .before .before .before .before .before .before .before .before .before .before .before .before .before .before .before .args in
-    adds-nothing _ _ _ _ _ _ (entry-many _ _ _ (a .time) (a .k) _ _ _ _ (a .present) (a .m) _ _ _ _ (a .base) (a .rover) (a .settings) _ (c .before .wanted .ensures) (c .if1 .taken))
+    told-nothing _ _ _ (entry-many _ _ _ (a .time) (a .k) _ _ _ _ (a .present) (a .m) _ _ _ _ (a .base) (a .rover) (a .settings) _ (c .before .wanted .ensures) (c .if1 .taken))
 
 is-short-requires : tie.Need-is-short-requires
 is-short-requires c κs = few (c .before .before .before .before .before .before .before .before .before .before .before .before .before .before .before .args .k) (c .before .wanted .result) (c .if1 .left) .1
@@ -20,7 +20,7 @@ is-short-requires c κs = few (c .before .before .before .before .before .before
 returns-2 : tie.Need-returns-2
 returns-2 c =
     let a = c .before .before .before .before .before .before .before .before .before .before .before .before .before .before .before .before .before .args in
-    adds-nothing _ _ _ _ _ _ (entry-short _ _ _ (a .time) (a .k) _ _ _ _ (a .present) (a .m) _ _ _ _ (a .base) (a .rover) (a .settings) _ (c .before .before .before .wanted .ensures) (c .before .is-short .ensures) (c .if2 .taken))
+    told-nothing _ _ _ (entry-short _ _ _ (a .time) (a .k) _ _ _ _ (a .present) (a .m) _ _ _ _ (a .base) (a .rover) (a .settings) _ (c .before .before .before .wanted .ensures) (c .before .is-short .ensures) (c .if2 .taken))
 
 epoch-from-requires : tie.Need-epoch-from-requires
 epoch-from-requires c κs =
@@ -53,7 +53,7 @@ same-length-5 c = search needs
 returns-3 : tie.Need-returns-3
 returns-3 c =
     let a = c .before .before .before .before .before .before .before .before .before .before .before .before .before .before .before .before .before .before .before .before .before .before .before .before .before .before .before .before .before .before .before .before .before .before .before .args in
-    adds-same (entry-added _ _ _ (a .time) (a .k) _ _ _ _ (a .present) (a .m) _ _ _ _ (a .base) (a .rover) (a .settings) _ (c .before .before .before .before .before .before .before .before .before .before .before .before .before .before .before .before .before .before .before .before .before .wanted .ensures) (c .before .before .before .before .before .before .before .before .before .before .before .before .before .before .before .before .before .before .before .is-short .ensures) _ _ (c .before .before .before .before .before .before .before .before .before .before .before .before .before .before .before .before .before .before .if2 .left) (c .before .before .before .before .before .before .before .before .before .before .before .before .before .before .before .before .before .epoch-from .ensures) (c .before .before .before .before .before .before .before .before .before .before .before .before .before .before .before .before .states-from .ensures)) (c .before .before .before .before .before .before .before .before .before .before .add-epoch .ensures)
+    told-same (entry-added _ _ _ (a .time) (a .k) _ _ _ _ (a .present) (a .m) _ _ _ _ (a .base) (a .rover) (a .settings) _ (c .before .before .before .before .before .before .before .before .before .before .before .before .before .before .before .before .before .before .before .before .before .wanted .ensures) (c .before .before .before .before .before .before .before .before .before .before .before .before .before .before .before .before .before .before .before .is-short .ensures) _ _ (c .before .before .before .before .before .before .before .before .before .before .before .before .before .before .before .before .before .before .if2 .left) (c .before .before .before .before .before .before .before .before .before .before .before .before .before .before .before .before .before .epoch-from .ensures) (c .before .before .before .before .before .before .before .before .before .before .before .before .before .before .before .before .states-from .ensures)) (c .before .before .before .before .before .before .before .before .before .before .add-epoch .ensures)
 
 pub add-from-spec : {M : Type 1} → statement M
 add-from-spec = tie.close (tie.spec wanted-requires returns is-short-requires returns-2 epoch-from-requires states-from-requires add-epoch-requires same-length same-length-2 same-length-3 same-length-4 same-length-5 returns-3)

@@ -1,6 +1,6 @@
 -- `zaqnuti::corrections::is_short` meets its contract. Assumes nothing.
 use mathlib.Core.Path.{refl}
-use Rattle.zaqnuti.specs.Corrections.{short}
+use Rattle.zaqnuti.specs.Corrections.{recordsShort}
 use borrow.Author.Needs.{needs}
 use Rattle.zaqnuti.proofs.corrections.is_short.Statement.{statement}
 use Rattle.zaqnuti.proofs.corrections.is_short.Tie as tie
@@ -9,7 +9,7 @@ mul-result : tie.Need-mul-result
 mul-result c = search needs
 
 returns : tie.Need-returns
-unfolding short
+unfolding recordsShort
 returns c = refl
 
 pub is-short-spec : {M : Type 1} → statement M

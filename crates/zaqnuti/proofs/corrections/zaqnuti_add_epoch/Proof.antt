@@ -1,5 +1,6 @@
 -- `zaqnuti::corrections::zaqnuti_add_epoch` meets its contract. Assumes nothing.
-use Rattle.zaqnuti.proofs.CorrectionLaws.{enters-refused, enters-added}
+use Rattle.zaqnuti.proofs.CorrectionLaws.{adds-number}
+use mathlib.Core.Path.{refl}
 use borrow.Author.Needs.{needs}
 use Rattle.zaqnuti.proofs.corrections.zaqnuti_add_epoch.Statement.{statement}
 use Rattle.zaqnuti.proofs.corrections.zaqnuti_add_epoch.Tie as tie
@@ -50,7 +51,7 @@ same-length-5 : tie.Need-same-length-5
 same-length-5 c = search needs
 
 returns : tie.Need-returns
-returns c = enters-refused _ _ (c .number .ensures) (c .before .before .answer .given .1) (c .before .before .before .before .before .before .before .before .before .before .before .before .before .before .add-from .ensures)
+returns c = adds-number _ _ (c .before .before .answer .given .1) (c .number .ensures) (c .before .before .before .before .before .before .before .before .before .before .before .before .before .before .add-from .ensures)
 
 same-length-6 : tie.Need-same-length-6
 same-length-6 c = search needs
@@ -68,7 +69,7 @@ same-length-10 : tie.Need-same-length-10
 same-length-10 c = search needs
 
 returns-2 : tie.Need-returns-2
-returns-2 c = enters-added _ _ (c .before .answer2 .given .1) (c .before .before .before .before .before .before .before .before .before .before .before .before .before .add-from .ensures)
+returns-2 c = adds-number _ _ (c .before .answer2 .given .1) refl (c .before .before .before .before .before .before .before .before .before .before .before .before .before .add-from .ensures)
 
 pub zaqnuti-add-epoch-spec : {M : Type 1} → statement M
 zaqnuti-add-epoch-spec = tie.close (tie.spec array-read-t37 array-read-t40 array-read-t43 array-read-t37-2 array-read-t43-2 array-read-t40-2 add-from-requires enum-known-answer number-requires enum-known-answer-2 same-length same-length-2 same-length-3 same-length-4 same-length-5 returns same-length-6 same-length-7 same-length-8 same-length-9 same-length-10 returns-2)

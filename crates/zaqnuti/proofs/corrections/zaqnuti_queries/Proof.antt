@@ -1,5 +1,6 @@
 -- `zaqnuti::corrections::zaqnuti_queries` meets its contract. Assumes nothing.
-use Rattle.zaqnuti.proofs.CorrectionLaws.{queries-refused, queries-answered}
+use Rattle.zaqnuti.proofs.CorrectionLaws.{replies-number}
+use mathlib.Core.Path.{refl}
 use borrow.Author.Needs.{needs}
 use Rattle.zaqnuti.proofs.corrections.zaqnuti_queries.Statement.{statement}
 use Rattle.zaqnuti.proofs.corrections.zaqnuti_queries.Tie as tie
@@ -23,7 +24,7 @@ same-length-2 : tie.Need-same-length-2
 same-length-2 c = search needs
 
 returns : tie.Need-returns
-returns c = queries-refused _ (c .number .ensures) (c .before .before .answer .given .1) (c .before .before .before .before .before .before .before .before .queries .ensures)
+returns c = replies-number _ _ (c .before .before .answer .given .1) (c .number .ensures) (c .before .before .before .before .before .before .before .before .queries .ensures)
 
 same-length-3 : tie.Need-same-length-3
 same-length-3 c = search needs
@@ -32,7 +33,7 @@ same-length-4 : tie.Need-same-length-4
 same-length-4 c = search needs
 
 returns-2 : tie.Need-returns-2
-returns-2 c = queries-answered (c .enum-told .given .1) (c .before .before .before .before .before .before .queries .ensures)
+returns-2 c = replies-number _ _ (c .enum-told .given .1) refl (c .before .before .before .before .before .before .queries .ensures)
 
 pub zaqnuti-queries-spec : {M : Type 1} → statement M
 zaqnuti-queries-spec = tie.close (tie.spec queries-requires enum-known-answer number-requires enum-told same-length same-length-2 returns same-length-3 same-length-4 returns-2)

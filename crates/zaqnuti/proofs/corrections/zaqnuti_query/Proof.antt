@@ -1,6 +1,6 @@
 -- `zaqnuti::corrections::zaqnuti_query` meets its contract. Assumes nothing.
 use mathlib.Core.Path.{sym, _∙_, subst}
-use Rattle.table.specs.Query.{GivesFinite}
+use Rattle.query.specs.Query.{GivesFinite}
 use Rattle.zaqnuti.proofs.CorrectionLaws.{query-refused, query-metres}
 use borrow.Author.Needs.{needs}
 use Rattle.zaqnuti.proofs.corrections.zaqnuti_query.Statement.{statement}
@@ -18,6 +18,9 @@ number-requires c κs = search needs
 enum-known-answer-2 : tie.Need-enum-known-answer-2
 enum-known-answer-2 c = search needs
 
+pattern-requires : tie.Need-pattern-requires
+pattern-requires c κs = search needs
+
 returns : tie.Need-returns
 returns c =
     let e = sym (c .before .before .answer .given .1) in
@@ -25,8 +28,8 @@ returns c =
 
 returns-2 : tie.Need-returns-2
 returns-2 c =
-    let e = sym (c .before .answer2 .given .1) in
-    query-metres _ _ _ (e ∙ c .before .before .before .query .ensures .0) (subst GivesFinite (sym e) (c .before .before .before .query .ensures .1))
+    let e = sym (c .before .before .answer2 .given .1) in
+    query-metres _ _ _ (c .pattern .ensures) (e ∙ c .before .before .before .before .query .ensures .0) (subst GivesFinite (sym e) (c .before .before .before .before .query .ensures .1))
 
 pub zaqnuti-query-spec : {M : Type 1} → statement M
-zaqnuti-query-spec = tie.close (tie.spec query-requires enum-known-answer number-requires enum-known-answer-2 returns returns-2)
+zaqnuti-query-spec = tie.close (tie.spec query-requires enum-known-answer number-requires enum-known-answer-2 pattern-requires returns returns-2)

@@ -1,7 +1,7 @@
 -- `zaqnuti::estimates::zaqnuti_displacement` meets its contract. Assumes nothing.
 use mathlib.Core.Path.{_≡_, refl, sym, _∙_}
 use borrow.Author.Tests.{not-true, not-false}
-use Rattle.estimator.specs.declared.displacement.Displacement.{Displacement}
+use Rattle.tdcp.specs.declared.displacement.Displacement.{Displacement}
 use Rattle.records.specs.Carriers.{vectorAt, CarrierColumns, carrierColumns}
 use Rattle.zaqnuti.specs.Estimates.{displacementSettings, columnDisplacementOf}
 use Rattle.zaqnuti.proofs.EstimateLaws.{previous-short, current-short, displacement-fit, displacement-answers}
@@ -68,6 +68,15 @@ delta-in-requires c κs = (sym (c .before .before .before .before .before .epoch
 enum-known-answer : tie.Need-enum-known-answer
 enum-known-answer c = search needs
 
+pattern-requires : tie.Need-pattern-requires
+pattern-requires c κs = search needs
+
+pattern-requires-2 : tie.Need-pattern-requires-2
+pattern-requires-2 c κs = search needs
+
+pattern-requires-3 : tie.Need-pattern-requires-3
+pattern-requires-3 c κs = search needs
+
 enum-known-answer-2 : tie.Need-enum-known-answer-2
 enum-known-answer-2 c = search needs
 
@@ -75,7 +84,9 @@ number-requires-3 : tie.Need-number-requires-3
 number-requires-3 c κs = search needs
 
 returns-3 : tie.Need-returns-3
-returns-3 c = displacement-answers _ _ _ _ _ _ _ (sym (c .before .before .before .before .answer .given .1) ∙ made (c .before .before .before .before .before .before)) refl refl refl
+returns-3 c =
+    let d = c .before in
+    displacement-answers _ _ _ _ _ _ _ (sym (c .before .before .before .before .before .before .before .answer .given .1) ∙ made (c .before .before .before .before .before .before .before .before .before)) refl (rw (d .before .before .before .pattern .ensures, d .before .before .pattern2 .ensures, d .before .pattern3 .ensures)) refl
 
 returns-4 : tie.Need-returns-4
 returns-4 c = displacement-answers _ _ _ _ _ _ _ (sym (c .before .before .answer2 .given .1) ∙ made (c .before .before .before .before)) (c .number3 .ensures) refl refl
@@ -94,6 +105,9 @@ zaqnuti-displacement-spec =
     displacement-settings-requires
     delta-in-requires
     enum-known-answer
+    pattern-requires
+    pattern-requires-2
+    pattern-requires-3
     enum-known-answer-2
     number-requires-3
     returns-3

@@ -1,7 +1,7 @@
 use mathlib.Core.Path.{sym, ap, _∙_}
 use borrow.Author.Needs.{needs}
 use Rattle.median.specs.declared.centre.Centre.{Centre}
-use Rattle.zaqnuti.specs.Numbers.{centreNumber, centreAfter}
+use Rattle.median.specs.Centre.{centreNumber, centreAfter}
 use Rattle.zaqnuti.proofs.round.zaqnuti_centre.Statement.{statement}
 use Rattle.zaqnuti.proofs.round.zaqnuti_centre.Tie as tie
 

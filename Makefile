@@ -1,0 +1,65 @@
+# make            ./run: proves, builds, and says where things are
+# make test       ./test: the gate
+# make install    [PREFIX=/usr/local] [DESTDIR=]: headers, archive, zaqnuti.pc, the program displacement, manual pages,
+#                 licences, the kit's identity, checksums
+# make uninstall  removes what that has put there
+# make dist       target/dist/zaqnuti-VERSION-x86_64-linux.tar.gz: the same tree, which works wherever it is unpacked
+# make clean      removes target/
+
+PREFIX = /usr/local
+DESTDIR =
+# What zaqnuti.pc has as its prefix.
+PC_PREFIX = $(PREFIX)
+INSTALL = install
+
+version := $(shell sed -n 's/.*ZAQNUTI_VERSION "\(.*\)"/\1/p' include/zaqnuti.h)
+name = zaqnuti-$(version)-x86_64-linux
+archive = target/staticlib/libzaqnuti.a
+program = target/bin/displacement
+to = $(DESTDIR)$(PREFIX)
+doc = share/doc/zaqnuti
+papers = LICENSE-MIT LICENSE-APACHE NOTICE KIT CHANGELOG.md docs/REFUSALS.md docs/LINE_FORM.md docs/TRUST.md \
+	examples/easy.c examples/firmware.c
+installed = include/zaqnuti.h include/zaqnuti_easy.h lib/libzaqnuti.a lib/pkgconfig/zaqnuti.pc bin/displacement \
+	share/man/man1/displacement.1 share/man/man3/zaqnuti.3 $(addprefix $(doc)/,$(notdir $(papers)))
+
+.PHONY: all test install uninstall dist clean
+
+all:
+	./run
+
+test:
+	./test
+
+# What is there is installed as it is, so that root needs no kit; `make` brings it up to date.
+$(archive) $(program):
+	./run
+
+install: $(archive) $(program)
+	$(INSTALL) -d '$(to)/include' '$(to)/lib/pkgconfig' '$(to)/bin' '$(to)/share/man/man1' '$(to)/share/man/man3' '$(to)/$(doc)'
+	$(INSTALL) -m 644 include/zaqnuti.h include/zaqnuti_easy.h '$(to)/include'
+	$(INSTALL) -m 644 $(archive) '$(to)/lib'
+	$(INSTALL) -m 755 $(program) '$(to)/bin'
+	sed -e 's|@PREFIX@|$(PC_PREFIX)|' -e 's|@VERSION@|$(version)|' packaging/zaqnuti.pc.in >'$(to)/lib/pkgconfig/zaqnuti.pc'
+	sed 's|@VERSION@|$(version)|' packaging/displacement.1 >'$(to)/share/man/man1/displacement.1'
+	sed 's|@VERSION@|$(version)|' packaging/zaqnuti.3 >'$(to)/share/man/man3/zaqnuti.3'
+	$(INSTALL) -m 644 $(papers) '$(to)/$(doc)'
+	cd '$(to)' && sha256sum $(installed) >$(doc)/SHA256SUMS
+	@echo "Zaqnuti $(version) is in $(to); '(cd $(to) && sha256sum -c $(doc)/SHA256SUMS)' checks it"
+
+uninstall:
+	cd '$(to)' && rm -f $(installed) $(doc)/SHA256SUMS
+	-rmdir '$(to)/$(doc)'
+
+# The times of the files are those of the last commit, so that the same tree gives the same bytes.
+dist: $(archive) $(program)
+	rm -rf target/dist
+	$(MAKE) --no-print-directory install DESTDIR=target/dist PREFIX=/$(name) PC_PREFIX='$$$${pcfiledir}/../..'
+	when=$$(git log -1 --format=%ct 2>/dev/null || echo 0); \
+	tar -C target/dist --sort=name --owner=0 --group=0 --numeric-owner --mtime="@$$when" -cf target/dist/$(name).tar $(name)
+	gzip -9n target/dist/$(name).tar
+	cd target/dist && sha256sum $(name).tar.gz >$(name).tar.gz.sha256 && rm -rf $(name)
+	@cat target/dist/$(name).tar.gz.sha256
+
+clean:
+	rm -rf target

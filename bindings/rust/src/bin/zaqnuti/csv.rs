@@ -1,0 +1,272 @@
+//! Decimal CSV with a header line, read line by line in bounded memory.
+
+use std::fs::File;
+use std::io::{self, BufRead, BufReader, Read};
+use std::str::FromStr;
+use std::sync::atomic::{AtomicBool, Ordering};
+
+use crate::fault::{failed, said, Fault, Run};
+use crate::progress::Progress;
+
+/// The longest line that is read, in bytes.
+const LONGEST: u64 = 65_536;
+
+/// Every column that a command reads or writes. A file may have those that a command has no use
+/// for; a name that is none of these is most likely misspelt.
+const KNOWN: &str = "week tow constellation svid band pseudorange carrier adr state \
+    x y z vx vy vz clock modelled ionosphere correction elevation rate rx ry rz \
+    dt dx dy dz true_dx true_dy true_dz sigma_x sigma_y sigma_z \
+    pair line screen sigma_a sigma_b huber mask rounds used screened chi pdop refusal satellites";
+
+/// A column of a table by its place.
+#[derive(Clone, Copy)]
+pub struct Column {
+    place: usize,
+    name: &'static str,
+}
+
+/// A CSV file and the line of it that was read last.
+pub struct Table {
+    name: String,
+    source: Box<dyn BufRead>,
+    header: Vec<String>,
+    text: String,
+    fields: Vec<(usize, usize)>,
+    lines: u64,
+    bytes: u64,
+    progress: Progress,
+}
+
+/// Whether standard input is some file's already.
+static TAKEN: AtomicBool = AtomicBool::new(false);
+
+/// A name for messages, and what can be read; `-` is standard input.
+pub fn open(path: &str) -> Run<(String, Box<dyn BufRead>, Option<u64>)> {
+    if path == "-" {
+        if TAKEN.swap(true, Ordering::Relaxed) {
+            return said("standard input: is read twice");
+        }
+        let source = Box::new(io::stdin().lock());
+        return Ok(("standard input".into(), source, None));
+    }
+    let file = File::open(path).map_err(|e| failed(path, &e))?;
+    let about = file.metadata().map_err(|e| failed(path, &e))?;
+    if about.is_dir() {
+        return said(format!("{path}: is a folder"));
+    }
+    let size = about.is_file().then_some(about.len());
+    Ok((path.into(), Box::new(BufReader::new(file)), size))
+}
+
+impl Table {
+    /// The table of a file, whose header line is read.
+    pub fn open(path: &str, strangers: bool) -> Run<Self> {
+        let (name, source, size) = open(path)?;
+        let mut table = Self {
+            name,
+            source,
+            header: Vec::new(),
+            text: String::new(),
+            fields: Vec::new(),
+            lines: 0,
+            bytes: 0,
+            progress: Progress::new(size),
+        };
+        if !table.read_line()? {
+            return said(format!("{}: is empty; a header line is wanted", table.name));
+        }
+        // Spreadsheets begin a file so.
+        if let Some(rest) = table.text.strip_prefix('\u{feff}') {
+            table.text = rest.to_string();
+        }
+        table.header = table
+            .text
+            .split(',')
+            .map(|n| n.trim().to_string())
+            .collect();
+        table.check_header(strangers)?;
+        Ok(table)
+    }
+
+    fn check_header(&self, strangers: bool) -> Run<()> {
+        for (i, name) in self.header.iter().enumerate() {
+            if self.header[..i].contains(name) {
+                return Err(self.fault(&format!("the column {name:?} stands twice")));
+            }
+            if !strangers && !KNOWN.split(' ').any(|known| known == name) {
+                let hint = "see --help, or give --ignore-unknown";
+                return Err(self.fault(&format!("the column {name:?} is unknown; {hint}")));
+            }
+        }
+        Ok(())
+    }
+
+    /// A fault in the line that was read last.
+    pub fn fault(&self, why: &str) -> Fault {
+        Fault::Said(format!("{}:{}: {why}", self.name, self.lines))
+    }
+
+    /// A fault in a field of the line that was read last.
+    pub fn fault_in(&self, column: Column, why: &str) -> Fault {
+        self.fault(&format!("{}: {why}", column.name))
+    }
+
+    /// Reads one line without its end, LF or CRLF; false at the end of the file.
+    fn read_line(&mut self) -> Run<bool> {
+        let mut bytes = std::mem::take(&mut self.text).into_bytes();
+        bytes.clear();
+        let mut part = self.source.by_ref().take(LONGEST + 2);
+        let n = part.read_until(b'\n', &mut bytes);
+        let n = n.map_err(|e| failed(&self.name, &e))? as u64;
+        self.lines += u64::from(n > 0);
+        self.bytes += n;
+        self.progress.tell(&self.name, self.lines, self.bytes);
+        if bytes.last() == Some(&b'\n') {
+            bytes.pop();
+        }
+        if bytes.last() == Some(&b'\r') {
+            bytes.pop();
+        }
+        if bytes.len() as u64 > LONGEST {
+            return Err(self.fault(&format!("the line is above {LONGEST} bytes")));
+        }
+        let text = String::from_utf8(bytes);
+        self.text = text.map_err(|_| self.fault("the line is no text (UTF-8)"))?;
+        Ok(n > 0)
+    }
+
+    /// Goes to the next line that is not blank; false at the end of the file.
+    pub fn next(&mut self) -> Run<bool> {
+        loop {
+            if !self.read_line()? {
+                return Ok(false);
+            }
+            if !self.text.trim().is_empty() {
+                break;
+            }
+        }
+        self.fields.clear();
+        let mut start = 0;
+        for part in self.text.split(',') {
+            self.fields.push((start, start + part.len()));
+            start += part.len() + 1;
+        }
+        if self.fields.len() == self.header.len() {
+            return Ok(true);
+        }
+        let (have, want) = (self.fields.len(), self.header.len());
+        Err(self.fault(&format!("{have} fields, the header has {want}")))
+    }
+
+    /// The name of the file, for messages.
+    pub fn name(&self) -> &str {
+        &self.name
+    }
+
+    /// The header line.
+    pub fn header(&self) -> String {
+        self.header.join(",")
+    }
+
+    /// The line that was read last.
+    pub fn text(&self) -> &str {
+        &self.text
+    }
+
+    /// A column, if the file has it.
+    pub fn optional(&self, name: &'static str) -> Option<Column> {
+        let place = self.header.iter().position(|n| n == name)?;
+        Some(Column { place, name })
+    }
+
+    /// A column that must be there.
+    pub fn column(&self, name: &'static str) -> Run<Column> {
+        match self.optional(name) {
+            Some(column) => Ok(column),
+            None => said(format!("{}:1: the column {name:?} is missing", self.name)),
+        }
+    }
+
+    /// Three columns that must be there.
+    pub fn columns(&self, names: [&'static str; 3]) -> Run<[Column; 3]> {
+        let [x, y, z] = names;
+        Ok([self.column(x)?, self.column(y)?, self.column(z)?])
+    }
+
+    /// Three columns, if the file has the first of them.
+    pub fn optionals(&self, names: [&'static str; 3]) -> Run<Option<[Column; 3]>> {
+        match self.optional(names[0]) {
+            Some(_) => self.columns(names).map(Some),
+            None => Ok(None),
+        }
+    }
+
+    /// A field of the line that was read last, without spaces around it.
+    pub fn field(&self, column: Column) -> &str {
+        let (start, end) = self.fields[column.place];
+        self.text[start..end].trim()
+    }
+
+    fn parsed<T: FromStr>(&self, column: Column, kind: &str) -> Run<T> {
+        let field = self.field(column);
+        field.parse().map_err(|_| match field {
+            "" => self.fault_in(column, &format!("empty; {kind} is wanted")),
+            _ => {
+                let start: String = field.chars().take(40).collect();
+                self.fault_in(column, &format!("{start:?} is not {kind}"))
+            }
+        })
+    }
+
+    /// A float.
+    pub fn float(&self, column: Column) -> Run<f64> {
+        let field = self.field(column);
+        match crate::decimal::read(field) {
+            Some(x) => Ok(x),
+            None => self.parsed(column, "a number"),
+        }
+    }
+
+    /// Three floats.
+    pub fn floats(&self, columns: [Column; 3]) -> Run<[f64; 3]> {
+        let [x, y, z] = columns;
+        Ok([self.float(x)?, self.float(y)?, self.float(z)?])
+    }
+
+    /// A float of a column that may not be there, 0 without it.
+    pub fn float_or_0(&self, column: Option<Column>) -> Run<f64> {
+        column.map_or(Ok(0.0), |c| self.float(c))
+    }
+
+    /// A whole number.
+    pub fn whole<T: Whole>(&self, column: Column) -> Run<T> {
+        self.parsed(column, T::KIND)
+    }
+
+    /// A whole number of a column that may not be there.
+    pub fn whole_or<T: Whole>(&self, column: Option<Column>, without: T) -> Run<T> {
+        column.map_or(Ok(without), |c| self.whole(c))
+    }
+}
+
+/// A whole number of a width.
+pub trait Whole: FromStr {
+    /// Its kind, for messages.
+    const KIND: &'static str;
+}
+
+impl Whole for u8 {
+    const KIND: &'static str = "a whole number from 0 to 255";
+}
+
+impl Whole for u16 {
+    const KIND: &'static str = "a whole number from 0 to 65535";
+}
+
+impl Whole for u32 {
+    const KIND: &'static str = "a whole number from 0 to 4294967295";
+}
+
+impl Whole for i32 {
+    const KIND: &'static str = "a whole number from -2147483648 to 2147483647";
+}

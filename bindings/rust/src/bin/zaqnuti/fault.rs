@@ -1,0 +1,32 @@
+//! What ends a run before its end.
+
+use std::io::{self, Write};
+
+/// Why a run ends without all its answers.
+pub enum Fault {
+    /// The reader of the output has gone, and nobody is left to tell.
+    Closed,
+    /// What is wrong and where, for standard error.
+    Said(String),
+}
+
+/// What a step of a run gives, or why the run ends.
+pub type Run<T> = Result<T, Fault>;
+
+/// A fault in words.
+pub fn said<T>(why: impl Into<String>) -> Run<T> {
+    Err(Fault::Said(why.into()))
+}
+
+/// A fault of reading or writing the file of a name.
+pub fn failed(name: &str, e: &io::Error) -> Fault {
+    match e.kind() {
+        io::ErrorKind::BrokenPipe => Fault::Closed,
+        _ => Fault::Said(format!("{name}: {e}")),
+    }
+}
+
+/// Says something on standard error; the exit status tells it too where that can't be written.
+pub fn tell(what: &str) {
+    let _ = writeln!(io::stderr(), "zaqnuti: {what}");
+}

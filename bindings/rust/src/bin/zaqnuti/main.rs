@@ -1,0 +1,118 @@
+//! The command `zaqnuti`: the library's services at a shell, over decimal CSV. docs/SHELL.md is its page.
+
+mod answer;
+mod args;
+mod corrections;
+mod csv;
+mod decimal;
+mod displacement;
+mod epochs;
+mod fault;
+mod fix;
+mod local;
+mod output;
+mod pairs;
+mod places;
+mod plot;
+mod progress;
+mod svg;
+mod text;
+mod track;
+
+use std::env;
+use std::process::ExitCode;
+
+use fault::{said, Fault, Run};
+use output::Output;
+
+const HELP: &str = "\
+zaqnuti COMMAND [OPTIONS] [FILE..]: positioning from decimal CSV with a header line
+
+  fix            a position from the pseudoranges of each epoch
+  displacement   how far the receiver moved between two epochs of carrier phases
+  corrections    the corrections of a base station, for each line of a rover
+  track          the track that fits fixes and displacements
+  encode         CSV as texts of the program displacement
+  decode         such texts as CSV
+  plot           the path of a drive as a picture (SVG)
+
+  zaqnuti COMMAND --help   its columns and options
+  zaqnuti --version
+
+Without a FILE, and for -, standard input is read. Exit status: 0 answered,
+1 some call was refused, 2 bad input, or something can't be read or written.
+";
+
+const ENDING: &str = "
+  --csv               answers as CSV, with a header line and exact decimals
+  -o FILE             where answers go, whole or not at all [standard output]
+  --ignore-unknown    columns of unknown names are allowed
+  --help
+";
+
+const SHORT_ENDING: &str = "
+  -o FILE             where it goes, whole or not at all
+  --ignore-unknown    columns of unknown names are allowed
+  --help
+";
+
+type Command = fn(&[String]) -> Run<bool>;
+
+/// A command by its name, and its help.
+fn command(name: &str) -> Option<(Command, Vec<&'static str>)> {
+    Some(match name {
+        "fix" => (fix::run, vec![fix::HELP, ENDING]),
+        "displacement" => (
+            displacement::run,
+            vec![displacement::HELP, "\n", pairs::HELP, ENDING],
+        ),
+        "corrections" => (corrections::run, vec![corrections::HELP, ENDING]),
+        "track" => (track::run, vec![track::HELP, ENDING]),
+        "encode" => (text::encode, vec![text::ENCODE, SHORT_ENDING]),
+        "decode" => (text::decode, vec![text::DECODE, SHORT_ENDING]),
+        "plot" => (plot::run, vec![plot::HELP, SHORT_ENDING]),
+        _ => return None,
+    })
+}
+
+fn print(text: &str) -> Run<bool> {
+    let mut out = Output::open(None)?;
+    out.line(text.trim_end())?;
+    out.close()?;
+    Ok(true)
+}
+
+fn run(words: &[String]) -> Run<bool> {
+    let Some((name, rest)) = words.split_first() else {
+        return said("a command is wanted; see zaqnuti --help");
+    };
+    match name.as_str() {
+        "--help" | "-h" | "help" => return print(HELP),
+        "--version" => return print(concat!("zaqnuti ", env!("CARGO_PKG_VERSION"))),
+        _ => {}
+    }
+    let Some((command, help)) = command(name) else {
+        return said(format!("{name}: no such command; see zaqnuti --help"));
+    };
+    match rest.iter().any(|w| w == "--help" || w == "-h") {
+        true => print(&help.concat()),
+        false => command(rest),
+    }
+}
+
+fn main() -> ExitCode {
+    let words: Result<Vec<String>, _> = env::args_os().skip(1).map(|w| w.into_string()).collect();
+    let done = match words {
+        Ok(words) => run(&words),
+        Err(word) => said(format!("{word:?}: is no text")),
+    };
+    match done {
+        Ok(true) => ExitCode::SUCCESS,
+        Ok(false) => ExitCode::from(1),
+        Err(Fault::Closed) => ExitCode::from(2),
+        Err(Fault::Said(why)) => {
+            fault::tell(&why);
+            ExitCode::from(2)
+        }
+    }
+}

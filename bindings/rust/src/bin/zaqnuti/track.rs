@@ -1,0 +1,187 @@
+//! `zaqnuti track`: the track that fits fixes and displacements.
+
+use zaqnuti::smooth::{smooth, Anchor, Link, Settings};
+use zaqnuti::{Vec3, EPOCHS};
+
+use crate::answer::{Answers, FLAGS, OPTIONS};
+use crate::args::Args;
+use crate::csv::{Column, Table};
+use crate::decimal::{metres, written};
+use crate::epochs::{Time, Times};
+use crate::fault::{said, Run};
+
+pub const HELP: &str = "\
+zaqnuti track [OPTIONS] FILE..: the track that fits fixes and displacements
+
+The header tells what a file has; the lines that `zaqnuti fix --csv` and
+`zaqnuti displacement --csv` write are read as they are.
+  tow                time of week, s; week before it where there is one
+  x, y, z            a fix, m, or
+  dx, dy, dz, dt     a displacement that ends at tow and took dt seconds, m and s
+  sigma_x, sigma_y, sigma_z
+                     one-sigma of either, m, above 0 (or the options below)
+  refusal            a line where it is not 0 is an epoch and nothing more
+
+Each time of a line is an epoch of the track, and a displacement leads from one
+epoch to the next.
+
+  --fix-sigma M           one-sigma of each fix by axis, m [1]
+  --displacement-sigma M  of each displacement by axis, m [0.05]
+  --huber N               in sigmas [2]
+  --rounds N              reweighting passes, at most 50 [6]
+";
+
+const VALUED: [&str; 4] = ["--fix-sigma", "--displacement-sigma", "--huber", "--rounds"];
+
+/// What one line says of its epoch.
+struct Said {
+    value: Vec3,
+    sigma: Vec3,
+    /// The seconds since the epoch where it starts, of a displacement.
+    took: Option<f64>,
+}
+
+/// The columns of fixes or displacements.
+struct Columns {
+    times: Times,
+    value: [Column; 3],
+    dt: Option<Column>,
+    sigma: Option<[Column; 3]>,
+    refusal: Option<Column>,
+    otherwise: f64,
+}
+
+impl Columns {
+    fn of(table: &Table, args: &Args) -> Run<Self> {
+        let links = table.optional("dx").is_some();
+        let (names, otherwise) = match links {
+            true => (
+                ["dx", "dy", "dz"],
+                args.float("--displacement-sigma", 0.05)?,
+            ),
+            false => (["x", "y", "z"], args.float("--fix-sigma", 1.0)?),
+        };
+        Ok(Self {
+            times: Times::of(table)?,
+            value: table.columns(names)?,
+            dt: links.then(|| table.column("dt")).transpose()?,
+            sigma: table.optionals(["sigma_x", "sigma_y", "sigma_z"])?,
+            refusal: table.optional("refusal"),
+            otherwise,
+        })
+    }
+
+    fn read(&self, table: &Table) -> Run<(Time, Option<Said>)> {
+        let time = self.times.read(table)?;
+        if table.whole_or(self.refusal, 0u8)? != 0 {
+            return Ok((time, None));
+        }
+        let vector = |[x, y, z]: [f64; 3]| Vec3::new(x, y, z);
+        let sigma = self.sigma.map(|s| table.floats(s)).transpose()?;
+        let said = Said {
+            value: vector(table.floats(self.value)?),
+            sigma: vector(sigma.unwrap_or([self.otherwise; 3])),
+            took: self.dt.map(|dt| table.float(dt)).transpose()?,
+        };
+        Ok((time, Some(said)))
+    }
+}
+
+/// Every line of the files, by time.
+fn gathered(args: &Args) -> Run<Vec<(Time, Option<Said>)>> {
+    let mut lines = Vec::new();
+    for source in args.sources() {
+        let mut table = Table::open(source, args.has("--ignore-unknown"))?;
+        let columns = Columns::of(&table, args)?;
+        let mut room = EPOCHS + 1;
+        while table.next()? {
+            let line = columns.read(&table)?;
+            // One more than the library takes is refused whatever follows.
+            if room > 0 {
+                lines.push(line);
+                room -= 1;
+            }
+        }
+    }
+    lines.sort_by(|(a, _), (b, _)| a.order(*b));
+    Ok(lines)
+}
+
+/// The epochs, and what is known of them.
+#[derive(Default)]
+struct Known {
+    times: Vec<Time>,
+    anchors: Vec<Anchor>,
+    links: Vec<Link>,
+}
+
+impl Known {
+    fn of(lines: Vec<(Time, Option<Said>)>) -> Run<Self> {
+        let mut known = Self::default();
+        for (time, said) in lines {
+            if known.times.last() != Some(&time) {
+                known.times.push(time);
+            }
+            if let Some(said) = said {
+                known.place(said)?;
+            }
+        }
+        Ok(known)
+    }
+
+    /// Takes what is said of the last epoch.
+    fn place(&mut self, what: Said) -> Run<()> {
+        let index = self.times.len() - 1;
+        let (value, sigma) = (what.value, what.sigma);
+        let Some(took) = what.took else {
+            self.anchors.push(Anchor {
+                index,
+                position: value,
+                sigma,
+            });
+            return Ok(());
+        };
+        let end = self.times[index];
+        let before = index.checked_sub(1);
+        let starts = |i: &usize| (end.since(self.times[*i]) - took).abs() < 1e-6;
+        let Some(index) = before.filter(starts) else {
+            return said(format!(
+                "the displacement that ends at {end} does not start at the epoch before"
+            ));
+        };
+        self.links.push(Link {
+            index,
+            delta: value,
+            sigma,
+        });
+        Ok(())
+    }
+}
+
+/// Answers the track; true where it is not refused.
+pub fn run(words: &[String]) -> Run<bool> {
+    let args = Args::parse(words, &[&VALUED[..], &OPTIONS].concat(), &FLAGS)?;
+    let kind = Settings::default();
+    let set = Settings {
+        huber: args.float("--huber", kind.huber)?,
+        iterations: args.whole("--rounds", kind.iterations)?,
+    };
+    let known = Known::of(gathered(&args)?)?;
+    let mut answers = Answers::open(&args, "week,tow,x,y,z,refusal")?;
+    match smooth(known.times.len(), &known.anchors, &known.links, &set) {
+        Ok(track) => {
+            for (time, p) in known.times.iter().zip(track) {
+                let place = |f: fn(f64) -> String| [p.x, p.y, p.z].map(f);
+                answers.tell(
+                    || format!("{time}: {} m", place(metres).join(" ")),
+                    || format!("{},{},0", time.fields(), place(written).join(",")),
+                )?;
+            }
+        }
+        Err(why) => {
+            let words = answers.refused(why);
+            answers.tell(|| words, || format!(",,,,,{}", why.number()))?;
+        }
+    }
+    answers.close()
+}

@@ -1,0 +1,6 @@
+-- What the proofs of more than one function use, and the theorems.
+pub mod FoundLaws
+pub mod QueryLaws
+pub mod FiniteLaws
+pub mod QueriesLaws
+pub mod Values

@@ -1,0 +1,110 @@
+-- The correction of a signal at a time (docs/SCOPE.md, "Corrections"; `Corrections::at` of differential.rs). Definitions only.
+use Prim.Native.Nat.{ℕ, _≤_}
+use mathlib.Core.Path.{_≡_}
+use mathlib.Core.Bool.{Bool, true, cond, not, _&&_, _||_}
+use mathlib.Core.List.{List, [], _∷_}
+use lib.Dec.{ltb}
+use lib.Ieee.{Float, lt}
+use lib.Ieee.Scale.{finite}
+use Rattle.exact.specs.Float.{_⊕_, _⊖_, _⊗_, _⊘_, bits}
+use Rattle.numeric.specs.Real.{abs, inRange}
+use Rattle.numeric.specs.Refusal.{numberOf}
+use Rattle.numeric.specs.declared.refusal.Refusal.the-variants.{TooMany, SettingOutOfRange, RecordOutOfRange, NoCorrection}
+use Rattle.table.specs.Table.{signal, seriesOf, sound}
+use Rattle.table.specs.declared.sample.Sample.{Sample}
+use Rattle.query.specs.declared.query.Correction.{Correction}
+use Rattle.query.specs.declared.query.Correction.the-variants.{Refused, Metres}
+
+-- 1e-6
+abbrev pub exact : Float
+exact = bits 0x3EB0_C6F7_A0B5_ED8D
+
+-- less than 1e-6 s away
+unfoldable pub near : Float → Float → Bool
+near x t = lt (abs (x ⊖ t)) exact
+
+pub data Found : Type 0 where
+  missing : Found
+  the : Sample → Found
+
+-- the first sample that passes the test
+unfoldable pub firstOf : (Sample → Bool) → List Sample → Found
+firstOf test [] = missing
+firstOf test (s ∷ ss) = cond (test s) (the s) (firstOf test ss)
+
+-- the last sample that passes the test, and f where none does
+unfoldable pub lastOf : (Sample → Bool) → Found → List Sample → Found
+lastOf test f [] = f
+lastOf test f (s ∷ ss) = lastOf test (cond (test s) (the s) f) ss
+
+-- a sample before the time t
+abbrev pub before : Float → Sample → Bool
+before t s = lt (s .time) t
+
+-- a sample at or after the time t
+abbrev pub since : Float → Sample → Bool
+since t s = not (lt (s .time) t)
+
+-- the last sample of a series before t
+abbrev pub lastBefore : Float → List Sample → Found
+lastBefore t l = lastOf (before t) missing l
+
+-- the first sample of a series at or after t
+abbrev pub firstSince : Float → List Sample → Found
+firstSince t l = firstOf (since t) l
+
+-- the line through two samples, at t
+unfoldable pub line : Float → Sample → Sample → Float
+line t a b = a .correction ⊕ (t ⊖ a .time) ⊘ (b .time ⊖ a .time) ⊗ (b .correction ⊖ a .correction)
+
+-- What the last sample before t, if there is one, and the first one at or after it, b, give, b not being near: where there is none, the end refuses;
+-- then a sample less than 1e-6 s away comes first, and then the gap is tested.
+unfoldable pub bridged : Float → Float → Found → Sample → Correction
+bridged gap t missing b = Refused NoCorrection
+bridged gap t (the a) b =
+    cond (near (a .time) t) (Metres (a .correction))
+    (cond (lt gap (b .time ⊖ a .time)) (Refused NoCorrection) (Metres (line t a b)))
+
+-- What they give, where there may be none at or after t: the end refuses; a sample less than 1e-6 s away comes first.
+unfoldable pub between : Float → Float → Found → Found → Correction
+between gap t f missing = Refused NoCorrection
+between gap t f (the b) = cond (near (b .time) t) (Metres (b .correction)) (bridged gap t f b)
+
+-- the correction at the time t from one satellite's series, by the last sample before t and the first one at or after it
+unfoldable pub answerIn : List Sample → Float → Float → Correction
+answerIn l gap t = between gap t (lastBefore t l) (firstSince t l)
+
+-- the correction of the signal c, v, b at the time t: that of its series
+unfoldable pub answerAt : List Sample → Float → ℕ → ℕ → ℕ → Float → Correction
+answerAt ss gap c v b t = answerIn (seriesOf (signal c v b) ss) gap t
+
+-- a query of the first n samples of columns with that capacity: numbers 2, 3 and 4, and then the answer; a time that is not finite passes 4
+unfoldable pub queryOf : ℕ → ℕ → List Sample → Float → ℕ → ℕ → ℕ → Float → Correction
+queryOf n room ss gap c v b t =
+    cond (ltb room n) (Refused TooMany)
+    (cond (not (inRange gap)) (Refused SettingOutOfRange)
+    (cond (not (sound ss && (inRange t || not (finite t)))) (Refused RecordOutOfRange)
+    (answerAt ss gap c v b t)))
+
+-- 0, or the number of the refusal
+abbrev pub queryNumber : Correction → ℕ
+queryNumber (Refused r) = numberOf r
+queryNumber (Metres x) = 0
+
+-- a lent float afterwards: the correction, and as it was where the query is refused
+abbrev pub metresAfter : Correction → Float → Float
+metresAfter (Refused r) old = old
+metresAfter (Metres x) old = x
+
+-- every correction given is finite
+abbrev pub GivesFinite : Correction → Type 0
+GivesFinite (Refused n) = Unit {0}
+GivesFinite (Metres x) = finite x ≡ true
+
+-- ---- what the contract of the answer says
+
+-- rules 2 to 4 let the table and the gap pass
+pub record PassedTable (n room : ℕ) (ss : List Sample) (gap : Float) : Type 0 where
+  pub few : n ≤ room
+  pub in-range : inRange gap ≡ true
+  pub steady : sound ss ≡ true

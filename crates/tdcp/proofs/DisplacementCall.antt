@@ -1,0 +1,116 @@
+-- The displacement as the public call works it out: the rules on what is handed over, and what its pairs come to. Assumes nothing.
+use mathlib.Core.Path.{_≡_, sym, ap, ap₂, _∙_, subst}
+use Prim.Native.Nat.{ℕ, _-_, _≤_}
+use native.Mathlib.Omega.{arith}
+use mathlib.Core.Bool.{true, false, _||_}
+use mathlib.Core.List.{List}
+use lib.Dec.{ltb}
+use lib.ListN.{length, take}
+use lib.Ieee.{Float}
+use Rattle.numeric.specs.declared.refusal.Refusal.{Refusal}
+use Rattle.numeric.specs.declared.refusal.Refusal.the-variants.{TooMany, BadInterval}
+use Rattle.records.specs.Record.{Holds}
+use Rattle.clocks.specs.Clocks.{clocksOf}
+use Rattle.records.specs.Screen.{keptOf, constellations}
+use Rattle.records.specs.Kept.{pairsIn, Kept}
+use Rattle.estimator.specs.Rules.{Rule, ruled}
+use Rattle.tdcp.specs.Valid.{badInterval, epochRules, intervalRules, displacementCounts}
+use Rattle.tdcp.specs.Front.{pairRules}
+use Rattle.estimator.specs.Rounds.{End, Stopped, Reached, Fit, concluded, Ended}
+use Rattle.tdcp.specs.Displacement.{Input, fitOver, fitBy, pairs, deltaAt, endRules, concludedAt, movedBy, movedIn, displacementOf}
+use Rattle.clocks.specs.declared.clocks.Clocks.{Clocks}
+use Rattle.records.specs.declared.pair.Pair.{Pair}
+use Rattle.tdcp.specs.declared.displacement.Settings.{Settings}
+use Rattle.tdcp.specs.declared.displacement.Displacement.{Displacement}
+use Rattle.tdcp.specs.declared.displacement.Displacement.the-variants.{Refused, Moved}
+use Rattle.estimator.specs.declared.rules.Check.the-variants.{Refused as Stops, Passed}
+use Rattle.estimator.proofs.RulesLaws.{checked, refused-by, passed-by}
+use Rattle.tdcp.proofs.DisplacementLaws.{fit-same}
+use Rattle.tdcp.proofs.FrontLaws.{counts-passed, kept-few}
+
+-- what a fit comes to, by its end and what the code has of it
+ended-refused : {A : Type 0} (f : Refusal → A) (rules : List Float → List Rule) (answer : List Float → A) (e : End) {r : Refusal} {x y : List Float} → Ended e (Stops r) x y → f r ≡ concluded f rules answer e
+ended-refused f rules answer (Stopped q) {r} h = let w = h .answer-is in let same : r ≡ q = cc in ap f same
+ended-refused f rules answer (Reached z) h = absurd (let q = h .answer-is in let z : _≡_ {A = ℕ} 0 1 = cc in omega arith)
+
+ended-reached : {A : Type 0} (f : Refusal → A) (rules : List Float → List Rule) (answer : List Float → A) (e : End) {x y : List Float} → Ended e Passed x y → ruled f (rules y) (answer y) ≡ concluded f rules answer e
+ended-reached f rules answer (Stopped r) h = absurd (let q = h .answer-is in let z : _≡_ {A = ℕ} 0 1 = cc in omega arith)
+ended-reached f rules answer (Reached z) h = ap (λ (w : List Float). ruled f (rules w) (answer w)) (h .state-is)
+
+-- ---- what n pairs ps come to: what the code has once it has screened
+module _ (settings : Settings) (ps : List Pair) (n : ℕ) (all : n ≡ length ps) (k : Clocks) {used : ℕ} {x y z : List Float} {constellation : List ℕ} {elevation observed : List Float}
+    (h : Kept (keptOf (settings .screen) ps) used x y z constellation elevation observed) (clocks : k ≡ clocksOf (take used constellation)) where
+  abbrev kept : List Pair
+  kept = keptOf (settings .screen) ps
+
+  clocks-are : k ≡ clocksOf (constellations kept)
+  clocks-are = clocks ∙ ap clocksOf (h .constellations)
+
+  slots : k .count ≡ clocksOf (constellations kept) .count
+  slots = ap (λ (c : Clocks). c .count) clocks-are
+
+  pub no-more : used ≤ n
+  no-more = omega (arith, h .count, kept-few (settings .screen) ps)
+
+  abbrev counts : List Rule
+  counts = displacementCounts n used (k .count)
+
+  counts-are : counts ≡ pairRules settings ps
+  unfolding pairRules
+  counts-are = rw (all, h .count, slots)
+
+  abbrev answer : List Float → Displacement
+  answer x = Moved (deltaAt (length kept) (length ps - length kept) x)
+
+  counted : ruled Refused counts (concluded Refused endRules answer (fitBy settings ps .end)) ≡ movedBy settings ps
+  unfolding movedBy
+  counted = ap (λ (rs : List Rule). ruled Refused rs (concluded Refused endRules answer (fitBy settings ps .end))) counts-are
+
+  pub refused-counts : {r : Refusal} → Stops r ≡ checked counts → Refused r ≡ movedBy settings ps
+  refused-counts e = refused-by Refused _ counts e ∙ counted
+
+  -- rules 7 to 9 leave a fit of at most nine unknowns
+  module _ (enough : Passed ≡ checked counts) where
+    pub few-clocks : k .count ≤ 6
+    few-clocks = counts-passed _ _ _ enough .1 .few-slots
+
+    fit-is : fitOver settings k (pairsIn x y z constellation elevation (take used observed)) ≡ fitBy settings ps
+    unfolding fitBy
+    fit-is = fit-same settings k h ∙ ap (λ (c : Clocks). fitOver settings c kept) clocks-are
+
+    answered : concluded Refused endRules answer (fitBy settings ps .end) ≡ movedBy settings ps
+    answered = sym (passed-by Refused _ counts enough) ∙ counted
+
+    module _ {a b : List Float} where
+      pub stopped : {r : Refusal} → Ended (fitOver settings k (pairsIn x y z constellation elevation (take used observed)) .end) (Stops r) a b → Refused r ≡ movedBy settings ps
+      stopped {r} e = ended-refused Refused endRules answer (fitBy settings ps .end) (subst (λ (f : Fit). Ended (f .end) (Stops r) a b) fit-is e) ∙ answered
+
+      pub reached : Ended (fitOver settings k (pairsIn x y z constellation elevation (take used observed)) .end) Passed a b → concludedAt used (n - used) b ≡ movedBy settings ps
+      reached e =
+          ap₂ (λ (u s : ℕ). concludedAt u s b) (h .count) (ap₂ _-_ all (h .count))
+          ∙ ended-reached Refused endRules answer (fitBy settings ps .end) (subst (λ (f : Fit). Ended (f .end) Passed a b) fit-is e) ∙ answered
+
+-- ---- the call
+module _ (i : Input) where
+  abbrev epochs : List Rule
+  epochs = epochRules (i .previous) (i .current) (i .receiver) (i .settings)
+
+  pub too-many : (ltb 64 (i .previous .count) || ltb 64 (i .current .count)) ≡ true → Refused TooMany ≡ displacementOf i
+  unfolding displacementOf epochRules ruled
+  too-many e = rw e
+
+  pub refused-epochs : {r : Refusal} → Stops r ≡ checked epochs → Refused r ≡ displacementOf i
+  unfolding displacementOf
+  refused-epochs e = refused-by Refused _ epochs e
+
+  pub passed-epochs : Passed ≡ checked epochs → movedIn i ≡ displacementOf i
+  unfolding displacementOf
+  passed-epochs e = sym (passed-by Refused _ epochs e)
+
+  pub refused-interval : badInterval (i .dt) ≡ true → Refused BadInterval ≡ movedIn i
+  unfolding movedIn intervalRules ruled
+  refused-interval e = rw e
+
+  pub paired : badInterval (i .dt) ≡ false → {n : ℕ} {array : List Pair} → Holds n array (pairs i) → movedBy (i .settings) (take n array) ≡ movedIn i
+  unfolding movedIn intervalRules ruled
+  paired e h = rw (e, h .all)

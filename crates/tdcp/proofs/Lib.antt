@@ -1,0 +1,7 @@
+-- What the proofs of more than one function use, and the laws.
+pub mod FrontLaws
+pub mod FrontValues
+pub mod DisplacementLaws
+pub mod DisplacementSound
+pub mod DisplacementCall
+pub mod CountedLaws

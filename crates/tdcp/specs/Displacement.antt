@@ -1,0 +1,157 @@
+-- The displacement of a receiver between two epochs (docs/SCOPE.md, "Displacement"; tdcp.rs): its rounds, and the answer. Definitions only.
+use mathlib.Core.Path.{_≡_}
+use Prim.Native.Nat.{ℕ, _+_, _-_, _<_}
+use mathlib.Core.Bool.{true, not}
+use mathlib.Core.List.{List, [], _∷_, map}
+use lib.ListN.{length}
+use lib.Dec.{T}
+use lib.Ieee.{Float}
+use lib.Ieee.Scale.{finite}
+use Rattle.exact.specs.Float.{_⊕_, _⊖_, _⊗_, decimal}
+use Rattle.walk.specs.Walk.{every}
+use Rattle.cholesky.specs.Factor.{at, zeros}
+use Rattle.numeric.specs.Order.{patternOf}
+use Rattle.numeric.specs.Refusal.{numberOf}
+use Rattle.numeric.specs.declared.vec3.Vec3.{Vec3}
+use Rattle.numeric.specs.declared.refusal.Refusal.the-variants.{FitFailed}
+use Rattle.robust.specs.Round.{Round, Outcome, roundOf, Sound, FiniteResiduals}
+use Rattle.robust.specs.Sigma.{elevationSigma}
+use Rattle.robust.specs.declared.row.Row.{Row}
+use Rattle.clocks.specs.Clocks.{slot, clocksOf}
+use Rattle.estimator.specs.Rules.{Rule, rule, ruled}
+use Rattle.records.specs.Screen.{keptOf, constellations}
+use Rattle.tdcp.specs.Valid.{epochRules, intervalRules}
+use Rattle.tdcp.specs.Front.{allPairs, keptPairs, pairRules}
+use Rattle.clocks.specs.declared.clocks.Clocks.{Clocks}
+use Rattle.records.specs.declared.record.Epoch.{Epoch}
+use Rattle.records.specs.declared.pair.Pair.{Pair}
+use Rattle.tdcp.specs.declared.displacement.Settings.{Settings}
+use Rattle.estimator.specs.Rounds.{Fit, fitFrom, vector, finiteAt, concluded, Each}
+use Rattle.tdcp.specs.declared.displacement.Delta.{Delta}
+use Rattle.tdcp.specs.declared.displacement.Displacement.{Displacement}
+use Rattle.tdcp.specs.declared.displacement.Displacement.the-variants.{Refused, Moved}
+
+-- what is handed over
+pub record Input : Type 0 where
+  pub previous : Epoch
+  pub current : Epoch
+  pub dt : Float
+  pub receiver : Vec3
+  pub settings : Settings
+
+-- ---- the rounds
+
+unfoldable pub sigmaOf : Settings → Pair → Float
+sigmaOf settings p = elevationSigma (p .elevation) (settings .«sigma_a») (settings .«sigma_b»)
+
+-- the row of a pair with this sigma at the state x: what was observed, less what x says
+unfoldable pub rowWith : Float → Clocks → List Float → Pair → Row
+rowWith sigma k x p =
+    let u = p .unit in
+    let s = slot k (p .constellation) in
+    record {
+      unit = u;
+      clock = s;
+      residual = patternOf (p .observed ⊖ (u .x ⊗ at x 0 ⊕ u .y ⊗ at x 1 ⊕ u .z ⊗ at x 2) ⊖ at x s);
+      sigma = sigma;
+    }
+
+abbrev pub rowAt : Settings → Clocks → List Float → Pair → Row
+rowAt settings k x p = rowWith (sigmaOf settings p) k x p
+
+-- the round at the state x over the pairs ps, with the clocks k
+unfoldable pub roundAt : Settings → Clocks → List Pair → List Float → Outcome
+roundAt settings k ps x = roundOf (map (rowAt settings k x) ps) (3 + k .count) (settings .huber)
+
+-- stop below 1e-5 m
+abbrev pub limit : Float
+limit = decimal 1 5
+
+-- the fit over the pairs ps, with the clocks k: the first round begins at zero
+unfoldable pub fitOver : Settings → Clocks → List Pair → Fit
+fitOver settings k ps = fitFrom (roundAt settings k ps) (3 + k .count) limit (settings .rounds) zeros
+
+-- the fit over those that the screen keeps of the pairs ps
+unfoldable pub fitBy : Settings → List Pair → Fit
+fitBy settings ps =
+    let kept = keptOf (settings .screen) ps in
+    fitOver settings (clocksOf (constellations kept)) kept
+
+-- the pairs of a call, before screening and after it
+abbrev pub pairs : Input → List Pair
+pairs i = allPairs (i .previous) (i .current) (i .dt) (i .receiver) (i .settings)
+
+abbrev pub kept : Input → List Pair
+kept i = keptPairs (i .previous) (i .current) (i .dt) (i .receiver) (i .settings)
+
+-- the fit of a call, and its rounds
+unfoldable pub fitOf : Input → Fit
+fitOf i = fitBy (i .settings) (pairs i)
+
+unfoldable pub roundsOf : Input → List Round
+roundsOf i = fitOf i .rounds
+
+-- ---- the answer
+
+abbrev pub deltaAt : ℕ → ℕ → List Float → Delta
+deltaAt used screened x = record { delta = vector x; used = used; screened = screened }
+
+-- 10, of the state that the rounds reach
+unfoldable pub endRules : List Float → List Rule
+endRules x = rule FitFailed (not (finiteAt x)) ∷ []
+
+-- the answer at the state x that the rounds reach
+abbrev pub concludedAt : ℕ → ℕ → List Float → Displacement
+concludedAt used screened x = ruled Refused (endRules x) (Moved (deltaAt used screened x))
+
+-- What every displacement shares, from its pairs on: 7 to 9, the rounds over those that the screen keeps, and 10. The screened are the pairs less those kept.
+unfoldable pub movedBy : Settings → List Pair → Displacement
+movedBy settings ps =
+    let used = length (keptOf (settings .screen) ps) in
+    ruled Refused (pairRules settings ps) (concluded Refused endRules (λ x. Moved (deltaAt used (length ps - used) x)) (fitBy settings ps .end))
+
+-- 5 on the interval, and then what its pairs come to
+unfoldable pub movedIn : Input → Displacement
+movedIn i = ruled Refused (intervalRules (i .dt)) (movedBy (i .settings) (pairs i))
+
+-- 2 to 4 on what is handed over, and then that
+unfoldable pub displacementOf : Input → Displacement
+displacementOf i = ruled Refused (epochRules (i .previous) (i .current) (i .receiver) (i .settings)) (movedIn i)
+
+-- ---- an answer in numbers: its number, which is 0 where it is accepted, its floats and its counts; a refusal has its number alone
+
+abbrev pub displacementNumber : Displacement → ℕ
+displacementNumber (Refused r) = numberOf r
+displacementNumber (Moved d) = 0
+
+-- dx, dy, dz
+abbrev pub displacementFloats : Displacement → List Float
+displacementFloats (Refused r) = []
+displacementFloats (Moved d) = d .delta .x ∷ d .delta .y ∷ d .delta .z ∷ []
+
+-- used, screened
+abbrev pub displacementCounts : Displacement → List ℕ
+displacementCounts (Refused r) = []
+displacementCounts (Moved d) = d .used ∷ d .screened ∷ []
+
+-- ---- the promise of the public call
+
+abbrev pub input : Epoch → Epoch → Float → Vec3 → Settings → Input
+input previous current dt receiver settings = record { previous = previous; current = current; dt = dt; receiver = receiver; settings = settings }
+
+-- What an accepted displacement has: it is finite, used plus screened are the pairs counted, used exceeds three plus the slots, demand 3 holds of every round, and
+-- no round has a residual that is not finite.
+pub record Accepted (i : Input) (d : Delta) : Type 0 where
+  pub x-finite : T (finite (d .delta .x))
+  pub y-finite : T (finite (d .delta .y))
+  pub z-finite : T (finite (d .delta .z))
+  pub pairs-counted : d .used + d .screened ≡ length (pairs i)
+  pub redundant : 3 + clocksOf (constellations (kept i)) .count < d .used
+  pub sound-rounds : Each Sound (roundsOf i)
+  pub finite-residuals : Each FiniteResiduals (roundsOf i)
+
+-- the answer is the definition's, for every input whatever, and what it gives out is finite
+pub record Promised (i : Input) (r : Displacement) : Type 0 where
+  pub answer : r ≡ displacementOf i
+  pub given-finite : every finite (displacementFloats r) ≡ true
+  pub accepted : (d : Delta) → r ≡ Moved d → Accepted i d

@@ -1,0 +1,28 @@
+-- What comes before the rounds: the rows, and the rules on them in the order of docs/SCOPE.md, "Why a call turns back". Definitions only.
+use mathlib.Core.List.{List}
+use lib.ListN.{length}
+use lib.Ieee.{Float}
+use Rattle.numeric.specs.declared.vec3.Vec3.{Vec3}
+use Rattle.estimator.specs.Rules.{Rule}
+use Rattle.records.specs.Record.{counted}
+use Rattle.clocks.specs.Clocks.{clocksOf}
+use Rattle.records.specs.Pair.{pairsOf}
+use Rattle.records.specs.Screen.{keptOf, constellations}
+use Rattle.tdcp.specs.Valid.{displacementCounts}
+use Rattle.records.specs.declared.record.Epoch.{Epoch}
+use Rattle.records.specs.declared.pair.Pair.{Pair}
+use Rattle.tdcp.specs.declared.displacement.Settings.{Settings}
+
+-- the pairs before screening
+abbrev pub allPairs : Epoch → Epoch → Float → Vec3 → Settings → List Pair
+allPairs previous current dt receiver settings = pairsOf receiver (settings .mask) dt (counted previous) (counted current)
+
+-- the pairs after it
+abbrev pub keptPairs : Epoch → Epoch → Float → Vec3 → Settings → List Pair
+keptPairs previous current dt receiver settings = keptOf (settings .screen) (allPairs previous current dt receiver settings)
+
+-- 7 to 9, of the pairs before screening
+unfoldable pub pairRules : Settings → List Pair → List Rule
+pairRules settings ps =
+    let kept = keptOf (settings .screen) ps in
+    displacementCounts (length ps) (length kept) (clocksOf (constellations kept) .count)

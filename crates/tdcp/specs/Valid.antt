@@ -1,0 +1,42 @@
+-- The rules of a displacement, in the numbers and order of docs/SCOPE.md, "Why a call turns back". Definitions only.
+use Prim.Native.Nat.{ℕ}
+use mathlib.Core.Bool.{Bool, not, _&&_, _||_}
+use mathlib.Core.List.{List, [], _∷_}
+use lib.Dec.{ltb}
+use lib.Ieee.{Float, lt}
+use lib.Ieee.Scale.{finite}
+use Rattle.exact.specs.Float.{+0, whole}
+use Rattle.walk.specs.Walk.{every}
+use Rattle.numeric.specs.Real.{inRange}
+use Rattle.numeric.specs.declared.vec3.Vec3.{Vec3}
+use Rattle.numeric.specs.declared.refusal.Refusal.the-variants.{TooMany, SettingOutOfRange, RecordOutOfRange, BadInterval, TooFewPairs}
+use Rattle.estimator.specs.Rules.{Rule, rule, rowRules}
+use Rattle.records.specs.Record.{counted, placeable, sound}
+use Rattle.records.specs.declared.record.Epoch.{Epoch}
+use Rattle.tdcp.specs.declared.displacement.Settings.{Settings}
+
+-- 3: every setting but `agreement`, which is neither read nor checked, is in range, and the rounds are at most 50
+unfoldable pub settingsPass : Settings → Bool
+settingsPass s =
+    inRange (s .screen) && inRange (s .«sigma_a») && inRange (s .«sigma_b») && inRange (s .huber) && inRange (s .mask)
+    && not (ltb 50 (s .rounds))
+
+-- 5: not finite, not above 0, or above 604,800 seconds
+unfoldable pub badInterval : Float → Bool
+badInterval dt = not (finite dt) || not (lt +0 dt) || lt (whole 604800) dt
+
+-- 2 to 4, of the epochs, the receiver and the settings
+unfoldable pub epochRules : Epoch → Epoch → Vec3 → Settings → List Rule
+epochRules previous current receiver settings =
+    rule TooMany (ltb 64 (previous .count) || ltb 64 (current .count))
+    ∷ rule SettingOutOfRange (not (settingsPass settings))
+    ∷ rule RecordOutOfRange (not (every sound (counted previous) && every sound (counted current) && placeable receiver))
+    ∷ []
+
+-- 5, of the interval
+unfoldable pub intervalRules : Float → List Rule
+intervalRules dt = rule BadInterval (badInterval dt) ∷ []
+
+-- 7 to 9, of how many pairs there are before screening, how many are kept, and how many clock slots those have
+unfoldable pub displacementCounts : ℕ → ℕ → ℕ → List Rule
+displacementCounts pairs kept slots = rule TooFewPairs (ltb pairs 6) ∷ rowRules kept slots

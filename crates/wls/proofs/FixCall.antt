@@ -1,0 +1,87 @@
+-- The fix as the public call works it out: the rules in two parts, the fit, and what it comes to. Assumes nothing.
+use mathlib.Core.Path.{_≡_, refl, sym, ap, ap₂, _∙_}
+use Prim.Native.Nat.{ℕ, _≤_}
+use native.Mathlib.Omega.{arith}
+use mathlib.Core.Bool.{Bool, true, false, _&&_}
+use mathlib.Core.List.{List, []}
+use lib.ListN.{length, take}
+use lib.Ieee.{Float}
+use lib.Ieee.Scale.{finite}
+use Rattle.cholesky.specs.Factor.{at, Factored, Refused as NoFactor, Lower, factorOf}
+use Rattle.cholesky.specs.Answer.{rowsAfter}
+use Rattle.cholesky.specs.Answer as factor
+use Rattle.numeric.specs.declared.refusal.Refusal.{Refusal}
+use Rattle.numeric.specs.declared.refusal.Refusal.the-variants.{FitFailed}
+use Rattle.robust.specs.declared.row.Row.{Row}
+use Rattle.estimator.specs.Rules.{ruled, rowRules}
+use Rattle.records.specs.Record.{Holds, countedObservations}
+use Rattle.clocks.specs.Clocks.{clocksOf}
+use Rattle.records.specs.Mask.{constellations}
+use Rattle.wls.specs.Valid.{fixInputRules}
+use Rattle.estimator.specs.Rounds.{vector, finiteAt}
+use Rattle.wls.specs.Fix.{Input, kept, clocks, chiOf, plainMatrix, pdopOf, endRules, concludedAt, foundOver, fixOf}
+use Rattle.clocks.specs.declared.clocks.Clocks.{Clocks}
+use Rattle.records.specs.declared.record.Observation.{Observation}
+use Rattle.records.specs.declared.record.Observations.{Observations}
+use Rattle.wls.specs.declared.fix.Fix.{Fix}
+use Rattle.wls.specs.declared.fix.Fix.the-variants.{Refused, At}
+use Rattle.estimator.specs.declared.rules.Check.the-variants.{Refused as Stops, Passed}
+use Rattle.estimator.proofs.RulesLaws.{checked, rows-passed}
+use Rattle.wls.proofs.FrontLaws.{fix-input-refused, fix-clocks, fix-counts-refused, fix-counts-kept}
+
+-- the lent rows do not matter where there is a factor
+same-rows : (v : Factored) (y z : List (List Float)) → true ≡ factor.accepted v → rowsAfter v y ≡ rowsAfter v z
+same-rows NoFactor y z e = absurd (let z : _≡_ {A = ℕ} 0 1 = cc in omega arith)
+same-rows (Lower l) y z e = refl
+
+-- ---- the answer at the state x of the rows, by the tests a, b and d of its position
+module _ (n : ℕ) (rows : List Row) (x : List Float) (a b d : Bool) (a-is : a ≡ finite (at x 0)) (b-is : b ≡ finite (at x 1)) (d-is : d ≡ finite (at x 2)) where
+  pub found-no : (a && b && d) ≡ false → Refused FitFailed ≡ concludedAt n rows x
+  unfolding endRules finiteAt ruled
+  found-no e = rw (rw (a-is, b-is, d-is) at e)
+
+  -- with the unweighted matrix m, and whether it has a factor
+  module _ (tests : (a && b && d) ≡ true) (m : List (List Float)) (m-is : m ≡ plainMatrix n rows) (ok : Bool) (ok-is : ok ≡ factor.accepted (factorOf m)) where
+    factored : ok ≡ factor.accepted (factorOf (plainMatrix n rows))
+    factored = ok-is ∙ ap (λ (z : List (List Float)). factor.accepted (factorOf z)) m-is
+
+    pub found-refused : ok ≡ false → Refused FitFailed ≡ concludedAt n rows x
+    unfolding endRules finiteAt ruled
+    found-refused e = rw (rw (a-is, b-is, d-is) at tests, sym factored ∙ e)
+
+    pub found-yes : (count : ℕ) → count ≡ length rows → (l z : List (List Float)) (chi pdop : Float) → l ≡ rowsAfter (factorOf m) z → ok ≡ true → chi ≡ chiOf n rows → pdop ≡ pdopOf l
+        → At (record { position = vector x; used = count; chi = chi; pdop = pdop }) ≡ concludedAt n rows x
+    unfolding endRules finiteAt ruled
+    found-yes count count-is l z chi pdop l-is e chi-is pdop-is =
+        let q : l ≡ rowsAfter (factorOf (plainMatrix n rows)) [] = l-is ∙ same-rows (factorOf m) z [] (sym e ∙ ok-is) ∙ ap (λ (y : List (List Float)). rowsAfter (factorOf y) []) m-is in
+        rw (rw (a-is, b-is, d-is) at tests, sym factored ∙ e, chi-is, pdop-is, q, count-is)
+
+-- ---- the call
+module _ (i : Input) where
+  abbrev fitted : Fix
+  fitted = foundOver (i .settings) (clocks i) (kept i) (i .guess)
+
+  pub refused-input : {r : Refusal} → Stops r ≡ checked (fixInputRules (i .observations) (i .guess) (i .settings)) → Refused r ≡ fixOf i
+  unfolding fixOf
+  refused-input e = fix-input-refused Refused fitted (i .observations) (i .guess) (i .settings) e
+
+  -- what the code has once it has masked
+  module _ (passed : Passed ≡ checked (fixInputRules (i .observations) (i .guess) (i .settings))) (q : Observations) (k : Clocks) (left : Holds (q .count) (q .observation) (kept i))
+      (clocked : k ≡ clocksOf (constellations (countedObservations q))) where
+    pub refused-counts : {r : Refusal} → Stops r ≡ checked (rowRules (q .count) (k .count)) → Refused r ≡ fixOf i
+    unfolding fixOf
+    refused-counts e = fix-counts-refused Refused fitted (i .observations) (i .guess) (i .settings) passed q k left clocked e
+
+    clocks-are : k ≡ clocks i
+    clocks-are = fix-clocks Refused fitted (i .observations) (i .guess) (i .settings) passed q k left clocked
+
+    -- rules 8 and 9 leave a fit of at most nine unknowns
+    module _ (enough : Passed ≡ checked (rowRules (q .count) (k .count))) where
+      pub few-clocks : k .count ≤ 6
+      few-clocks = rows-passed _ _ enough .few-slots
+
+      pub found : foundOver (i .settings) k (take (q .count) (q .observation)) (i .guess) ≡ fixOf i
+      unfolding fixOf
+      found =
+          ap₂ (λ (c : Clocks) (os : List Observation). foundOver (i .settings) c os (i .guess)) clocks-are (left .all)
+          ∙ fix-counts-kept Refused fitted (i .observations) (i .guess) (i .settings) passed q k left clocked enough

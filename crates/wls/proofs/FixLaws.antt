@@ -1,0 +1,73 @@
+-- The rounds of a fix, as the code has them. Assumes nothing.
+use mathlib.Core.Path.{_≡_, refl, sym, ap, ap₂, _∙_, subst₂}
+use Prim.Native.Nat.{ℕ, _+_, _≤_}
+use mathlib.Core.List.{List, [], map}
+use lib.ListN.{length, take}
+use lib.Ieee.{Float, nan}
+use Rattle.robust.specs.Round.{Round, Solved, roundOf}
+use Rattle.robust.specs.Normal.{Solving}
+use Rattle.robust.specs.Columns.{columns, rowsIn}
+use Rattle.robust.specs.declared.row.Row.{Row}
+use Rattle.robust.specs.declared.round.Stepping.{Stepping}
+use Rattle.numeric.specs.declared.refusal.Refusal.{Refusal}
+use Rattle.numeric.specs.declared.vec3.Vec3.{Vec3}
+use Rattle.robust.proofs.RoundSound.{round-rows}
+use Rattle.robust.proofs.ColumnLaws.{rows-are}
+use Rattle.clocks.specs.declared.clocks.Clocks.{Clocks}
+use Rattle.records.specs.declared.record.Observation.{Observation}
+use Rattle.wls.specs.declared.fix.Settings.{Settings}
+use Rattle.estimator.specs.Rounds.{Stopped, Reached, Fit, fitFrom, lastRows, concluded}
+use Rattle.wls.specs.Fix.{sigmaOf, rowAt, roundAt, limit, start, fitOver, endRules, solutionAt, concludedAt, foundOver, RowsAt}
+use Rattle.wls.specs.declared.fix.Fix.the-variants.{Refused, At}
+use Rattle.estimator.proofs.RoundsLaws.{Left, LeftRows, left-start, rows-start}
+
+-- what the logic has for an observation past the end
+abbrev pub blank : Observation
+blank = record { constellation = 0; band = 0; svid = 0; modelled = nan; pseudorange = nan; satellite = record { x = nan; y = nan; z = nan }; elevation = nan }
+
+-- the fit from the state x₀ on
+module _ (settings : Settings) (k : Clocks) (os : List Observation) (x₀ : List Float) where
+  abbrev pub fit : Fit
+  fit = fitFrom (roundAt settings k os) (3 + k .count) limit (settings .rounds) x₀
+
+  abbrev pub Going : ℕ → List Float → Type 0
+  Going i x = Left (roundAt settings k os) (3 + k .count) limit (settings .rounds) fit i x
+
+  abbrev pub GoingRows : ℕ → List Float → List Row → Type 0
+  GoingRows i x rows = LeftRows (roundAt settings k os) (3 + k .count) limit (settings .rounds) fit i x rows
+
+  pub going : Going 0 x₀
+  going = left-start (roundAt settings k os) (3 + k .count) limit (settings .rounds) fit x₀ refl
+
+  pub going-rows : GoingRows 0 x₀ []
+  going-rows = rows-start (roundAt settings k os) (3 + k .count) limit (settings .rounds) fit x₀ refl
+
+module _ (settings : Settings) (k : Clocks) (os : List Observation) (x : List Float) (rows : List Row) (rows-are : rows ≡ map (rowAt settings k x) os) where
+  pub solving : (n : ℕ) (answer : Stepping) (a b : List Float) → n ≡ 3 + k .count → Solving (roundOf rows n (settings .huber)) answer a b → Solving (roundAt settings k os x) answer a b
+  unfolding roundAt
+  solving n answer a b h s = subst₂ (λ (r : List Row) (m : ℕ). Solving (roundOf r m (settings .huber)) answer a b) rows-are h s
+
+  -- the round's rows are those that the code made
+  pub made-rows : (r : Round) → roundAt settings k os x ≡ Solved r → r .rows ≡ rows
+  unfolding roundAt
+  made-rows r e = round-rows (map (rowAt settings k x) os) (3 + k .count) (settings .huber) r e ∙ sym rows-are
+
+-- the columns of a round hold its rows
+pub held : (settings : Settings) (k : Clocks) (n : ℕ) (os : List Observation) (s : List Float) {x y z : List Float} {clock residual : List ℕ} (sigma : List Float) → n ≤ length os → n ≤ 64 → RowsAt k n os s x y z clock residual
+    → take n sigma ≡ map (sigmaOf settings) (take n os) → rowsIn (columns x y z clock sigma (take n residual)) ≡ map (rowAt settings k s) (take n os)
+unfolding rowAt
+held settings k n os s {x} {y} {z} {clock} {residual} sigma fits few h sigmas =
+    rows-are (rowAt settings k s) os blank n fits few x y z clock sigma residual (h .xs) (h .ys) (h .zs) (h .clocks-are) sigmas (record { long = h .long .residual-long; so-far = h .residuals })
+
+-- what the rounds come to, by where they end
+module _ (settings : Settings) (k : Clocks) (os : List Observation) (guess : Vec3) where
+  pub stopped-at : {r : Refusal} → Stopped r ≡ fit settings k os (start guess) .end → Refused r ≡ foundOver settings k os guess
+  unfolding foundOver fitOver
+  stopped-at e = rw (sym e)
+
+  pub reached-at : {n : ℕ} {rows : List Row} {x : List Float} → n ≡ 3 + k .count → Reached x ≡ fit settings k os (start guess) .end → rows ≡ lastRows [] (fit settings k os (start guess) .rounds)
+      → concludedAt n rows x ≡ foundOver settings k os guess
+  unfolding foundOver fitOver
+  reached-at {n} {rows} {x} n-is e l =
+      ap₂ (λ (m : ℕ) (r : List Row). concludedAt m r x) n-is l
+      ∙ ap (concluded Refused (endRules (3 + k .count) (lastRows [] (fit settings k os (start guess) .rounds))) (λ y. At (solutionAt (3 + k .count) (lastRows [] (fit settings k os (start guess) .rounds)) y))) e

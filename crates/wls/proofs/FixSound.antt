@@ -1,0 +1,121 @@
+-- What an accepted fix has, DEMAND 3 over all of its rounds among it. Assumes nothing.
+use mathlib.Core.Path.{_≡_, refl, sym, ap, _∙_, subst}
+use mathlib.Core.Bool.{true}
+use Prim.Native.Nat.{ℕ, _+_}
+use native.Mathlib.Omega.{arith}
+use mathlib.Core.List.{List, [], map}
+use lib.Dec.{T}
+use lib.ListN.{length, length-map}
+use lib.Ieee.{Float}
+use lib.Ieee.Scale.{finite}
+use Rattle.walk.specs.Walk.{every}
+use Rattle.cholesky.specs.Factor.{at}
+use Rattle.robust.specs.declared.row.Row.{Row}
+use Rattle.numeric.specs.declared.refusal.Refusal.{Refusal}
+use Rattle.robust.specs.Round.{Round, Solved, Sound, FiniteResiduals}
+use Rattle.robust.proofs.RoundSound.{round-sound, round-rows}
+use Rattle.robust.proofs.ResidualsFinite.{round-residuals}
+use Rattle.wls.specs.Front.{fixRules}
+use Rattle.clocks.specs.declared.clocks.Clocks.{Clocks}
+use Rattle.records.specs.declared.record.Observation.{Observation}
+use Rattle.wls.specs.declared.fix.Settings.{Settings}
+use Rattle.estimator.specs.Rounds.{lastRows, Each}
+use Rattle.wls.specs.Fix.{Input, rowAt, roundAt, limit, start, fitOver, kept, clocks, fitOf, roundsOf, endRules, solutionAt, foundOver, fixOf, positionOf, positionFloats, Accepted, Promised, PositionPromised}
+use Rattle.wls.specs.declared.fix.Solution.{Solution}
+use Rattle.wls.specs.declared.fix.Fix.{Fix}
+use Rattle.wls.specs.declared.fix.Fix.the-variants.{Refused, At}
+use Rattle.wls.specs.declared.fix.Position.{Position}
+use Rattle.estimator.proofs.RulesLaws.{passed-of, passed-by, head-passed}
+use Rattle.estimator.proofs.RoundsSound.{rounds-each, rows-long, Finished, finished, Placed, placed, three-finite}
+use Rattle.wls.proofs.FrontLaws.{fix-enough, fix-rounds}
+
+never : (s : Solution) (r : Refusal) → Refused r ≡ At s → ⊥
+never s r e = let z : _≡_ {A = ℕ} 0 1 = cc in omega arith
+
+one-sound : (settings : Settings) (k : Clocks) (os : List Observation) (x : List Float) (r : Round) → roundAt settings k os x ≡ Solved r → T (finite (at (r .step) 0)) → Sound r
+unfolding roundAt
+one-sound settings k os x = round-sound (map (rowAt settings k x) os) (3 + k .count) (settings .huber)
+
+one-finite : (settings : Settings) (k : Clocks) (os : List Observation) (x : List Float) (r : Round) → roundAt settings k os x ≡ Solved r → T (finite (at (r .step) 0)) → FiniteResiduals r
+unfolding roundAt
+one-finite settings k os x = round-residuals (map (rowAt settings k x) os) (3 + k .count) (settings .huber) (omega arith)
+
+-- what an accepted fix came from
+abbrev unknowns : Input → ℕ
+unknowns i = 3 + clocks i .count
+
+abbrev rows : Input → List Row
+rows i = lastRows [] (roundsOf i)
+
+abbrev fitted : Input → Fix
+fitted i = foundOver (i .settings) (clocks i) (kept i) (i .guess)
+
+ended : (i : Input) (s : Solution) → fixOf i ≡ At s → Finished (endRules (unknowns i) (rows i)) (λ x. At (solutionAt (unknowns i) (rows i) x)) (At s) (fitOf i .end)
+unfolding fixOf foundOver roundsOf fitOf
+ended i s e =
+    let rules = fixRules (i .observations) (i .guess) (i .settings) in
+    finished Refused (endRules (unknowns i) (rows i)) (λ x. At (solutionAt (unknowns i) (rows i) x)) (At s) (never s) (fitOf i .end)
+    (sym (passed-by Refused (fitted i) rules (passed-of Refused (fitted i) rules e (never s))) ∙ e)
+
+place : (i : Input) (s : Solution) (e : fixOf i ≡ At s) → Placed (ended i s e .x)
+unfolding endRules
+place i s e = placed (ended i s e .x) (head-passed _ _ (ended i s e .passed) .0)
+
+-- what each of its rounds has
+fix-each : (P : Round → Type 0) → ((settings : Settings) (k : Clocks) (os : List Observation) (x : List Float) (r : Round) → roundAt settings k os x ≡ Solved r → T (finite (at (r .step) 0)) → P r)
+    → (i : Input) (s : Solution) → fixOf i ≡ At s → Each P (roundsOf i)
+unfolding roundsOf fitOf fitOver
+fix-each P one i s e =
+    rounds-each P (roundAt (i .settings) (clocks i) (kept i)) (unknowns i) limit (omega arith) (one (i .settings) (clocks i) (kept i)) (i .settings .rounds) (start (i .guess)) (ended i s e .x) (ended i s e .end-is) (place i s e .first)
+
+one-long : (settings : Settings) (k : Clocks) (os : List Observation) (x : List Float) (r : Round) → roundAt settings k os x ≡ Solved r → length (r .rows) ≡ length os
+unfolding roundAt
+one-long settings k os x r e = ap length (round-rows (map (rowAt settings k x) os) (3 + k .count) (settings .huber) r e) ∙ length-map os (rowAt settings k x)
+
+used-rows : (i : Input) (s : Solution) → fixOf i ≡ At s → length (rows i) ≡ length (kept i)
+unfolding roundsOf fitOf fitOver fixOf
+used-rows i s e =
+    rows-long (roundAt (i .settings) (clocks i) (kept i)) (unknowns i) limit (length (kept i)) (one-long (i .settings) (clocks i) (kept i)) (i .settings .rounds)
+    (fix-rounds Refused (fitted i) (i .observations) (i .guess) (i .settings) e (never s))
+    (start (i .guess)) (ended i s e .x) (ended i s e .end-is)
+
+-- all that an accepted fix has
+pub fix-accepted : (i : Input) (s : Solution) → fixOf i ≡ At s → Accepted i s
+unfolding fixOf
+fix-accepted i s e =
+    let p = place i s e in
+    let is = solved (ended i s e .answer-is) in
+    let many = fix-enough Refused (fitted i) (i .observations) (i .guess) (i .settings) e (never s) in
+    let used : s .used ≡ length (kept i) = ap (λ (z : Solution). z .used) (sym is) ∙ used-rows i s e in
+    record {
+      x-finite = subst (λ (z : Solution). T (finite (z .position .x))) is (p .first);
+      y-finite = subst (λ (z : Solution). T (finite (z .position .y))) is (p .second);
+      z-finite = subst (λ (z : Solution). T (finite (z .position .z))) is (p .third);
+      used-counted = used;
+      redundant = omega (arith, used, many .redundant);
+      sound-rounds = fix-each Sound one-sound i s e;
+      finite-residuals = fix-each FiniteResiduals one-finite i s e;
+    }
+  where
+    solved : {a b : Solution} → At a ≡ At b → a ≡ b
+    solved h = cc
+
+-- the position that it gives out is finite
+given-finite : (i : Input) (r : Fix) → ((s : Solution) → r ≡ At s → Accepted i s) → every finite (positionFloats (positionOf r)) ≡ true
+unfolding every
+given-finite i (Refused r) h = refl
+given-finite i (At s) h = let a = h s refl in three-finite (s .position .x) (s .position .y) (s .position .z) (a .x-finite) (a .y-finite) (a .z-finite)
+
+-- the public calls' promises follow from their answers
+pub promised : (i : Input) (r : Fix) → r ≡ fixOf i → Promised i r
+promised i r e =
+    let accepted : (s : Solution) → r ≡ At s → Accepted i s = λ s q. fix-accepted i s (sym e ∙ q) in
+    record { answer = e; given-finite = given-finite i r accepted; accepted = accepted }
+
+pub position-promised : (i : Input) (f : Fix) (r : Position) → Promised i f → r ≡ positionOf f → PositionPromised i r
+position-promised i f r p e =
+    record {
+      answer = e ∙ ap positionOf (p .answer);
+      given-finite = subst (λ (q : Position). every finite (positionFloats q) ≡ true) (sym e) (p .given-finite);
+      accepted = λ s q. p .accepted s (p .answer ∙ q);
+    }

@@ -1,0 +1,69 @@
+-- `wls::fix::found_at` meets its contract. Assumes nothing.
+use mathlib.Core.Path.{sym}
+use lib.ListN.{length}
+use Rattle.walk.proofs.Walk.{places-length}
+use Rattle.robust.specs.Columns.{Columns, columns, rowIn, rowsIn}
+use Rattle.wls.proofs.FixCall.{found-no, found-refused, found-yes}
+use borrow.Author.Needs.{needs}
+use Rattle.wls.proofs.fix.found_at.Statement.{statement}
+use Rattle.wls.proofs.fix.found_at.Tie as tie
+
+abbrev given : tie.Start → Columns
+given c = columns (c .args .x .now) (c .args .y .now) (c .args .z .now) (c .args .clock .now) (c .args .sigma .now) (c .args .residual .now)
+
+array-read-t18 : tie.Need-array-read-t18
+array-read-t18 c = search needs
+
+array-read-t21 : tie.Need-array-read-t21
+array-read-t21 c = search needs
+
+array-read-t24 : tie.Need-array-read-t24
+array-read-t24 c = search needs
+
+is-finite-requires : tie.Need-is-finite-requires
+is-finite-requires c κs = search needs
+
+is-finite-requires-2 : tie.Need-is-finite-requires-2
+is-finite-requires-2 c κs = search needs
+
+is-finite-requires-3 : tie.Need-is-finite-requires-3
+is-finite-requires-3 c κs = search needs
+
+plain-matrix-requires : tie.Need-plain-matrix-requires
+plain-matrix-requires c κs = search needs
+
+factor-into-requires : tie.Need-factor-into-requires
+factor-into-requires c κs = search needs
+
+chi-of-requires : tie.Need-chi-of-requires
+chi-of-requires c κs = search needs
+
+pdop-of-requires : tie.Need-pdop-of-requires
+pdop-of-requires c κs = search needs
+
+returns : tie.Need-returns
+returns c = let s = c .before .before .before .before .before .before .before .before .before .before .before .before .before .before in let f = c .before .before .before .before .factor-into in found-yes (s .args .n) (rowsIn (given s)) (s .args .t8) _ _ _ (c .before .before .before .before .before .before .before .before .before .before .before .before .is-finite .ensures) (c .before .before .before .before .before .before .before .before .before .before .before .is-finite2 .ensures) (c .before .before .before .before .before .before .before .before .before .before .is-finite3 .ensures) (c .before .before .before .before .before .before .before .before .before .if1 .taken) _ (c .before .before .before .before .before .before .before .plain-matrix .ensures) (f .result) (f .ensures .0) _ (sym (places-length (rowIn (given s)) (length (s .args .residual .now)))) _ _ _ _ (f .ensures .1) (c .before .before .before .if2 .taken) (c .before .before .chi-of .ensures (s .args .x .now) (s .args .y .now) (s .args .z .now) (s .args .clock .now)) (c .pdop-of .ensures)
+
+returns-2 : tie.Need-returns-2
+returns-2 c = let s = c .before .before .before .before .before .before .before .before .before .before .before in let f = c .before .factor-into in found-refused (s .args .n) (rowsIn (given s)) (s .args .t8) _ _ _ (c .before .before .before .before .before .before .before .before .before .is-finite .ensures) (c .before .before .before .before .before .before .before .before .is-finite2 .ensures) (c .before .before .before .before .before .before .before .is-finite3 .ensures) (c .before .before .before .before .before .before .if1 .taken) _ (c .before .before .before .before .plain-matrix .ensures) (f .result) (f .ensures .0) (c .if2 .left)
+
+returns-3 : tie.Need-returns-3
+returns-3 c = let s = c .before .before .before .before .before in found-no (s .args .n) (rowsIn (given s)) (s .args .t8) _ _ _ (c .before .before .before .is-finite .ensures) (c .before .before .is-finite2 .ensures) (c .before .is-finite3 .ensures) (c .if1 .left)
+
+pub found-at-spec : {M : Type 1} → statement M
+found-at-spec =
+    tie.close
+    (tie.spec
+    array-read-t18
+    array-read-t21
+    array-read-t24
+    is-finite-requires
+    is-finite-requires-2
+    is-finite-requires-3
+    plain-matrix-requires
+    factor-into-requires
+    chi-of-requires
+    pdop-of-requires
+    returns
+    returns-2
+    returns-3)

@@ -1,0 +1,226 @@
+// The position from one epoch.
+ghost use mathlib.Core.Path.{_≡_};
+ghost use mathlib.Core.List.{map};
+ghost use lib.ListN.{length, take};
+ghost use Prim.Native.Nat.{ℕ, _≤_};
+ghost use Rattle.robust.specs.Columns.{columns, rowsIn};
+ghost use Rattle.wls.specs.Fix as spec;
+use crate::quality::chi_of;
+use crate::quality::pdop_of;
+use crate::quality::plain_matrix;
+use crate::valid::check_fix;
+use cholesky::factor::factor_into;
+use clocks::clocks::Clocks;
+use estimator::rounds::is_short;
+use estimator::rounds::move_by;
+use estimator::rounds::state_at;
+use estimator::rules::Check;
+use estimator::rules::check_rows;
+use numeric::order::pattern;
+use numeric::real::is_finite;
+use numeric::refusal::Refusal;
+use numeric::sight::geometry;
+use numeric::vec3::Vec3;
+use records::mask::above_mask;
+use records::mask::clocks_of;
+use records::record::Observations;
+use robust::round::Stepping;
+use robust::round::round_step;
+use robust::sigma::elevation_sigma;
+
+// Weighting and robustness.
+pub struct Settings {
+    pub sigma_a: f64,
+    pub sigma_b: f64,
+    pub huber: f64,
+    pub mask: f64,
+    pub rounds: u32,
+}
+
+// The position, how many observations were used, and what the fit says of itself.
+pub struct Solution {
+    pub position: Vec3,
+    pub used: usize,
+    pub chi: f64,
+    pub pdop: f64,
+}
+
+pub enum Fix {
+    Refused(Refusal),
+    At(Solution),
+}
+
+// The position alone.
+pub enum Position {
+    Refused(Refusal),
+    At(Vec3),
+}
+
+// The sigma of each observation, which no round changes.
+pub(crate) fn sigmas_of(settings: Settings, sky: Observations) -> [f64; 64]
+    requires { ⌜ sky .count ≤ 64 ⌝ }
+    ensures { λ r. ⌜ take (sky .count) r ≡ map (spec.sigmaOf settings) (take (sky .count) (sky .observation)) ⌝ }
+{
+    let count = sky.count;
+    let mut sigma = [0.0; 64];
+    for j in 0..count {
+        let o = sky.observation[j];
+        let s = elevation_sigma(o.elevation, settings.sigma_a, settings.sigma_b);
+        sigma[j] = s;
+    }
+    sigma
+}
+
+// The rows of the observations at the state s, but for their sigmas: lines of sight, clocks and residuals.
+pub(crate) fn rows_at(
+    k: Clocks,
+    sky: Observations,
+    s: [f64; 9],
+    x: &mut [f64; 64],
+    y: &mut [f64; 64],
+    z: &mut [f64; 64],
+    clock: &mut [usize; 64],
+    residual: &mut [u64; 64],
+)
+    requires { ⌜ (sky .count ≤ 64) × spec.Long (now x) (now y) (now z) (now clock) (now residual) ⌝ }
+    ensures { λ _. ⌜ spec.RowsAt k (sky .count) (sky .observation) s (now (x .exit)) (now (y .exit)) (now (z .exit)) (now (clock .exit)) (now (residual .exit)) ⌝ }
+{
+    let count = sky.count;
+    let at = Vec3 {
+        x: s[0],
+        y: s[1],
+        z: s[2],
+    };
+    for j in 0..count {
+        let o = sky.observation[j];
+        let g = geometry(o.satellite, at);
+        let q = k.slot(o.constellation);
+        let r = pattern(o.pseudorange - (g.range + state_at(s, q)));
+        x[j] = g.x;
+        y[j] = g.y;
+        z[j] = g.z;
+        clock[j] = q;
+        residual[j] = r;
+    }
+}
+
+// The rounds over the observations from the guess on, and what they come to.
+pub(crate) fn fit_sky(settings: Settings, k: Clocks, sky: Observations, guess: Vec3) -> Fix
+    requires { ⌜ (sky .count ≤ 64) × (k .count ≤ 6) ⌝ }
+    ensures { λ r. ⌜ r ≡ spec.foundOver settings k (take (sky .count) (sky .observation)) guess ⌝ }
+{
+    let n = 3 + k.count;
+    let count = sky.count;
+    let sigma = sigmas_of(settings, sky);
+    let mut x = [0.0; 64];
+    let mut y = [0.0; 64];
+    let mut z = [0.0; 64];
+    let mut clock = [0usize; 64];
+    let mut residual = [0u64; 64];
+    let mut used: usize = 0;
+    let mut state = [0.0; 9];
+    state[0] = guess.x;
+    state[1] = guess.y;
+    state[2] = guess.z;
+    let mut i: u32 = 0;
+    while i < settings.rounds {
+        rows_at(
+            k,
+            sky,
+            state,
+            &mut x,
+            &mut y,
+            &mut z,
+            &mut clock,
+            &mut residual,
+        );
+        used = count;
+        let mut dx = [0.0; 9];
+        if let Stepping::Refused(r) = round_step(
+            &x,
+            &y,
+            &z,
+            &clock,
+            &sigma,
+            &residual[..count],
+            n,
+            settings.huber,
+            &mut dx,
+        ) {
+            return Fix::Refused(r);
+        }
+        let next = move_by(n, dx, state);
+        state = next;
+        if is_short(1e-3, dx) {
+            return found_at(&x, &y, &z, &clock, &sigma, &residual[..count], n, state);
+        }
+        i += 1;
+    }
+    found_at(&x, &y, &z, &clock, &sigma, &residual[..used], n, state)
+}
+
+// The answer at the state s that the rows of n unknowns lead to, or 10 where it is not finite or the unweighted matrix is refused.
+fn found_at(
+    x: &[f64; 64],
+    y: &[f64; 64],
+    z: &[f64; 64],
+    clock: &[usize; 64],
+    sigma: &[f64; 64],
+    residual: &[u64],
+    n: usize,
+    s: [f64; 9],
+) -> Fix
+    requires { ⌜ (length (now residual) ≤ 64) × (n ≤ 9) ⌝ }
+    ensures { λ r. ⌜ r ≡ spec.concludedAt n (rowsIn (columns (now (x .entry)) (now (y .entry)) (now (z .entry)) (now (clock .entry)) (now (sigma .entry)) (now (residual .entry)))) s ⌝ }
+{
+    let position = Vec3 {
+        x: s[0],
+        y: s[1],
+        z: s[2],
+    };
+    if is_finite(position.x) & is_finite(position.y) & is_finite(position.z) {
+        let mut a = [[0.0; 9]; 9];
+        plain_matrix(x, y, z, clock, sigma, residual, n, &mut a);
+        let mut l = [[0.0; 9]; 9];
+        if factor_into(&a, &mut l) {
+            let used = residual.len();
+            let chi = chi_of(sigma, residual, n);
+            let pdop = pdop_of(&l);
+            return Fix::At(Solution {
+                position: position,
+                used: used,
+                chi: chi,
+                pdop: pdop,
+            });
+        }
+    }
+    Fix::Refused(Refusal::FitFailed)
+}
+
+// The receiver's position from one epoch, with what the fit says of itself. The first round begins at the guess.
+pub fn solve_full(observations: Observations, guess: Vec3, settings: Settings) -> Fix
+    ensures { λ r. ⌜ spec.Promised (spec.input observations guess settings) r ⌝ }
+{
+    if let Check::Refused(r) = check_fix(observations, guess, settings) {
+        return Fix::Refused(r);
+    }
+    let kept = above_mask(observations, settings.mask);
+    let clocks = clocks_of(kept);
+    if let Check::Refused(r) = check_rows(kept.count, clocks.count) {
+        return Fix::Refused(r);
+    }
+    fit_sky(settings, clocks, kept, guess)
+}
+
+// The receiver's position from one epoch.
+pub fn solve(observations: Observations, guess: Vec3, settings: Settings) -> Position
+    ensures { λ r. ⌜ spec.PositionPromised (spec.input observations guess settings) r ⌝ }
+{
+    match solve_full(observations, guess, settings) {
+        Fix::Refused(r) => Position::Refused(r),
+        Fix::At(s) => {
+            let position = s.position;
+            Position::At(position)
+        }
+    }
+}

@@ -1,0 +1,100 @@
+// What a fit says of itself, from the last round's rows.
+ghost use mathlib.Core.Path.{_≡_};
+ghost use mathlib.Core.List.{List};
+ghost use Prim.Native.Nat.{ℕ, _≤_};
+ghost use lib.ListN.{length};
+ghost use lib.Ieee.{Float};
+ghost use Rattle.robust.specs.Columns.{columns, rowsIn};
+ghost use Rattle.wls.specs.Fix as spec;
+use cholesky::factor::solve_lent;
+use numeric::order::float;
+use numeric::real::square;
+use numeric::vec3::Vec3;
+use robust::round::unused;
+use robust::row::Row;
+use robust::row::wide;
+use root::sqrt::sqrt;
+
+// The degrees of freedom of so many rows and n unknowns, at least 1.
+fn freedom_of(count: usize, n: usize) -> f64
+    requires { ⌜ count ≤ 64 ⌝ }
+    ensures { λ r. ⌜ r ≡ spec.freedomOf count n ⌝ }
+{
+    if n < count {
+        (count - n) as u32 as f64
+    } else {
+        1.0
+    }
+}
+
+// The root of the reduced chi-squared of the rows with these sigmas and residuals, and n unknowns.
+pub(crate) fn chi_of(sigma: &[f64; 64], residual: &[u64], n: usize) -> f64
+    requires { ⌜ length (now residual) ≤ 64 ⌝ }
+    ensures { λ r. ⌜ ((x y z : List Float) (clock : List ℕ) → r ≡ spec.chiOf n (rowsIn (columns x y z clock (now (sigma .entry)) (now (residual .entry))))) ⌝ }
+{
+    let count = residual.len();
+    let mut t = 0.0;
+    for k in 0..count {
+        let p = residual[k];
+        let s = sigma[k];
+        t = t + square(float(p) / s);
+    }
+    sqrt(t / freedom_of(count, n))
+}
+
+// Makes a the normal equations of the rows without weights, by their lower triangle.
+pub(crate) fn plain_matrix(
+    x: &[f64; 64],
+    y: &[f64; 64],
+    z: &[f64; 64],
+    clock: &[usize; 64],
+    sigma: &[f64; 64],
+    residual: &[u64],
+    n: usize,
+    a: &mut [[f64; 9]; 9],
+)
+    requires { ⌜ (length (now residual) ≤ 64) × (n ≤ 9) ⌝ }
+    ensures { λ _. ⌜ now (a .exit) ≡ spec.plainMatrix n (rowsIn (columns (now (x .entry)) (now (y .entry)) (now (z .entry)) (now (clock .entry)) (now (sigma .entry)) (now (residual .entry)))) ⌝ }
+{
+    let count = residual.len();
+    unused(n, a);
+    let mut e = [0.0; 9];
+    for k in 0..count {
+        let u = x[k];
+        let v = y[k];
+        let h = z[k];
+        let q = clock[k];
+        let s = sigma[k];
+        let p = residual[k];
+        let unit = Vec3 { x: u, y: v, z: h };
+        let r = Row {
+            unit: unit,
+            clock: q,
+            residual: p,
+            sigma: s,
+        };
+        wide(r, &mut e);
+        for i in 0..n {
+            let t = e[i];
+            for j in 0..i + 1 {
+                a[i][j] = a[i][j] + t * e[j];
+            }
+        }
+    }
+}
+
+// The root of the inverse's first three diagonal places, by the factor l.
+pub(crate) fn pdop_of(l: &[[f64; 9]; 9]) -> f64
+    ensures { λ r. ⌜ r ≡ spec.pdopOf (now (l .entry)) ⌝ }
+{
+    let mut x = [0.0; 9];
+    x[0] = 1.0;
+    let u = solve_lent(l, x);
+    let mut y = [0.0; 9];
+    y[1] = 1.0;
+    let v = solve_lent(l, y);
+    let mut z = [0.0; 9];
+    z[2] = 1.0;
+    let w = solve_lent(l, z);
+    sqrt(0.0 + u[0] + v[1] + w[2])
+}

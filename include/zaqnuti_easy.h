@@ -1,0 +1,546 @@
+/*
+ * The calls of zaqnuti.h on structs: a record is a struct, a call takes a few
+ * pointers, and settings have initializers. Each call here hands its structs'
+ * columns to the call of zaqnuti.h and does nothing else; what that header
+ * says of answers, refusals, units, threads and floats holds here too.
+ * tests/easy_test.c holds the two to the same answers.
+ *
+ * C99 and C++. Nothing is allocated: structs live where the caller puts them.
+ * An epoch keeps its records as columns, which the library reads in place.
+ *
+ *     zaqnuti_epoch now;
+ *     zaqnuti_epoch_clear(&now);
+ *     zaqnuti_epoch_add(&now, &carrier);          for each carrier
+ *     number = zaqnuti_easy_displacement(&before, &now, 1.0, place, &settings, &moved);
+ *     if (number != 0) puts(zaqnuti_refusal_text(number));
+ *
+ * Each call gives 0, or the number of its refusal (enum zaqnuti_refusal), and
+ * then leaves its result as it was. examples/easy.c has one of each.
+ *
+ * Stack: that of the call of zaqnuti.h, and at most 256 bytes more; of
+ * zaqnuti_easy_queries 1,024 more (by -fstack-usage of gcc at -O0 and -O2).
+ */
+#ifndef ZAQNUTI_EASY_H
+#define ZAQNUTI_EASY_H
+
+#include "zaqnuti.h"
+
+/*
+ * Room of a table and of a track. Where less is enough, define these smaller
+ * before every inclusion in a program: a table of 2,048 samples has 40,968
+ * bytes, a track of 1,024 epochs 229,400.
+ */
+#ifndef ZAQNUTI_EASY_SAMPLES
+#define ZAQNUTI_EASY_SAMPLES ZAQNUTI_SAMPLES
+#endif
+#ifndef ZAQNUTI_EASY_EPOCHS
+#define ZAQNUTI_EASY_EPOCHS ZAQNUTI_EPOCHS
+#endif
+
+/* x, y, z in metres, earth-centred and earth-fixed; or metres per second. */
+typedef struct zaqnuti_vector {
+    double x;
+    double y;
+    double z;
+} zaqnuti_vector;
+
+/* What a number means, in a sentence; "answered" for 0. */
+static inline const char *zaqnuti_refusal_text(uint8_t number)
+{
+    switch (number) {
+    case 0: return "answered";
+    case ZAQNUTI_BROKEN_FORM: return "the text is above 32,768 bytes, or a line of it breaks the form";
+    case ZAQNUTI_TOO_MANY: return "more records than are allowed, or a buffer shorter than its count needs";
+    case ZAQNUTI_SETTING_OUT_OF_RANGE: return "a setting is not finite or above 1e9, or the rounds are not allowed";
+    case ZAQNUTI_RECORD_OUT_OF_RANGE: return "a float of a record, a coordinate or a time is out of range, or a table is not sorted";
+    case ZAQNUTI_BAD_INTERVAL: return "the interval is not above 0 and at most 604,800 s";
+    case ZAQNUTI_BAD_TRACK: return "a track without epochs or anchor, a sigma not above 0, or an index beyond the epochs";
+    case ZAQNUTI_TOO_FEW_PAIRS: return "fewer than six carrier pairs";
+    case ZAQNUTI_TOO_FEW_ROWS: return "fewer rows than 4 plus the clock slots";
+    case ZAQNUTI_TOO_MANY_SLOTS: return "more than six clock slots";
+    case ZAQNUTI_FIT_FAILED: return "the fit fails";
+    case ZAQNUTI_TABLE_FULL: return "the epoch's corrections do not all fit in the table";
+    case ZAQNUTI_NO_CORRECTION: return "the table gives no correction for the signal and time";
+    default: return "no such number";
+    }
+}
+
+/* ---- the fix */
+
+/* A pseudorange, corrected for satellite clock, ionosphere, troposphere and bias. */
+typedef struct zaqnuti_observation {
+    uint8_t constellation;
+    double pseudorange;        /* m */
+    zaqnuti_vector satellite;  /* at transmission */
+    double elevation;          /* degrees, -90 to 90 */
+} zaqnuti_observation;
+
+/* The observations of an epoch, as columns. */
+typedef struct zaqnuti_observations {
+    size_t count;
+    uint8_t constellation[ZAQNUTI_RECORDS];
+    double floats[5 * ZAQNUTI_RECORDS];
+} zaqnuti_observations;
+
+typedef struct zaqnuti_fix_settings {
+    double sigma_a;  /* m, of sigma = a + b / sin(elevation) */
+    double sigma_b;  /* m */
+    double huber;    /* in robust sigmas */
+    double mask;     /* degrees */
+    size_t rounds;   /* 1 to 50 */
+} zaqnuti_fix_settings;
+
+#define ZAQNUTI_EASY_FIX_PHONE {0.3, 16.0, 1.0, 10.0, ZAQNUTI_FIX_ROUNDS}
+#define ZAQNUTI_EASY_FIX_GEODETIC {0.3, 0.3, 1.5, 10.0, ZAQNUTI_FIX_ROUNDS}
+
+typedef struct zaqnuti_solution {
+    zaqnuti_vector position;
+    double chi;   /* the root of the reduced chi-squared; may not be finite */
+    double pdop;  /* may not be finite */
+    size_t used;  /* observations at or above the mask */
+} zaqnuti_solution;
+
+static inline void zaqnuti_observations_clear(zaqnuti_observations *epoch)
+{
+    epoch->count = 0;
+}
+
+/* One observation more; the 65th is refused by 2 and leaves the epoch as it was. */
+static inline uint8_t zaqnuti_observations_add(zaqnuti_observations *epoch, const zaqnuti_observation *one)
+{
+    double *floats;
+
+    if (epoch->count >= ZAQNUTI_RECORDS) {
+        return ZAQNUTI_TOO_MANY;
+    }
+    epoch->constellation[epoch->count] = one->constellation;
+    floats = &epoch->floats[5 * epoch->count];
+    floats[0] = one->pseudorange;
+    floats[1] = one->satellite.x;
+    floats[2] = one->satellite.y;
+    floats[3] = one->satellite.z;
+    floats[4] = one->elevation;
+    epoch->count += 1;
+    return 0;
+}
+
+/* The receiver's position; `guess` is where the first round begins. */
+static inline uint8_t zaqnuti_easy_fix(
+    const zaqnuti_observations *epoch,
+    zaqnuti_vector guess,
+    const zaqnuti_fix_settings *settings,
+    zaqnuti_solution *solution)
+{
+    const double from[3] = {guess.x, guess.y, guess.z};
+    const double set[4] = {settings->sigma_a, settings->sigma_b, settings->huber, settings->mask};
+    double found[5] = {0.0, 0.0, 0.0, 0.0, 0.0};
+    size_t used = 0;
+    uint8_t number = zaqnuti_fix(
+        epoch->constellation, ZAQNUTI_RECORDS, epoch->floats, 5 * ZAQNUTI_RECORDS, epoch->count,
+        from, set, settings->rounds, found, &used);
+
+    if (number == 0) {
+        solution->position.x = found[0];
+        solution->position.y = found[1];
+        solution->position.z = found[2];
+        solution->chi = found[3];
+        solution->pdop = found[4];
+        solution->used = used;
+    }
+    return number;
+}
+
+/* ---- the displacement */
+
+/* Bits of a carrier's state: usable with VALID set and the others clear. */
+#define ZAQNUTI_VALID 1
+#define ZAQNUTI_SLIP 2
+#define ZAQNUTI_RESET 4
+
+/* A carrier phase. */
+typedef struct zaqnuti_carrier {
+    uint8_t constellation;
+    uint16_t svid;
+    uint32_t band;             /* MHz */
+    int32_t state;
+    double adr;                /* accumulated delta range, m */
+    zaqnuti_vector satellite;  /* at transmission */
+    double elevation;          /* degrees, -90 to 90 */
+    double rate;               /* range rate, m/s, receding is positive */
+} zaqnuti_carrier;
+
+/* The carriers of an epoch, as columns. */
+typedef struct zaqnuti_epoch {
+    size_t count;
+    uint8_t constellation[ZAQNUTI_RECORDS];
+    uint16_t svid[ZAQNUTI_RECORDS];
+    uint32_t band[ZAQNUTI_RECORDS];
+    int32_t state[ZAQNUTI_RECORDS];
+    double floats[6 * ZAQNUTI_RECORDS];
+} zaqnuti_epoch;
+
+typedef struct zaqnuti_displacement_settings {
+    double screen;   /* m */
+    double sigma_a;  /* m, of sigma = a + b / sin(elevation) */
+    double sigma_b;  /* m */
+    double huber;    /* in robust sigmas */
+    double mask;     /* degrees */
+    size_t rounds;   /* 0 to 50; with 0 the displacement is zero */
+} zaqnuti_displacement_settings;
+
+#define ZAQNUTI_EASY_DISPLACEMENT_PHONE {0.5, 0.008, 0.002, 1.5, 10.0, ZAQNUTI_DISPLACEMENT_ROUNDS}
+#define ZAQNUTI_EASY_DISPLACEMENT_GEODETIC {2.0, 0.008, 0.002, 1.5, 10.0, ZAQNUTI_DISPLACEMENT_ROUNDS}
+
+typedef struct zaqnuti_moved {
+    zaqnuti_vector delta;  /* m */
+    size_t used;           /* carrier pairs */
+    size_t screened;       /* pairs that the screen dropped */
+} zaqnuti_moved;
+
+static inline void zaqnuti_epoch_clear(zaqnuti_epoch *epoch)
+{
+    epoch->count = 0;
+}
+
+/* One carrier more; the 65th is refused by 2 and leaves the epoch as it was. */
+static inline uint8_t zaqnuti_epoch_add(zaqnuti_epoch *epoch, const zaqnuti_carrier *one)
+{
+    const size_t i = epoch->count;
+    double *floats;
+
+    if (i >= ZAQNUTI_RECORDS) {
+        return ZAQNUTI_TOO_MANY;
+    }
+    epoch->constellation[i] = one->constellation;
+    epoch->svid[i] = one->svid;
+    epoch->band[i] = one->band;
+    epoch->state[i] = one->state;
+    floats = &epoch->floats[6 * i];
+    floats[0] = one->adr;
+    floats[1] = one->satellite.x;
+    floats[2] = one->satellite.y;
+    floats[3] = one->satellite.z;
+    floats[4] = one->elevation;
+    floats[5] = one->rate;
+    epoch->count = i + 1;
+    return 0;
+}
+
+/* How the receiver moved in `dt` seconds; `receiver` is where it was at the previous epoch. */
+static inline uint8_t zaqnuti_easy_displacement(
+    const zaqnuti_epoch *previous,
+    const zaqnuti_epoch *current,
+    double dt,
+    zaqnuti_vector receiver,
+    const zaqnuti_displacement_settings *settings,
+    zaqnuti_moved *moved)
+{
+    const double from[3] = {receiver.x, receiver.y, receiver.z};
+    const double set[5] = {settings->screen, settings->sigma_a, settings->sigma_b, settings->huber, settings->mask};
+    double delta[3] = {0.0, 0.0, 0.0};
+    size_t counts[2] = {0, 0};
+    uint8_t number = zaqnuti_displacement(
+        previous->constellation, ZAQNUTI_RECORDS, previous->svid, ZAQNUTI_RECORDS, previous->band, ZAQNUTI_RECORDS,
+        previous->state, ZAQNUTI_RECORDS, previous->floats, 6 * ZAQNUTI_RECORDS, previous->count,
+        current->constellation, ZAQNUTI_RECORDS, current->svid, ZAQNUTI_RECORDS, current->band, ZAQNUTI_RECORDS,
+        current->state, ZAQNUTI_RECORDS, current->floats, 6 * ZAQNUTI_RECORDS, current->count,
+        dt, from, set, settings->rounds, delta, counts);
+
+    if (number == 0) {
+        moved->delta.x = delta[0];
+        moved->delta.y = delta[1];
+        moved->delta.z = delta[2];
+        moved->used = counts[0];
+        moved->screened = counts[1];
+    }
+    return number;
+}
+
+/* ---- the corrections */
+
+/* A signal of a satellite. */
+typedef struct zaqnuti_signal {
+    uint8_t constellation;
+    uint16_t svid;
+    uint8_t band;  /* any numbering, the same at the base and in queries */
+} zaqnuti_signal;
+
+/* What a base station measured of a signal. */
+typedef struct zaqnuti_base_range {
+    zaqnuti_signal signal;
+    double pseudorange;  /* m */
+} zaqnuti_base_range;
+
+/* A satellite as the rover knows it at the epoch. */
+typedef struct zaqnuti_base_state {
+    zaqnuti_signal signal;
+    zaqnuti_vector satellite;  /* at the rover's transmission time, m */
+    zaqnuti_vector velocity;   /* m/s */
+    double clock;              /* m */
+    double modelled;           /* delay, m */
+} zaqnuti_base_state;
+
+/* An epoch of a base station: its ranges and the satellites' states, as columns. */
+typedef struct zaqnuti_base_epoch {
+    double time;  /* s of the week */
+    size_t ranges;
+    uint8_t range_constellation[ZAQNUTI_RECORDS];
+    uint16_t range_svid[ZAQNUTI_RECORDS];
+    uint8_t range_band[ZAQNUTI_RECORDS];
+    double range_pseudorange[ZAQNUTI_RECORDS];
+    bool states_present;  /* false: no states are known, and the epoch adds nothing */
+    size_t states;
+    uint8_t state_constellation[ZAQNUTI_RECORDS];
+    uint16_t state_svid[ZAQNUTI_RECORDS];
+    uint8_t state_band[ZAQNUTI_RECORDS];
+    double state_floats[8 * ZAQNUTI_RECORDS];
+} zaqnuti_base_epoch;
+
+typedef struct zaqnuti_correction_settings {
+    double max_gap;         /* s that a query may bridge */
+    double max_correction;  /* m; larger ones are dropped */
+    bool corrected[8];      /* by constellation 0 to 7 */
+} zaqnuti_correction_settings;
+
+/* GPS and Galileo; GLONASS has a bias of its own for each satellite and receiver. */
+#define ZAQNUTI_EASY_CORRECTIONS {ZAQNUTI_MAX_GAP, ZAQNUTI_MAX_CORRECTION, ZAQNUTI_CORRECTED}
+
+/* A table of corrections, for one base, one rover and one choice of settings. */
+typedef struct zaqnuti_table {
+    size_t count;
+    uint8_t constellation[ZAQNUTI_EASY_SAMPLES];
+    uint16_t svid[ZAQNUTI_EASY_SAMPLES];
+    uint8_t band[ZAQNUTI_EASY_SAMPLES];
+    double time[ZAQNUTI_EASY_SAMPLES];
+    double metres[ZAQNUTI_EASY_SAMPLES];
+} zaqnuti_table;
+
+static inline void zaqnuti_table_clear(zaqnuti_table *table)
+{
+    table->count = 0;
+}
+
+/* An epoch of no ranges and no states yet. */
+static inline void zaqnuti_base_epoch_clear(zaqnuti_base_epoch *epoch, double time)
+{
+    epoch->time = time;
+    epoch->ranges = 0;
+    epoch->states_present = true;
+    epoch->states = 0;
+}
+
+/* One range more; the 65th is refused by 2 and leaves the epoch as it was. */
+static inline uint8_t zaqnuti_base_epoch_add_range(zaqnuti_base_epoch *epoch, const zaqnuti_base_range *one)
+{
+    const size_t i = epoch->ranges;
+
+    if (i >= ZAQNUTI_RECORDS) {
+        return ZAQNUTI_TOO_MANY;
+    }
+    epoch->range_constellation[i] = one->signal.constellation;
+    epoch->range_svid[i] = one->signal.svid;
+    epoch->range_band[i] = one->signal.band;
+    epoch->range_pseudorange[i] = one->pseudorange;
+    epoch->ranges = i + 1;
+    return 0;
+}
+
+/* One state more; the 65th is refused by 2 and leaves the epoch as it was. */
+static inline uint8_t zaqnuti_base_epoch_add_state(zaqnuti_base_epoch *epoch, const zaqnuti_base_state *one)
+{
+    const size_t i = epoch->states;
+    double *floats;
+
+    if (i >= ZAQNUTI_RECORDS) {
+        return ZAQNUTI_TOO_MANY;
+    }
+    epoch->state_constellation[i] = one->signal.constellation;
+    epoch->state_svid[i] = one->signal.svid;
+    epoch->state_band[i] = one->signal.band;
+    floats = &epoch->state_floats[8 * i];
+    floats[0] = one->satellite.x;
+    floats[1] = one->satellite.y;
+    floats[2] = one->satellite.z;
+    floats[3] = one->velocity.x;
+    floats[4] = one->velocity.y;
+    floats[5] = one->velocity.z;
+    floats[6] = one->clock;
+    floats[7] = one->modelled;
+    epoch->states = i + 1;
+    return 0;
+}
+
+/* The epoch's corrections put in the table. */
+static inline uint8_t zaqnuti_easy_add_epoch(
+    zaqnuti_table *table,
+    const zaqnuti_base_epoch *epoch,
+    zaqnuti_vector base,
+    zaqnuti_vector rover,
+    const zaqnuti_correction_settings *settings)
+{
+    const double at_base[3] = {base.x, base.y, base.z};
+    const double at_rover[3] = {rover.x, rover.y, rover.z};
+
+    return zaqnuti_add_epoch(
+        table->constellation, ZAQNUTI_EASY_SAMPLES, table->svid, ZAQNUTI_EASY_SAMPLES,
+        table->band, ZAQNUTI_EASY_SAMPLES, table->time, ZAQNUTI_EASY_SAMPLES,
+        table->metres, ZAQNUTI_EASY_SAMPLES, &table->count,
+        epoch->time, epoch->ranges,
+        epoch->range_constellation, ZAQNUTI_RECORDS, epoch->range_svid, ZAQNUTI_RECORDS,
+        epoch->range_band, ZAQNUTI_RECORDS, epoch->range_pseudorange, ZAQNUTI_RECORDS,
+        epoch->states_present, epoch->states,
+        epoch->state_constellation, ZAQNUTI_RECORDS, epoch->state_svid, ZAQNUTI_RECORDS,
+        epoch->state_band, ZAQNUTI_RECORDS, epoch->state_floats, 8 * ZAQNUTI_RECORDS,
+        at_base, at_rover, settings->max_gap, settings->max_correction, settings->corrected);
+}
+
+/* The correction of a signal at a time (s of the week), to be subtracted from the rover's pseudorange. */
+static inline uint8_t zaqnuti_easy_query(
+    const zaqnuti_table *table,
+    zaqnuti_signal signal,
+    double time,
+    const zaqnuti_correction_settings *settings,
+    double *metres)
+{
+    return zaqnuti_query(
+        table->constellation, ZAQNUTI_EASY_SAMPLES, table->svid, ZAQNUTI_EASY_SAMPLES,
+        table->band, ZAQNUTI_EASY_SAMPLES, table->time, ZAQNUTI_EASY_SAMPLES,
+        table->metres, ZAQNUTI_EASY_SAMPLES, table->count,
+        settings->max_gap, signal.constellation, signal.svid, signal.band, time, metres);
+}
+
+/*
+ * The corrections of an epoch's signals, at most 64, at one time. Each place
+ * has its number, 0, 4 or 12, and its metres, which are as they were where it
+ * is refused. The call itself refuses by 2, 3 and 4: then every place is as it
+ * was.
+ */
+static inline uint8_t zaqnuti_easy_queries(
+    const zaqnuti_table *table,
+    const zaqnuti_signal *signals,
+    size_t count,
+    double time,
+    const zaqnuti_correction_settings *settings,
+    uint8_t *numbers,
+    double *metres)
+{
+    uint8_t constellation[ZAQNUTI_RECORDS] = {0};
+    uint16_t svid[ZAQNUTI_RECORDS] = {0};
+    uint8_t band[ZAQNUTI_RECORDS] = {0};
+    double times[ZAQNUTI_RECORDS] = {0.0};
+    size_t i;
+
+    if (count > ZAQNUTI_RECORDS) {
+        return ZAQNUTI_TOO_MANY;
+    }
+    for (i = 0; i < count; i++) {
+        constellation[i] = signals[i].constellation;
+        svid[i] = signals[i].svid;
+        band[i] = signals[i].band;
+        times[i] = time;
+    }
+    return zaqnuti_queries(
+        table->constellation, ZAQNUTI_EASY_SAMPLES, table->svid, ZAQNUTI_EASY_SAMPLES,
+        table->band, ZAQNUTI_EASY_SAMPLES, table->time, ZAQNUTI_EASY_SAMPLES,
+        table->metres, ZAQNUTI_EASY_SAMPLES, table->count, settings->max_gap,
+        constellation, count, svid, count, band, count, times, count, count,
+        numbers, count, metres, count);
+}
+
+/* ---- the track */
+
+typedef struct zaqnuti_track_settings {
+    double huber;       /* in sigmas */
+    size_t iterations;  /* at most 50; 0 runs one, as 1 does */
+} zaqnuti_track_settings;
+
+#define ZAQNUTI_EASY_TRACK {ZAQNUTI_TRACK_HUBER, ZAQNUTI_TRACK_ITERATIONS}
+
+/* A track: its anchors, its links, its places once it is smoothed, and work space. */
+typedef struct zaqnuti_track {
+    size_t epochs;
+    size_t anchors;
+    size_t links;
+    size_t anchor_epoch[ZAQNUTI_EASY_EPOCHS];
+    double anchor_position[3 * ZAQNUTI_EASY_EPOCHS];
+    double anchor_sigma[3 * ZAQNUTI_EASY_EPOCHS];
+    size_t link_epoch[ZAQNUTI_EASY_EPOCHS];
+    double link_change[3 * ZAQNUTI_EASY_EPOCHS];
+    double link_sigma[3 * ZAQNUTI_EASY_EPOCHS];
+    double place[3 * ZAQNUTI_EASY_EPOCHS];
+    double work[11 * ZAQNUTI_EASY_EPOCHS];
+} zaqnuti_track;
+
+/* A track of so many epochs, without anchor or link yet. */
+static inline void zaqnuti_track_clear(zaqnuti_track *track, size_t epochs)
+{
+    track->epochs = epochs;
+    track->anchors = 0;
+    track->links = 0;
+}
+
+/* Where the receiver was at an epoch, with one-sigma by axis; refused by 2 where there is no room. */
+static inline uint8_t zaqnuti_track_anchor(zaqnuti_track *track, size_t epoch, zaqnuti_vector position, zaqnuti_vector sigma)
+{
+    const size_t i = track->anchors;
+
+    if (i >= ZAQNUTI_EASY_EPOCHS) {
+        return ZAQNUTI_TOO_MANY;
+    }
+    track->anchor_epoch[i] = epoch;
+    track->anchor_position[3 * i] = position.x;
+    track->anchor_position[3 * i + 1] = position.y;
+    track->anchor_position[3 * i + 2] = position.z;
+    track->anchor_sigma[3 * i] = sigma.x;
+    track->anchor_sigma[3 * i + 1] = sigma.y;
+    track->anchor_sigma[3 * i + 2] = sigma.z;
+    track->anchors = i + 1;
+    return 0;
+}
+
+/* How it moved from an epoch to the next, with one-sigma by axis; refused by 2 where there is no room. */
+static inline uint8_t zaqnuti_track_link(zaqnuti_track *track, size_t epoch, zaqnuti_vector change, zaqnuti_vector sigma)
+{
+    const size_t i = track->links;
+
+    if (i >= ZAQNUTI_EASY_EPOCHS) {
+        return ZAQNUTI_TOO_MANY;
+    }
+    track->link_epoch[i] = epoch;
+    track->link_change[3 * i] = change.x;
+    track->link_change[3 * i + 1] = change.y;
+    track->link_change[3 * i + 2] = change.z;
+    track->link_sigma[3 * i] = sigma.x;
+    track->link_sigma[3 * i + 1] = sigma.y;
+    track->link_sigma[3 * i + 2] = sigma.z;
+    track->links = i + 1;
+    return 0;
+}
+
+/* The track that fits anchors and links; zaqnuti_track_place reads it. */
+static inline uint8_t zaqnuti_easy_smooth(zaqnuti_track *track, const zaqnuti_track_settings *settings)
+{
+    return zaqnuti_smooth(
+        track->epochs, track->anchors, track->links,
+        track->anchor_epoch, ZAQNUTI_EASY_EPOCHS, track->anchor_position, 3 * ZAQNUTI_EASY_EPOCHS,
+        track->anchor_sigma, 3 * ZAQNUTI_EASY_EPOCHS,
+        track->link_epoch, ZAQNUTI_EASY_EPOCHS, track->link_change, 3 * ZAQNUTI_EASY_EPOCHS,
+        track->link_sigma, 3 * ZAQNUTI_EASY_EPOCHS,
+        settings->huber, settings->iterations,
+        track->place, 3 * ZAQNUTI_EASY_EPOCHS, track->work, 11 * ZAQNUTI_EASY_EPOCHS);
+}
+
+/* The place at an epoch of a smoothed track; the origin where there is no such epoch. */
+static inline zaqnuti_vector zaqnuti_track_place(const zaqnuti_track *track, size_t epoch)
+{
+    zaqnuti_vector place = {0.0, 0.0, 0.0};
+
+    if (epoch < track->epochs && epoch < ZAQNUTI_EASY_EPOCHS) {
+        place.x = track->place[3 * epoch];
+        place.y = track->place[3 * epoch + 1];
+        place.z = track->place[3 * epoch + 2];
+    }
+    return place;
+}
+
+#endif

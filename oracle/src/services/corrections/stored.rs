@@ -1,0 +1,230 @@
+//! The stored cases of the corrections: an epoch added to a table, a query, and queries of one call.
+
+use super::lent::{floats, in_range, Epoch, Table};
+use super::{epoch, odd, question, reference, refusal, settings};
+use crate::random::{pattern, Random};
+use crate::vectors::{of_each, raw, turned, Case, Vectors};
+use drifters_gnss::differential::{Corrections, Settings};
+
+/// How many samples a lent table of a case has room for.
+const ROOM: usize = 32;
+
+/// The rows of a table: constellation, svid, band, time, correction.
+fn rows(t: &Table) -> Vec<u64> {
+    (0..t.n.min(ROOM))
+        .flat_map(|i| {
+            let [c, v, b] = signal(t.cs[i], t.vs[i], t.bs[i]);
+            [c, v, b, t.ts[i].to_bits(), t.xs[i].to_bits()]
+        })
+        .collect()
+}
+
+/// A base, a rover, settings, and a table of what some epochs gave, zeros past its samples.
+fn session(random: &mut Random) -> Option<([f64; 3], [f64; 3], Settings, Vec<Epoch>, Table)> {
+    let base: [f64; 3] = [-2.7e6 + random.unit() * 1e5, -4.3e6, 3.85e6];
+    let rover: [f64; 3] = std::array::from_fn(|i| base[i] + random.unit() * 1e4);
+    let set = settings(random);
+    let empty = Table {
+        cs: vec![0; ROOM],
+        vs: vec![0; ROOM],
+        bs: vec![0; ROOM],
+        ts: vec![0.0; ROOM],
+        xs: vec![0.0; ROOM],
+        n: 0,
+    };
+    let count = random.place(4);
+    let epochs: Vec<Epoch> = (0..count).map(|_| epoch(random, base, false)).collect();
+    if epochs
+        .iter()
+        .any(|e| refusal(&empty, e, &base, &rover, &set) != 0)
+    {
+        return None;
+    }
+    let c = reference(&epochs, base, rover, &set);
+    (c.samples() <= ROOM).then(|| (base, rover, set, epochs, empty.with(&c.series)))
+}
+
+/// One float or row of a table that is spoilt, or one sample more than there is room for.
+fn spoil(random: &mut Random, t: &mut Table) {
+    match random.below(4) {
+        0 => t.n = ROOM + 1,
+        1 if t.n > 0 => t.ts[random.place(t.n)] = odd(random),
+        2 if t.n > 0 => t.xs[random.place(t.n)] = odd(random),
+        _ if t.n > 1 => t.vs.swap(0, random.place(t.n)),
+        _ => {}
+    }
+}
+
+/// How many samples, and the rows.
+fn samples(t: &Table) -> Vec<u64> {
+    [t.n as u64].into_iter().chain(rows(t)).collect()
+}
+
+/// The numbers of a signal.
+fn signal(c: u8, v: u16, b: u8) -> [u64; 3] {
+    [u64::from(c), u64::from(v), u64::from(b)]
+}
+
+/// What is given beside the table: time, ranges, whether there are states, states, base 3, rover 3, gap, maximum, the enabled constellations as
+/// bits; of each range, of 64 at most, constellation, svid, band, pseudorange; of each state, of 64 at most, constellation, svid, band, position
+/// 3, velocity 3, clock, modelled.
+fn handed(e: &Epoch, base: &[f64; 3], rover: &[f64; 3], set: &Settings) -> Vec<u64> {
+    let mut given = vec![e.time.to_bits(), e.ranges.len() as u64];
+    given.extend([u64::from(e.present), e.states.len() as u64]);
+    given.extend(raw(base).chain(raw(rover)));
+    given.extend(raw(&[set.max_gap, set.max_correction]));
+    let on = set.constellations.iter().enumerate();
+    given.push(on.map(|(c, &on)| u64::from(on) << c).sum());
+    for r in e.ranges.iter().take(64) {
+        given.extend(signal(r.constellation, r.svid, r.band));
+        given.push(r.pseudorange.to_bits());
+    }
+    for s in e.states.iter().take(64) {
+        given.extend(signal(s.constellation, s.svid, s.band));
+        given.extend(raw(&floats(s)));
+    }
+    given
+}
+
+/// Samples, rows 5 each (32 at most), what is handed over beside them; number, samples and rows afterwards.
+fn epoch_case(random: &mut Random) -> Option<(u8, Case)> {
+    let (mut base, rover, mut set, mut epochs, whole) = session(random)?;
+    let e = epoch(random, base, false);
+    let mut table = whole.clone();
+    match random.below(8) {
+        0 => base[random.place(3)] = odd(random),
+        1 => set.max_correction = odd(random),
+        2 => spoil(random, &mut table),
+        _ => {}
+    }
+    let few = |n: usize| n <= 14 || n == 65;
+    if !(few(e.ranges.len()) && few(e.states.len())) {
+        return None;
+    }
+    let mut number = refusal(&table, &e, &base, &rover, &set);
+    let mut after = table.clone();
+    if number == 0 {
+        // Another base, another setting or another table is only for a call that is refused.
+        let old = reference(&epochs, base, rover, &set);
+        if old.samples() > ROOM || table.bits() != whole.with(&old.series).bits() {
+            return None;
+        }
+        epochs.push(e.clone());
+        let c = reference(&epochs, base, rover, &set);
+        if c.samples() > ROOM {
+            number = 11;
+        } else {
+            after = table.with(&c.series);
+        }
+    }
+    let mut given = samples(&table);
+    given.extend(handed(&e, &base, &rover, &set));
+    let mut answer = vec![u64::from(number)];
+    answer.extend(samples(&after));
+    Some((number, (given, answer)))
+}
+
+/// Epochs; the altered ones are copies of the last that leaves two samples or three.
+pub fn epochs(random: &mut Random) -> Vectors {
+    let wanted = [(0, 18), (2, 3), (3, 2), (4, 5), (11, 3)];
+    let cases = of_each(&wanted, || epoch_case(random));
+    let short = |c: &&Case| c.1[0] == 0 && (2..4).contains(&c.1[1]);
+    let last = cases.iter().rev().find(short).expect("a short table");
+    let altered = (0..last.1.len()).map(|k| turned(last, k)).collect();
+    Vectors { cases, altered }
+}
+
+/// A table for queries, whole or spoilt, and what the Rust answers of the whole one.
+struct Asked {
+    whole: Table,
+    table: Table,
+    corrections: Corrections,
+}
+
+fn asked(random: &mut Random) -> Option<Asked> {
+    let (base, rover, set, epochs, whole) = session(random)?;
+    let mut table = whole.clone();
+    if random.below(8) == 0 {
+        spoil(random, &mut table);
+    }
+    Some(Asked {
+        corrections: reference(&epochs, base, rover, &set),
+        whole,
+        table,
+    })
+}
+
+impl Asked {
+    /// The number of a call, for whatever signal and time; none where the Rust has no such table.
+    fn call(&self, gap: f64) -> Option<u8> {
+        match &self.table {
+            t if t.n > ROOM => Some(2),
+            _ if !in_range(gap) => Some(3),
+            t if !t.sound() => Some(4),
+            t => (t.bits() == self.whole.bits()).then_some(0),
+        }
+    }
+
+    /// Number and metres of a signal and a time, where the call is accepted.
+    fn place(&self, gap: f64, (c, v, b): (u8, u16, u8), time: f64) -> (u8, f64) {
+        let theirs = Corrections {
+            max_gap: gap,
+            series: self.corrections.series.clone(),
+        };
+        match theirs.at(c, v, b, time) {
+            _ if time.is_finite() && !in_range(time) => (4, 0.0),
+            None => (12, 0.0),
+            Some(x) => (0, x),
+        }
+    }
+}
+
+/// Samples, rows 5 each (32 at most), gap, constellation, svid, band, time; number, metres (0 where refused).
+fn query_case(random: &mut Random) -> Option<(u8, Case)> {
+    let asked = asked(random)?;
+    let (key, time, gap) = question(random, &asked.whole);
+    let (number, metres) = match asked.call(gap)? {
+        0 => asked.place(gap, key, time),
+        number => (number, 0.0),
+    };
+    let mut given = samples(&asked.table);
+    given.push(gap.to_bits());
+    given.extend(signal(key.0, key.1, key.2));
+    given.push(time.to_bits());
+    Some((number, (given, vec![u64::from(number), pattern(metres)])))
+}
+
+pub fn query(random: &mut Random) -> Vectors {
+    let wanted = [(0, 20), (2, 2), (3, 2), (4, 4), (12, 10)];
+    Vectors::of(of_each(&wanted, || query_case(random)))
+}
+
+/// How many queries a call has.
+const QUERIES: usize = 5;
+
+/// Samples, rows 5 each (32 at most), gap, how many queries, of each constellation, svid, band, time; number, of each query its number and
+/// metres (zeros where it or the call is refused).
+fn queries_case(random: &mut Random) -> Option<(u8, Case)> {
+    let asked = asked(random)?;
+    let (_, _, gap) = question(random, &asked.whole);
+    let number = asked.call(gap)?;
+    let mut given = samples(&asked.table);
+    given.extend([gap.to_bits(), QUERIES as u64]);
+    let mut answer = vec![u64::from(number)];
+    for _ in 0..QUERIES {
+        let (key, time, _) = question(random, &asked.whole);
+        given.extend(signal(key.0, key.1, key.2));
+        given.push(time.to_bits());
+        let (n, metres) = match number {
+            0 => asked.place(gap, key, time),
+            _ => (0, 0.0),
+        };
+        answer.extend([u64::from(n), pattern(metres)]);
+    }
+    Some((number, (given, answer)))
+}
+
+pub fn queries(random: &mut Random) -> Vectors {
+    let wanted = [(0, 20), (2, 2), (3, 2), (4, 2)];
+    Vectors::of(of_each(&wanted, || queries_case(random)))
+}

@@ -1,0 +1,230 @@
+/* The cases of the corrections: an epoch added to a table, a query, and many queries of one call. */
+#include <string.h>
+
+#include "replay.h"
+
+/* How long the columns of a table are, and how much more of them is lent. */
+#define TABLE 32
+#define BEYOND 4
+/* More ranges or states than the 64 that are allowed; of these, 64 are stored. */
+#define ROOM 65
+/* The most queries of one call. */
+#define QUERIES 8
+
+/* A table, filled past its samples. */
+struct table {
+    uint8_t cs[TABLE + BEYOND];
+    uint16_t vs[TABLE + BEYOND];
+    uint8_t bs[TABLE + BEYOND];
+    double ts[TABLE + BEYOND];
+    double xs[TABLE + BEYOND];
+    size_t n;
+    uint8_t margin[MARGIN];
+};
+
+/* How many samples; of each, of 32 at most, constellation, svid, band, time, correction. */
+static void next_samples(struct stored *s, struct table *t)
+{
+    size_t i;
+    t->n = next_size(s);
+    for (i = 0; i < least(t->n, TABLE); i++) {
+        t->cs[i] = next_byte(s);
+        t->vs[i] = next_short(s);
+        t->bs[i] = next_byte(s);
+        t->ts[i] = next_float(s);
+        t->xs[i] = next_float(s);
+    }
+}
+
+static void next_table(struct stored *s, struct table *t)
+{
+    lend(t, sizeof *t - MARGIN);
+    next_samples(s, t);
+}
+
+/* Whether the table is what it was with the next samples in their places, to the last byte. */
+static bool is_table(struct stored *s, const struct table *t, const struct table *before)
+{
+    struct table expected;
+    memcpy(&expected, before, sizeof expected);
+    next_samples(s, &expected);
+    return memcmp(t, &expected, sizeof expected) == 0;
+}
+
+/* The columns of an epoch's ranges and states. */
+struct epoch {
+    uint8_t rc[ROOM];
+    uint16_t rv[ROOM];
+    uint8_t rb[ROOM];
+    double rp[ROOM];
+    uint8_t sc[ROOM];
+    uint16_t sv[ROOM];
+    uint8_t sb[ROOM];
+    double sf[8 * ROOM];
+};
+
+/* Of each range constellation, svid, band, pseudorange; of each state constellation, svid, band and eight floats. */
+static void next_epoch(struct stored *s, struct epoch *e, size_t ranges, size_t states)
+{
+    size_t i;
+    memset(e, 0, sizeof *e);
+    for (i = 0; i < least(ranges, 64); i++) {
+        e->rc[i] = next_byte(s);
+        e->rv[i] = next_short(s);
+        e->rb[i] = next_byte(s);
+        e->rp[i] = next_float(s);
+    }
+    for (i = 0; i < least(states, 64); i++) {
+        e->sc[i] = next_byte(s);
+        e->sv[i] = next_short(s);
+        e->sb[i] = next_byte(s);
+        next_floats(s, e->sf + 8 * i, 8);
+    }
+}
+
+/* What an epoch is added by beside its records. */
+struct terms {
+    double time;
+    size_t ranges;
+    bool present;
+    size_t states;
+    double base[3];
+    double rover[3];
+    double gap;
+    double max;
+    bool on[8];
+};
+
+/* Time, ranges, whether there are states, states, base, rover, gap, maximum, the enabled constellations as bits. */
+static void next_terms(struct stored *s, struct terms *w)
+{
+    uint64_t on;
+    size_t i;
+    w->time = next_float(s);
+    w->ranges = next_size(s);
+    w->present = next_number(s) == 1;
+    w->states = next_size(s);
+    next_floats(s, w->base, 3);
+    next_floats(s, w->rover, 3);
+    w->gap = next_float(s);
+    w->max = next_float(s);
+    on = next_number(s);
+    for (i = 0; i < 8; i++) {
+        w->on[i] = (on >> i & 1) == 1;
+    }
+}
+
+/* A table, the terms, the records; number, the table afterwards. */
+bool same_epoch(struct stored *s)
+{
+    struct table t;
+    struct table before;
+    struct terms w;
+    struct epoch e;
+    size_t k, m;
+    uint8_t number;
+    next_table(s, &t);
+    memcpy(&before, &t, sizeof before);
+    next_terms(s, &w);
+    next_epoch(s, &e, w.ranges, w.states);
+    k = least(w.ranges, ROOM);
+    m = least(w.states, ROOM);
+    number = zaqnuti_add_epoch(
+        t.cs, TABLE, t.vs, TABLE, t.bs, TABLE, t.ts, TABLE, t.xs, TABLE, &t.n, w.time,
+        w.ranges, e.rc, k, e.rv, k, e.rb, k, e.rp, k,
+        w.present, w.states, e.sc, m, e.sv, m, e.sb, m, e.sf, 8 * m,
+        w.base, w.rover, w.gap, w.max, w.on);
+    if (number != 0 && memcmp(&t, &before, sizeof t) != 0) {
+        return false;
+    }
+    return is_number(s, number) && is_table(s, &t, &before);
+}
+
+/* A table, gap, constellation, svid, band, time; number, metres. */
+bool same_query(struct stored *s)
+{
+    struct table t;
+    double metres[1 + MARGIN / 8];
+    double gap, at;
+    uint8_t c, b, number;
+    uint16_t v;
+    next_table(s, &t);
+    gap = next_float(s);
+    c = next_byte(s);
+    v = next_short(s);
+    b = next_byte(s);
+    at = next_float(s);
+    lend(metres, sizeof *metres);
+    number = zaqnuti_query(
+        t.cs, TABLE, t.vs, TABLE, t.bs, TABLE, t.ts, TABLE, t.xs, TABLE, t.n, gap, c, v, b, at, metres);
+    return given(number, metres, sizeof *metres) && is_number(s, number) && is_float(s, metres[0]);
+}
+
+/* The columns of the queries and of their answers. */
+struct queries {
+    uint8_t c[QUERIES];
+    uint16_t v[QUERIES];
+    uint8_t b[QUERIES];
+    double t[QUERIES];
+    uint8_t numbers[QUERIES + MARGIN];
+    double metres[QUERIES + MARGIN / 8];
+};
+
+/* Of each query constellation, svid, band, time. */
+static void next_queries(struct stored *s, struct queries *q, size_t count)
+{
+    size_t i;
+    for (i = 0; i < count; i++) {
+        q->c[i] = next_byte(s);
+        q->v[i] = next_short(s);
+        q->b[i] = next_byte(s);
+        q->t[i] = next_float(s);
+    }
+    lend(q->numbers, count);
+    lend(q->metres, count * sizeof *q->metres);
+}
+
+/* Whether the next numbers are those of each query with its metres, which a refused one leaves as they were. */
+static bool is_each(struct stored *s, struct queries *q, size_t count)
+{
+    size_t i;
+    for (i = 0; i < count; i++) {
+        if (q->numbers[i] != 0) {
+            if (!kept(q->metres + i, sizeof *q->metres)) {
+                return false;
+            }
+            q->metres[i] = 0.0;
+        }
+        if (!is_number(s, q->numbers[i]) || !is_float(s, q->metres[i])) {
+            return false;
+        }
+    }
+    return true;
+}
+
+/* A table, gap, how many queries, each of them; number, and of each query its number and metres. */
+bool same_queries(struct stored *s)
+{
+    struct table t;
+    struct queries q;
+    double gap;
+    size_t count;
+    uint8_t number;
+    next_table(s, &t);
+    gap = next_float(s);
+    count = least(next_size(s), QUERIES);
+    next_queries(s, &q, count);
+    number = zaqnuti_queries(
+        t.cs, TABLE, t.vs, TABLE, t.bs, TABLE, t.ts, TABLE, t.xs, TABLE, t.n, gap,
+        q.c, count, q.v, count, q.b, count, q.t, count, count, q.numbers, count, q.metres, count);
+    if (!given(number, q.numbers, count)) {
+        return false;
+    }
+    if (number != 0 && !given(number, q.metres, count * sizeof *q.metres)) {
+        return false;
+    }
+    if (number == 0 && !kept(q.metres + count, MARGIN)) {
+        return false;
+    }
+    return is_number(s, number) && is_each(s, &q, count);
+}

@@ -1,0 +1,145 @@
+/* The cases of the displacement, the line form and the fix. */
+#include <string.h>
+
+#include "replay.h"
+
+/* More than the 64 that are allowed; of these, 64 are stored. */
+#define ROOM 65
+
+/* The columns of one epoch's carriers. */
+struct carriers {
+    uint8_t constellation[ROOM];
+    uint16_t svid[ROOM];
+    uint32_t band[ROOM];
+    int32_t state[ROOM];
+    double floats[6 * ROOM];
+};
+
+/* Of each carrier constellation, svid, band, state and six floats. */
+static void next_carriers(struct stored *s, struct carriers *e, size_t count)
+{
+    size_t i;
+    memset(e, 0, sizeof *e);
+    for (i = 0; i < least(count, 64); i++) {
+        e->constellation[i] = next_byte(s);
+        e->svid[i] = next_short(s);
+        e->band[i] = next_word(s);
+        e->state[i] = next_int(s);
+        next_floats(s, e->floats + 6 * i, 6);
+    }
+}
+
+/*
+ * dt, receiver 3, settings 5, rounds, how many carriers before and how many
+ * now; each of them; number, used, screened, displacement 3.
+ */
+bool same_displacement(struct stored *s)
+{
+    struct carriers before;
+    struct carriers now;
+    double receiver[3];
+    double settings[5];
+    double delta[3 + MARGIN / 8];
+    size_t counts[2 + MARGIN / sizeof(size_t)];
+    double dt = next_float(s);
+    size_t rounds, p, c, n, m;
+    uint8_t number;
+    next_floats(s, receiver, 3);
+    next_floats(s, settings, 5);
+    rounds = next_size(s);
+    p = next_size(s);
+    c = next_size(s);
+    next_carriers(s, &before, p);
+    next_carriers(s, &now, c);
+    n = least(p, ROOM);
+    m = least(c, ROOM);
+    lend(delta, 3 * sizeof *delta);
+    lend(counts, 2 * sizeof *counts);
+    number = zaqnuti_displacement(
+        before.constellation, n, before.svid, n, before.band, n, before.state, n, before.floats, 6 * n, p,
+        now.constellation, m, now.svid, m, now.band, m, now.state, m, now.floats, 6 * m, c,
+        dt, receiver, settings, rounds, delta, counts);
+    return given(number, delta, 3 * sizeof *delta) && given(number, counts, 2 * sizeof *counts) &&
+        is_number(s, number) && is_number(s, counts[0]) && is_number(s, counts[1]) && is_floats(s, delta, 3);
+}
+
+/* What is handed to a fix. */
+struct sky {
+    uint8_t constellation[ROOM];
+    double floats[5 * ROOM];
+    size_t count;
+    double guess[3];
+    double settings[4];
+    size_t rounds;
+};
+
+/* Guess 3, settings 4, rounds, how many observations; of each constellation and five floats. */
+static void next_sky(struct stored *s, struct sky *k)
+{
+    size_t i;
+    memset(k, 0, sizeof *k);
+    next_floats(s, k->guess, 3);
+    next_floats(s, k->settings, 4);
+    k->rounds = next_size(s);
+    k->count = next_size(s);
+    for (i = 0; i < least(k->count, 64); i++) {
+        k->constellation[i] = next_byte(s);
+        next_floats(s, k->floats + 5 * i, 5);
+    }
+}
+
+/* Whether the call for the position alone gives the number and the position of the whole fix. */
+static bool is_position(const struct sky *k, size_t n, uint8_t whole, const double solution[3])
+{
+    double position[3 + MARGIN / 8];
+    uint8_t number;
+    lend(position, 3 * sizeof *position);
+    number = zaqnuti_position(
+        k->constellation, n, k->floats, 5 * n, k->count, k->guess, k->settings, k->rounds, position);
+    return given(number, position, 3 * sizeof *position) && number == whole &&
+        memcmp(position, solution, 3 * sizeof *position) == 0;
+}
+
+/* A sky; number, used, position 3, chi, pdop. */
+bool same_fix(struct stored *s)
+{
+    struct sky k;
+    double solution[5 + MARGIN / 8];
+    size_t used[1 + MARGIN / sizeof(size_t)];
+    size_t n;
+    uint8_t number;
+    next_sky(s, &k);
+    n = least(k.count, ROOM);
+    lend(solution, 5 * sizeof *solution);
+    lend(used, sizeof *used);
+    number = zaqnuti_fix(
+        k.constellation, n, k.floats, 5 * n, k.count, k.guess, k.settings, k.rounds, solution, used);
+    return given(number, solution, 5 * sizeof *solution) && given(number, used, sizeof *used) &&
+        is_position(&k, n, number, solution) &&
+        is_number(s, number) && is_number(s, used[0]) && is_floats(s, solution, 5);
+}
+
+/* Whether a text is answered by the line in a buffer of so many bytes, or not at all where that is too short. */
+static bool answers(const uint8_t *text, size_t size, const uint8_t *line, size_t length, size_t room)
+{
+    uint8_t buffer[ZAQNUTI_LINE + 1 + MARGIN];
+    size_t expected = length <= room ? length : 0;
+    lend(buffer, room);
+    return zaqnuti_line(text, size, buffer, room) == expected &&
+        memcmp(buffer, line, expected) == 0 &&
+        kept(buffer + expected, room - expected + MARGIN);
+}
+
+/* A text's length and bytes; the length and the bytes of its answer's line. */
+bool same_line(struct stored *s)
+{
+    static uint8_t text[ZAQNUTI_TEXT + 1];
+    uint8_t line[ZAQNUTI_LINE + 1];
+    size_t size = least(next_size(s), sizeof text);
+    size_t length;
+    next_bytes(s, text, size);
+    length = least(next_size(s), sizeof line);
+    next_bytes(s, line, length);
+    return length > 0 && answers(text, size, line, length, ZAQNUTI_LINE) &&
+        answers(text, size, line, length, length) && answers(text, size, line, length, length - 1);
+}
