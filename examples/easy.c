@@ -127,6 +127,14 @@ static int fix(zaqnuti_solution *solution)
     return 0;
 }
 
+/* The week and the time of week at so many seconds: the van starts a second and a half before the end of Saturday. */
+static uint8_t time_at(double seconds, zaqnuti_gps_time *time)
+{
+    const double tow = 604798.5 + seconds;
+
+    return tow < 604800.0 ? zaqnuti_easy_time(1316, tow, time) : zaqnuti_easy_time(1317, tow - 604800.0, time);
+}
+
 /* How the van moves in each of three seconds, and the track through fix and displacements. */
 static int drive(const zaqnuti_solution *solution)
 {
@@ -135,18 +143,24 @@ static int drive(const zaqnuti_solution *solution)
     const zaqnuti_vector anchor_sigma = {5.0, 5.0, 8.0};
     const zaqnuti_vector link_sigma = {0.01, 0.01, 0.02};
     zaqnuti_epoch epoch[2];
+    zaqnuti_gps_time time[2];
     zaqnuti_moved moved = {{0.0, 0.0, 0.0}, 0, 0};
     size_t k;
 
     zaqnuti_track_clear(&track, 4);
     zaqnuti_track_anchor(&track, 0, solution->position, anchor_sigma);
     track_carriers(0.0, &epoch[0]);
+    if (refused("time", time_at(0.0, &time[0]))) {
+        return 1;
+    }
     for (k = 0; k < 3; k++) {
         /* The epoch of before and that of now take turns. */
-        zaqnuti_epoch *before = &epoch[k % 2];
-        zaqnuti_epoch *now = &epoch[(k + 1) % 2];
-        track_carriers((double)(k + 1), now);
-        if (refused("displacement", zaqnuti_easy_displacement(before, now, 1.0, solution->position, &settings, &moved))) {
+        const size_t before = k % 2;
+        const size_t now = (k + 1) % 2;
+        track_carriers((double)(k + 1), &epoch[now]);
+        if (refused("time", time_at((double)(k + 1), &time[now])) ||
+            refused("displacement", zaqnuti_easy_displacement_between(
+                &epoch[before], &epoch[now], time[before], time[now], solution->position, &settings, &moved))) {
             return 1;
         }
         tell("displacement", moved.delta);

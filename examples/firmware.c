@@ -1,6 +1,6 @@
 /*
- * One of each service as firmware would call it: a fix, a displacement, a
- * text in the line form, two epochs of corrections with a query, and a track.
+ * One of each service as firmware would call it: a fix, times, a displacement,
+ * a text in the line form, two epochs of corrections with a query, and a track.
  * The sky is made up, so the answers are known: the program prints them and
  * exits with 1 where one is not as expected.
  *
@@ -108,6 +108,30 @@ static void fix(void)
     expect_number("results kept", memcmp(position, solution, sizeof position) == 0, 1);
 }
 
+/* The last half second of a week and the first of the next: times across the end of Saturday. */
+static uint64_t before_midnight;
+static uint64_t after_midnight;
+
+static void times(void)
+{
+    int64_t nanos = 0;
+    double seconds = 0.0;
+    uint64_t kept = 7;
+
+    printf("times\n");
+    expect_number("before midnight", zaqnuti_time(1316, 604799.5, &before_midnight), 0);
+    expect_number("after midnight", zaqnuti_time(1317, 0.5, &after_midnight), 0);
+    expect_number("nanoseconds between", zaqnuti_nanos_since(after_midnight, before_midnight, &nanos), 0);
+    expect_number("are a second's", nanos == 1000000000, 1);
+    expect_number("the other way", zaqnuti_nanos_since(before_midnight, after_midnight, &nanos), 0);
+    expect_number("are below 0", nanos == -1000000000, 1);
+    expect_number("seconds between", zaqnuti_seconds_since(after_midnight, before_midnight, &seconds), 0);
+    expect("s", seconds, 1.0, 0.0);
+    /* A time of week that is a whole week is not one. */
+    expect_number("604,800 s of the week", zaqnuti_time(1316, 604800.0, &kept), ZAQNUTI_BAD_TIME);
+    expect_number("result kept", (unsigned)kept, 7);
+}
+
 /* The columns of an epoch of carriers. */
 struct epoch {
     uint8_t constellation[SATELLITES];
@@ -145,6 +169,18 @@ static uint8_t displace(const struct epoch *p, const struct epoch *c, size_t cou
         1.0, receiver, settings, 4, delta, counts);
 }
 
+/* The same by the times of the two epochs. */
+static uint8_t displace_between(const struct epoch *p, const struct epoch *c, uint64_t before, uint64_t now, double delta[3], size_t counts[2])
+{
+    const double settings[5] = {0.5, 0.008, 0.002, 1.5, 10.0};
+    return zaqnuti_displacement_between(
+        p->constellation, SATELLITES, p->svid, SATELLITES, p->band, SATELLITES,
+        p->state, SATELLITES, p->floats, 6 * SATELLITES, SATELLITES,
+        c->constellation, SATELLITES, c->svid, SATELLITES, c->band, SATELLITES,
+        c->state, SATELLITES, c->floats, 6 * SATELLITES, SATELLITES,
+        before, now, receiver, settings, 4, delta, counts);
+}
+
 /* A displacement of a few metres in a second; one carrier slips and is screened out. */
 static void displacement(void)
 {
@@ -154,6 +190,7 @@ static void displacement(void)
     struct epoch previous;
     struct epoch current;
     double delta[3] = {0.0, 0.0, 0.0};
+    double across[3] = {0.0, 0.0, 0.0};
     size_t counts[2] = {0, 0};
     uint8_t number;
     size_t i;
@@ -178,6 +215,14 @@ static void displacement(void)
     number = displace(&previous, &current, 5, delta, counts);
     expect_number("five carriers", number, ZAQNUTI_TOO_FEW_PAIRS);
     expect_number("results kept", (unsigned)counts[0], SATELLITES - 1);
+    /* By the times of the two epochs, a second apart across the end of a week. */
+    number = displace_between(&previous, &current, before_midnight, after_midnight, across, counts);
+    expect_number("across midnight", number, 0);
+    expect_number("the same", memcmp(across, delta, sizeof delta) == 0, 1);
+    number = displace_between(&previous, &current, after_midnight, before_midnight, across, counts);
+    expect_number("the later time first", number, ZAQNUTI_BAD_INTERVAL);
+    number = displace_between(&previous, &current, before_midnight, UINT64_MAX, across, counts);
+    expect_number("no such time", number, ZAQNUTI_BAD_TIME);
 }
 
 /* A text in the line form without a carrier, which is refused by its line. */
@@ -318,6 +363,7 @@ static void track(void)
 int main(void)
 {
     fix();
+    times();
     displacement();
     line_form();
     corrections();

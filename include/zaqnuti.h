@@ -1,6 +1,7 @@
 /*
  * Zaqnuti: a position from pseudoranges, the displacement between two carrier
- * epochs, base-station corrections and a smoothed track.
+ * epochs, times in whole nanoseconds, base-station corrections and a smoothed
+ * track.
  *
  * Link libzaqnuti.a (`./run` leaves it in target/staticlib): Linux on x86-64,
  * System V calling convention. Of other libraries it needs memcpy and memset,
@@ -16,7 +17,7 @@
  * and answers or refuses. It never aborts, unwinds or loops on.
  *
  * Answer. A function that gives uint8_t gives 0 where it answers, or the
- * number of its refusal, 1 to 12, of which the first that applies is given
+ * number of its refusal, 1 to 13, of which the first that applies is given
  * (ZAQNUTI_TOO_MANY and so on; docs/REFUSALS.md). A refusal is the number
  * alone: every result and every table keeps its bytes. The functions that
  * give another type, or nothing, never refuse.
@@ -26,8 +27,8 @@
  * what is beyond is neither read nor written. A column that is shorter is
  * refused by 2. A pointer of an array with a number in brackets leads to that
  * many elements. An empty column may have any pointer, NULL too; every other
- * pointer is valid, and aligned as its type asks (double, size_t and uint64_t
- * by 8 bytes, uint32_t and int32_t by 4, uint16_t by 2).
+ * pointer is valid, and aligned as its type asks (double, size_t, uint64_t and
+ * int64_t by 8 bytes, uint32_t and int32_t by 4, uint16_t by 2).
  * What a call writes overlaps nothing else that is handed to it; what it only
  * reads may overlap. A bool is 0 or 1, as C's own conversion to bool makes it.
  *
@@ -53,12 +54,14 @@
  *
  *     fix             20,224
  *     position        20,224
- *     displacement    16,128
- *     line            40,192
+ *     displacement    16,640
+ *     between         16,128
+ *     line            40,704
  *     add_epoch       17,408
  *     query              512
  *     queries            512
  *     smooth             768
+ *     times              256
  *     round            8,704
  *     centre             768
  *     geometry           256
@@ -79,21 +82,22 @@ extern "C" {
 #endif
 
 /* The version of this header and its library: 10000 major + 100 minor + patch in the last. */
-#define ZAQNUTI_VERSION "0.1.0"
+#define ZAQNUTI_VERSION "0.2.0"
 #define ZAQNUTI_VERSION_MAJOR 0
-#define ZAQNUTI_VERSION_MINOR 1
+#define ZAQNUTI_VERSION_MINOR 2
 #define ZAQNUTI_VERSION_PATCH 0
-#define ZAQNUTI_VERSION_NUMBER 100
+#define ZAQNUTI_VERSION_NUMBER 200
 
 /* Limits. */
 #define ZAQNUTI_RECORDS 64       /* records of an epoch, states beside it, rows, residuals */
 #define ZAQNUTI_SAMPLES 2048     /* samples of a table of corrections */
 #define ZAQNUTI_EPOCHS 1024      /* epochs, anchors or links of a track */
+#define ZAQNUTI_WEEKS 15000      /* the last week of a time */
 #define ZAQNUTI_ROUNDS 50        /* rounds of an estimate, iterations of a track */
 #define ZAQNUTI_TEXT 32768       /* bytes of a text in the line form */
 #define ZAQNUTI_LINE 59          /* bytes that are always enough for its answer */
 
-/* Why a call turns back, in checking order. */
+/* Why a call turns back, in checking order, but that 13 is tested between 4 and 5. */
 enum zaqnuti_refusal {
     ZAQNUTI_BROKEN_FORM = 1,           /* a text is too long or breaks the line form */
     ZAQNUTI_TOO_MANY = 2,              /* too many records, or too short a buffer */
@@ -106,7 +110,8 @@ enum zaqnuti_refusal {
     ZAQNUTI_TOO_MANY_SLOTS = 9,        /* more than six clock slots */
     ZAQNUTI_FIT_FAILED = 10,           /* the fit fails */
     ZAQNUTI_TABLE_FULL = 11,           /* the epoch's corrections do not all fit in the table */
-    ZAQNUTI_NO_CORRECTION = 12         /* the table gives no correction for the query */
+    ZAQNUTI_NO_CORRECTION = 12,        /* the table gives no correction for the query */
+    ZAQNUTI_BAD_TIME = 13              /* a week, a time of week or a time in nanoseconds is out of range */
 };
 
 /*
@@ -137,6 +142,49 @@ enum zaqnuti_refusal {
 /* zaqnuti_smooth: in sigmas, and the iterations. */
 #define ZAQNUTI_TRACK_HUBER 2.0
 #define ZAQNUTI_TRACK_ITERATIONS 6
+
+/* ---- times */
+
+/*
+ * A time is the whole number of nanoseconds since the start of GPS week 0, a
+ * uint64_t. Boxes report a week and a time of week, which goes back to 0 at
+ * the end of Saturday: from 604,799.5 s to 0.5 s, seconds of the week say that
+ * 604,799 s were gone back. As times the two are a second apart:
+ *
+ *     uint64_t before, now;
+ *     double dt;
+ *     zaqnuti_time(1316, 604799.5, &before);
+ *     zaqnuti_time(1317, 0.5, &now);
+ *     zaqnuti_seconds_since(now, before, &dt);       dt is 1.0
+ *
+ * zaqnuti_displacement_between takes the two times in the place of dt.
+ */
+
+/*
+ * The time of a week and of a time of week in seconds.
+ *
+ * week           0 to 15,000, counted from GPS week 0 and never begun anew
+ * tow            from 0 to below 604,800 s; -0 is 0
+ * nanos          the nanoseconds of the weeks and the whole part of
+ *                tow * 1e9 + 0.5, product and sum each rounded once: so that a
+ *                tow just below 604,800 s gives the start of the next week
+ *
+ * Refuses by 13.
+ */
+uint8_t zaqnuti_time(uint32_t week, double tow, uint64_t *nanos);
+
+/*
+ * How many nanoseconds lie between two times, exactly; below 0 where `later`
+ * is the earlier one. Refuses by 13 (a time past the start of week 15,001,
+ * 9,072,604,800,000,000,000 ns).
+ */
+uint8_t zaqnuti_nanos_since(uint64_t later, uint64_t earlier, int64_t *nanos);
+
+/*
+ * The same in seconds: the whole number of nanoseconds as a double, by 1e9,
+ * each rounded once. Refuses by 13.
+ */
+uint8_t zaqnuti_seconds_since(uint64_t later, uint64_t earlier, double *seconds);
 
 /* ---- the fix */
 
@@ -223,6 +271,38 @@ uint8_t zaqnuti_displacement(
     const double *current_floats, size_t current_floats_length,
     size_t current_count,
     double dt,
+    const double receiver[3],
+    const double settings[5],
+    size_t rounds,
+    double delta[3],
+    size_t counts[2]);
+
+/*
+ * The same between two epochs by their times.
+ *
+ * previous_time, current_time
+ *                the times of the two epochs in nanoseconds, as zaqnuti_time
+ *                gives them; dt is zaqnuti_seconds_since of the second and the
+ *                first
+ *
+ * The answer is that of zaqnuti_displacement with this dt. Refuses by 2, 3, 4,
+ * 13 (a time past the start of week 15,001), 5, 7, 8, 9 and 10, in this order.
+ */
+uint8_t zaqnuti_displacement_between(
+    const uint8_t *previous_constellation, size_t previous_constellation_length,
+    const uint16_t *previous_svid, size_t previous_svid_length,
+    const uint32_t *previous_band, size_t previous_band_length,
+    const int32_t *previous_state, size_t previous_state_length,
+    const double *previous_floats, size_t previous_floats_length,
+    size_t previous_count,
+    const uint8_t *current_constellation, size_t current_constellation_length,
+    const uint16_t *current_svid, size_t current_svid_length,
+    const uint32_t *current_band, size_t current_band_length,
+    const int32_t *current_state, size_t current_state_length,
+    const double *current_floats, size_t current_floats_length,
+    size_t current_count,
+    uint64_t previous_time,
+    uint64_t current_time,
     const double receiver[3],
     const double settings[5],
     size_t rounds,

@@ -14,6 +14,9 @@
  *     number = zaqnuti_easy_displacement(&before, &now, 1.0, place, &settings, &moved);
  *     if (number != 0) puts(zaqnuti_refusal_text(number));
  *
+ * With the week and the time of week of each epoch, zaqnuti_easy_time and
+ * zaqnuti_easy_displacement_between stand in the place of the interval.
+ *
  * Each call gives 0, or the number of its refusal (enum zaqnuti_refusal), and
  * then leaves its result as it was. examples/easy.c has one of each.
  *
@@ -61,8 +64,34 @@ static inline const char *zaqnuti_refusal_text(uint8_t number)
     case ZAQNUTI_FIT_FAILED: return "the fit fails";
     case ZAQNUTI_TABLE_FULL: return "the epoch's corrections do not all fit in the table";
     case ZAQNUTI_NO_CORRECTION: return "the table gives no correction for the signal and time";
+    case ZAQNUTI_BAD_TIME: return "a week is above 15,000, a time of week is not in 0 to below 604,800 s, or a time is past the start of week 15,001";
     default: return "no such number";
     }
+}
+
+/* ---- times */
+
+/* Nanoseconds since the start of GPS week 0. */
+typedef struct zaqnuti_gps_time {
+    uint64_t nanos;
+} zaqnuti_gps_time;
+
+/* The time of a week and of a time of week in seconds, as a receiver reports them. */
+static inline uint8_t zaqnuti_easy_time(uint32_t week, double tow, zaqnuti_gps_time *time)
+{
+    return zaqnuti_time(week, tow, &time->nanos);
+}
+
+/* How many nanoseconds `later` is after `earlier`, below 0 where it is before it. */
+static inline uint8_t zaqnuti_easy_nanos_since(zaqnuti_gps_time later, zaqnuti_gps_time earlier, int64_t *nanos)
+{
+    return zaqnuti_nanos_since(later.nanos, earlier.nanos, nanos);
+}
+
+/* The same in seconds. */
+static inline uint8_t zaqnuti_easy_seconds_since(zaqnuti_gps_time later, zaqnuti_gps_time earlier, double *seconds)
+{
+    return zaqnuti_seconds_since(later.nanos, earlier.nanos, seconds);
 }
 
 /* ---- the fix */
@@ -245,6 +274,37 @@ static inline uint8_t zaqnuti_easy_displacement(
         current->constellation, ZAQNUTI_RECORDS, current->svid, ZAQNUTI_RECORDS, current->band, ZAQNUTI_RECORDS,
         current->state, ZAQNUTI_RECORDS, current->floats, 6 * ZAQNUTI_RECORDS, current->count,
         dt, from, set, settings->rounds, delta, counts);
+
+    if (number == 0) {
+        moved->delta.x = delta[0];
+        moved->delta.y = delta[1];
+        moved->delta.z = delta[2];
+        moved->used = counts[0];
+        moved->screened = counts[1];
+    }
+    return number;
+}
+
+/* How the receiver moved from one time to another; `receiver` is where it was at the first. */
+static inline uint8_t zaqnuti_easy_displacement_between(
+    const zaqnuti_epoch *previous,
+    const zaqnuti_epoch *current,
+    zaqnuti_gps_time previous_time,
+    zaqnuti_gps_time current_time,
+    zaqnuti_vector receiver,
+    const zaqnuti_displacement_settings *settings,
+    zaqnuti_moved *moved)
+{
+    const double from[3] = {receiver.x, receiver.y, receiver.z};
+    const double set[5] = {settings->screen, settings->sigma_a, settings->sigma_b, settings->huber, settings->mask};
+    double delta[3] = {0.0, 0.0, 0.0};
+    size_t counts[2] = {0, 0};
+    uint8_t number = zaqnuti_displacement_between(
+        previous->constellation, ZAQNUTI_RECORDS, previous->svid, ZAQNUTI_RECORDS, previous->band, ZAQNUTI_RECORDS,
+        previous->state, ZAQNUTI_RECORDS, previous->floats, 6 * ZAQNUTI_RECORDS, previous->count,
+        current->constellation, ZAQNUTI_RECORDS, current->svid, ZAQNUTI_RECORDS, current->band, ZAQNUTI_RECORDS,
+        current->state, ZAQNUTI_RECORDS, current->floats, 6 * ZAQNUTI_RECORDS, current->count,
+        previous_time.nanos, current_time.nanos, from, set, settings->rounds, delta, counts);
 
     if (number == 0) {
         moved->delta.x = delta[0];

@@ -150,10 +150,27 @@ static uint8_t epoch_of(zaqnuti_epoch *to, const zaqnuti_carrier *record, size_t
     return number;
 }
 
-/* Gives the number, and the displacement in `easy`. */
+/* The plain call on columns: by the interval, or between the two times where there are any. */
+static uint8_t plain_displacement(
+    const struct columns *p, const struct columns *c, double dt, const zaqnuti_gps_time *time,
+    const double from[3], const double settings[5], size_t rounds, double delta[3], size_t counts[2])
+{
+    if (time == NULL) {
+        return zaqnuti_displacement(
+            p->constellation, p->count, p->svid, p->count, p->band, p->count, p->state, p->count, p->floats, 6 * p->count, p->count,
+            c->constellation, c->count, c->svid, c->count, c->band, c->count, c->state, c->count, c->floats, 6 * c->count, c->count,
+            dt, from, settings, rounds, delta, counts);
+    }
+    return zaqnuti_displacement_between(
+        p->constellation, p->count, p->svid, p->count, p->band, p->count, p->state, p->count, p->floats, 6 * p->count, p->count,
+        c->constellation, c->count, c->svid, c->count, c->band, c->count, c->state, c->count, c->floats, 6 * c->count, c->count,
+        time[0].nanos, time[1].nanos, from, settings, rounds, delta, counts);
+}
+
+/* Gives the number, and the displacement in `easy`; between two times where there are any, else by the interval. */
 static uint8_t displacement_both(
     const zaqnuti_carrier *before, size_t before_count, const zaqnuti_carrier *after, size_t after_count,
-    double dt, zaqnuti_vector receiver, const zaqnuti_displacement_settings *set, zaqnuti_moved *easy)
+    double dt, const zaqnuti_gps_time *time, zaqnuti_vector receiver, const zaqnuti_displacement_settings *set, zaqnuti_moved *easy)
 {
     static struct columns p;
     static struct columns c;
@@ -171,16 +188,15 @@ static uint8_t displacement_both(
     marked = *easy;
     columns_of(&p, before, before_count);
     columns_of(&c, after, after_count);
-    plain_number = zaqnuti_displacement(
-        p.constellation, p.count, p.svid, p.count, p.band, p.count, p.state, p.count, p.floats, 6 * p.count, p.count,
-        c.constellation, c.count, c.svid, c.count, c.band, c.count, c.state, c.count, c.floats, 6 * c.count, c.count,
-        dt, from, settings, set->rounds, delta, counts);
+    plain_number = plain_displacement(&p, &c, dt, time, from, settings, set->rounds, delta, counts);
     easy_number = epoch_of(&previous, before, before_count);
     if (easy_number == 0) {
         easy_number = epoch_of(&current, after, after_count);
     }
-    if (easy_number == 0) {
+    if (easy_number == 0 && time == NULL) {
         easy_number = zaqnuti_easy_displacement(&previous, &current, dt, receiver, set, easy);
+    } else if (easy_number == 0) {
+        easy_number = zaqnuti_easy_displacement_between(&previous, &current, time[0], time[1], receiver, set, easy);
     }
     met[plain_number] += 1;
     same(plain_number == easy_number, "displacement, its number");
@@ -191,6 +207,52 @@ static uint8_t displacement_both(
         same(easy->used == counts[0] && easy->screened == counts[1], "displacement, its counts");
     }
     return plain_number;
+}
+
+/* ---- times */
+
+/* The same of a week and a time of week, and of two times. */
+static void times_both(uint32_t week, double tow, zaqnuti_gps_time earlier, zaqnuti_gps_time *easy)
+{
+    uint64_t nanos = 77;
+    int64_t since = 77;
+    int64_t easy_since = 77;
+    double seconds = 7.5;
+    double easy_seconds = 7.5;
+    uint8_t number = zaqnuti_time(week, tow, &nanos);
+
+    easy->nanos = 77;
+    met[number] += 1;
+    same(zaqnuti_easy_time(week, tow, easy) == number && easy->nanos == nanos, "a time");
+    same(number == 0 || nanos == 77, "a time, the result of a refusal");
+    if (chance(8) == 0) {
+        /* Next to the last time that is one, or any at all. */
+        easy->nanos = chance(2) == 0 ? 9072604800000000000u + chance(3) - 1 : UINT64_MAX - chance(9);
+    }
+    number = zaqnuti_nanos_since(easy->nanos, earlier.nanos, &since);
+    met[number] += 1;
+    same(zaqnuti_easy_nanos_since(*easy, earlier, &easy_since) == number && easy_since == since, "nanoseconds between two times");
+    same(number == 0 || since == 77, "nanoseconds, the result of a refusal");
+    same(zaqnuti_seconds_since(easy->nanos, earlier.nanos, &seconds) == number, "seconds between two times, their number");
+    same(zaqnuti_easy_seconds_since(*easy, earlier, &easy_seconds) == number, "seconds, their number by structs");
+    same(memcmp(&seconds, &easy_seconds, sizeof seconds) == 0, "seconds between two times");
+    same(number == 0 ? seconds == (double)since / 1e9 : seconds == 7.5, "seconds, as of the nanoseconds");
+}
+
+static void times(void)
+{
+    static const double edges[6] = {604799.9999999999, 604799.5, 0.5, 5e-10, 604800.0, 3600.25};
+    zaqnuti_gps_time before = {0};
+    zaqnuti_gps_time now = {0};
+    size_t k;
+
+    for (k = 0; k < 20000; k++) {
+        const uint32_t week = chance(9) == 0 ? (uint32_t)(14999 + chance(4)) : (uint32_t)chance(2500);
+        double tow = chance(2) == 0 ? edges[chance(6)] : 1e-3 * (double)chance(604800000);
+        alter(&tow, 8);
+        times_both(week, tow, before, &now);
+        before = now;
+    }
 }
 
 /* ---- the corrections: a table of each side, to which the same epochs are added */
@@ -501,11 +563,32 @@ static void line_of(char *line, size_t size, uint8_t number, const zaqnuti_moved
     }
 }
 
+/* Two times so many seconds apart, across the end of a week; now and then another time. */
+static void times_of(zaqnuti_gps_time time[2], double dt)
+{
+    const uint64_t end = 1317u * UINT64_C(604800000000000);
+    const bool plain = dt > 0.0 && dt < 700000.0;
+    const uint64_t apart = plain ? (uint64_t)(dt * 1e9 + 0.5) : chance(2);
+
+    time[0].nanos = end - apart / 2;
+    time[1].nanos = time[0].nanos + apart;
+    if (chance(12) == 0) {
+        time[chance(2)].nanos = 9072604800000000000u + chance(3) - 1;
+    }
+    if (chance(12) == 0) {
+        time[chance(2)].nanos = end + chance(3) - 1;
+    }
+}
+
 /* Altered copies of two epochs. */
 static void alter_displacements(const struct text *t, size_t times)
 {
     static struct text a;
+    zaqnuti_gps_time time[2];
     zaqnuti_moved moved;
+    zaqnuti_moved between;
+    double dt;
+    uint8_t number;
     size_t which;
     size_t i;
 
@@ -540,7 +623,16 @@ static void alter_displacements(const struct text *t, size_t times)
             }
             a.count[1] = 65;
         }
-        displacement_both(a.carrier[0], a.count[0], a.carrier[1], a.count[1], a.dt, a.receiver, &a.settings, &moved);
+        displacement_both(a.carrier[0], a.count[0], a.carrier[1], a.count[1], a.dt, NULL, a.receiver, &a.settings, &moved);
+        /* Between two times: the number and the bytes of the call with their interval. */
+        times_of(time, a.dt);
+        number = displacement_both(a.carrier[0], a.count[0], a.carrier[1], a.count[1], 0.0, time, a.receiver, &a.settings, &between);
+        if (zaqnuti_easy_seconds_since(time[1], time[0], &dt) == 0) {
+            same(displacement_both(a.carrier[0], a.count[0], a.carrier[1], a.count[1], dt, NULL, a.receiver, &a.settings, &moved) == number &&
+                 memcmp(&moved, &between, sizeof moved) == 0, "displacement, between two times and by their interval");
+        } else {
+            same((number >= 2 && number <= 4) || number == ZAQNUTI_BAD_TIME, "displacement, between times of which one is none");
+        }
     }
 }
 
@@ -573,7 +665,7 @@ static void drive(const char *folder)
             read_line(&t, one);
         }
         fclose(in);
-        number = displacement_both(t.carrier[0], t.count[0], t.carrier[1], t.count[1], t.dt, t.receiver, &t.settings, &moved);
+        number = displacement_both(t.carrier[0], t.count[0], t.carrier[1], t.count[1], t.dt, NULL, t.receiver, &t.settings, &moved);
         answered = zaqnuti_line((const uint8_t *)whole, length, line, sizeof line);
         line_of(wanted, sizeof wanted, number, &moved);
         same(answered == strlen(wanted) && memcmp(line, wanted, answered) == 0, "the line of a drive's text");
@@ -649,7 +741,7 @@ static void displacements(size_t k)
             t.carrier[which][i] = geonet_carrier(&rover.epoch[k + which].line[i]);
         }
     }
-    if (displacement_both(t.carrier[0], t.count[0], t.carrier[1], t.count[1], t.dt, t.receiver, &t.settings, &moved) == 0) {
+    if (displacement_both(t.carrier[0], t.count[0], t.carrier[1], t.count[1], t.dt, NULL, t.receiver, &t.settings, &moved) == 0) {
         const zaqnuti_vector sigma = {0.05, 0.05, 0.05};
         give_link(k, moved.delta, sigma);
     }
@@ -807,12 +899,12 @@ static void texts(void)
 {
     unsigned a;
     unsigned b;
-    for (a = 0; a <= 13; a++) {
+    for (a = 0; a <= 14; a++) {
         for (b = 0; b < a; b++) {
             same(strcmp(zaqnuti_refusal_text((uint8_t)a), zaqnuti_refusal_text((uint8_t)b)) != 0, "texts of two numbers");
         }
     }
-    for (a = 13; a < 256; a++) {
+    for (a = 14; a < 256; a++) {
         same(strcmp(zaqnuti_refusal_text((uint8_t)a), "no such number") == 0, "the text of no number");
     }
 }
@@ -850,6 +942,7 @@ int main(int count, char **word)
             displacements(k);
         }
     }
+    times();
     tracks();
     corrections();
     texts();
@@ -860,7 +953,7 @@ int main(int count, char **word)
             printf(" %lu:%lu", (unsigned long)k, met[k]);
         }
     }
-    for (k = 2; k <= 12; k++) {
+    for (k = 2; k <= 13; k++) {
         same(met[k] != 0, "a number that was never met");
     }
     printf("\n%lu compared, %lu differ\n", compared, different);

@@ -1,7 +1,9 @@
-//! Inputs of the displacement and the fix, and what the published Rust answers within the rules of docs/SCOPE.md.
+//! Inputs of the displacement, by its interval and between two times, and of the fix, and what the
+//! published Rust answers within the rules of docs/SCOPE.md.
 
 use crate::rules;
 use drifters_core::frames::Ecef;
+use drifters_core::time::GpsTime;
 use drifters_gnss::tdcp::{self, Carrier, Delta};
 use drifters_gnss::wls::{self, Observation, Solution};
 
@@ -17,6 +19,12 @@ pub struct Displacement {
     pub dt: f64,
     pub receiver: [f64; 3],
     pub settings: tdcp::Settings,
+}
+
+/// Input of a displacement between two times, in nanoseconds: the interval is what the Rust makes of them.
+pub struct Between {
+    pub displacement: Displacement,
+    pub times: [u64; 2],
 }
 
 /// Input of a fix.
@@ -46,6 +54,40 @@ impl Displacement {
             Some(n @ (2..=4 | 9)) => Err(n),
             Some(5) if self.dt > rules::INTERVAL && self.dt.is_finite() => Err(5),
             Some(n) => Err(if self.rust().is_none() { n } else { AT_ODDS }),
+        }
+    }
+}
+
+/// The Rust's seconds from the first time to the second.
+#[inline]
+fn seconds(times: [u64; 2]) -> f64 {
+    let [before, now] = times.map(GpsTime::from_nanos);
+    now.seconds_since(before)
+}
+
+impl Between {
+    /// A displacement with its interval taken from two times.
+    pub fn new(displacement: Displacement, times: [u64; 2]) -> Self {
+        let dt = seconds(times);
+        let displacement = Displacement { dt, ..displacement };
+        Self {
+            displacement,
+            times,
+        }
+    }
+
+    /// What the Rust gives, from the times on.
+    pub fn rust(&self) -> Option<Delta> {
+        let (d, dt) = (&self.displacement, seconds(self.times));
+        tdcp::delta_position(&d.previous, &d.current, dt, ecef(d.receiver), &d.settings)
+    }
+
+    /// The Rust's answer, or the number of the refusal.
+    pub fn answer(&self) -> Result<Delta, u8> {
+        match rules::between(self) {
+            // Added.
+            Some(13) => Err(13),
+            _ => self.displacement.answer(),
         }
     }
 }
@@ -132,6 +174,36 @@ mod tests {
         assert_eq!(counts(&input), Ok((6, 0)));
         input.dt = input.dt.next_up();
         assert_eq!(counts(&input), Err(5));
+    }
+
+    #[test]
+    fn trials_at_the_edges_of_two_times() {
+        let week = 604_800_000_000_000;
+        let of = |times| match Between::new(standstill(7, 1), times).answer() {
+            Ok(d) => d.used as u8,
+            Err(n) => n,
+        };
+        // A second across the end of a week, and across the last one that is.
+        assert_eq!(
+            of([1317 * week - 500_000_000, 1317 * week + 500_000_000]),
+            7
+        );
+        assert_eq!(of([rules::LAST - 1, rules::LAST]), 7);
+        assert_eq!(of([rules::LAST, rules::LAST + 1]), 13);
+        assert_eq!(of([u64::MAX, 0]), 13);
+        // Not above 0, and above a week.
+        assert_eq!(of([5, 5]), 5);
+        assert_eq!(of([6, 5]), 5);
+        assert_eq!(of([5, 5 + week]), 7);
+        assert_eq!(of([5, 6 + week]), 5);
+        // 4 comes before 13, and 13 before 5 and 7.
+        let mut input = standstill(2, 1);
+        assert_eq!(
+            Between::new(standstill(2, 1), [u64::MAX; 2]).answer().err(),
+            Some(13)
+        );
+        input.current[1].rate = f64::NAN;
+        assert_eq!(Between::new(input, [u64::MAX; 2]).answer().err(), Some(4));
     }
 
     #[test]

@@ -5,12 +5,14 @@ mod displacement;
 mod fix;
 mod line;
 mod robust;
+mod times;
 
 pub use columns::Columns;
 pub use displacement::*;
 pub use fix::*;
 pub use line::*;
 pub use robust::*;
+pub use times::*;
 pub use zaqnuti::math::{
     abs, before, elevation_sine, hypot, max, pattern, radians, sqrt, square, travel_cosine,
     travel_sine,

@@ -1,7 +1,8 @@
 //! docs/SCOPE.md, "Why a call turns back": numbers 2 to 9 of a displacement and a fix, in checking
-//! order. Used only to say which number a refusal is, and where the Rust is not asked.
+//! order, and 13 between 4 and 5. Used only to say which number a refusal is, and where the Rust is
+//! not asked.
 
-use crate::estimate::{Displacement, Fix};
+use crate::estimate::{Between, Displacement, Fix};
 use drifters_gnss::tdcp::Carrier;
 
 /// The most records of an epoch.
@@ -12,6 +13,20 @@ pub const ROUNDS: usize = 50;
 pub const INTERVAL: f64 = 604_800.0;
 /// The largest magnitude of a setting, a coordinate or a float of a record.
 pub const LIMIT: f64 = 1e9;
+/// The last week.
+pub const WEEK: u32 = 15_000;
+/// The start of the week after it, in nanoseconds.
+pub const LAST: u64 = 15_001 * 604_800_000_000_000;
+
+/// A week and a time of week that 13 lets pass.
+pub fn is_time(week: u32, tow: f64) -> bool {
+    week <= WEEK && (0.0..604_800.0).contains(&tow)
+}
+
+/// A time handed in that 13 lets pass.
+pub fn is_dated(nanos: u64) -> bool {
+    nanos <= LAST
+}
 
 /// Finite, and at most 1e9 in magnitude.
 fn within(x: f64) -> bool {
@@ -74,8 +89,8 @@ fn slots(kept: impl Iterator<Item = u8>) -> Option<u8> {
     }
 }
 
-/// The number of a displacement, but for 10.
-pub fn displacement(input: &Displacement) -> Option<u8> {
+/// 2 to 4 of a displacement.
+fn refused(input: &Displacement) -> Option<u8> {
     let set = &input.settings;
     if input.previous.len() > RECORDS || input.current.len() > RECORDS {
         return Some(2);
@@ -88,6 +103,11 @@ pub fn displacement(input: &Displacement) -> Option<u8> {
     if !records.all(carrier_within) || !input.receiver.iter().all(|&x| within(x)) {
         return Some(4);
     }
+    None
+}
+
+/// 5 to 9 of a displacement.
+fn unmoved(input: &Displacement) -> Option<u8> {
     if !(input.dt > 0.0 && input.dt <= INTERVAL) {
         return Some(5);
     }
@@ -96,8 +116,22 @@ pub fn displacement(input: &Displacement) -> Option<u8> {
         return Some(7);
     }
     let centre = centre(&pairs);
-    let kept = pairs.iter().filter(|p| (p.1 - centre).abs() < set.screen);
+    let kept = pairs
+        .iter()
+        .filter(|p| (p.1 - centre).abs() < input.settings.screen);
     slots(kept.map(|p| p.0))
+}
+
+/// The number of a displacement, but for 10.
+pub fn displacement(input: &Displacement) -> Option<u8> {
+    refused(input).or_else(|| unmoved(input))
+}
+
+/// The number of a displacement between two times, but for 10.
+pub fn between(input: &Between) -> Option<u8> {
+    let undated = !input.times.iter().all(|&t| is_dated(t));
+    let first = refused(&input.displacement).or(undated.then_some(13));
+    first.or_else(|| unmoved(&input.displacement))
 }
 
 /// The number of a fix, but for 10.

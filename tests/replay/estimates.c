@@ -1,4 +1,4 @@
-/* The cases of the displacement, the line form and the fix. */
+/* The cases of the displacement, by its interval and between two times, the line form and the fix. */
 #include <string.h>
 
 #include "replay.h"
@@ -29,38 +29,76 @@ static void next_carriers(struct stored *s, struct carriers *e, size_t count)
     }
 }
 
-/*
- * dt, receiver 3, settings 5, rounds, how many carriers before and how many
- * now; each of them; number, used, screened, displacement 3.
- */
-bool same_displacement(struct stored *s)
-{
+/* What is handed to a displacement beside the interval or the times. */
+struct drive {
     struct carriers before;
     struct carriers now;
+    size_t counts[2];
     double receiver[3];
     double settings[5];
+    size_t rounds;
+};
+
+/* Receiver 3, settings 5, rounds, how many carriers before and how many now; each of them. */
+static void next_drive(struct stored *s, struct drive *d)
+{
+    next_floats(s, d->receiver, 3);
+    next_floats(s, d->settings, 5);
+    d->rounds = next_size(s);
+    d->counts[0] = next_size(s);
+    d->counts[1] = next_size(s);
+    next_carriers(s, &d->before, d->counts[0]);
+    next_carriers(s, &d->now, d->counts[1]);
+}
+
+/* Whether the next numbers are number, used, screened and displacement 3. */
+static bool is_moved(struct stored *s, uint8_t number, double *delta, size_t *counts)
+{
+    return given(number, delta, 3 * sizeof *delta) && given(number, counts, 2 * sizeof *counts) &&
+        is_number(s, number) && is_number(s, counts[0]) && is_number(s, counts[1]) && is_floats(s, delta, 3);
+}
+
+/* dt and a drive; number, used, screened, displacement 3. */
+bool same_displacement(struct stored *s)
+{
+    struct drive d;
     double delta[3 + MARGIN / 8];
     size_t counts[2 + MARGIN / sizeof(size_t)];
     double dt = next_float(s);
-    size_t rounds, p, c, n, m;
+    size_t n, m;
     uint8_t number;
-    next_floats(s, receiver, 3);
-    next_floats(s, settings, 5);
-    rounds = next_size(s);
-    p = next_size(s);
-    c = next_size(s);
-    next_carriers(s, &before, p);
-    next_carriers(s, &now, c);
-    n = least(p, ROOM);
-    m = least(c, ROOM);
+    next_drive(s, &d);
+    n = least(d.counts[0], ROOM);
+    m = least(d.counts[1], ROOM);
     lend(delta, 3 * sizeof *delta);
     lend(counts, 2 * sizeof *counts);
     number = zaqnuti_displacement(
-        before.constellation, n, before.svid, n, before.band, n, before.state, n, before.floats, 6 * n, p,
-        now.constellation, m, now.svid, m, now.band, m, now.state, m, now.floats, 6 * m, c,
-        dt, receiver, settings, rounds, delta, counts);
-    return given(number, delta, 3 * sizeof *delta) && given(number, counts, 2 * sizeof *counts) &&
-        is_number(s, number) && is_number(s, counts[0]) && is_number(s, counts[1]) && is_floats(s, delta, 3);
+        d.before.constellation, n, d.before.svid, n, d.before.band, n, d.before.state, n, d.before.floats, 6 * n, d.counts[0],
+        d.now.constellation, m, d.now.svid, m, d.now.band, m, d.now.state, m, d.now.floats, 6 * m, d.counts[1],
+        dt, d.receiver, d.settings, d.rounds, delta, counts);
+    return is_moved(s, number, delta, counts);
+}
+
+/* The times of the two epochs and a drive; number, used, screened, displacement 3. */
+bool same_between(struct stored *s)
+{
+    struct drive d;
+    double delta[3 + MARGIN / 8];
+    size_t counts[2 + MARGIN / sizeof(size_t)];
+    uint64_t before = next_number(s);
+    uint64_t now = next_number(s);
+    size_t n, m;
+    uint8_t number;
+    next_drive(s, &d);
+    n = least(d.counts[0], ROOM);
+    m = least(d.counts[1], ROOM);
+    lend(delta, 3 * sizeof *delta);
+    lend(counts, 2 * sizeof *counts);
+    number = zaqnuti_displacement_between(
+        d.before.constellation, n, d.before.svid, n, d.before.band, n, d.before.state, n, d.before.floats, 6 * n, d.counts[0],
+        d.now.constellation, m, d.now.svid, m, d.now.band, m, d.now.state, m, d.now.floats, 6 * m, d.counts[1],
+        before, now, d.receiver, d.settings, d.rounds, delta, counts);
+    return is_moved(s, number, delta, counts);
 }
 
 /* What is handed to a fix. */

@@ -54,6 +54,9 @@ static const struct kind kinds[] = {
     {17, "line", same_line},
     {18, "query", same_query},
     {19, "queries", same_queries},
+    {20, "time", same_time},
+    {21, "since", same_since},
+    {22, "between", same_between},
 };
 
 #define KINDS (sizeof kinds / sizeof *kinds)

@@ -67,5 +67,8 @@ bool same_epoch(struct stored *s);
 bool same_line(struct stored *s);
 bool same_query(struct stored *s);
 bool same_queries(struct stored *s);
+bool same_time(struct stored *s);
+bool same_since(struct stored *s);
+bool same_between(struct stored *s);
 
 #endif

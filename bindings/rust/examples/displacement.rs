@@ -1,6 +1,7 @@
 //! How far a receiver moved between two epochs of carrier phases: `cargo run --example displacement`.
 
-use zaqnuti::tdcp::{delta_position, Carrier, Settings};
+use zaqnuti::tdcp::{delta_position, delta_position_between, Carrier, Settings};
+use zaqnuti::time::GpsTime;
 use zaqnuti::{Ecef, Refusal};
 
 /// GPS over a station in Japan that stands still, 2005-04-02: svid, carrier in metres with the
@@ -146,5 +147,17 @@ fn main() -> Result<(), Refusal> {
     let d = moved.delta;
     println!("{:.3} {:.3} {:.3} m", d.x, d.y, d.z);
     println!("{} pairs used, {} screened", moved.used, moved.screened);
+    // The same by the times of both epochs, as a receiver reports them.
+    let (before, now) = (
+        GpsTime::new(1316, 518_400.0)?,
+        GpsTime::new(1316, 518_430.0)?,
+    );
+    let set = Settings::geodetic();
+    let again = delta_position_between(&previous, &current, before, now, at, &set)?;
+    println!(
+        "{} s apart: the same is {}",
+        now.seconds_since(before)?,
+        again == moved
+    );
     Ok(())
 }

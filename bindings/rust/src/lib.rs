@@ -4,6 +4,7 @@
 //! |---|---|
 //! | [`wls`] | the position from one epoch of pseudoranges |
 //! | [`tdcp`] | the displacement between two epochs of carrier phases |
+//! | [`time`] | epoch times in whole nanoseconds |
 //! | [`line`](mod@line) | the displacement of a text in the line form |
 //! | [`differential`] | corrections from a base station |
 //! | [`smooth`](mod@smooth) | the track that fits anchors and links |
@@ -47,6 +48,7 @@ pub mod robust;
 pub mod smooth;
 pub mod sys;
 pub mod tdcp;
+pub mod time;
 pub mod wls;
 
 pub use math::Vec3;
@@ -68,6 +70,8 @@ pub const PAIRS: usize = 6;
 pub const MAGNITUDE: f64 = 1e9;
 /// The longest interval of a displacement, seconds: a week.
 pub const INTERVAL: f64 = 604_800.0;
+/// The last week of a time.
+pub const WEEKS: u32 = 15_000;
 /// The most bytes of a text in the line form.
 pub const TEXT: usize = 32_768;
 /// The bytes that are always enough for its answer.

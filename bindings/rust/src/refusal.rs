@@ -2,7 +2,7 @@ use core::fmt;
 
 /// Why a call turns back, each number under its one name.
 ///
-/// The library of today gives 1 to 12. The others have their names already, so that a caller who
+/// The library of today gives 1 to 13. The others have their names already, so that a caller who
 /// writes them down needs no change later; a `match` has an arm for what is not named here yet.
 #[derive(Clone, Copy, Debug, PartialEq, Eq, PartialOrd, Ord, Hash)]
 #[repr(u8)]
@@ -32,7 +32,8 @@ pub enum Refusal {
     TableFull = 11,
     /// The table gives no correction for the query.
     NoCorrection = 12,
-    /// A week is above 15,000, or a time of week not in 0 to below 604,800.
+    /// A week is above 15,000, a time of week not in 0 to below 604,800, or a time past the start of
+    /// week 15,001.
     BadTime = 13,
     /// The figures of a fix, `chi` or `pdop`, are not finite.
     QualityNotFinite = 14,
@@ -105,7 +106,7 @@ impl Refusal {
             Self::FitFailed => "the fit fails",
             Self::TableFull => "the corrections do not all fit in the table",
             Self::NoCorrection => "the table gives no correction",
-            Self::BadTime => "a week or a time of week is out of range",
+            Self::BadTime => "a week, a time of week or a time is out of range",
             Self::QualityNotFinite => "the figures of the fix are not finite",
             Self::OnReceiver => "the range of a satellite is zero or not finite",
             Self::BadTrip => "a trip, its pulse rate or its displacement is out of range",

@@ -3,6 +3,12 @@
 //! A column is a pointer and a length in elements. What a call writes overlaps nothing else that is handed to it.
 
 extern "C" {
+    /// The time of a week and a time of week, in nanoseconds.
+    pub fn zaqnuti_time(week: u32, tow: f64, nanos: *mut u64) -> u8;
+    /// The nanoseconds between two times.
+    pub fn zaqnuti_nanos_since(later: u64, earlier: u64, nanos: *mut i64) -> u8;
+    /// The seconds between two times.
+    pub fn zaqnuti_seconds_since(later: u64, earlier: u64, seconds: *mut f64) -> u8;
     /// The receiver's position from one epoch, with what the fit says of itself.
     pub fn zaqnuti_fix(
         constellation: *const u8,
@@ -53,6 +59,38 @@ extern "C" {
         current_floats_length: usize,
         current_count: usize,
         dt: f64,
+        receiver: *const [f64; 3],
+        settings: *const [f64; 5],
+        rounds: usize,
+        delta: *mut [f64; 3],
+        counts: *mut [usize; 2],
+    ) -> u8;
+    /// The displacement between two carrier epochs of known times.
+    pub fn zaqnuti_displacement_between(
+        previous_constellation: *const u8,
+        previous_constellation_length: usize,
+        previous_svid: *const u16,
+        previous_svid_length: usize,
+        previous_band: *const u32,
+        previous_band_length: usize,
+        previous_state: *const i32,
+        previous_state_length: usize,
+        previous_floats: *const f64,
+        previous_floats_length: usize,
+        previous_count: usize,
+        current_constellation: *const u8,
+        current_constellation_length: usize,
+        current_svid: *const u16,
+        current_svid_length: usize,
+        current_band: *const u32,
+        current_band_length: usize,
+        current_state: *const i32,
+        current_state_length: usize,
+        current_floats: *const f64,
+        current_floats_length: usize,
+        current_count: usize,
+        previous_time: u64,
+        current_time: u64,
         receiver: *const [f64; 3],
         settings: *const [f64; 5],
         rounds: usize,

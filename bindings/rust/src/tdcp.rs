@@ -1,6 +1,7 @@
 //! Position change between two epochs from time-differenced carrier phase.
 
 use crate::refusal::answered;
+use crate::time::GpsTime;
 use crate::{column, columns, sys, Ecef, Refusal, Vec3, RECORDS};
 
 /// One satellite signal's carrier observation at one epoch.
@@ -71,6 +72,17 @@ impl Settings {
             agreement: 3.0,
         }
     }
+
+    /// Its floats, as the entry points take them.
+    const fn floats(&self) -> [f64; 5] {
+        [
+            self.screen,
+            self.sigma_a,
+            self.sigma_b,
+            self.huber,
+            self.mask,
+        ]
+    }
 }
 
 /// What a solved epoch pair yields.
@@ -82,6 +94,25 @@ pub struct Delta {
     pub used: usize,
     /// Pairs discarded by the screen.
     pub screened: usize,
+}
+
+/// What a call writes.
+#[derive(Default)]
+struct Lent {
+    delta: [f64; 3],
+    counts: [usize; 2],
+}
+
+impl Lent {
+    fn answer(self, number: u8) -> Result<Delta, Refusal> {
+        answered(number)?;
+        let ([x, y, z], [used, screened]) = (self.delta, self.counts);
+        Ok(Delta {
+            delta: Vec3::new(x, y, z),
+            used,
+            screened,
+        })
+    }
 }
 
 /// The columns of an epoch.
@@ -166,8 +197,7 @@ pub fn delta_position(
 ) -> Result<Delta, Refusal> {
     let (p, c) = (Columns::of(previous), Columns::of(current));
     let (pf, cf) = (p.floats.as_flattened(), c.floats.as_flattened());
-    let settings = [set.screen, set.sigma_a, set.sigma_b, set.huber, set.mask];
-    let (mut delta, mut counts) = ([0.0; 3], [0; 2]);
+    let mut lent = Lent::default();
     // SAFETY: each column has its length beside it, and the last two are ours alone.
     let number = unsafe {
         sys::zaqnuti_displacement(
@@ -195,18 +225,105 @@ pub fn delta_position(
             current.len(),
             dt,
             &at.coordinates(),
-            &settings,
+            &set.floats(),
             set.iterations,
-            &mut delta,
-            &mut counts,
+            &mut lent.delta,
+            &mut lent.counts,
         )
     };
-    answered(number)?;
-    let [x, y, z] = delta;
-    let [used, screened] = counts;
-    Ok(Delta {
-        delta: Vec3::new(x, y, z),
-        used,
-        screened,
-    })
+    lent.answer(number)
+}
+
+/// The receiver's position change between two epochs by their times: that of [`delta_position`]
+/// with the seconds from `previous_time` to `current_time`, so that the end of a week between them
+/// is no matter.
+///
+/// A time past the start of week 15,001 is refused by [`Refusal::BadTime`], once the settings and
+/// the records have passed.
+///
+/// ```
+/// use zaqnuti::tdcp::{delta_position, delta_position_between, Carrier, Settings};
+/// use zaqnuti::time::GpsTime;
+/// use zaqnuti::{Ecef, Refusal};
+///
+/// # let satellites = [
+/// #     [10026487.6901, 18601864.0690, 16597421.8539],
+/// #     [-683949.7926, 26351230.7650, 79787.4804],
+/// #     [-14822915.6595, 8930208.3680, 20079386.0967],
+/// #     [-23358517.4998, -5407967.0045, 11505396.1790],
+/// #     [-23036169.0859, 13172079.7389, 766984.1650],
+/// #     [-4410870.9394, 25703724.4991, 4806330.1948],
+/// #     [-2383676.5779, 17483698.3984, 19982740.5748],
+/// # ];
+/// # let epoch: Vec<Carrier> = (0..7)
+/// #     .map(|k| Carrier {
+/// #         constellation: 1,
+/// #         svid: k as u16,
+/// #         band: 1575,
+/// #         adr: 1e6 * k as f64,
+/// #         state: 1,
+/// #         satellite: satellites[k],
+/// #         elevation: 45.0,
+/// #         rate: 0.0,
+/// #     })
+/// #     .collect();
+/// # let (previous, current) = (epoch.clone(), epoch);
+/// # let at = Ecef::new(-3976219.5082, 3382372.5671, 3652512.9849);
+/// // The last half second of Saturday, and the first of Sunday.
+/// let before = GpsTime::new(1316, 604799.5)?;
+/// let now = GpsTime::new(1317, 0.5)?;
+/// let set = Settings::default();
+/// let moved = delta_position_between(&previous, &current, before, now, at, &set)?;
+/// assert_eq!(moved, delta_position(&previous, &current, 1.0, at, &set)?);
+///
+/// let back = delta_position_between(&previous, &current, now, before, at, &set);
+/// assert_eq!(back.unwrap_err(), Refusal::BadInterval);
+/// # Ok::<(), Refusal>(())
+/// ```
+pub fn delta_position_between(
+    previous: &[Carrier],
+    current: &[Carrier],
+    previous_time: GpsTime,
+    current_time: GpsTime,
+    at: Ecef,
+    set: &Settings,
+) -> Result<Delta, Refusal> {
+    let (p, c) = (Columns::of(previous), Columns::of(current));
+    let (pf, cf) = (p.floats.as_flattened(), c.floats.as_flattened());
+    let mut lent = Lent::default();
+    // SAFETY: each column has its length beside it, and the last two are ours alone.
+    let number = unsafe {
+        sys::zaqnuti_displacement_between(
+            p.constellation.as_ptr(),
+            p.constellation.len(),
+            p.svid.as_ptr(),
+            p.svid.len(),
+            p.band.as_ptr(),
+            p.band.len(),
+            p.state.as_ptr(),
+            p.state.len(),
+            pf.as_ptr(),
+            pf.len(),
+            previous.len(),
+            c.constellation.as_ptr(),
+            c.constellation.len(),
+            c.svid.as_ptr(),
+            c.svid.len(),
+            c.band.as_ptr(),
+            c.band.len(),
+            c.state.as_ptr(),
+            c.state.len(),
+            cf.as_ptr(),
+            cf.len(),
+            current.len(),
+            previous_time.nanos(),
+            current_time.nanos(),
+            &at.coordinates(),
+            &set.floats(),
+            set.iterations,
+            &mut lent.delta,
+            &mut lent.counts,
+        )
+    };
+    lent.answer(number)
 }

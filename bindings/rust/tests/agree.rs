@@ -71,7 +71,7 @@ fn rusty(text: &str, mark: &str, parameter: impl Fn(&str) -> Vec<String>) -> Sig
 }
 
 /// What a caller lends as doubles and the sources take as their patterns, so that what a refusal leaves is promised to the last bit.
-const PATTERNS: [&str; 4] = ["delta", "solution", "position", "metres"];
+const PATTERNS: [&str; 5] = ["delta", "solution", "position", "metres", "seconds"];
 
 fn rattle() -> Signatures {
     let mut out = Signatures::new();
@@ -123,6 +123,7 @@ fn number(c: &str) -> &str {
         "uint32_t" => "u32",
         "uint64_t" => "u64",
         "int32_t" => "i32",
+        "int64_t" => "i64",
         "size_t" => "usize",
         "double" => "f64",
         "bool" => "bool",
@@ -176,7 +177,7 @@ fn parameter_of_c(item: &str) -> String {
 #[test]
 fn header_and_rattle_agree() {
     let rattle = rattle();
-    assert!(rattle.len() >= 26, "the sources were read");
+    assert!(rattle.len() >= 33, "the sources were read");
     assert_eq!(header(), rattle);
 }
 

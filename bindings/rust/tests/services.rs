@@ -9,6 +9,7 @@ use zaqnuti::differential::{
 use zaqnuti::math::{self, Cholesky};
 use zaqnuti::robust::{centre_scale, elevation_sigma, geometry, step, Clocks, Row};
 use zaqnuti::smooth::{smooth, Anchor, Link};
+use zaqnuti::time::{GpsTime, NANOS_PER_WEEK};
 use zaqnuti::{differential, line, smooth as track, tdcp, wls, Ecef, Refusal, Vec3, TEXT};
 
 fn near(a: f64, b: f64, within: f64) -> bool {
@@ -134,6 +135,77 @@ fn a_displacement_refuses() {
     let mut seven = all.clone();
     seven[6].constellation = 0;
     assert_eq!(why(&seven, &seven, 1.0, &set), Refusal::TooManySlots);
+}
+
+#[test]
+fn times() {
+    let at = |week, tow| GpsTime::new(week, tow).unwrap();
+    let (before, now) = (at(1316, 604_799.5), at(1317, 0.5));
+    assert_eq!(before.nanos(), 1317 * NANOS_PER_WEEK - 500_000_000);
+    assert_eq!(now.nanos_since(before), Ok(1_000_000_000));
+    assert_eq!(before.nanos_since(now), Ok(-1_000_000_000));
+    assert_eq!(now.seconds_since(before), Ok(1.0));
+    assert_eq!(GpsTime::new(0, -0.0), Ok(GpsTime::ZERO));
+    // The last time of the last week is rounded to the start of a week that is none.
+    let last = at(15_000, 604_800f64.next_down());
+    assert_eq!(last, GpsTime::from_nanos(15_001 * NANOS_PER_WEEK));
+    assert_eq!(
+        last.nanos_since(GpsTime::ZERO),
+        Ok(9_072_604_800_000_000_000)
+    );
+    let bad = Err(Refusal::BadTime);
+    assert_eq!(GpsTime::new(15_001, 0.0), bad);
+    for tow in [
+        604_800.0,
+        -5e-324,
+        f64::NAN,
+        f64::INFINITY,
+        f64::NEG_INFINITY,
+    ] {
+        assert_eq!(GpsTime::new(0, tow), bad, "{tow}");
+    }
+    let past = GpsTime::from_nanos(last.nanos() + 1);
+    assert_eq!(past.nanos_since(last), Err(Refusal::BadTime));
+    assert_eq!(last.seconds_since(past), Err(Refusal::BadTime));
+}
+
+#[test]
+fn a_displacement_between_times() {
+    let set = tdcp::Settings {
+        screen: 1e3,
+        ..tdcp::Settings::default()
+    };
+    let moved = Ecef::new(AT.x + 3.0, AT.y - 2.0, AT.z + 0.5);
+    let (p, c) = (carriers(20, AT), carriers(20, moved));
+    let between = |p: &[tdcp::Carrier], before, now, set: &tdcp::Settings| {
+        tdcp::delta_position_between(p, &c, before, now, AT, set)
+    };
+    let (before, now) = (
+        GpsTime::new(1316, 604_799.75).unwrap(),
+        GpsTime::new(1317, 0.75).unwrap(),
+    );
+    let d = between(&p, before, now, &set).unwrap();
+    assert_eq!(Ok(d), tdcp::delta_position(&p, &c, 1.0, AT, &set));
+    // 13 comes after 4 and before 5.
+    let past = GpsTime::from_nanos(u64::MAX);
+    let odd = tdcp::Settings {
+        huber: f64::NAN,
+        ..set
+    };
+    let mut damaged = p.clone();
+    damaged[2].elevation = 91.0;
+    let many = carriers(65, AT);
+    let why = |p: &[tdcp::Carrier], before, now, set: &tdcp::Settings| {
+        between(p, before, now, set).unwrap_err()
+    };
+    assert_eq!(why(&many, past, past, &odd), Refusal::TooMany);
+    assert_eq!(why(&damaged, past, past, &odd), Refusal::SettingOutOfRange);
+    assert_eq!(why(&damaged, past, past, &set), Refusal::RecordOutOfRange);
+    assert_eq!(why(&p[..3], past, past, &set), Refusal::BadTime);
+    assert_eq!(why(&p[..3], before, past, &set), Refusal::BadTime);
+    assert_eq!(why(&p[..3], now, before, &set), Refusal::BadInterval);
+    assert_eq!(why(&p[..3], now, now, &set), Refusal::BadInterval);
+    assert_eq!(why(&p[..3], before, now, &set), Refusal::TooFewPairs);
 }
 
 /// The example of docs/SCOPE.md, without its LF.

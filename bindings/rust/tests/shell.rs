@@ -93,7 +93,7 @@ fn rover(lines: usize) -> String {
 #[test]
 fn help() {
     assert!(answered(&["--help"], 0).contains("Exit status"));
-    assert_eq!(answered(&["--version"], 0), "zaqnuti 0.1.0\n");
+    assert_eq!(answered(&["--version"], 0), "zaqnuti 0.2.0\n");
     for name in [
         "fix",
         "displacement",
@@ -189,6 +189,44 @@ fn displacements() {
     assert!(given.starts_with("--at: the lines S of "));
     let place = said(&["displacement", &rover], b"");
     assert!(place.ends_with("has no columns rx, ry, rz; give --at X,Y,Z or --fixes FILE"));
+}
+
+/// The first two epochs of rover.csv, at the given weeks and times of week.
+fn two_epochs(before: &str, now: &str) -> String {
+    let whole = fs::read_to_string(geonet("rover.csv")).unwrap();
+    let two = |line: &&str| {
+        ["week,tow,", "1316,518400.", "1316,518430."]
+            .iter()
+            .any(|s| line.starts_with(s))
+    };
+    let lines = whole.lines().filter(two).map(|l| format!("{l}\n"));
+    let text: String = lines.collect();
+    text.replace("1316,518400.0000000,", before)
+        .replace("1316,518430.0000000,", now)
+}
+
+#[test]
+fn a_displacement_across_the_end_of_a_week() {
+    let moved = |before: &str, now: &str, status: i32| {
+        let words = ["displacement", "--csv", "--receiver=geodetic", AT];
+        let out = fed(&words, two_epochs(before, now).as_bytes());
+        assert_eq!(out.status.code(), Some(status));
+        text(&out.stdout).lines().nth(1).unwrap().to_string()
+    };
+    let plain = moved("1316,518400,", "1316,518430,", 0);
+    let answer = plain.strip_prefix("1316,518430.0,,30.0,").unwrap();
+    // Saturday's last quarter of a minute and Sunday's first: the same 30 s, and the same bits.
+    let across = moved("1316,604785,", "1317,15,", 0);
+    assert_eq!(across, format!("1317,15.0,,30.0,{answer}"));
+    // Exact to the nanosecond: the doubles are 29.999999999970896 apart.
+    let odd = moved("1316,262130.1,", "1316,262160.1,", 0);
+    assert_eq!(odd, format!("1316,262160.1,,30.0,{answer}"));
+    assert!(moved("1316,604785,", "1316,15,", 1).ends_with(",5"));
+    assert!(moved("1316,604785,", "1316,604815,", 1).ends_with(",13"));
+    assert!(moved("15001,0,", "15001,30,", 1).ends_with(",13"));
+    // Without weeks the difference of the times of week is the interval.
+    let weekless = moved(",604785,", ",604815,", 0);
+    assert_eq!(weekless, format!(",604815.0,,30.0,{answer}"));
 }
 
 /// The words of a correction by every other epoch of the base.
@@ -560,10 +598,7 @@ fn a_long_input_is_streamed() {
 #[test]
 fn a_closed_pipe_ends_a_run_quietly() {
     // The reader has ended before the run begins, so that no line of it finds room in the pipe.
-    let mut reader = Command::new("true")
-        .stdin(Stdio::piped())
-        .spawn()
-        .unwrap();
+    let mut reader = Command::new("true").stdin(Stdio::piped()).spawn().unwrap();
     let closed = reader.stdin.take().unwrap();
     reader.wait().unwrap();
     let out = Command::new(COMMAND)

@@ -155,7 +155,8 @@ fn epochs() -> (Vec<Carrier>, Vec<Carrier>) {
     (carriers(64, AT), after)
 }
 
-fn displacement(count: usize, rounds: usize, screen: f64) -> usize {
+/// A displacement over a second, or between two times.
+fn displacement(count: usize, rounds: usize, screen: f64, times: Option<[u64; 2]>) -> usize {
     let floats = |c: &[Carrier]| -> Vec<f64> {
         c.iter()
             .flat_map(|c| {
@@ -177,39 +178,61 @@ fn displacement(count: usize, rounds: usize, screen: f64) -> usize {
     let (band, state) = (vec![1575u32; 64], vec![1i32; 64]);
     let (mut delta, mut counts) = ([0.0; 3], [0; 2]);
     measured(move || {
+        macro_rules! call {
+            ($entry:ident, $($apart:expr),+) => {
+                sys::$entry(
+                    constellation.as_ptr(),
+                    64,
+                    svid.as_ptr(),
+                    64,
+                    band.as_ptr(),
+                    64,
+                    state.as_ptr(),
+                    64,
+                    pf.as_ptr(),
+                    pf.len(),
+                    count,
+                    constellation.as_ptr(),
+                    64,
+                    svid.as_ptr(),
+                    64,
+                    band.as_ptr(),
+                    64,
+                    state.as_ptr(),
+                    64,
+                    cf.as_ptr(),
+                    cf.len(),
+                    count,
+                    $($apart),+,
+                    &AT.coordinates(),
+                    &[screen, 0.008, 0.002, 1e-3, 10.0],
+                    rounds,
+                    &mut delta,
+                    &mut counts,
+                )
+            };
+        }
         let frame = top();
         // SAFETY: each column has its length beside it, and the last two are ours alone.
         unsafe {
-            sys::zaqnuti_displacement(
-                constellation.as_ptr(),
-                64,
-                svid.as_ptr(),
-                64,
-                band.as_ptr(),
-                64,
-                state.as_ptr(),
-                64,
-                pf.as_ptr(),
-                pf.len(),
-                count,
-                constellation.as_ptr(),
-                64,
-                svid.as_ptr(),
-                64,
-                band.as_ptr(),
-                64,
-                state.as_ptr(),
-                64,
-                cf.as_ptr(),
-                cf.len(),
-                count,
-                1.0,
-                &AT.coordinates(),
-                &[screen, 0.008, 0.002, 1e-3, 10.0],
-                rounds,
-                &mut delta,
-                &mut counts,
-            );
+            match times {
+                None => call!(zaqnuti_displacement, 1.0),
+                Some([before, now]) => call!(zaqnuti_displacement_between, before, now),
+            }
+        };
+        frame
+    })
+}
+
+fn times(week: u32, tow: f64, earlier: u64) -> usize {
+    let (mut nanos, mut since, mut seconds) = (0, 0, 0.0);
+    measured(move || {
+        let frame = top();
+        // SAFETY: the last of each is ours alone.
+        unsafe {
+            sys::zaqnuti_time(week, tow, &mut nanos);
+            sys::zaqnuti_nanos_since(nanos, earlier, &mut since);
+            sys::zaqnuti_seconds_since(nanos, earlier, &mut seconds);
         }
         frame
     })
@@ -567,11 +590,23 @@ fn no_more_than_the_header_says() {
         (
             "displacement",
             most([
-                displacement(64, 50, 1e9),
-                displacement(64, 50, 4.0),
-                displacement(64, 0, 1e9),
-                displacement(65, 4, 1.0),
-                displacement(5, 4, 1.0),
+                displacement(64, 50, 1e9, None),
+                displacement(64, 50, 4.0, None),
+                displacement(64, 0, 1e9, None),
+                displacement(65, 4, 1.0, None),
+                displacement(5, 4, 1.0, None),
+            ]),
+        ),
+        (
+            "between",
+            most([
+                displacement(64, 50, 1e9, Some([1, 1_000_000_001])),
+                displacement(64, 50, 4.0, Some([1, 1_000_000_001])),
+                displacement(64, 0, 1e9, Some([1, 1_000_000_001])),
+                displacement(65, 4, 1.0, Some([1, 1_000_000_001])),
+                displacement(5, 4, 1.0, Some([1, 1_000_000_001])),
+                displacement(64, 50, 1e9, Some([1, u64::MAX])),
+                displacement(64, 50, 1e9, Some([1, 1])),
             ]),
         ),
         (
@@ -638,6 +673,15 @@ fn no_more_than_the_header_says() {
         (
             "centre",
             most([centre(64), centre(65), centre(0), centre(1)]),
+        ),
+        (
+            "times",
+            most([
+                times(1316, 604_799.5, 77),
+                times(15_001, 0.5, 77),
+                times(15_000, f64::NAN, u64::MAX),
+                times(2, 5e-324, u64::MAX),
+            ]),
         ),
         ("geometry", geometry()),
         (

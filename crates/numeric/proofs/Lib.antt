@@ -6,3 +6,5 @@ pub mod OrderLaws
 pub mod OrderValues
 pub mod Zeros
 pub mod SightLaws
+pub mod WholeLaws
+pub mod Growing

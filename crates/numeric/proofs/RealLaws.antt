@@ -1,9 +1,9 @@
 -- The laws of `abs`, `max`, `finite` and `inRange`, for every float. Assumes nothing.
 use mathlib.Core.Path.{_≡_, refl, sym, ap, _∙_, subst, ap₂}
-use Prim.Native.Nat.{ℕ, zero, suc, _+_, _*_, _^_, _<_}
+use Prim.Native.Nat.{ℕ, zero, suc, _+_, _*_, _^_, _≤_, _<_}
 use native.Mathlib.Nat.{mul-one, one-mul, zero-mul, mul-pos, pow-suc, zero-lt-suc}
 use native.Mathlib.Omega.{arith}
-use native.Mathlib.Decide.{ℕ-discrete}
+use native.Mathlib.Decide.{decLt, ℕ-discrete}
 use mathlib.Core.Bool.{and-true, Bool, true, false, cond, _&&_, _||_}
 use lib.Dec.{T, eqb, ltb, eqb→eq}
 use borrow.Author.Tests.{lt-ltb, le-ltb, eq-eqb, ne-eqb}
@@ -20,6 +20,14 @@ use Rattle.numeric.specs.Real.{abs, max, inRange}
 -- a test that fails does not pass
 never : {A : Type 0} → false ≡ true → A
 never e = absurd (let z : _≡_ {A = ℕ} 0 1 = cc in omega arith)
+
+-- a ≤ b, as `le` tests it of numbers of one sign
+pub from-least : (a b : ℕ) → a ≤ b → (ltb a b || (eqb a b && true)) ≡ true
+from-least a b h = go (decLt a b)
+  where
+    go : Dec (a < b) → (ltb a b || (eqb a b && true)) ≡ true
+    go (yes l) = rw (lt-ltb a b l)
+    go (no f) = let e : a ≡ b = omega arith in rw (le-ltb a b (omega arith), eq-eqb a b e)
 
 -- ---- how `abs` is worked out
 

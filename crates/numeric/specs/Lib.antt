@@ -3,3 +3,4 @@ pub mod Real
 pub mod Vec3
 pub mod Sight
 pub mod Order
+pub mod Whole

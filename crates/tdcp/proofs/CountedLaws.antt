@@ -26,7 +26,7 @@ module _ (p q c d : Epoch) (dt : Float) (receiver : Vec3) (settings : Settings) 
   unfolding displacementOf movedIn
   displacement-counted = rw (rules-counted, e, f)
 
-many-rounds : (s : Settings) → 50 < s .rounds → settingsPass s ≡ false
+pub many-rounds : (s : Settings) → 50 < s .rounds → settingsPass s ≡ false
 unfolding settingsPass
 many-rounds s h = rw (lt-ltb 50 (s .rounds) h, and-false)
 

@@ -31,7 +31,7 @@ use Rattle.estimator.proofs.RulesLaws.{checked, passed-of, passed-by, head-pass
 use Rattle.estimator.proofs.RoundsSound.{rounds-each, Finished, finished, Placed, placed, three-finite}
 use Rattle.tdcp.proofs.FrontLaws.{kept-few, pairs-enough}
 
-never : (d : Delta) (r : Refusal) → Refused r ≡ Moved d → ⊥
+pub never : (d : Delta) (r : Refusal) → Refused r ≡ Moved d → ⊥
 never d r e = let z : _≡_ {A = ℕ} 0 1 = cc in omega arith
 
 one-sound : (settings : Settings) (k : Clocks) (ps : List Pair) (x : List Float) (r : Round) → roundAt settings k ps x ≡ Solved r → T (finite (at (r .step) 0)) → Sound r
@@ -106,7 +106,7 @@ displacement-accepted i d e =
     moved-accepted i d (sym (passed-by Refused (movedIn i) rules (passed-of Refused (movedIn i) rules e (never d))) ∙ e)
 
 -- what it gives out is finite
-given-finite : (i : Input) (r : Displacement) → ((d : Delta) → r ≡ Moved d → Accepted i d) → every finite (displacementFloats r) ≡ true
+pub given-finite : (i : Input) (r : Displacement) → ((d : Delta) → r ≡ Moved d → Accepted i d) → every finite (displacementFloats r) ≡ true
 unfolding every
 given-finite i (Refused r) h = refl
 given-finite i (Moved d) h = let a = h d refl in three-finite (d .delta .x) (d .delta .y) (d .delta .z) (a .x-finite) (a .y-finite) (a .z-finite)

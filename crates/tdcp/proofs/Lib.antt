@@ -5,3 +5,4 @@ pub mod DisplacementLaws
 pub mod DisplacementSound
 pub mod DisplacementCall
 pub mod CountedLaws
+pub mod BetweenLaws

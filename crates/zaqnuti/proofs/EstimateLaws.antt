@@ -60,7 +60,7 @@ module _ (p : CarrierColumns) (m : ℕ) (c : CarrierColumns) (n : ℕ) (dt : Flo
     unfolding columnDisplacementOf
     displacement-fit u = rw (← a-is, t, ← b-is, u) rounds-capped
 
-not-moved : (v : Delta) → Displacement.Refused TooMany ≡ Displacement.Moved v → ⊥
+pub not-moved : (v : Delta) → Displacement.Refused TooMany ≡ Displacement.Moved v → ⊥
 not-moved v e = let z : _≡_ {A = ℕ} 0 1 = cc in omega arith
 
 module _ (p : CarrierColumns) (m : ℕ) (c : CarrierColumns) (n : ℕ) (dt : Float) (receiver : Vec3) (settings : DisplacementSettings) where

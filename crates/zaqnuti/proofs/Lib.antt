@@ -5,3 +5,5 @@ pub mod StepNumber
 pub mod EstimateLaws
 pub mod EstimateValues
 pub mod CorrectionLaws
+pub mod TimeLaws
+pub mod BetweenLaws

@@ -3,3 +3,5 @@ pub mod Numbers
 pub mod Estimates
 pub mod Track
 pub mod Corrections
+pub mod Times
+pub mod Between

@@ -1,4 +1,5 @@
 // The static library for C and Rust: an entry point for each service and each call of its own. None of them keeps any state.
+pub mod between;
 mod columns;
 pub mod corrections;
 pub mod estimates;
@@ -7,4 +8,5 @@ pub mod matrix;
 pub mod numbers;
 pub mod round;
 pub mod slots;
+pub mod times;
 pub mod track;

@@ -1,8 +1,8 @@
-//! The entry point of the displacement.
+//! The entry points of the displacement, by its interval and between two times.
 
 use super::columns::{call, Columns};
 use drifters_gnss::tdcp::Carrier;
-use zaqnuti::sys::zaqnuti_displacement;
+use zaqnuti::sys::{zaqnuti_displacement, zaqnuti_displacement_between};
 
 /// An epoch of carriers as the library takes it: its columns, of which each may be longer or shorter
 /// than the count needs.
@@ -57,5 +57,29 @@ pub fn displacement(
             [current.columns.constellation], [current.svid], [current.band], [current.state],
             [current.columns.floats], current.columns.count,
             dt, receiver, settings, rounds, delta, counts,)
+    }
+}
+
+/// As `displacement`, between two times.
+#[inline]
+#[allow(clippy::too_many_arguments)]
+pub fn displacement_between(
+    previous: &Carriers,
+    current: &Carriers,
+    [before, now]: [u64; 2],
+    receiver: &[f64; 3],
+    settings: &[f64; 5],
+    rounds: usize,
+    delta: &mut [f64; 3],
+    counts: &mut [usize; 2],
+) -> u8 {
+    // SAFETY: as there.
+    unsafe {
+        call!(zaqnuti_displacement_between();
+            [previous.columns.constellation], [previous.svid], [previous.band], [previous.state],
+            [previous.columns.floats], previous.columns.count,
+            [current.columns.constellation], [current.svid], [current.band], [current.state],
+            [current.columns.floats], current.columns.count,
+            before, now, receiver, settings, rounds, delta, counts,)
     }
 }

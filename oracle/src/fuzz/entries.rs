@@ -5,6 +5,7 @@ mod displacement;
 mod fix;
 mod line;
 mod pieces;
+mod times;
 mod track;
 
 use super::Bytes;
@@ -14,15 +15,17 @@ use zaqnuti::sys;
 /// The name of an entry point, and its call.
 type Entry = (&'static str, fn(&mut Bytes));
 
-/// Every entry point; clocks and numbers together.
+/// Every entry point; times, clocks and numbers together.
 pub const ENTRIES: &[Entry] = &[
     ("fix", fix::fix),
     ("displacement", displacement::displacement),
+    ("between", displacement::between),
     ("line", line::line),
     ("add_epoch", corrections::add_epoch),
     ("query", corrections::query),
     ("queries", corrections::queries),
     ("smooth", track::smooth),
+    ("times", times::times),
     ("round", pieces::a_round),
     ("centre", pieces::centre),
     ("geometry", pieces::geometry),

@@ -6,8 +6,9 @@ use crate::estimate::Displacement;
 use crate::ffi::{self, Carriers};
 use crate::line_form;
 use crate::random::Random;
-use crate::sky;
+use crate::sky::{self, Input as _};
 use crate::vectors::{of_each, raw, Case, Vectors};
+use drifters_gnss::tdcp::Delta;
 use std::hint::black_box;
 
 pub const SERVICE: Service = Service {
@@ -18,17 +19,25 @@ pub const SERVICE: Service = Service {
 };
 
 /// A call as the library takes it.
-struct Call {
-    previous: Carriers,
-    current: Carriers,
+pub struct Call {
+    pub previous: Carriers,
+    pub current: Carriers,
     dt: f64,
-    receiver: [f64; 3],
-    settings: [f64; 5],
-    rounds: usize,
+    pub receiver: [f64; 3],
+    pub settings: [f64; 5],
+    pub rounds: usize,
 }
 
 impl estimator::Call<3, 2> for Call {
     type Input = Displacement;
+
+    fn input(random: &mut Random) -> Displacement {
+        sky::input(random)
+    }
+
+    fn clean(random: &mut Random, count: usize) -> Displacement {
+        Displacement::clean(random, count)
+    }
 
     fn of(input: &Displacement) -> Self {
         let set = &input.settings;
@@ -103,35 +112,47 @@ impl estimator::Call<3, 2> for Call {
 /// How many records of an epoch a case has room for.
 const ROOM: usize = 64;
 
-/// dt, receiver 3, settings 5, rounds, how many previous records, how many current ones; of each record, of 64 an epoch at most, constellation,
-/// svid, band, state, adr, satellite 3, elevation, rate; number, used, screened, displacement 3 (zeros where refused).
-fn case(random: &mut Random) -> Option<(u8, Case)> {
-    let input: Displacement = sky::input(random);
-    let call = Call::of(&input);
-    let (p, c) = (call.previous.columns.count, call.current.columns.count);
-    // Few records, but for the number of too many.
-    if p.max(c) > ROOM + 1 || (p + c > 40 && p.max(c) <= ROOM) {
-        return None;
+impl Call {
+    /// Receiver 3, settings 5, rounds, how many previous records, how many current ones; of each record, of 64 an epoch at most,
+    /// constellation, svid, band, state, adr, satellite 3, elevation, rate. None where they are too many to store.
+    pub fn stored(&self) -> Option<Vec<u64>> {
+        let (p, c) = (self.previous.columns.count, self.current.columns.count);
+        // Few records, but for the number of too many.
+        if p.max(c) > ROOM + 1 || (p + c > 40 && p.max(c) <= ROOM) {
+            return None;
+        }
+        let mut given: Vec<u64> = raw(&self.receiver).chain(raw(&self.settings)).collect();
+        given.extend([self.rounds, p, c].map(|n| n as u64));
+        for e in [&self.previous, &self.current] {
+            for k in 0..e.columns.count.min(ROOM) {
+                given.extend([u64::from(e.columns.constellation[k]), u64::from(e.svid[k])]);
+                given.extend([u64::from(e.band[k]), e.state[k] as u64]);
+                given.extend(raw(&e.columns.floats[6 * k..6 * k + 6]));
+            }
+        }
+        Some(given)
     }
-    let answer = input.answer();
+}
+
+/// Number, used, screened, displacement 3 (zeros where refused), behind its number.
+pub fn answer_stored(answer: Result<Delta, u8>) -> (u8, Vec<u64>) {
     let number = *answer.as_ref().err().unwrap_or(&0);
     let (counts, delta) = match &answer {
         Ok(d) => ([d.used, d.screened], [d.delta.x, d.delta.y, d.delta.z]),
         Err(_) => ([0; 2], [0.0; 3]),
     };
-    let mut given = vec![call.dt.to_bits()];
-    given.extend(raw(&call.receiver).chain(raw(&call.settings)));
-    given.extend([call.rounds, p, c].map(|n| n as u64));
-    for e in [&call.previous, &call.current] {
-        for k in 0..e.columns.count.min(ROOM) {
-            given.extend([u64::from(e.columns.constellation[k]), u64::from(e.svid[k])]);
-            given.extend([u64::from(e.band[k]), e.state[k] as u64]);
-            given.extend(raw(&e.columns.floats[6 * k..6 * k + 6]));
-        }
-    }
     let mut stored = vec![u64::from(number)];
     stored.extend(counts.map(|n| n as u64));
     stored.extend(delta.map(f64::to_bits));
+    (number, stored)
+}
+
+/// dt, and what the call stores; its answer.
+fn case(random: &mut Random) -> Option<(u8, Case)> {
+    let input: Displacement = sky::input(random);
+    let call = Call::of(&input);
+    let given = [vec![call.dt.to_bits()], call.stored()?].concat();
+    let (number, stored) = answer_stored(input.answer());
     Some((number, (given, stored)))
 }
 

@@ -1,10 +1,9 @@
-//! What the comparisons of both estimators share: a call in columns, its judge and its times.
+//! What the comparisons of the estimators share: a call in columns, its judge and its times.
 
 use crate::bench;
 use crate::ffi::Columns;
 use crate::numbers::Numbers;
 use crate::random::{pattern, Random};
-use crate::sky::{self, Input};
 use crate::tally::{hex, Tally};
 use std::hint::black_box;
 
@@ -13,7 +12,11 @@ pub type Answer<const F: usize, const C: usize> = ([f64; F], [usize; C]);
 
 /// A call as the library takes it.
 pub trait Call<const F: usize, const C: usize>: Sized {
-    type Input: Input;
+    type Input;
+    /// An input of any kind.
+    fn input(random: &mut Random) -> Self::Input;
+    /// One under a sky of so many satellites, each of which counts.
+    fn clean(random: &mut Random, count: usize) -> Self::Input;
     /// The columns of an input.
     fn of(input: &Self::Input) -> Self;
     /// Calls the library: the answer in what is lent and 0, or the number of the refusal.
@@ -60,7 +63,7 @@ pub fn compare<const F: usize, const C: usize, K: Call<F, C>>(
     let mut numbers = Numbers::default();
     let (mut still, mut far, mut odd) = (0u64, 0u64, 0u64);
     for _ in 0..count {
-        let input: K::Input = sky::input(random);
+        let input = K::input(random);
         let mut call = K::of(&input);
         if random.below(32) == 0 {
             call.turn_lengths(random);
@@ -113,7 +116,7 @@ pub fn time<const F: usize, const C: usize, K: Call<F, C>>(
     for n in [12, 30, 64] {
         let mut inputs = Vec::new();
         while inputs.len() < records / n {
-            let input = K::Input::clean(random, n);
+            let input = K::clean(random, n);
             if K::theirs(&input).is_ok() {
                 inputs.push(input);
             }

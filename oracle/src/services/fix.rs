@@ -5,7 +5,7 @@ use super::Service;
 use crate::estimate::Fix;
 use crate::ffi::{self, observations, Columns};
 use crate::random::{pattern, Random};
-use crate::sky;
+use crate::sky::{self, Input as _};
 use crate::tally::hex;
 use crate::vectors::{of_each, raw, Vectors};
 use std::hint::black_box;
@@ -27,6 +27,14 @@ struct Call {
 
 impl estimator::Call<5, 1> for Call {
     type Input = Fix;
+
+    fn input(random: &mut Random) -> Fix {
+        sky::input(random)
+    }
+
+    fn clean(random: &mut Random, count: usize) -> Fix {
+        Fix::clean(random, count)
+    }
 
     fn of(input: &Fix) -> Self {
         let set = &input.settings;

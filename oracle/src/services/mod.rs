@@ -1,6 +1,7 @@
 //! The services, one file and one line of the table each.
 
 mod accuracy;
+pub mod between;
 mod centre;
 mod clocks;
 pub mod corrections;
@@ -17,6 +18,7 @@ mod sigma;
 pub mod solve;
 mod soundness;
 mod standins;
+pub mod time;
 pub mod track;
 
 use crate::random::Random;
@@ -57,6 +59,9 @@ pub const KINDS: &[(u64, &str, Make)] = &[
     (17, "line", line::vectors),
     (18, "query", corrections::stored::query),
     (19, "queries", corrections::stored::queries),
+    (20, "time", time::times),
+    (21, "since", time::since),
+    (22, "between", between::vectors),
 ];
 
 /// Every service, lowest first.
@@ -73,6 +78,8 @@ pub const SERVICES: &[Service] = &[
     sight::SERVICE,
     round::SERVICE,
     displacement::SERVICE,
+    time::SERVICE,
+    between::SERVICE,
     fix::SERVICE,
     soundness::SERVICE,
     track::SERVICE,

@@ -1,7 +1,8 @@
-//! The displacement.
+//! The displacement, by its interval and between two times.
 
+use super::times::nanos;
 use super::{column, count, floats, signal, sys};
-use crate::estimate::Displacement;
+use crate::estimate::{Between, Displacement};
 use crate::fuzz::lent::{Lender, Lent};
 use crate::fuzz::Bytes;
 use crate::random::Random;
@@ -143,73 +144,93 @@ impl Epoch {
     }
 }
 
+/// Calls an entry point of the displacement on two epochs, with the interval or the times where it takes
+/// them, and holds the library to what is expected of the records that are counted.
+macro_rules! compared {
+    ($b:ident, $input:ident, $entry:ident, $($apart:expr),+; $answer:expr) => {{
+        let mut lender = Lender::new();
+        let p = Epoch::lend($b, &mut lender, &$input.previous);
+        let c = Epoch::lend($b, &mut lender, &$input.current);
+        let (receiver, set) = ($input.receiver, $input.settings);
+        let expected = if p.fits && c.fits {
+            if p.count > $input.previous.len() || c.count > $input.current.len() {
+                return;
+            }
+            $input.previous.truncate(p.count);
+            $input.current.truncate(c.count);
+            $answer
+        } else {
+            Err(2)
+        };
+        let receiver = lender.lend(&receiver);
+        let settings = lender.lend(&[set.screen, set.sigma_a, set.sigma_b, set.huber, set.mask]);
+        let delta = lender.lend(&[f64::from_bits($b.u64()), f64::NAN, -0.0]);
+        let counts = lender.lend(&[$b.u64() as usize, 77]);
+        // SAFETY: each pointer leads to what its length or its type says.
+        let number = unsafe {
+            sys::$entry(
+                p.constellation.at(),
+                p.constellation.len(),
+                p.svid.at(),
+                p.svid.len(),
+                p.band.at(),
+                p.band.len(),
+                p.state.at(),
+                p.state.len(),
+                p.floats.at(),
+                p.floats.len(),
+                p.count,
+                c.constellation.at(),
+                c.constellation.len(),
+                c.svid.at(),
+                c.svid.len(),
+                c.band.at(),
+                c.band.len(),
+                c.state.at(),
+                c.state.len(),
+                c.floats.at(),
+                c.floats.len(),
+                c.count,
+                $($apart),+,
+                receiver.at().cast(),
+                settings.at().cast(),
+                set.iterations,
+                delta.at().cast(),
+                counts.at().cast(),
+            )
+        };
+        p.kept();
+        c.kept();
+        receiver.kept();
+        settings.kept();
+        match expected {
+            Ok(d) => {
+                assert_eq!(number, 0);
+                delta.holds(&[d.delta.x, d.delta.y, d.delta.z]);
+                counts.holds(&[d.used, d.screened]);
+            }
+            Err(why) => {
+                assert_eq!(number, why);
+                delta.kept();
+                counts.kept();
+            }
+        }
+    }};
+}
+
 pub fn displacement(b: &mut Bytes) {
     let mut input = displacement_input(b);
-    let mut lender = Lender::new();
-    let p = Epoch::lend(b, &mut lender, &input.previous);
-    let c = Epoch::lend(b, &mut lender, &input.current);
-    let expected = if p.fits && c.fits {
-        if p.count > input.previous.len() || c.count > input.current.len() {
-            return;
-        }
-        input.previous.truncate(p.count);
-        input.current.truncate(c.count);
-        input.answer()
-    } else {
-        Err(2)
+    compared!(b, input, zaqnuti_displacement, input.dt; input.answer());
+}
+
+pub fn between(b: &mut Bytes) {
+    let mut input = displacement_input(b);
+    let before = nanos(b);
+    let now = match b.byte() {
+        0..=99 => nanos(b),
+        _ => before.wrapping_add((input.dt * 1e9) as u64),
     };
-    let set = &input.settings;
-    let receiver = lender.lend(&input.receiver);
-    let settings = lender.lend(&[set.screen, set.sigma_a, set.sigma_b, set.huber, set.mask]);
-    let delta = lender.lend(&[f64::from_bits(b.u64()), f64::NAN, -0.0]);
-    let counts = lender.lend(&[b.u64() as usize, 77]);
-    // SAFETY: each pointer leads to what its length or its type says.
-    let number = unsafe {
-        sys::zaqnuti_displacement(
-            p.constellation.at(),
-            p.constellation.len(),
-            p.svid.at(),
-            p.svid.len(),
-            p.band.at(),
-            p.band.len(),
-            p.state.at(),
-            p.state.len(),
-            p.floats.at(),
-            p.floats.len(),
-            p.count,
-            c.constellation.at(),
-            c.constellation.len(),
-            c.svid.at(),
-            c.svid.len(),
-            c.band.at(),
-            c.band.len(),
-            c.state.at(),
-            c.state.len(),
-            c.floats.at(),
-            c.floats.len(),
-            c.count,
-            input.dt,
-            receiver.at().cast(),
-            settings.at().cast(),
-            set.iterations,
-            delta.at().cast(),
-            counts.at().cast(),
-        )
-    };
-    p.kept();
-    c.kept();
-    receiver.kept();
-    settings.kept();
-    match expected {
-        Ok(d) => {
-            assert_eq!(number, 0);
-            delta.holds(&[d.delta.x, d.delta.y, d.delta.z]);
-            counts.holds(&[d.used, d.screened]);
-        }
-        Err(why) => {
-            assert_eq!(number, why);
-            delta.kept();
-            counts.kept();
-        }
-    }
+    compared!(b, input, zaqnuti_displacement_between, before, now; {
+        Between::new(input, [before, now]).answer()
+    });
 }

@@ -3,7 +3,8 @@
 use std::cmp::Ordering;
 use std::fmt;
 
-use zaqnuti::RECORDS;
+use zaqnuti::time::GpsTime;
+use zaqnuti::{Refusal, RECORDS};
 
 use crate::csv::{Column, Table};
 use crate::decimal;
@@ -24,6 +25,11 @@ impl Time {
     pub fn since(self, other: Self) -> f64 {
         let weeks = i64::from(self.week.unwrap_or(0)) - i64::from(other.week.unwrap_or(0));
         weeks as f64 * WEEK + (self.tow - other.tow)
+    }
+
+    /// The time in whole nanoseconds, where the file has a week.
+    pub fn gps(self) -> Option<Result<GpsTime, Refusal>> {
+        self.week.map(|week| GpsTime::new(week, self.tow))
     }
 
     /// Seconds from the start of the week of another time.

@@ -1,7 +1,8 @@
 //! The pairs of epochs of a displacement, from either form of CSV: a series of epochs, each of
 //! which is paired with the one before it, or lines S, P and C as the line form has them.
 
-use zaqnuti::tdcp::{delta_position, Carrier, Delta, Settings};
+use zaqnuti::tdcp::{delta_position, delta_position_between, Carrier, Delta, Settings};
+use zaqnuti::time::GpsTime;
 use zaqnuti::{Ecef, Refusal, RECORDS};
 
 use crate::args::Args;
@@ -27,7 +28,8 @@ pub const VALUED: [&str; 9] = [
 pub const HELP: &str = "\
 A series: lines of the same week and tow that follow each other are an epoch, and
 each epoch is paired with the one before it.
-  tow            time of week, s; week before it where there is one
+  tow            time of week, s; with week, times are exact to the nanosecond
+                 and go on across the end of a week
   constellation  1 GPS, 3 GLONASS, 5 BeiDou, 6 Galileo; svid; band in MHz (may be left out)
   adr            accumulated delta range, m, corrected for the satellite's clock;
                  or carrier, m, as measured, to which clock is added, from which
@@ -78,6 +80,8 @@ pub struct Pair {
     pub name: String,
     /// The time of the later epoch, of a series.
     pub time: Option<Time>,
+    /// The times of both epochs, of a series with weeks.
+    pub times: Option<Result<[GpsTime; 2], Refusal>>,
     pub dt: f64,
     /// Where the receiver was at the earlier epoch.
     pub at: [f64; 3],
@@ -98,8 +102,21 @@ impl Pair {
     pub fn solve(&self) -> Result<Delta, Refusal> {
         let [x, y, z] = self.at;
         let (previous, current) = (self.side(Side::Previous), self.side(Side::Current));
-        delta_position(&previous, &current, self.dt, Ecef::new(x, y, z), &self.set)
+        let (at, set) = (Ecef::new(x, y, z), &self.set);
+        match self.times {
+            None => delta_position(&previous, &current, self.dt, at, set),
+            Some(times) => {
+                let [before, now] = times?;
+                delta_position_between(&previous, &current, before, now, at, set)
+            }
+        }
     }
+}
+
+/// Two times in whole nanoseconds, where both have a week.
+fn times(before: Time, now: Time) -> Option<Result<[GpsTime; 2], Refusal>> {
+    let (before, now) = (before.gps()?, now.gps()?);
+    Some(before.and_then(|before| Ok([before, now?])))
 }
 
 /// The columns of a carrier.
@@ -279,10 +296,16 @@ impl Series {
         let side = |side, epoch: &Epoch<Seen>| -> Vec<(Side, Carrier)> {
             epoch.rows.iter().map(|s| (side, s.carrier)).collect()
         };
+        let times = times(before.time, now.time);
+        let exact = times.and_then(|times| {
+            let [before, now] = times.ok()?;
+            now.seconds_since(before).ok()
+        });
         let pair = Pair {
             name: now.time.to_string(),
             time: Some(now.time),
-            dt: now.time.since(before.time),
+            times,
+            dt: exact.unwrap_or(now.time.since(before.time)),
             at: self.places.at(before.time, before.rows[0].at)?,
             set: self.set,
             carriers: [side(Side::Previous, before), side(Side::Current, &now)].concat(),
@@ -355,6 +378,7 @@ impl Lines {
                 name => name.to_string(),
             },
             time: None,
+            times: None,
             dt: t.float(dt)?,
             at: t.floats(self.columns.place)?,
             set: Settings {
