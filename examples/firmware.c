@@ -253,7 +253,7 @@ static void line_form(void)
 struct table {
     uint8_t constellation[ZAQNUTI_SAMPLES];
     uint16_t svid[ZAQNUTI_SAMPLES];
-    uint8_t band[ZAQNUTI_SAMPLES];
+    uint32_t band[ZAQNUTI_SAMPLES];
     double time[ZAQNUTI_SAMPLES];
     double metres[ZAQNUTI_SAMPLES];
     size_t count;
@@ -265,7 +265,7 @@ static uint8_t add(struct table *t, double time, double error)
     static const bool on[8] = {false, true, false, false, false, false, true, false};
     uint8_t constellation[SATELLITES];
     uint16_t svid[SATELLITES];
-    uint8_t band[SATELLITES];
+    uint32_t band[SATELLITES];
     double range[SATELLITES];
     double states[8 * SATELLITES];
     size_t i;
@@ -300,7 +300,7 @@ static uint8_t queries(const struct table *t, const double *times, size_t count,
 {
     static const uint8_t constellation[3] = {1, 1, 1};
     static const uint16_t svid[3] = {2, 2, 2};
-    static const uint8_t band[3] = {1, 1, 1};
+    static const uint32_t band[3] = {1, 1, 1};
 
     return zaqnuti_queries(
         t->constellation, ZAQNUTI_SAMPLES, t->svid, ZAQNUTI_SAMPLES, t->band, ZAQNUTI_SAMPLES,

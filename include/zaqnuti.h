@@ -57,9 +57,10 @@
  *     displacement    16,640
  *     between         16,128
  *     line            40,704
- *     add_epoch       17,408
+ *     add_epoch       17,920
  *     query              512
  *     queries            512
+ *     widen_bands        256
  *     smooth             768
  *     times              256
  *     round            8,704
@@ -82,11 +83,11 @@ extern "C" {
 #endif
 
 /* The version of this header and its library: 10000 major + 100 minor + patch in the last. */
-#define ZAQNUTI_VERSION "0.2.0"
+#define ZAQNUTI_VERSION "0.3.0"
 #define ZAQNUTI_VERSION_MAJOR 0
-#define ZAQNUTI_VERSION_MINOR 2
+#define ZAQNUTI_VERSION_MINOR 3
 #define ZAQNUTI_VERSION_PATCH 0
-#define ZAQNUTI_VERSION_NUMBER 200
+#define ZAQNUTI_VERSION_NUMBER 300
 
 /* Limits. */
 #define ZAQNUTI_RECORDS 64       /* records of an epoch, states beside it, rows, residuals */
@@ -357,7 +358,7 @@ size_t zaqnuti_line(
 uint8_t zaqnuti_add_epoch(
     uint8_t *table_constellation, size_t table_constellation_length,
     uint16_t *table_svid, size_t table_svid_length,
-    uint8_t *table_band, size_t table_band_length,
+    uint32_t *table_band, size_t table_band_length,
     double *table_time, size_t table_time_length,
     double *table_metres, size_t table_metres_length,
     size_t *table_count,
@@ -365,13 +366,13 @@ uint8_t zaqnuti_add_epoch(
     size_t ranges,
     const uint8_t *range_constellation, size_t range_constellation_length,
     const uint16_t *range_svid, size_t range_svid_length,
-    const uint8_t *range_band, size_t range_band_length,
+    const uint32_t *range_band, size_t range_band_length,
     const double *range_pseudorange, size_t range_pseudorange_length,
     bool states_present,
     size_t states,
     const uint8_t *state_constellation, size_t state_constellation_length,
     const uint16_t *state_svid, size_t state_svid_length,
-    const uint8_t *state_band, size_t state_band_length,
+    const uint32_t *state_band, size_t state_band_length,
     const double *state_floats, size_t state_floats_length,
     const double base[3],
     const double rover[3],
@@ -392,14 +393,14 @@ uint8_t zaqnuti_add_epoch(
 uint8_t zaqnuti_query(
     const uint8_t *table_constellation, size_t table_constellation_length,
     const uint16_t *table_svid, size_t table_svid_length,
-    const uint8_t *table_band, size_t table_band_length,
+    const uint32_t *table_band, size_t table_band_length,
     const double *table_time, size_t table_time_length,
     const double *table_metres, size_t table_metres_length,
     size_t table_count,
     double max_gap,
     uint8_t constellation,
     uint16_t svid,
-    uint8_t band,
+    uint32_t band,
     double time,
     double *metres);
 
@@ -420,18 +421,38 @@ uint8_t zaqnuti_query(
 uint8_t zaqnuti_queries(
     const uint8_t *table_constellation, size_t table_constellation_length,
     const uint16_t *table_svid, size_t table_svid_length,
-    const uint8_t *table_band, size_t table_band_length,
+    const uint32_t *table_band, size_t table_band_length,
     const double *table_time, size_t table_time_length,
     const double *table_metres, size_t table_metres_length,
     size_t table_count,
     double max_gap,
     const uint8_t *constellation, size_t constellation_length,
     const uint16_t *svid, size_t svid_length,
-    const uint8_t *band, size_t band_length,
+    const uint32_t *band, size_t band_length,
     const double *time, size_t time_length,
     size_t count,
     uint8_t *numbers, size_t numbers_length,
     double *metres, size_t metres_length);
+
+/*
+ * The bands of a table that was written before 0.3.0, when a band had 8 bits,
+ * as the column of 32 bits that the calls above take. The other columns of
+ * the table stay as they are.
+ *
+ * narrow         the old column
+ * count          how many samples the table has, at most 2,048
+ * wide           the new column: its first count places get the bands, and
+ *                what is beyond stays as it was
+ *
+ * The table has the samples that it had, in their order, and is sorted where
+ * it was; every query answers as it did, and with a new column as long as
+ * the old one so does every epoch that is added.
+ * Refuses by 2 (count above 2,048, a column shorter than count).
+ */
+uint8_t zaqnuti_widen_bands(
+    const uint8_t *narrow, size_t narrow_length,
+    size_t count,
+    uint32_t *wide, size_t wide_length);
 
 /* ---- the track */
 

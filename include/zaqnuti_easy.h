@@ -322,7 +322,7 @@ static inline uint8_t zaqnuti_easy_displacement_between(
 typedef struct zaqnuti_signal {
     uint8_t constellation;
     uint16_t svid;
-    uint8_t band;  /* any numbering, the same at the base and in queries */
+    uint32_t band;  /* any numbering, the same at the base and in queries */
 } zaqnuti_signal;
 
 /* What a base station measured of a signal. */
@@ -346,13 +346,13 @@ typedef struct zaqnuti_base_epoch {
     size_t ranges;
     uint8_t range_constellation[ZAQNUTI_RECORDS];
     uint16_t range_svid[ZAQNUTI_RECORDS];
-    uint8_t range_band[ZAQNUTI_RECORDS];
+    uint32_t range_band[ZAQNUTI_RECORDS];
     double range_pseudorange[ZAQNUTI_RECORDS];
     bool states_present;  /* false: no states are known, and the epoch adds nothing */
     size_t states;
     uint8_t state_constellation[ZAQNUTI_RECORDS];
     uint16_t state_svid[ZAQNUTI_RECORDS];
-    uint8_t state_band[ZAQNUTI_RECORDS];
+    uint32_t state_band[ZAQNUTI_RECORDS];
     double state_floats[8 * ZAQNUTI_RECORDS];
 } zaqnuti_base_epoch;
 
@@ -370,7 +370,7 @@ typedef struct zaqnuti_table {
     size_t count;
     uint8_t constellation[ZAQNUTI_EASY_SAMPLES];
     uint16_t svid[ZAQNUTI_EASY_SAMPLES];
-    uint8_t band[ZAQNUTI_EASY_SAMPLES];
+    uint32_t band[ZAQNUTI_EASY_SAMPLES];
     double time[ZAQNUTI_EASY_SAMPLES];
     double metres[ZAQNUTI_EASY_SAMPLES];
 } zaqnuti_table;
@@ -378,6 +378,15 @@ typedef struct zaqnuti_table {
 static inline void zaqnuti_table_clear(zaqnuti_table *table)
 {
     table->count = 0;
+}
+
+/*
+ * The table's bands from a column that was written with 8 bits for each, for
+ * the table's count of samples; the other columns are copied as they are.
+ */
+static inline uint8_t zaqnuti_easy_widen_bands(zaqnuti_table *table, const uint8_t *narrow, size_t narrow_length)
+{
+    return zaqnuti_widen_bands(narrow, narrow_length, table->count, table->band, ZAQNUTI_EASY_SAMPLES);
 }
 
 /* An epoch of no ranges and no states yet. */
@@ -486,7 +495,7 @@ static inline uint8_t zaqnuti_easy_queries(
 {
     uint8_t constellation[ZAQNUTI_RECORDS] = {0};
     uint16_t svid[ZAQNUTI_RECORDS] = {0};
-    uint8_t band[ZAQNUTI_RECORDS] = {0};
+    uint32_t band[ZAQNUTI_RECORDS] = {0};
     double times[ZAQNUTI_RECORDS] = {0.0};
     size_t i;
 

@@ -262,7 +262,7 @@ static struct {
     size_t count;
     uint8_t constellation[ZAQNUTI_SAMPLES];
     uint16_t svid[ZAQNUTI_SAMPLES];
-    uint8_t band[ZAQNUTI_SAMPLES];
+    uint32_t band[ZAQNUTI_SAMPLES];
     double time[ZAQNUTI_SAMPLES];
     double metres[ZAQNUTI_SAMPLES];
 } plain_table;
@@ -327,11 +327,11 @@ static uint8_t plain_add(const struct base_records *e, zaqnuti_vector base, zaqn
 {
     uint8_t rc[MOST] = {0};
     uint16_t rv[MOST] = {0};
-    uint8_t rb[MOST] = {0};
+    uint32_t rb[MOST] = {0};
     double rp[MOST] = {0.0};
     uint8_t sc[MOST] = {0};
     uint16_t sv[MOST] = {0};
-    uint8_t sb[MOST] = {0};
+    uint32_t sb[MOST] = {0};
     double sf[8 * MOST] = {0.0};
     const double at_base[3] = {base.x, base.y, base.z};
     const double at_rover[3] = {rover.x, rover.y, rover.z};
@@ -410,6 +410,28 @@ static void query_both(const zaqnuti_signal *signals, size_t count, double time,
     }
     same(memcmp(numbers, easy_numbers, sizeof numbers) == 0, "queries, the numbers");
     same(memcmp(metres, easy_metres, sizeof metres) == 0, "queries, the metres");
+}
+
+/* The bands of a table of 8 bits each, in columns that may be too short. */
+static void widen_both(size_t count, size_t length)
+{
+    static uint8_t narrow[ZAQNUTI_SAMPLES + 1];
+    uint8_t number;
+    size_t i;
+
+    tables_clear();
+    for (i = 0; i < length; i++) {
+        narrow[i] = (uint8_t)chance(256);
+    }
+    easy_table.count = plain_table.count = count;
+    number = zaqnuti_widen_bands(narrow, length, count, plain_table.band, ZAQNUTI_SAMPLES);
+    met[number] += 1;
+    same(number == (count > length || count > ZAQNUTI_SAMPLES ? ZAQNUTI_TOO_MANY : 0), "bands, the number");
+    same(number == zaqnuti_easy_widen_bands(&easy_table, narrow, length), "bands, the number of the easy call");
+    for (i = 0; i < ZAQNUTI_SAMPLES; i++) {
+        same(plain_table.band[i] == (number == 0 && i < count ? narrow[i] : 0xA5A5A5A5u), "bands, each of them");
+    }
+    tables_same("bands, the table after them");
 }
 
 /* ---- the track */
@@ -779,7 +801,8 @@ static void alter_epoch(struct base_records *e)
     alter(&e->time, 8);
     alter(&e->range[i].pseudorange, 8);
     alter(f[chance(8)], 4);
-    s->signal.band = chance(8) == 0 ? 2 : s->signal.band;
+    /* 257 has the low byte of the band 1. */
+    s->signal.band = chance(8) == 0 ? (chance(2) == 0 ? 2 : 257) : s->signal.band;
     e->range[i].signal.constellation = chance(8) == 0 ? (uint8_t)chance(10) : e->range[i].signal.constellation;
     e->present = chance(8) != 0;
     if (chance(8) == 0) {
@@ -837,7 +860,7 @@ static void corrections(void)
         alter(&set.max_gap, 8);
         query_both(signals, count, time, &set);
     }
-    /* A table that is not sorted, and one that is full. */
+    /* A table that is not sorted, one that is full, and the bands of old ones. */
     easy_table.time[1] = plain_table.time[1] = -easy_table.time[1];
     query_both(signals, 3, 0.0, &plain);
     base_records_of(&base.epoch[0], &e);
@@ -847,6 +870,11 @@ static void corrections(void)
         base_records_of(&base.epoch[k % base.count], &e);
         add_both(&e, base_place, rover_place, &plain);
     }
+    for (k = 0; k < 40; k++) {
+        widen_both((size_t)chance(50), (size_t)chance(60));
+    }
+    widen_both(ZAQNUTI_SAMPLES, ZAQNUTI_SAMPLES);
+    widen_both(ZAQNUTI_SAMPLES + 1, ZAQNUTI_SAMPLES + 1);
 }
 
 static void tracks(void)

@@ -1,4 +1,4 @@
-/* The cases of the corrections: an epoch added to a table, a query, and many queries of one call. */
+/* The cases of the corrections: an epoch added to a table, a query, many queries of one call, and the bands of an old table. */
 #include <string.h>
 
 #include "replay.h"
@@ -10,12 +10,14 @@
 #define ROOM 65
 /* The most queries of one call. */
 #define QUERIES 8
+/* The most bands of a case of widening. */
+#define BANDS 8
 
 /* A table, filled past its samples. */
 struct table {
     uint8_t cs[TABLE + BEYOND];
     uint16_t vs[TABLE + BEYOND];
-    uint8_t bs[TABLE + BEYOND];
+    uint32_t bs[TABLE + BEYOND];
     double ts[TABLE + BEYOND];
     double xs[TABLE + BEYOND];
     size_t n;
@@ -30,7 +32,7 @@ static void next_samples(struct stored *s, struct table *t)
     for (i = 0; i < least(t->n, TABLE); i++) {
         t->cs[i] = next_byte(s);
         t->vs[i] = next_short(s);
-        t->bs[i] = next_byte(s);
+        t->bs[i] = next_word(s);
         t->ts[i] = next_float(s);
         t->xs[i] = next_float(s);
     }
@@ -55,11 +57,11 @@ static bool is_table(struct stored *s, const struct table *t, const struct table
 struct epoch {
     uint8_t rc[ROOM];
     uint16_t rv[ROOM];
-    uint8_t rb[ROOM];
+    uint32_t rb[ROOM];
     double rp[ROOM];
     uint8_t sc[ROOM];
     uint16_t sv[ROOM];
-    uint8_t sb[ROOM];
+    uint32_t sb[ROOM];
     double sf[8 * ROOM];
 };
 
@@ -71,13 +73,13 @@ static void next_epoch(struct stored *s, struct epoch *e, size_t ranges, size_t 
     for (i = 0; i < least(ranges, 64); i++) {
         e->rc[i] = next_byte(s);
         e->rv[i] = next_short(s);
-        e->rb[i] = next_byte(s);
+        e->rb[i] = next_word(s);
         e->rp[i] = next_float(s);
     }
     for (i = 0; i < least(states, 64); i++) {
         e->sc[i] = next_byte(s);
         e->sv[i] = next_short(s);
-        e->sb[i] = next_byte(s);
+        e->sb[i] = next_word(s);
         next_floats(s, e->sf + 8 * i, 8);
     }
 }
@@ -146,13 +148,14 @@ bool same_query(struct stored *s)
     struct table t;
     double metres[1 + MARGIN / 8];
     double gap, at;
-    uint8_t c, b, number;
+    uint8_t c, number;
     uint16_t v;
+    uint32_t b;
     next_table(s, &t);
     gap = next_float(s);
     c = next_byte(s);
     v = next_short(s);
-    b = next_byte(s);
+    b = next_word(s);
     at = next_float(s);
     lend(metres, sizeof *metres);
     number = zaqnuti_query(
@@ -164,7 +167,7 @@ bool same_query(struct stored *s)
 struct queries {
     uint8_t c[QUERIES];
     uint16_t v[QUERIES];
-    uint8_t b[QUERIES];
+    uint32_t b[QUERIES];
     double t[QUERIES];
     uint8_t numbers[QUERIES + MARGIN];
     double metres[QUERIES + MARGIN / 8];
@@ -177,7 +180,7 @@ static void next_queries(struct stored *s, struct queries *q, size_t count)
     for (i = 0; i < count; i++) {
         q->c[i] = next_byte(s);
         q->v[i] = next_short(s);
-        q->b[i] = next_byte(s);
+        q->b[i] = next_word(s);
         q->t[i] = next_float(s);
     }
     lend(q->numbers, count);
@@ -227,4 +230,35 @@ bool same_queries(struct stored *s)
         return false;
     }
     return is_number(s, number) && is_each(s, &q, count);
+}
+
+/* How many bands, the length of either column, the old one; number, eight places of the new one, 0 where nothing is written. */
+bool same_widen(struct stored *s)
+{
+    uint8_t narrow[BANDS] = {0};
+    uint32_t wide[BANDS + MARGIN / 4];
+    size_t n, from, to, i;
+    uint8_t number;
+    n = next_size(s);
+    from = least(next_size(s), BANDS);
+    to = least(next_size(s), BANDS);
+    for (i = 0; i < from; i++) {
+        narrow[i] = next_byte(s);
+    }
+    lend(wide, to * sizeof *wide);
+    number = zaqnuti_widen_bands(narrow, from, n, wide, to);
+    i = number == 0 ? n : 0;
+    if (!kept(wide + i, (to - i) * sizeof *wide + MARGIN)) {
+        return false;
+    }
+    memset(wide + i, 0, (BANDS - i) * sizeof *wide);
+    if (!is_number(s, number)) {
+        return false;
+    }
+    for (i = 0; i < BANDS; i++) {
+        if (!is_number(s, wide[i])) {
+            return false;
+        }
+    }
+    return true;
 }

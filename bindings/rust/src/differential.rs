@@ -14,7 +14,7 @@ pub struct SatelliteState {
     /// Satellite id within its constellation.
     pub svid: u16,
     /// Band code.
-    pub band: u8,
+    pub band: u32,
     /// Position at the rover's transmission time, ECEF metres.
     pub position: [f64; 3],
     /// Velocity, ECEF m/s.
@@ -33,7 +33,7 @@ pub struct BaseRange {
     /// Satellite id within its constellation.
     pub svid: u16,
     /// Band code.
-    pub band: u8,
+    pub band: u32,
     /// Pseudorange, metres.
     pub pseudorange: f64,
 }
@@ -88,7 +88,7 @@ pub struct Signal {
     /// Satellite id within its constellation.
     pub svid: u16,
     /// Band code.
-    pub band: u8,
+    pub band: u32,
     /// Time of week, seconds.
     pub tow: f64,
 }
@@ -136,7 +136,7 @@ pub struct Signal {
 pub struct Corrections {
     constellation: Vec<u8>,
     svid: Vec<u16>,
-    band: Vec<u8>,
+    band: Vec<u32>,
     time: Vec<f64>,
     correction: Vec<f64>,
     samples: usize,
@@ -229,7 +229,7 @@ impl Corrections {
     /// The correction of one signal at one time, linearly interpolated.
     ///
     /// [`Refusal::NoCorrection`] outside the tracked span or across too long a gap.
-    pub fn at(&self, constellation: u8, svid: u16, band: u8, tow: f64) -> Result<f64, Refusal> {
+    pub fn at(&self, constellation: u8, svid: u16, band: u32, tow: f64) -> Result<f64, Refusal> {
         let mut metres = 0.0;
         // SAFETY: each column has its length beside it, and the last is ours alone.
         let number = unsafe {
@@ -316,6 +316,29 @@ impl Corrections {
             .filter(|&i| i == 0 || key(i) != key(i - 1))
             .count()
     }
+}
+
+/// The bands of a stored table of at most 2,048 samples whose column has 8 bits for each, as the
+/// column of 32 bits that the calls of [`sys`] take.
+///
+/// ```
+/// assert_eq!(zaqnuti::differential::widen_bands(&[1, 255, 7])?, [1, 255, 7]);
+/// # Ok::<(), zaqnuti::Refusal>(())
+/// ```
+pub fn widen_bands(narrow: &[u8]) -> Result<Vec<u32>, Refusal> {
+    let mut wide = vec![0; narrow.len()];
+    // SAFETY: each column has its length beside it, and the last is ours alone.
+    let number = unsafe {
+        sys::zaqnuti_widen_bands(
+            narrow.as_ptr(),
+            narrow.len(),
+            narrow.len(),
+            wide.as_mut_ptr(),
+            wide.len(),
+        )
+    };
+    answered(number)?;
+    Ok(wide)
 }
 
 /// The corrections of all epochs of a base station, from the states that the rover knows at each

@@ -110,7 +110,7 @@ extern "C" {
         cs_length: usize,
         vs: *mut u16,
         vs_length: usize,
-        bs: *mut u8,
+        bs: *mut u32,
         bs_length: usize,
         ts: *mut f64,
         ts_length: usize,
@@ -123,7 +123,7 @@ extern "C" {
         rc_length: usize,
         rv: *const u16,
         rv_length: usize,
-        rb: *const u8,
+        rb: *const u32,
         rb_length: usize,
         rp: *const f64,
         rp_length: usize,
@@ -133,7 +133,7 @@ extern "C" {
         sc_length: usize,
         sv: *const u16,
         sv_length: usize,
-        sb: *const u8,
+        sb: *const u32,
         sb_length: usize,
         sf: *const f64,
         sf_length: usize,
@@ -149,7 +149,7 @@ extern "C" {
         cs_length: usize,
         vs: *const u16,
         vs_length: usize,
-        bs: *const u8,
+        bs: *const u32,
         bs_length: usize,
         ts: *const f64,
         ts_length: usize,
@@ -159,7 +159,7 @@ extern "C" {
         gap: f64,
         c: u8,
         v: u16,
-        b: u8,
+        b: u32,
         t: f64,
         metres: *mut f64,
     ) -> u8;
@@ -169,7 +169,7 @@ extern "C" {
         cs_length: usize,
         vs: *const u16,
         vs_length: usize,
-        bs: *const u8,
+        bs: *const u32,
         bs_length: usize,
         ts: *const f64,
         ts_length: usize,
@@ -181,7 +181,7 @@ extern "C" {
         c_length: usize,
         v: *const u16,
         v_length: usize,
-        b: *const u8,
+        b: *const u32,
         b_length: usize,
         t: *const f64,
         t_length: usize,
@@ -190,6 +190,14 @@ extern "C" {
         numbers_length: usize,
         metres: *mut f64,
         metres_length: usize,
+    ) -> u8;
+    /// The bands of a table that was written with 8 bits for each.
+    pub fn zaqnuti_widen_bands(
+        narrow: *const u8,
+        narrow_length: usize,
+        n: usize,
+        wide: *mut u32,
+        wide_length: usize,
     ) -> u8;
     /// The smoothed track.
     pub fn zaqnuti_smooth(

@@ -9,7 +9,7 @@ pub struct Observation {
     /// Constellation id.
     pub constellation: u8,
     /// Frequency band, which the fix does not look at.
-    pub band: u8,
+    pub band: u32,
     /// Satellite id within its constellation, which the fix does not look at.
     pub svid: u16,
     /// Modelled delay already subtracted from `pseudorange`, metres, which the fix does not look at.

@@ -262,7 +262,7 @@ fn line(rounds: usize, last: &[u8], room: usize) -> usize {
 /// An epoch of 64 ranges to a table of so much room, of which `full` samples are there.
 fn add_epoch(k: usize, room: usize, full: usize) -> usize {
     let sky = observations(64);
-    let (c, b) = (vec![1u8; 64], vec![1u8; 64]);
+    let (c, b) = (vec![1u8; 64], vec![1u32; 64]);
     let v: Vec<u16> = (0..64).rev().collect();
     let p: Vec<f64> = sky.iter().map(|o| o.pseudorange).collect();
     let f: Vec<f64> = sky
@@ -281,7 +281,7 @@ fn add_epoch(k: usize, room: usize, full: usize) -> usize {
         })
         .collect();
     measured(move || {
-        let (mut cs, mut vs, mut bs) = (vec![1u8; room], vec![0u16; room], vec![1u8; room]);
+        let (mut cs, mut vs, mut bs) = (vec![1u8; room], vec![0u16; room], vec![1u32; room]);
         let (mut ts, mut xs) = (vec![0.0; room], vec![0.0; room]);
         let mut n = full;
         let place = AT.coordinates();
@@ -332,7 +332,7 @@ fn add_epoch(k: usize, room: usize, full: usize) -> usize {
 }
 
 fn query(n: usize, time: f64) -> usize {
-    let (cs, vs, bs) = (vec![1u8; 2048], vec![1u16; 2048], vec![1u8; 2048]);
+    let (cs, vs, bs) = (vec![1u8; 2048], vec![1u16; 2048], vec![1u32; 2048]);
     let ts: Vec<f64> = (0..2048).map(f64::from).collect();
     let xs = vec![1.0; 2048];
     let mut metres = 0.0;
@@ -365,10 +365,10 @@ fn query(n: usize, time: f64) -> usize {
 }
 
 fn queries(n: usize, count: usize) -> usize {
-    let (cs, vs, bs) = (vec![1u8; 2048], vec![1u16; 2048], vec![1u8; 2048]);
+    let (cs, vs, bs) = (vec![1u8; 2048], vec![1u16; 2048], vec![1u32; 2048]);
     let ts: Vec<f64> = (0..2048).map(f64::from).collect();
     let xs = vec![1.0; 2048];
-    let (c, v, b) = (vec![1u8; 64], vec![1u16; 64], vec![1u8; 64]);
+    let (c, v, b) = (vec![1u8; 64], vec![1u16; 64], vec![1u32; 64]);
     let t: Vec<f64> = (0..64).map(|i| f64::from(i) * 40.5 - 9.0).collect();
     let (mut numbers, mut metres) = (vec![0u8; 64], vec![0.0; 64]);
     measured(move || {
@@ -402,6 +402,18 @@ fn queries(n: usize, count: usize) -> usize {
                 metres.as_mut_ptr(),
                 64,
             );
+        }
+        frame
+    })
+}
+
+fn widen_bands(n: usize) -> usize {
+    let (narrow, mut wide) = (vec![1u8; 2048], vec![0u32; 2048]);
+    measured(move || {
+        let frame = top();
+        // SAFETY: each column has its length beside it, and the last is ours alone.
+        unsafe {
+            sys::zaqnuti_widen_bands(narrow.as_ptr(), 2048, n, wide.as_mut_ptr(), 2048);
         }
         frame
     })
@@ -650,6 +662,10 @@ fn no_more_than_the_header_says() {
                 queries(0, 64),
                 queries(2048, 0),
             ]),
+        ),
+        (
+            "widen_bands",
+            most([widen_bands(2048), widen_bands(2049), widen_bands(0)]),
         ),
         (
             "smooth",

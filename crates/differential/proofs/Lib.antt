@@ -5,3 +5,4 @@ pub mod TestLaws
 pub mod EpochLaws
 pub mod BuildLaws
 pub mod SampleValues
+pub mod WidenedLaws

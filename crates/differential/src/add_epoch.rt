@@ -56,7 +56,7 @@ fn records_tested(
 pub fn add_epoch(
     cs: &mut [u8],
     vs: &mut [u16],
-    bs: &mut [u8],
+    bs: &mut [u32],
     ts: &mut [f64],
     xs: &mut [f64],
     n: usize,

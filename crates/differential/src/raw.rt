@@ -18,7 +18,7 @@ use root::sqrt::sqrt;
 pub struct Raw {
     pub constellation: u8,
     pub svid: u16,
-    pub band: u8,
+    pub band: u32,
     pub value: f64,
 }
 

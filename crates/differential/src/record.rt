@@ -11,7 +11,7 @@ use numeric::vec3::Vec3;
 pub struct Range {
     pub constellation: u8,
     pub svid: u16,
-    pub band: u8,
+    pub band: u32,
     pub pseudorange: f64,
 }
 
@@ -26,7 +26,7 @@ pub struct BaseEpoch {
 pub struct State {
     pub constellation: u8,
     pub svid: u16,
-    pub band: u8,
+    pub band: u32,
     pub position: Vec3,
     pub velocity: Vec3,
     pub clock: f64,

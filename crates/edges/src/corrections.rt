@@ -71,7 +71,7 @@ fn five_metres(name: &[u8], maximum: f64) {
     };
     let mut cs = [0u8; 4];
     let mut vs = [0u16; 4];
-    let mut bs = [0u8; 4];
+    let mut bs = [0u32; 4];
     let mut ts = [0.0; 4];
     let mut xs = [0.0; 4];
     let a = add_epoch(
@@ -94,7 +94,7 @@ fn five_metres(name: &[u8], maximum: f64) {
 fn half_way(name: &[u8], gap: f64) {
     let cs = [1u8; 2];
     let vs = [5u16; 2];
-    let bs = [1u8; 2];
+    let bs = [1u32; 2];
     let ts = [10.0, 20.0];
     let xs = [1.0, 3.0];
     correction(name, query(&cs, &vs, &bs, &ts, &xs, 2, gap, 1, 5, 1, 15.0));

@@ -4,3 +4,4 @@ pub mod QueryLaws
 pub mod FiniteLaws
 pub mod QueriesLaws
 pub mod Values
+pub mod WidenedLaws

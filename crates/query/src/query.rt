@@ -37,7 +37,7 @@ fn line_of(t: f64, a: Sample, b: Sample) -> f64
 }
 
 // Whether the sample is of the signal c, v, b.
-fn is_of(a: Sample, c: u8, v: u16, b: u8) -> bool
+fn is_of(a: Sample, c: u8, v: u16, b: u32) -> bool
     ensures { λ r. ⌜ r ≡ eqb (signalOf a) (signal c v b) ⌝ }
 {
     if a.constellation != c {
@@ -53,14 +53,14 @@ fn is_of(a: Sample, c: u8, v: u16, b: u8) -> bool
 fn look_up(
     cs: &[u8],
     vs: &[u16],
-    bs: &[u8],
+    bs: &[u32],
     ts: &[f64],
     xs: &[f64],
     n: usize,
     gap: f64,
     c: u8,
     v: u16,
-    b: u8,
+    b: u32,
     t: f64,
 ) -> Correction
     requires { ⌜ n ≤ length (rows (lent (now cs) (now vs) (now bs) (now ts) (now xs))) ⌝ }
@@ -98,14 +98,14 @@ fn look_up(
 pub(crate) fn answer_of(
     cs: &[u8],
     vs: &[u16],
-    bs: &[u8],
+    bs: &[u32],
     ts: &[f64],
     xs: &[f64],
     n: usize,
     gap: f64,
     c: u8,
     v: u16,
-    b: u8,
+    b: u32,
     t: f64,
 ) -> Correction
     requires { ⌜ (let l = lent (now cs) (now vs) (now bs) (now ts) (now xs) in PassedTable n (capacity l) (tableOf n l) gap) ⌝ }
@@ -122,14 +122,14 @@ pub(crate) fn answer_of(
 pub fn query(
     cs: &[u8],
     vs: &[u16],
-    bs: &[u8],
+    bs: &[u32],
     ts: &[f64],
     xs: &[f64],
     n: usize,
     gap: f64,
     c: u8,
     v: u16,
-    b: u8,
+    b: u32,
     t: f64,
 ) -> Correction
     ensures { λ r. ⌜ (let l = lent (now (cs .entry)) (now (vs .entry)) (now (bs .entry)) (now (ts .entry)) (now (xs .entry)) in

@@ -12,7 +12,7 @@ use table::sample::sample_at;
 use table::sample::signal_of;
 
 // Whether the sample stands before the signal c, v, b at the time t. A column is read only where those before it are equal.
-fn is_ahead(a: Sample, c: u8, v: u16, b: u8, t: f64) -> bool
+fn is_ahead(a: Sample, c: u8, v: u16, b: u32, t: f64) -> bool
     ensures { λ r. ⌜ r ≡ ahead (signal c v b) t a ⌝ }
 {
     if a.constellation != c {
@@ -106,13 +106,13 @@ fn descend(ts: &[f64], n: usize, i: usize, t: f64) -> usize
 fn first_within(
     cs: &[u8],
     vs: &[u16],
-    bs: &[u8],
+    bs: &[u32],
     ts: &[f64],
     xs: &[f64],
     n: usize,
     c: u8,
     v: u16,
-    b: u8,
+    b: u32,
     t: f64,
     start: usize,
     end: usize,
@@ -140,13 +140,13 @@ fn first_within(
 fn first_about(
     cs: &[u8],
     vs: &[u16],
-    bs: &[u8],
+    bs: &[u32],
     ts: &[f64],
     xs: &[f64],
     n: usize,
     c: u8,
     v: u16,
-    b: u8,
+    b: u32,
     t: f64,
     start: usize,
     end: usize,
@@ -177,13 +177,13 @@ fn first_about(
 pub(crate) fn first_from(
     cs: &[u8],
     vs: &[u16],
-    bs: &[u8],
+    bs: &[u32],
     ts: &[f64],
     xs: &[f64],
     n: usize,
     c: u8,
     v: u16,
-    b: u8,
+    b: u32,
     t: f64,
 ) -> usize
     requires { ⌜ n ≤ length (rows (lent (now cs) (now vs) (now bs) (now ts) (now xs))) ⌝ }

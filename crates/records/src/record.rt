@@ -26,7 +26,7 @@ pub struct Epoch {
 // One satellite's pseudorange at one epoch.
 pub struct Observation {
     pub constellation: u8,
-    pub band: u8,
+    pub band: u32,
     pub svid: u16,
     pub modelled: f64,
     pub pseudorange: f64,

@@ -9,4 +9,5 @@ pub mod SpotLaws
 pub mod InsertLaws
 pub mod AddLaws
 pub mod PlaceLaws
+pub mod WidenLaws
 pub mod Values

@@ -1,3 +1,4 @@
 pub mod Table
 pub mod Add
 pub mod Build
+pub mod Widen

@@ -52,7 +52,7 @@ tableOf n l = take n (rows l)
 
 -- ---- the order by constellation, svid, band and time
 
--- a satellite's signal as one number: its digits are the constellation, the svid, of 16 bits, and the band, for which there is room of 32 bits
+-- a satellite's signal as one number: its digits are the constellation, the svid, of 16 bits, and the band, of 32
 abbrev pub signal : ℕ → ℕ → ℕ → ℕ
 signal c v b = (c * 2 ^ 16 + v) * 2 ^ 32 + b
 

@@ -33,7 +33,7 @@ pub enum Adding {
 }
 
 // How many samples at the front of a sound table the sample s does not precede.
-fn spot_of(cs: &[u8], vs: &[u16], bs: &[u8], ts: &[f64], xs: &[f64], n: usize, s: Sample) -> usize
+fn spot_of(cs: &[u8], vs: &[u16], bs: &[u32], ts: &[f64], xs: &[f64], n: usize, s: Sample) -> usize
     requires { ⌜ n ≤ length (rows (lent (now cs) (now vs) (now bs) (now ts) (now xs))) ⌝ }
     requires { ⌜ sound (tableOf n (lent (now cs) (now vs) (now bs) (now ts) (now xs))) ≡ true ⌝ }
     ensures { λ r. ⌜ r ≡ spotOf s (tableOf n (lent (now (cs .entry)) (now (vs .entry)) (now (bs .entry)) (now (ts .entry)) (now (xs .entry)))) ⌝ }
@@ -75,6 +75,19 @@ fn open_u16(d: &mut [u16], p: usize, n: usize, x: u16)
     d[i] = x;
 }
 
+// The same for 32-bit numbers.
+fn open_u32(d: &mut [u32], p: usize, n: usize, x: u32)
+    requires { ⌜ (p ≤ n) × (n < length (now d)) ⌝ }
+    ensures { λ _. ⌜ now (d .exit) ≡ opened p (n - p) x (now (d .entry)) ⌝ }
+{
+    let mut i = n;
+    while i > p {
+        d[i] = d[i - 1];
+        i -= 1;
+    }
+    d[i] = x;
+}
+
 // The same for floats.
 fn open_f64(d: &mut [f64], p: usize, n: usize, x: f64)
     requires { ⌜ (p ≤ n) × (n < length (now d)) ⌝ }
@@ -92,7 +105,7 @@ fn open_f64(d: &mut [f64], p: usize, n: usize, x: f64)
 fn insert(
     cs: &mut [u8],
     vs: &mut [u16],
-    bs: &mut [u8],
+    bs: &mut [u32],
     ts: &mut [f64],
     xs: &mut [f64],
     n: usize,
@@ -106,7 +119,7 @@ fn insert(
     let p = spot_of(cs, vs, bs, ts, xs, n, s);
     open_u8(cs, p, n, s.constellation);
     open_u16(vs, p, n, s.svid);
-    open_u8(bs, p, n, s.band);
+    open_u32(bs, p, n, s.band);
     open_f64(ts, p, n, s.time);
     open_f64(xs, p, n, s.correction);
 }
@@ -115,7 +128,7 @@ fn insert(
 fn insert_all(
     cs: &mut [u8],
     vs: &mut [u16],
-    bs: &mut [u8],
+    bs: &mut [u32],
     ts: &mut [f64],
     xs: &mut [f64],
     n: usize,
@@ -155,7 +168,7 @@ fn all_ranged(new: Samples) -> bool
 }
 
 // Numbers 2, 4 and 11, in this order.
-fn tested(cs: &[u8], vs: &[u16], bs: &[u8], ts: &[f64], xs: &[f64], n: usize, new: Samples) -> Test
+fn tested(cs: &[u8], vs: &[u16], bs: &[u32], ts: &[f64], xs: &[f64], n: usize, new: Samples) -> Test
     ensures { λ r. ⌜ (let l = lent (now (cs .entry)) (now (vs .entry)) (now (bs .entry)) (now (ts .entry)) (now (xs .entry)) in
         r ≡ testOf n (capacity l) (tableOf n l) new) ⌝ }
 {
@@ -183,7 +196,7 @@ fn tested(cs: &[u8], vs: &[u16], bs: &[u8], ts: &[f64], xs: &[f64], n: usize, ne
 pub fn add(
     cs: &mut [u8],
     vs: &mut [u16],
-    bs: &mut [u8],
+    bs: &mut [u32],
     ts: &mut [f64],
     xs: &mut [f64],
     n: usize,

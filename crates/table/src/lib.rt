@@ -2,3 +2,4 @@
 // In every call cs, vs, bs, ts and xs are the columns of constellations, svids, bands, times and corrections, and n counts the samples.
 pub mod add;
 pub mod sample;
+pub mod widen;

@@ -13,13 +13,13 @@ use numeric::real::in_range;
 pub struct Sample {
     pub constellation: u8,
     pub svid: u16,
-    pub band: u8,
+    pub band: u32,
     pub time: f64,
     pub correction: f64,
 }
 
 // A satellite's signal as one number: constellation, svid and band are its digits.
-pub fn signal_of(constellation: u8, svid: u16, band: u8) -> u64
+pub fn signal_of(constellation: u8, svid: u16, band: u32) -> u64
     ensures { λ r. ⌜ r ≡ signal constellation svid band ⌝ }
 {
     ((constellation as u64) * 0x1_0000 + (svid as u64)) * 0x1_0000_0000 + (band as u64)
@@ -40,7 +40,7 @@ fn lesser(a: usize, b: usize) -> usize
 }
 
 // How many samples the columns have room for.
-pub fn capacity_of(cs: &[u8], vs: &[u16], bs: &[u8], ts: &[f64], xs: &[f64]) -> usize
+pub fn capacity_of(cs: &[u8], vs: &[u16], bs: &[u32], ts: &[f64], xs: &[f64]) -> usize
     ensures { λ r. ⌜ r ≡ capacity (lent (now (cs .entry)) (now (vs .entry)) (now (bs .entry)) (now (ts .entry)) (now (xs .entry))) ⌝ }
 {
     lesser(
@@ -53,7 +53,7 @@ pub fn capacity_of(cs: &[u8], vs: &[u16], bs: &[u8], ts: &[f64], xs: &[f64]) -> 
 }
 
 // The row at i.
-pub fn sample_at(cs: &[u8], vs: &[u16], bs: &[u8], ts: &[f64], xs: &[f64], i: usize) -> Sample
+pub fn sample_at(cs: &[u8], vs: &[u16], bs: &[u32], ts: &[f64], xs: &[f64], i: usize) -> Sample
     requires { ⌜ i < length (rows (lent (now cs) (now vs) (now bs) (now ts) (now xs))) ⌝ }
     ensures { λ r. ⌜ r ≡ getD (rows (lent (now (cs .entry)) (now (vs .entry)) (now (bs .entry)) (now (ts .entry)) (now (xs .entry)))) i blank ⌝ }
 {
@@ -99,7 +99,7 @@ fn is_below(s: u64, t: f64, h: u64, u: f64) -> bool
 }
 
 // Whether rule 4 lets the first n samples pass, in one pass.
-pub fn is_sound(cs: &[u8], vs: &[u16], bs: &[u8], ts: &[f64], xs: &[f64], n: usize) -> bool
+pub fn is_sound(cs: &[u8], vs: &[u16], bs: &[u32], ts: &[f64], xs: &[f64], n: usize) -> bool
     requires { ⌜ n ≤ length (rows (lent (now cs) (now vs) (now bs) (now ts) (now xs))) ⌝ }
     ensures { λ r. ⌜ r ≡ sound (tableOf n (lent (now (cs .entry)) (now (vs .entry)) (now (bs .entry)) (now (ts .entry)) (now (xs .entry)))) ⌝ }
 {

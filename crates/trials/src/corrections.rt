@@ -13,7 +13,7 @@ fn half_way(gap: f64) -> Correction
 {
     let cs = [1u8; 2];
     let vs = [5u16; 2];
-    let bs = [1u8; 2];
+    let bs = [1u32; 2];
     let ts = [10.0, 20.0];
     let xs = [1.0, 3.0];
     query(&cs, &vs, &bs, &ts, &xs, 2, gap, 1, 5, 1, 15.0)

@@ -16,6 +16,8 @@ use Rattle.numeric.specs.declared.refusal.Refusal.{Refusal}
 use Rattle.numeric.specs.declared.refusal.Refusal.the-variants.{TooMany}
 use Rattle.table.specs.Table.{Columns, capacity, tableOf}
 use Rattle.table.specs.Add.{Outcome, refused, addingOf, addingNumber, countAfter, Adds}
+use Rattle.table.specs.Widen.{wideningNumber, bandsAfter}
+use Rattle.table.specs.declared.widen.Widening.{Widening}
 use Rattle.query.specs.Query.{queryNumber, GivesFinite}
 use Rattle.query.specs.Queries.{Reply, askingOf, askingNumber, Replies}
 use Rattle.table.specs.declared.sample.Sample.{Sample}
@@ -136,3 +138,8 @@ query-refused q r x e h f = rw (← h) (e, refl, f)
 
 pub query-metres : (q : Correction) (y : Float) (x : ℕ) {b : ℕ} → b ≡ patternOf y → Correction.Metres y ≡ q → GivesFinite (Correction.Metres y) → (0 ≡ queryNumber q) × (b ≡ patternAfter q x) × GivesFinite q
 query-metres q y x e h f = rw (← h) (refl, e, f)
+
+-- ---- the bands of an old table
+module _ (n : ℕ) (narrow wide wide′ : List ℕ) (o : Widening) {r : Widening} (e : r ≡ o) (h : wide′ ≡ bandsAfter r n narrow wide) where
+  pub widens-number : (x : Widening) (number : ℕ) → r ≡ x → number ≡ wideningNumber x → (number ≡ wideningNumber o) × (wide′ ≡ bandsAfter o n narrow wide)
+  widens-number x number f g = (g ∙ ap wideningNumber (sym f ∙ e), h ∙ ap (λ (z : Widening). bandsAfter z n narrow wide) e)

@@ -1,4 +1,4 @@
-// Entry points of the corrections: one base epoch added to a table, one query, and many.
+// Entry points of the corrections: one base epoch added to a table, one query, many, and the bands of an old table.
 ghost use mathlib.Core.Path.{_≡_};
 ghost use mathlib.Core.Bool.{cond};
 ghost use Prim.Native.Nat.{_*_, _≤_};
@@ -7,6 +7,7 @@ ghost use Rattle.walk.specs.Walk.{places};
 ghost use Rattle.table.specs.Table.{lent, capacity, tableOf};
 ghost use Rattle.query.specs.Query.{queryOf, queryNumber, GivesFinite};
 ghost use Rattle.query.specs.Queries.{queriesOf, Replies};
+ghost use Rattle.table.specs.Widen.{widenOf, wideningNumber, bandsAfter};
 ghost use Rattle.table.specs.Add.{addingOf, addingNumber, countAfter, Adds};
 ghost use Rattle.zaqnuti.specs.Corrections.{rangeAt, stateAt, pointOf, settingsOf, recordsShort, entryOf, EpochRead, StatesRead, patternAfter};
 use differential::add_epoch::add_epoch;
@@ -23,20 +24,22 @@ use query::queries::queries;
 use query::query::Correction;
 use query::query::query;
 use table::add::Adding;
+use table::widen::Widening;
+use table::widen::widen_bands;
 
 // The correction of the signal c, v, b at the time t in metres and 0, or the number of the refusal, which leaves metres as it was.
 #[no_mangle]
 pub extern "C" fn zaqnuti_query(
     cs: &[u8],
     vs: &[u16],
-    bs: &[u8],
+    bs: &[u32],
     ts: &[f64],
     xs: &[f64],
     n: usize,
     gap: f64,
     c: u8,
     v: u16,
-    b: u8,
+    b: u32,
     t: f64,
     metres: &mut u64,
 ) -> u8
@@ -60,14 +63,14 @@ pub extern "C" fn zaqnuti_query(
 pub extern "C" fn zaqnuti_queries(
     cs: &[u8],
     vs: &[u16],
-    bs: &[u8],
+    bs: &[u32],
     ts: &[f64],
     xs: &[f64],
     n: usize,
     gap: f64,
     c: &[u8],
     v: &[u16],
-    b: &[u8],
+    b: &[u32],
     t: &[f64],
     count: usize,
     numbers: &mut [u8],
@@ -100,7 +103,7 @@ pub extern "C" fn zaqnuti_queries(
 }
 
 // The epoch of the first k ranges.
-fn epoch_from(time: f64, k: usize, rc: &[u8], rv: &[u16], rb: &[u8], rp: &[f64]) -> BaseEpoch
+fn epoch_from(time: f64, k: usize, rc: &[u8], rv: &[u16], rb: &[u32], rp: &[f64]) -> BaseEpoch
     requires { ⌜ k ≤ 64 ⌝ }
     requires { ⌜ (k ≤ length (now rc)) × (k ≤ length (now rv)) ⌝ }
     requires { ⌜ (k ≤ length (now rb)) × (k ≤ length (now rp)) ⌝ }
@@ -132,7 +135,7 @@ fn epoch_from(time: f64, k: usize, rc: &[u8], rv: &[u16], rb: &[u8], rp: &[f64])
 }
 
 // The first m states, or the mark that there are none.
-fn states_from(present: bool, m: usize, sc: &[u8], sv: &[u16], sb: &[u8], sf: &[f64]) -> States
+fn states_from(present: bool, m: usize, sc: &[u8], sv: &[u16], sb: &[u32], sf: &[f64]) -> States
     requires { ⌜ m ≤ 64 ⌝ }
     requires { ⌜ (m ≤ length (now sc)) × (m ≤ length (now sv)) ⌝ }
     requires { ⌜ (m ≤ length (now sb)) × (m * 8 ≤ length (now sf)) ⌝ }
@@ -190,12 +193,12 @@ fn is_short(
     k: usize,
     rc: &[u8],
     rv: &[u16],
-    rb: &[u8],
+    rb: &[u32],
     rp: &[f64],
     m: usize,
     sc: &[u8],
     sv: &[u16],
-    sb: &[u8],
+    sb: &[u32],
     sf: &[f64],
 ) -> bool
     requires { ⌜ m ≤ 64 ⌝ }
@@ -222,7 +225,7 @@ fn wanted(present: bool, m: usize) -> usize
 fn add_from(
     cs: &mut [u8],
     vs: &mut [u16],
-    bs: &mut [u8],
+    bs: &mut [u32],
     ts: &mut [f64],
     xs: &mut [f64],
     n: usize,
@@ -230,13 +233,13 @@ fn add_from(
     k: usize,
     rc: &[u8],
     rv: &[u16],
-    rb: &[u8],
+    rb: &[u32],
     rp: &[f64],
     present: bool,
     m: usize,
     sc: &[u8],
     sv: &[u16],
-    sb: &[u8],
+    sb: &[u32],
     sf: &[f64],
     base: Vec3,
     rover: Vec3,
@@ -266,7 +269,7 @@ fn add_from(
 pub extern "C" fn zaqnuti_add_epoch(
     cs: &mut [u8],
     vs: &mut [u16],
-    bs: &mut [u8],
+    bs: &mut [u32],
     ts: &mut [f64],
     xs: &mut [f64],
     n: &mut usize,
@@ -274,13 +277,13 @@ pub extern "C" fn zaqnuti_add_epoch(
     k: usize,
     rc: &[u8],
     rv: &[u16],
-    rb: &[u8],
+    rb: &[u32],
     rp: &[f64],
     present: bool,
     m: usize,
     sc: &[u8],
     sv: &[u16],
-    sb: &[u8],
+    sb: &[u32],
     sf: &[f64],
     base: &[f64; 3],
     rover: &[f64; 3],
@@ -343,5 +346,19 @@ pub extern "C" fn zaqnuti_add_epoch(
             *n = after;
             0
         }
+    }
+}
+
+// The first n bands of a table that was written with 8 bits for each, at the front of a column of 32 bits: 0, or the number of the refusal, which leaves
+// the column as it was.
+#[no_mangle]
+pub extern "C" fn zaqnuti_widen_bands(narrow: &[u8], n: usize, wide: &mut [u32]) -> u8
+    ensures { λ r. ⌜ (let o = widenOf n (now (narrow .entry)) (now (wide .entry)) in
+        (r ≡ wideningNumber o) × (now (wide .exit) ≡ bandsAfter o n (now (narrow .entry)) (now (wide .entry)))) ⌝ }
+{
+    let answer = widen_bands(narrow, n, wide);
+    match answer {
+        Widening::Refused(r) => r.number(),
+        Widening::Widened => 0,
     }
 }

@@ -24,6 +24,7 @@ pub const ENTRIES: &[Entry] = &[
     ("add_epoch", corrections::add_epoch),
     ("query", corrections::query),
     ("queries", corrections::queries),
+    ("widen_bands", corrections::widen_bands),
     ("smooth", track::smooth),
     ("times", times::times),
     ("round", pieces::a_round),

@@ -1,9 +1,12 @@
-//! Corrections: sessions of base epochs and queries against the published `build` and `at`, the whole table after each epoch.
+//! Corrections: sessions of base epochs and queries against the published `build` and `at`, the whole table after each epoch. The Rust has bands up
+//! to 255; in half of the sessions they stand for bands past it.
 
 pub mod lent;
+pub mod naming;
 pub mod stored;
 
-use self::lent::{floats, in_range, Asked, Columns, Epoch, Out, Table};
+use self::lent::{floats, in_range, widen, widened, Asked, Columns, Epoch, Out, Table};
+use self::naming::Naming;
 use super::Service;
 use crate::bench;
 use crate::random::Random;
@@ -82,7 +85,7 @@ fn epoch(random: &mut Random, base: [f64; 3], wide: bool) -> Epoch {
         (
             c,
             1 + random.below(if wide { 40 } else { 6 }) as u16,
-            1 + random.below(2) as u8,
+            random.pick(&[1, 1, 2, 2, 255]),
         )
     };
     let place = |random: &mut Random, size: f64| -> [f64; 3] {
@@ -212,6 +215,7 @@ fn compare(tally: &mut Tally, random: &mut Random, count: u64) {
                 1500 + random.place(700)
             }
         });
+        let naming = Naming::of(random);
         let mut table = Table::lent(lengths);
         let mut epochs: Vec<Epoch> = Vec::new();
         for _ in 0..12 {
@@ -270,11 +274,11 @@ fn compare(tally: &mut Tally, random: &mut Random, count: u64) {
                     number = 11;
                     epochs.pop();
                 } else {
-                    expected = before.with(&c.series);
+                    expected = before.with(&c.series, naming);
                     accepted += 1;
                 }
             }
-            let ours = Columns::of(&e).add(&mut table, &b, &r, &s);
+            let ours = Columns::of(&e, naming).add(&mut table, &b, &r, &s);
             seen.number(number);
             let same = ours == number && table.bits() == expected.bits();
             tally.judge(same, || {
@@ -292,12 +296,14 @@ fn compare(tally: &mut Tally, random: &mut Random, count: u64) {
                 table = whole;
             }
             let c = reference(&epochs, base, rover, &set);
-            queries(tally, random, &table, &c, &mut seen);
-            many(tally, random, &table, &c, &mut seen);
+            let theirs = (&c, naming);
+            queries(tally, random, &table, theirs, &mut seen);
+            many(tally, random, &table, theirs, &mut seen);
         }
-        let (table, c) = long(random);
-        queries(tally, random, &table, &c, &mut seen);
-        many(tally, random, &table, &c, &mut seen);
+        let (table, c) = long(random, naming);
+        queries(tally, random, &table, (&c, naming), &mut seen);
+        many(tally, random, &table, (&c, naming), &mut seen);
+        old_bands(tally, random, &table, &mut seen);
     }
     tally.note(format!(
         "{accepted} epochs accepted, {} calls and places, {} corrections found, by number {:?}",
@@ -308,16 +314,18 @@ fn compare(tally: &mut Tally, random: &mut Random, count: u64) {
 }
 
 /// What a query may ask of a table: signal, time and gap limit.
-fn question(random: &mut Random, whole: &Table) -> ((u8, u16, u8), f64, f64) {
+fn question(random: &mut Random, whole: &Table) -> ((u8, u16, u32), f64, f64) {
     let i = random.place(whole.n.max(1));
     let j = random.place(whole.n.max(1));
     let key = if whole.n > 0 && random.below(10) > 0 {
-        (whole.cs[i], whole.vs[i], whole.bs[i])
+        // At times another band, which differs in one bit.
+        let turned = u32::from(random.below(20) == 0) << random.below(32);
+        (whole.cs[i], whole.vs[i], whole.bs[i] ^ turned)
     } else {
         (
             random.below(9) as u8,
             random.below(7) as u16,
-            random.below(3) as u8,
+            random.below(3) as u32,
         )
     };
     let at = if whole.n > 0 { whole.ts[i] } else { 30.0 };
@@ -351,7 +359,7 @@ fn queries(
     tally: &mut Tally,
     random: &mut Random,
     whole: &Table,
-    c: &Corrections,
+    (c, naming): (&Corrections, Naming),
     seen: &mut Seen,
 ) {
     for _ in 0..20 {
@@ -370,11 +378,12 @@ fn queries(
         } else {
             table.n
         };
-        let theirs = Corrections {
+        let known = Corrections {
             max_gap: gap,
             ..c.clone()
-        }
-        .at(key.0, key.1, key.2, time);
+        };
+        let code = naming.code(key.2);
+        let theirs = code.and_then(|b| known.at(key.0, key.1, b, time));
         let sound = table.n == n && table.sound();
         let damaged = table.bits() != whole.bits();
         let number = match theirs {
@@ -398,7 +407,7 @@ fn queries(
 }
 
 /// A table of long series, mostly at even times, and what the Rust has of it.
-fn long(random: &mut Random) -> (Table, Corrections) {
+fn long(random: &mut Random, naming: Naming) -> (Table, Corrections) {
     let mut series = BTreeMap::<_, Vec<(f64, f64)>>::new();
     let mut left = random.place(2048);
     while left > 0 {
@@ -425,11 +434,17 @@ fn long(random: &mut Random) -> (Table, Corrections) {
         series,
         max_gap: 90.0,
     };
-    (Table::lent([2048; 5]).with(&c.series), c)
+    (Table::lent([2048; 5]).with(&c.series, naming), c)
 }
 
 /// Many queries of one call, each place against `at`, and what no place is for against what was there.
-fn many(tally: &mut Tally, random: &mut Random, whole: &Table, c: &Corrections, seen: &mut Seen) {
+fn many(
+    tally: &mut Tally,
+    random: &mut Random,
+    whole: &Table,
+    (c, naming): (&Corrections, Naming),
+    seen: &mut Seen,
+) {
     let mut table = whole.clone();
     if table.n > 0 && random.below(20) == 0 {
         let i = random.place(table.n);
@@ -478,7 +493,7 @@ fn many(tally: &mut Tally, random: &mut Random, whole: &Table, c: &Corrections, 
             ..c.clone()
         };
         for (i, &((k, v, b), t)) in each.iter().enumerate() {
-            let theirs = c.at(k, v, b, t);
+            let theirs = naming.code(b).and_then(|b| c.at(k, v, b, t));
             expected.numbers[i] = match theirs {
                 _ if t.is_finite() && !in_range(t) => 4,
                 None => 12,
@@ -495,6 +510,31 @@ fn many(tally: &mut Tally, random: &mut Random, whole: &Table, c: &Corrections, 
     seen.number(number);
     tally.judge(ours == number && out.bits() == expected.bits(), || {
         format!("{count} queries of {n} samples with the gap {gap}: our number {ours}, expected {number}; {:?}", out.numbers)
+    });
+}
+
+/// The bands of a table that was written with 8 bits for each, in columns that may be too short.
+fn old_bands(tally: &mut Tally, random: &mut Random, table: &Table, seen: &mut Seen) {
+    let mut narrow: Vec<u8> = table.bs.iter().map(|&b| b as u8).collect();
+    narrow.truncate(table.n + random.place(3));
+    let n = match random.below(8) {
+        0 => table.n + random.place(5),
+        1 => {
+            narrow.resize(2050, 3);
+            2048 + random.place(3)
+        }
+        _ => table.n,
+    };
+    let mut wide = vec![0x5A5A_5A5A; (n + random.place(4)).saturating_sub(1)];
+    let (number, expected) = widened(&narrow, n, &wide);
+    let ours = widen(&narrow, n, &mut wide);
+    seen.number(number);
+    tally.judge(ours == number && wide == expected, || {
+        format!(
+            "{n} bands of {} into {} places: our number {ours}, expected {number}",
+            narrow.len(),
+            wide.len()
+        )
     });
 }
 
@@ -542,7 +582,7 @@ fn time(random: &mut Random) {
         }
     };
     let epochs: Vec<Epoch> = (0..60).map(|i| one(f64::from(i) * 30.0)).collect();
-    let first = Columns::of(&epochs[0]);
+    let first = Columns::of(&epochs[0], Naming::PLAIN);
     let station = Base {
         name: String::new(),
         position: base,
@@ -572,11 +612,11 @@ fn time(random: &mut Random) {
     );
     let mut full = Table::lent([2048; 5]);
     for e in &epochs {
-        Columns::of(e).add(&mut full, &base, &rover, &set);
+        Columns::of(e, Naming::PLAIN).add(&mut full, &base, &rover, &set);
     }
     let c = reference(&epochs, base, rover, &set);
     // Signals and times that no predictor of branches learns.
-    let each: Vec<((u8, u16, u8), f64)> = (0..4096)
+    let each: Vec<((u8, u16, u32), f64)> = (0..4096)
         .map(|_| {
             let svid = random.below(32) as u16;
             (
@@ -597,7 +637,7 @@ fn time(random: &mut Random) {
         },
         || {
             for (key, t) in single {
-                black_box(c.at(key.0, key.1, key.2, *t));
+                black_box(c.at(key.0, key.1, key.2 as u8, *t));
             }
         },
     );
@@ -614,7 +654,7 @@ fn time(random: &mut Random) {
             },
             || {
                 for (key, t) in each {
-                    black_box(c.at(key.0, key.1, key.2, *t));
+                    black_box(c.at(key.0, key.1, key.2 as u8, *t));
                 }
             },
         );

@@ -62,6 +62,7 @@ pub const KINDS: &[(u64, &str, Make)] = &[
     (20, "time", time::times),
     (21, "since", time::since),
     (22, "between", between::vectors),
+    (23, "widen", corrections::stored::widen),
 ];
 
 /// Every service, lowest first.

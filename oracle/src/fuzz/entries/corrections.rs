@@ -1,13 +1,14 @@
-//! A base epoch, a query, and many of them.
+//! A base epoch, a query, many of them, and the bands of an old table.
 
 use super::{column, count, floats, signal, sys};
 use crate::fuzz::lent::{Lender, Lent};
 use crate::fuzz::Bytes;
+use crate::services::corrections::naming::Naming;
 use crate::services::corrections::{self, lent as base};
 use drifters_gnss::differential::{self, Corrections, SatelliteState};
 use drifters_gnss::rinex::BaseRange;
 
-type Sample = (u8, u16, u8, f64, f64);
+type Sample = (u8, u16, u32, f64, f64);
 
 /// In the table's order.
 fn order(a: &Sample, b: &Sample) -> std::cmp::Ordering {
@@ -16,8 +17,14 @@ fn order(a: &Sample, b: &Sample) -> std::cmp::Ordering {
         .then(a.3.total_cmp(&b.3))
 }
 
+/// How bands are named.
+fn naming(b: &mut Bytes) -> Naming {
+    let far = usize::from(b.byte());
+    *Naming::FAR.get(far % 8).unwrap_or(&Naming::PLAIN)
+}
+
 /// A table of few samples, sorted or not, in columns that may be longer or shorter.
-fn table(b: &mut Bytes) -> base::Table {
+fn table(b: &mut Bytes, naming: Naming) -> base::Table {
     let n = b.below(40);
     let sorted = b.byte() > 20;
     b.plain_above(40);
@@ -26,10 +33,11 @@ fn table(b: &mut Bytes) -> base::Table {
     let mut samples: Vec<Sample> = (0..n)
         .map(|i| {
             if let Some((run, step)) = even {
-                return (1, (i / run) as u16, 0, (i % run) as f64 * step, b.float());
+                let time = (i % run) as f64 * step;
+                return (1, (i / run) as u16, naming.band(0), time, b.float());
             }
             let (c, v) = signal(b);
-            let band = b.byte() & 1;
+            let band = naming.band(b.byte() & 1);
             let time = if b.byte() < 200 {
                 f64::from(b.byte())
             } else {
@@ -65,7 +73,7 @@ fn samples(t: &base::Table) -> Vec<Sample> {
 struct Columns {
     cs: Lent<u8>,
     vs: Lent<u16>,
-    bs: Lent<u8>,
+    bs: Lent<u32>,
     ts: Lent<f64>,
     xs: Lent<f64>,
 }
@@ -92,7 +100,8 @@ impl Columns {
 }
 
 pub fn add_epoch(b: &mut Bytes) {
-    let t = table(b);
+    let naming = naming(b);
+    let t = table(b, naming);
     let usual = b.byte() > 60;
     let place = |b: &mut Bytes| -> [f64; 3] {
         if usual {
@@ -150,11 +159,11 @@ pub fn add_epoch(b: &mut Bytes) {
     };
     let rc = column(b, &epoch.ranges, |r| r.constellation);
     let rv = column(b, &epoch.ranges, |r| r.svid);
-    let rb = column(b, &epoch.ranges, |r| r.band);
+    let rb = column(b, &epoch.ranges, |r| naming.band(r.band));
     let rp = column(b, &epoch.ranges, |r| r.pseudorange);
     let sc = column(b, &epoch.states, |s| s.constellation);
     let sv = column(b, &epoch.states, |s| s.svid);
-    let sb = column(b, &epoch.states, |s| s.band);
+    let sb = column(b, &epoch.states, |s| naming.band(s.band));
     let sf = floats(b, &epoch.states, base::floats);
     let (k, m) = (count(b, epoch.ranges.len()), count(b, epoch.states.len()));
     let wanted = if epoch.present { m } else { 0 };
@@ -181,8 +190,9 @@ pub fn add_epoch(b: &mut Bytes) {
     if number == 0 {
         let one = corrections::reference(std::slice::from_ref(&epoch), from, to, &set);
         let mut all = samples(&t);
-        for ((c, v, band), series) in &one.series {
-            all.extend(series.iter().map(|(time, x)| (*c, *v, *band, *time, *x)));
+        for ((c, v, code), series) in &one.series {
+            let band = naming.band(*code);
+            all.extend(series.iter().map(|(time, x)| (*c, *v, band, *time, *x)));
         }
         all.sort_by(order);
         if all.len() > t.capacity() {
@@ -275,12 +285,17 @@ pub fn add_epoch(b: &mut Bytes) {
 }
 
 /// A signal and a time that may be asked of the table.
-fn question(b: &mut Bytes, t: &base::Table) -> (u8, u16, u8, f64) {
+fn question(b: &mut Bytes, t: &base::Table) -> (u8, u16, u32, f64) {
     let known = t.cs.len().min(t.n);
     let picked = (known > 0 && b.byte() < 230).then(|| b.below(known));
     let (c, v, band) = match picked {
-        Some(i) if i < t.capacity() => (t.cs[i], t.vs[i], t.bs[i]),
-        _ => (b.byte(), b.u16(), b.byte()),
+        Some(i) if i < t.capacity() => {
+            // At times another band, which differs in one bit.
+            let turned = b.byte();
+            let band = t.bs[i] ^ (u32::from(turned > 240) << (turned % 32));
+            (t.cs[i], t.vs[i], band)
+        }
+        _ => (b.byte(), b.u16(), b.u32()),
     };
     let time = match b.byte() {
         0..=99 => f64::from(b.byte()),
@@ -300,10 +315,11 @@ fn gap_limit(b: &mut Bytes) -> f64 {
 }
 
 /// The corrections that the Rust has of a sound table.
-fn series(t: &base::Table, gap: f64) -> Corrections {
+fn series(t: &base::Table, naming: Naming, gap: f64) -> Corrections {
     let mut series = std::collections::BTreeMap::<_, Vec<(f64, f64)>>::new();
     for (c, v, b, time, x) in samples(t) {
-        series.entry((c, v, b)).or_default().push((time, x));
+        let code = naming.code(b).expect("a band of the table");
+        series.entry((c, v, code)).or_default().push((time, x));
     }
     Corrections {
         series,
@@ -312,11 +328,15 @@ fn series(t: &base::Table, gap: f64) -> Corrections {
 }
 
 /// The number of a query of a sound table, and its metres.
-fn answer(c: &Corrections, (k, v, band, time): (u8, u16, u8, f64)) -> (u8, Option<f64>) {
+fn answer(
+    c: &Corrections,
+    naming: Naming,
+    (k, v, band, time): (u8, u16, u32, f64),
+) -> (u8, Option<f64>) {
     if time.is_finite() && !base::in_range(time) {
         return (4, None);
     }
-    let metres = c.at(k, v, band, time);
+    let metres = naming.code(band).and_then(|code| c.at(k, v, code, time));
     // A query's time that is not finite meets 12.
     assert!(time.is_finite() || metres.is_none());
     assert!(metres.is_none_or(f64::is_finite));
@@ -324,7 +344,8 @@ fn answer(c: &Corrections, (k, v, band, time): (u8, u16, u8, f64)) -> (u8, Optio
 }
 
 pub fn query(b: &mut Bytes) {
-    let t = table(b);
+    let naming = naming(b);
+    let t = table(b, naming);
     let asked = question(b, &t);
     let gap = gap_limit(b);
     let (number, metres) = if t.n > t.capacity() {
@@ -334,7 +355,7 @@ pub fn query(b: &mut Bytes) {
     } else if !t.sound() {
         (4, None)
     } else {
-        answer(&series(&t, gap), asked)
+        answer(&series(&t, naming, gap), naming, asked)
     };
     let mut lender = Lender::new();
     let cols = Columns::lend(&mut lender, &t);
@@ -371,7 +392,8 @@ pub fn query(b: &mut Bytes) {
 }
 
 pub fn queries(b: &mut Bytes) {
-    let t = table(b);
+    let naming = naming(b);
+    let t = table(b, naming);
     let gap = gap_limit(b);
     let each: Vec<_> = (0..b.below(24)).map(|_| question(b, &t)).collect();
     let (c, v) = (column(b, &each, |q| q.0), column(b, &each, |q| q.1));
@@ -393,9 +415,9 @@ pub fn queries(b: &mut Bytes) {
     } else if !t.sound() {
         4
     } else {
-        let known = series(&t, gap);
+        let known = series(&t, naming, gap);
         for i in 0..count {
-            let (number, found) = answer(&known, (c[i], v[i], band[i], time[i]));
+            let (number, found) = answer(&known, naming, (c[i], v[i], band[i], time[i]));
             numbers[i] = number;
             metres[i] = found.unwrap_or(metres[i]);
         }
@@ -439,4 +461,25 @@ pub fn queries(b: &mut Bytes) {
     lt.kept();
     ln.holds(&numbers);
     lm.holds(&metres);
+}
+
+pub fn widen_bands(b: &mut Bytes) {
+    // Short columns, and those at the end of what a table may hold.
+    let start = if b.byte() > 230 { 2040 } else { 0 };
+    let narrow: Vec<u8> = (0..start + b.below(20))
+        .map(|i| b.byte() ^ i as u8)
+        .collect();
+    let wide: Vec<u32> = (0..start + b.below(20)).map(|_| b.u32()).collect();
+    let n = match b.byte() {
+        255 => b.u64() as usize,
+        _ => start + b.below(20),
+    };
+    let (number, after) = base::widened(&narrow, n, &wide);
+    let mut lender = Lender::new();
+    let (from, to) = (lender.lend(&narrow), lender.lend(&wide));
+    // SAFETY: each pointer leads to what its length says.
+    let ours = unsafe { sys::zaqnuti_widen_bands(from.at(), from.len(), n, to.at(), to.len()) };
+    assert_eq!(ours, number);
+    from.kept();
+    to.holds(&after);
 }

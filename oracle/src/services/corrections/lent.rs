@@ -1,16 +1,17 @@
 //! The lent table and one epoch's columns, and the entry points over them.
 
+use super::naming::Naming;
 use drifters_gnss::differential::{SatelliteState, Settings};
 use drifters_gnss::rinex::BaseRange;
 use std::collections::BTreeMap;
-use zaqnuti::sys::{zaqnuti_add_epoch, zaqnuti_queries, zaqnuti_query};
+use zaqnuti::sys::{zaqnuti_add_epoch, zaqnuti_queries, zaqnuti_query, zaqnuti_widen_bands};
 
 /// The lent columns and the count.
 #[derive(Clone)]
 pub struct Table {
     pub cs: Vec<u8>,
     pub vs: Vec<u16>,
-    pub bs: Vec<u8>,
+    pub bs: Vec<u32>,
     pub ts: Vec<f64>,
     pub xs: Vec<f64>,
     pub n: usize,
@@ -31,7 +32,7 @@ impl Table {
         Self {
             cs: vec![0xA5; lengths[0]],
             vs: vec![0xA5A5; lengths[1]],
-            bs: vec![0x5A; lengths[2]],
+            bs: vec![0x5A5A_5A5A; lengths[2]],
             ts: vec![-7.25e200; lengths[3]],
             xs: vec![f64::from_bits(0x7FF8_0000_0000_1234); lengths[4]],
             n: 0,
@@ -50,7 +51,7 @@ impl Table {
     }
 
     /// Every bit of the columns, and the count.
-    pub fn bits(&self) -> (Vec<u8>, Vec<u16>, Vec<u8>, Vec<u64>, Vec<u64>, usize) {
+    pub fn bits(&self) -> (Vec<u8>, Vec<u16>, Vec<u32>, Vec<u64>, Vec<u64>, usize) {
         let raw = |v: &[f64]| v.iter().map(|x| x.to_bits()).collect();
         (
             self.cs.clone(),
@@ -63,13 +64,14 @@ impl Table {
     }
 
     /// The table with these series in front, and past them as it was.
-    pub fn with(&self, series: &BTreeMap<(u8, u16, u8), Vec<(f64, f64)>>) -> Self {
+    pub fn with(&self, series: &BTreeMap<(u8, u16, u8), Vec<(f64, f64)>>, naming: Naming) -> Self {
         let mut t = self.clone();
         t.n = 0;
         for ((c, v, b), samples) in series {
             for (time, x) in samples {
                 let i = t.n;
-                (t.cs[i], t.vs[i], t.bs[i], t.ts[i], t.xs[i]) = (*c, *v, *b, *time, *x);
+                (t.cs[i], t.vs[i], t.bs[i], t.ts[i], t.xs[i]) =
+                    (*c, *v, naming.band(*b), *time, *x);
                 t.n += 1;
             }
         }
@@ -87,7 +89,7 @@ impl Table {
             })
     }
 
-    pub fn query(&self, n: usize, gap: f64, (c, v, b): (u8, u16, u8), t: f64) -> (u8, f64) {
+    pub fn query(&self, n: usize, gap: f64, (c, v, b): (u8, u16, u32), t: f64) -> (u8, f64) {
         let mut metres = -1.5e300;
         // SAFETY: each pointer comes with its length, and the last is ours alone.
         let number = unsafe {
@@ -153,12 +155,12 @@ impl Table {
 pub struct Asked {
     pub c: Vec<u8>,
     pub v: Vec<u16>,
-    pub b: Vec<u8>,
+    pub b: Vec<u32>,
     pub t: Vec<f64>,
 }
 
 impl Asked {
-    pub fn of(each: &[((u8, u16, u8), f64)]) -> Self {
+    pub fn of(each: &[((u8, u16, u32), f64)]) -> Self {
         Self {
             c: each.iter().map(|e| e.0 .0).collect(),
             v: each.iter().map(|e| e.0 .1).collect(),
@@ -198,30 +200,30 @@ pub struct Columns {
     k: usize,
     rc: Vec<u8>,
     rv: Vec<u16>,
-    rb: Vec<u8>,
+    rb: Vec<u32>,
     rp: Vec<f64>,
     present: bool,
     m: usize,
     sc: Vec<u8>,
     sv: Vec<u16>,
-    sb: Vec<u8>,
+    sb: Vec<u32>,
     sf: Vec<f64>,
 }
 
 impl Columns {
-    pub fn of(e: &Epoch) -> Self {
+    pub fn of(e: &Epoch, naming: Naming) -> Self {
         Self {
             time: e.time,
             k: e.ranges.len(),
             rc: e.ranges.iter().map(|r| r.constellation).collect(),
             rv: e.ranges.iter().map(|r| r.svid).collect(),
-            rb: e.ranges.iter().map(|r| r.band).collect(),
+            rb: e.ranges.iter().map(|r| naming.band(r.band)).collect(),
             rp: e.ranges.iter().map(|r| r.pseudorange).collect(),
             present: e.present,
             m: e.states.len(),
             sc: e.states.iter().map(|s| s.constellation).collect(),
             sv: e.states.iter().map(|s| s.svid).collect(),
-            sb: e.states.iter().map(|s| s.band).collect(),
+            sb: e.states.iter().map(|s| naming.band(s.band)).collect(),
             sf: e.states.iter().flat_map(floats).collect(),
         }
     }
@@ -269,6 +271,32 @@ impl Columns {
             )
         }
     }
+}
+
+/// The first `n` bands of an old column in a new one.
+pub fn widen(narrow: &[u8], n: usize, wide: &mut [u32]) -> u8 {
+    // SAFETY: each pointer comes with its length, and the last is ours alone.
+    unsafe {
+        zaqnuti_widen_bands(
+            narrow.as_ptr(),
+            narrow.len(),
+            n,
+            wide.as_mut_ptr(),
+            wide.len(),
+        )
+    }
+}
+
+/// Number 2 of widening, and the new column afterwards.
+pub fn widened(narrow: &[u8], n: usize, wide: &[u32]) -> (u8, Vec<u32>) {
+    let mut after = wide.to_vec();
+    if n > 2048 || n > narrow.len() || n > wide.len() {
+        return (2, after);
+    }
+    for (w, &b) in after.iter_mut().zip(&narrow[..n]) {
+        *w = b.into();
+    }
+    (0, after)
 }
 
 pub fn in_range(x: f64) -> bool {

@@ -1,6 +1,7 @@
-//! The stored cases of the corrections: an epoch added to a table, a query, and queries of one call.
+//! The stored cases of the corrections: an epoch added to a table, a query, queries of one call, and the bands of an old table.
 
-use super::lent::{floats, in_range, Epoch, Table};
+use super::lent::{floats, in_range, widened, Epoch, Table};
+use super::naming::Naming;
 use super::{epoch, odd, question, reference, refusal, settings};
 use crate::random::{pattern, Random};
 use crate::vectors::{of_each, raw, turned, Case, Vectors};
@@ -19,11 +20,14 @@ fn rows(t: &Table) -> Vec<u64> {
         .collect()
 }
 
-/// A base, a rover, settings, and a table of what some epochs gave, zeros past its samples.
-fn session(random: &mut Random) -> Option<([f64; 3], [f64; 3], Settings, Vec<Epoch>, Table)> {
+/// A base, a rover, settings, how bands are named, and a table of what some epochs gave, zeros past its samples.
+type Session = ([f64; 3], [f64; 3], Settings, Naming, Vec<Epoch>, Table);
+
+fn session(random: &mut Random) -> Option<Session> {
     let base: [f64; 3] = [-2.7e6 + random.unit() * 1e5, -4.3e6, 3.85e6];
     let rover: [f64; 3] = std::array::from_fn(|i| base[i] + random.unit() * 1e4);
     let set = settings(random);
+    let naming = Naming::of(random);
     let empty = Table {
         cs: vec![0; ROOM],
         vs: vec![0; ROOM],
@@ -41,7 +45,8 @@ fn session(random: &mut Random) -> Option<([f64; 3], [f64; 3], Settings, Vec<Epo
         return None;
     }
     let c = reference(&epochs, base, rover, &set);
-    (c.samples() <= ROOM).then(|| (base, rover, set, epochs, empty.with(&c.series)))
+    let table = || empty.with(&c.series, naming);
+    (c.samples() <= ROOM).then(|| (base, rover, set, naming, epochs, table()))
 }
 
 /// One float or row of a table that is spoilt, or one sample more than there is room for.
@@ -61,14 +66,20 @@ fn samples(t: &Table) -> Vec<u64> {
 }
 
 /// The numbers of a signal.
-fn signal(c: u8, v: u16, b: u8) -> [u64; 3] {
+fn signal(c: u8, v: u16, b: u32) -> [u64; 3] {
     [u64::from(c), u64::from(v), u64::from(b)]
 }
 
 /// What is given beside the table: time, ranges, whether there are states, states, base 3, rover 3, gap, maximum, the enabled constellations as
 /// bits; of each range, of 64 at most, constellation, svid, band, pseudorange; of each state, of 64 at most, constellation, svid, band, position
 /// 3, velocity 3, clock, modelled.
-fn handed(e: &Epoch, base: &[f64; 3], rover: &[f64; 3], set: &Settings) -> Vec<u64> {
+fn handed(
+    e: &Epoch,
+    base: &[f64; 3],
+    rover: &[f64; 3],
+    set: &Settings,
+    naming: Naming,
+) -> Vec<u64> {
     let mut given = vec![e.time.to_bits(), e.ranges.len() as u64];
     given.extend([u64::from(e.present), e.states.len() as u64]);
     given.extend(raw(base).chain(raw(rover)));
@@ -76,11 +87,11 @@ fn handed(e: &Epoch, base: &[f64; 3], rover: &[f64; 3], set: &Settings) -> Vec<u
     let on = set.constellations.iter().enumerate();
     given.push(on.map(|(c, &on)| u64::from(on) << c).sum());
     for r in e.ranges.iter().take(64) {
-        given.extend(signal(r.constellation, r.svid, r.band));
+        given.extend(signal(r.constellation, r.svid, naming.band(r.band)));
         given.push(r.pseudorange.to_bits());
     }
     for s in e.states.iter().take(64) {
-        given.extend(signal(s.constellation, s.svid, s.band));
+        given.extend(signal(s.constellation, s.svid, naming.band(s.band)));
         given.extend(raw(&floats(s)));
     }
     given
@@ -88,7 +99,7 @@ fn handed(e: &Epoch, base: &[f64; 3], rover: &[f64; 3], set: &Settings) -> Vec<u
 
 /// Samples, rows 5 each (32 at most), what is handed over beside them; number, samples and rows afterwards.
 fn epoch_case(random: &mut Random) -> Option<(u8, Case)> {
-    let (mut base, rover, mut set, mut epochs, whole) = session(random)?;
+    let (mut base, rover, mut set, naming, mut epochs, whole) = session(random)?;
     let e = epoch(random, base, false);
     let mut table = whole.clone();
     match random.below(8) {
@@ -106,7 +117,7 @@ fn epoch_case(random: &mut Random) -> Option<(u8, Case)> {
     if number == 0 {
         // Another base, another setting or another table is only for a call that is refused.
         let old = reference(&epochs, base, rover, &set);
-        if old.samples() > ROOM || table.bits() != whole.with(&old.series).bits() {
+        if old.samples() > ROOM || table.bits() != whole.with(&old.series, naming).bits() {
             return None;
         }
         epochs.push(e.clone());
@@ -114,11 +125,11 @@ fn epoch_case(random: &mut Random) -> Option<(u8, Case)> {
         if c.samples() > ROOM {
             number = 11;
         } else {
-            after = table.with(&c.series);
+            after = table.with(&c.series, naming);
         }
     }
     let mut given = samples(&table);
-    given.extend(handed(&e, &base, &rover, &set));
+    given.extend(handed(&e, &base, &rover, &set, naming));
     let mut answer = vec![u64::from(number)];
     answer.extend(samples(&after));
     Some((number, (given, answer)))
@@ -139,10 +150,11 @@ struct Asked {
     whole: Table,
     table: Table,
     corrections: Corrections,
+    naming: Naming,
 }
 
 fn asked(random: &mut Random) -> Option<Asked> {
-    let (base, rover, set, epochs, whole) = session(random)?;
+    let (base, rover, set, naming, epochs, whole) = session(random)?;
     let mut table = whole.clone();
     if random.below(8) == 0 {
         spoil(random, &mut table);
@@ -151,6 +163,7 @@ fn asked(random: &mut Random) -> Option<Asked> {
         corrections: reference(&epochs, base, rover, &set),
         whole,
         table,
+        naming,
     })
 }
 
@@ -166,12 +179,13 @@ impl Asked {
     }
 
     /// Number and metres of a signal and a time, where the call is accepted.
-    fn place(&self, gap: f64, (c, v, b): (u8, u16, u8), time: f64) -> (u8, f64) {
+    fn place(&self, gap: f64, (c, v, b): (u8, u16, u32), time: f64) -> (u8, f64) {
         let theirs = Corrections {
             max_gap: gap,
             series: self.corrections.series.clone(),
         };
-        match theirs.at(c, v, b, time) {
+        let code = self.naming.code(b);
+        match code.and_then(|b| theirs.at(c, v, b, time)) {
             _ if time.is_finite() && !in_range(time) => (4, 0.0),
             None => (12, 0.0),
             Some(x) => (0, x),
@@ -227,4 +241,34 @@ fn queries_case(random: &mut Random) -> Option<(u8, Case)> {
 pub fn queries(random: &mut Random) -> Vectors {
     let wanted = [(0, 20), (2, 2), (3, 2), (4, 2)];
     Vectors::of(of_each(&wanted, || queries_case(random)))
+}
+
+/// How many bands a case of widening has room for.
+const BANDS: usize = 8;
+
+/// How many bands, the old column's length and the new one's, of 8 at most, the old column; number, 8 places of the new column afterwards, where a
+/// place that is not written is 0.
+fn widen_case(random: &mut Random) -> Option<(u8, Case)> {
+    let narrow: Vec<u8> = (0..random.place(BANDS + 1))
+        .map(|_| random.below(256) as u8)
+        .collect();
+    let wide = vec![0; random.place(BANDS + 1)];
+    let n = match random.below(4) {
+        0 => random.pick(&[2048, 2049, usize::MAX]),
+        _ => random.place(BANDS + 2),
+    };
+    let (number, mut after) = widened(&narrow, n, &wide);
+    after.resize(BANDS, 0);
+    let mut given = vec![n as u64, narrow.len() as u64, wide.len() as u64];
+    given.extend(narrow.iter().map(|&b| u64::from(b)));
+    let mut answer = vec![u64::from(number)];
+    answer.extend(after.iter().map(|&b| u64::from(b)));
+    Some((number, (given, answer)))
+}
+
+pub fn widen(random: &mut Random) -> Vectors {
+    let wanted = [(2, 10), (0, 20)];
+    let mut cases = of_each(&wanted, || widen_case(random));
+    cases.sort_by_key(|c| c.0[0]);
+    Vectors::of(cases)
 }

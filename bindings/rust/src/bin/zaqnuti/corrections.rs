@@ -21,7 +21,7 @@ With --csv the rover's lines come out whole, with the columns correction and
 refusal behind them: `zaqnuti fix` reads that.
   tow                  of both files: time of week, s, going forward; week before it
                        where there is one
-  constellation, svid  of both files; band, 0 to 255 (may be left out of both)
+  constellation, svid  of both files; band, of 32 bits (may be left out of both)
 and of the base alone:
   pseudorange          m, without the satellite's group delay
   x, y, z, vx, vy, vz  the satellite at transmission, m and m/s
@@ -60,7 +60,7 @@ impl Signals {
         })
     }
 
-    fn read(&self, table: &Table) -> Run<(u8, u16, u8)> {
+    fn read(&self, table: &Table) -> Run<(u8, u16, u32)> {
         let band = table.whole_or(self.band, 0)?;
         Ok((
             table.whole(self.constellation)?,
@@ -72,7 +72,7 @@ impl Signals {
 
 /// A line of the rover: its signal, and its text to be given out again.
 struct Asked {
-    signal: (u8, u16, u8),
+    signal: (u8, u16, u32),
     text: String,
 }
 

@@ -27,11 +27,14 @@ mul-answer-of c = let l = not-short _ _ _ _ _ _ _ (c .before .before .before .be
 shared-slice-read-answer-of-2 : tie.Need-shared-slice-read-answer-of-2 Inv-loop μ-loop
 shared-slice-read-answer-of-2 c = let l = not-short _ _ _ _ _ _ _ (c .before .before .before .before .before .before .before .before .before .before .before .before .before .before .before .pre .1) in omega (arith, c .before .before .before .before .before .before .before .before .before .before .before .before .before .before .before, c .before .before .loop-test .taken, l .in-v)
 
+mul-answer-of-2 : tie.Need-mul-answer-of-2 Inv-loop μ-loop
+mul-answer-of-2 c = let l = not-short _ _ _ _ _ _ _ (c .before .before .before .before .before .before .before .before .before .before .before .before .before .before .before .pre .1) in omega (arith, c .before .before .before .before .before .before .before .before .before .before .before .before .before .before .before, c .before .before .loop-test .taken, l .in-b)
+
 shared-slice-read-answer-of-3 : tie.Need-shared-slice-read-answer-of-3 Inv-loop μ-loop
 shared-slice-read-answer-of-3 c = let l = not-short _ _ _ _ _ _ _ (c .before .before .before .before .before .before .before .before .before .before .before .before .before .before .before .before .pre .1) in omega (arith, c .before .before .before .before .before .before .before .before .before .before .before .before .before .before .before .before, c .before .before .before .loop-test .taken, l .in-b)
 
-mul-answer-of-2 : tie.Need-mul-answer-of-2 Inv-loop μ-loop
-mul-answer-of-2 c = let l = not-short _ _ _ _ _ _ _ (c .before .before .before .before .before .before .before .before .before .before .before .before .before .before .before .before .pre .1) in omega (arith, c .before .before .before .before .before .before .before .before .before .before .before .before .before .before .before .before, c .before .before .before .loop-test .taken, l .in-t)
+mul-answer-of-3 : tie.Need-mul-answer-of-3 Inv-loop μ-loop
+mul-answer-of-3 c = let l = not-short _ _ _ _ _ _ _ (c .before .before .before .before .before .before .before .before .before .before .before .before .before .before .before .before .pre .1) in omega (arith, c .before .before .before .before .before .before .before .before .before .before .before .before .before .before .before .before, c .before .before .before .loop-test .taken, l .in-t)
 
 shared-slice-read-answer-of-4 : tie.Need-shared-slice-read-answer-of-4 Inv-loop μ-loop
 shared-slice-read-answer-of-4 c = let l = not-short _ _ _ _ _ _ _ (c .before .before .before .before .before .before .before .before .before .before .before .before .before .before .before .before .before .pre .1) in omega (arith, c .before .before .before .before .before .before .before .before .before .before .before .before .before .before .before .before .before, c .before .before .before .before .loop-test .taken, l .in-t)
@@ -88,8 +91,9 @@ fill-spec =
     shared-slice-read-answer-of
     mul-answer-of
     shared-slice-read-answer-of-2
-    shared-slice-read-answer-of-3
     mul-answer-of-2
+    shared-slice-read-answer-of-3
+    mul-answer-of-3
     shared-slice-read-answer-of-4
     answer-of-requires
     number-of-requires

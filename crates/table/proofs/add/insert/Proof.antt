@@ -28,8 +28,8 @@ open-u16-requires c κs =
     let b = spot-within (a .n) _ (a .s) columns h (c .before .before .before .before .before .spot-of .ensures) in
     (b, rows-within columns (a .n) h .in-v)
 
-open-u8-requires-2 : tie.Need-open-u8-requires-2
-open-u8-requires-2 c κs =
+open-u32-requires : tie.Need-open-u32-requires
+open-u32-requires c κs =
     let s = c .before .before .before .before .before .before .before .before .before .before .before .before .before .before .before .before .before .before .before .before in
     let a = s .args in
     let columns = lent (a .cs .now) (a .vs .now) (a .bs .now) (a .ts .now) (a .xs .now) in
@@ -75,7 +75,7 @@ returns c =
     let s = c .before .before .before .before .before .before .before .before .before .before .before .before .before .before .before .before .before .before .before .before .before .before .before .before .before .before .before .before .before .before .before in
     let a = s .args in
     let columns = lent (a .cs .now) (a .vs .now) (a .bs .now) (a .ts .now) (a .xs .now) in
-    rw (c .before .before .before .before .before .before .before .before .before .before .before .before .before .before .before .before .before .before .open-u8 .ensures, c .before .before .before .before .before .before .before .before .before .before .before .before .before .before .open-u16 .ensures, c .before .before .before .before .before .before .before .before .before .before .open-u82 .ensures, c .before .before .before .before .before .before .open-f64 .ensures, c .before .before .open-f642 .ensures)
+    rw (c .before .before .before .before .before .before .before .before .before .before .before .before .before .before .before .before .before .before .open-u8 .ensures, c .before .before .before .before .before .before .before .before .before .before .before .before .before .before .open-u16 .ensures, c .before .before .before .before .before .before .before .before .before .before .open-u32 .ensures, c .before .before .before .before .before .before .open-f64 .ensures, c .before .before .open-f642 .ensures)
     (inserted (a .n) (c .before .before .before .before .before .before .before .before .before .before .before .before .before .before .before .before .before .before .before .before .spot-of .result) (a .s) columns (s .pre .0) (c .before .before .before .before .before .before .before .before .before .before .before .before .before .before .before .before .before .before .before .before .spot-of .ensures))
 
 pub insert-spec : {M : Type 1} → statement M
@@ -85,7 +85,7 @@ insert-spec =
     spot-of-requires
     open-u8-requires
     open-u16-requires
-    open-u8-requires-2
+    open-u32-requires
     open-f64-requires
     open-f64-requires-2
     same-length

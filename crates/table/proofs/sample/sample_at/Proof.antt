@@ -17,20 +17,23 @@ mul-t9 c = omega (arith, inside (c .before))
 shared-slice-read-t11 : tie.Need-shared-slice-read-t11
 shared-slice-read-t11 c = omega (arith, inside (c .before .before))
 
-shared-slice-read-t13 : tie.Need-shared-slice-read-t13
-shared-slice-read-t13 c = omega (arith, inside (c .before .before .before))
+mul-t12 : tie.Need-mul-t12
+mul-t12 c = omega (arith, inside (c .before .before))
 
-mul-t14 : tie.Need-mul-t14
-mul-t14 c = omega (arith, inside (c .before .before .before))
+shared-slice-read-t14 : tie.Need-shared-slice-read-t14
+shared-slice-read-t14 c = omega (arith, inside (c .before .before .before))
 
-shared-slice-read-t16 : tie.Need-shared-slice-read-t16
-shared-slice-read-t16 c = omega (arith, inside (c .before .before .before .before))
+mul-t15 : tie.Need-mul-t15
+mul-t15 c = omega (arith, inside (c .before .before .before))
 
-mul-t17 : tie.Need-mul-t17
-mul-t17 c = omega (arith, inside (c .before .before .before .before))
+shared-slice-read-t17 : tie.Need-shared-slice-read-t17
+shared-slice-read-t17 c = omega (arith, inside (c .before .before .before .before))
 
-shared-slice-read-t19 : tie.Need-shared-slice-read-t19
-shared-slice-read-t19 c = omega (arith, inside (c .before .before .before .before .before))
+mul-t18 : tie.Need-mul-t18
+mul-t18 c = omega (arith, inside (c .before .before .before .before))
+
+shared-slice-read-t20 : tie.Need-shared-slice-read-t20
+shared-slice-read-t20 c = omega (arith, inside (c .before .before .before .before .before))
 
 returns : tie.Need-returns
 returns c = let a = c .before .before .before .before .before .args in rows-at (lent (a .cs .now) (a .vs .now) (a .bs .now) (a .ts .now) (a .xs .now)) (a .i) (c .before .before .before .before .before .pre)
@@ -42,9 +45,10 @@ sample-at-spec =
     shared-slice-read-t8
     mul-t9
     shared-slice-read-t11
-    shared-slice-read-t13
-    mul-t14
-    shared-slice-read-t16
-    mul-t17
-    shared-slice-read-t19
+    mul-t12
+    shared-slice-read-t14
+    mul-t15
+    shared-slice-read-t17
+    mul-t18
+    shared-slice-read-t20
     returns)

@@ -26,14 +26,17 @@ mul-t14 c = omega (arith, c .before .before .before, c .before .before .loop .in
 shared-slice-read-t16 : tie.Need-shared-slice-read-t16 Inv-loop μ-loop
 shared-slice-read-t16 c = omega (arith, c .before .before .before .before, c .before .before .before .loop .inv .within)
 
-shared-slice-read-t18 : tie.Need-shared-slice-read-t18 Inv-loop μ-loop
-shared-slice-read-t18 c = omega (arith, c .before .before .before .before .before, c .before .before .before .before .loop .inv .within)
+mul-t17 : tie.Need-mul-t17 Inv-loop μ-loop
+mul-t17 c = omega (arith, c .before .before .before .before, c .before .before .before .loop .inv .within)
 
-mul-t19 : tie.Need-mul-t19 Inv-loop μ-loop
-mul-t19 c = omega (arith, c .before .before .before .before .before, c .before .before .before .before .loop .inv .within)
+shared-slice-read-t19 : tie.Need-shared-slice-read-t19 Inv-loop μ-loop
+shared-slice-read-t19 c = omega (arith, c .before .before .before .before .before, c .before .before .before .before .loop .inv .within)
 
-shared-slice-read-t21 : tie.Need-shared-slice-read-t21 Inv-loop μ-loop
-shared-slice-read-t21 c = omega (arith, c .before .before .before .before .before .before, c .before .before .before .before .before .loop .inv .within)
+mul-t20 : tie.Need-mul-t20 Inv-loop μ-loop
+mul-t20 c = omega (arith, c .before .before .before .before .before, c .before .before .before .before .loop .inv .within)
+
+shared-slice-read-t22 : tie.Need-shared-slice-read-t22 Inv-loop μ-loop
+shared-slice-read-t22 c = omega (arith, c .before .before .before .before .before .before, c .before .before .before .before .before .loop .inv .within)
 
 mul-ranges : tie.Need-mul-ranges Inv-loop μ-loop
 mul-ranges c = omega (arith, c .before .before .before .before .before .before, c .before .before .before .before .before .loop .inv .within)
@@ -54,4 +57,4 @@ returns : tie.Need-returns Inv-loop μ-loop
 returns c = record { count = refl; time-is = refl; ranges = filled _ _ _ (c .before .loop .inv) (c .loop-test .left) }
 
 pub epoch-from-spec : {M : Type 1} → statement M
-epoch-from-spec = tie.close (tie.spec Inv-loop μ-loop loop-holds shared-slice-read-t13 mul-t14 shared-slice-read-t16 shared-slice-read-t18 mul-t19 shared-slice-read-t21 mul-ranges array-set-from-ranges add-i loop-less loop-again returns)
+epoch-from-spec = tie.close (tie.spec Inv-loop μ-loop loop-holds shared-slice-read-t13 mul-t14 shared-slice-read-t16 mul-t17 shared-slice-read-t19 mul-t20 shared-slice-read-t22 mul-ranges array-set-from-ranges add-i loop-less loop-again returns)

@@ -79,26 +79,29 @@ mul-t16-2 c = omega (arith, c .before .before .before .before .before .before .b
 shared-slice-read-t34 : tie.Need-shared-slice-read-t34 Inv-loop μ-loop
 shared-slice-read-t34 c = omega (arith, c .before .before .before .before .before .before .before .before .before .before, c .before .before .before .before .before .before .before .before .before .loop .inv .within, c .before .before .before .before .before .before .before .before .loop-test .taken)
 
+mul-t19-2 : tie.Need-mul-t19-2 Inv-loop μ-loop
+mul-t19-2 c = omega (arith, c .before .before .before .before .before .before .before .before .before .before, c .before .before .before .before .before .before .before .before .before .loop .inv .within, c .before .before .before .before .before .before .before .before .loop-test .taken)
+
 shared-slice-read-t36 : tie.Need-shared-slice-read-t36 Inv-loop μ-loop
 shared-slice-read-t36 c = omega (arith, c .before .before .before .before .before .before .before .before .before .before .before, c .before .before .before .before .before .before .before .before .before .before .loop .inv .within, c .before .before .before .before .before .before .before .before .before .loop-test .taken)
 
-add-t19-2 : tie.Need-add-t19-2 Inv-loop μ-loop
-add-t19-2 c = omega (arith, c .before .before .before .before .before .before .before .before .before .before .before, c .before .before .before .before .before .before .before .before .before .before .loop .inv .within, c .before .before .before .before .before .before .before .before .before .loop-test .taken)
+add-t29 : tie.Need-add-t29 Inv-loop μ-loop
+add-t29 c = omega (arith, c .before .before .before .before .before .before .before .before .before .before .before, c .before .before .before .before .before .before .before .before .before .before .loop .inv .within, c .before .before .before .before .before .before .before .before .before .loop-test .taken)
 
-mul-t29-2 : tie.Need-mul-t29-2 Inv-loop μ-loop
-mul-t29-2 c = omega (arith, c .before .before .before .before .before .before .before .before .before .before .before, c .before .before .before .before .before .before .before .before .before .before .loop .inv .within, c .before .before .before .before .before .before .before .before .before .loop-test .taken)
+mul-t20-2 : tie.Need-mul-t20-2 Inv-loop μ-loop
+mul-t20-2 c = omega (arith, c .before .before .before .before .before .before .before .before .before .before .before, c .before .before .before .before .before .before .before .before .before .before .loop .inv .within, c .before .before .before .before .before .before .before .before .before .loop-test .taken)
 
 shared-slice-read-t18-3 : tie.Need-shared-slice-read-t18-3 Inv-loop μ-loop
 shared-slice-read-t18-3 c = omega (arith, c .before .before .before .before .before .before .before .before .before .before .before .before, c .before .before .before .before .before .before .before .before .before .before .before .loop .inv .within, c .before .before .before .before .before .before .before .before .before .before .loop-test .taken)
 
-add-t20-2 : tie.Need-add-t20-2 Inv-loop μ-loop
-add-t20-2 c = omega (arith, c .before .before .before .before .before .before .before .before .before .before .before .before, c .before .before .before .before .before .before .before .before .before .before .before .loop .inv .within, c .before .before .before .before .before .before .before .before .before .before .loop-test .taken)
+add-t24 : tie.Need-add-t24 Inv-loop μ-loop
+add-t24 c = omega (arith, c .before .before .before .before .before .before .before .before .before .before .before .before, c .before .before .before .before .before .before .before .before .before .before .before .loop .inv .within, c .before .before .before .before .before .before .before .before .before .before .loop-test .taken)
 
-mul-t24-3 : tie.Need-mul-t24-3 Inv-loop μ-loop
-mul-t24-3 c = omega (arith, c .before .before .before .before .before .before .before .before .before .before .before .before, c .before .before .before .before .before .before .before .before .before .before .before .loop .inv .within, c .before .before .before .before .before .before .before .before .before .before .loop-test .taken)
+mul-t23 : tie.Need-mul-t23 Inv-loop μ-loop
+mul-t23 c = omega (arith, c .before .before .before .before .before .before .before .before .before .before .before .before, c .before .before .before .before .before .before .before .before .before .before .before .loop .inv .within, c .before .before .before .before .before .before .before .before .before .before .loop-test .taken)
 
-shared-slice-read-t22-3 : tie.Need-shared-slice-read-t22-3 Inv-loop μ-loop
-shared-slice-read-t22-3 c = omega (arith, c .before .before .before .before .before .before .before .before .before .before .before .before .before, c .before .before .before .before .before .before .before .before .before .before .before .before .loop .inv .within, c .before .before .before .before .before .before .before .before .before .before .before .loop-test .taken)
+shared-slice-read-t26-3 : tie.Need-shared-slice-read-t26-3 Inv-loop μ-loop
+shared-slice-read-t26-3 c = omega (arith, c .before .before .before .before .before .before .before .before .before .before .before .before .before, c .before .before .before .before .before .before .before .before .before .before .before .before .loop .inv .within, c .before .before .before .before .before .before .before .before .before .before .before .loop-test .taken)
 
 mul-states : tie.Need-mul-states Inv-loop μ-loop
 mul-states c = omega (arith, c .before .before .before .before .before .before .before .before .before .before .before .before .before, c .before .before .before .before .before .before .before .before .before .before .before .before .loop .inv .within, c .before .before .before .before .before .before .before .before .before .before .before .loop-test .taken)
@@ -119,4 +122,4 @@ returns : tie.Need-returns Inv-loop μ-loop
 returns c = record { mark = refl; count = refl; states-are = filled _ _ _ (c .before .loop .inv) (c .loop-test .left) }
 
 pub states-from-spec : {M : Type 1} → statement M
-states-from-spec = tie.close (tie.spec Inv-loop μ-loop loop-holds mul-at mul-t16 shared-slice-read-t18 add-t19 mul-t20 shared-slice-read-t22 add-t23 mul-t24 shared-slice-read-t26 add-t16 mul-t19 shared-slice-read-t26-2 add-t23-2 mul-t24-2 shared-slice-read-t22-2 add-t20 mul-t29 shared-slice-read-t18-2 shared-slice-read-t32 mul-t16-2 shared-slice-read-t34 shared-slice-read-t36 add-t19-2 mul-t29-2 shared-slice-read-t18-3 add-t20-2 mul-t24-3 shared-slice-read-t22-3 mul-states array-set-from-states add-i loop-less loop-again returns)
+states-from-spec = tie.close (tie.spec Inv-loop μ-loop loop-holds mul-at mul-t16 shared-slice-read-t18 add-t19 mul-t20 shared-slice-read-t22 add-t23 mul-t24 shared-slice-read-t26 add-t16 mul-t19 shared-slice-read-t26-2 add-t23-2 mul-t24-2 shared-slice-read-t22-2 add-t20 mul-t29 shared-slice-read-t18-2 shared-slice-read-t32 mul-t16-2 shared-slice-read-t34 mul-t19-2 shared-slice-read-t36 add-t29 mul-t20-2 shared-slice-read-t18-3 add-t24 mul-t23 shared-slice-read-t26-3 mul-states array-set-from-states add-i loop-less loop-again returns)
