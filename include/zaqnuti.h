@@ -52,8 +52,8 @@
  * recurses. Each page is touched in order, so that a stack that is too small
  * ends at its guard page.
  *
- *     fix             20,224
- *     position        20,224
+ *     fix             26,112
+ *     position        26,112
  *     displacement    16,640
  *     between         16,128
  *     line            40,704
@@ -83,11 +83,11 @@ extern "C" {
 #endif
 
 /* The version of this header and its library: 10000 major + 100 minor + patch in the last. */
-#define ZAQNUTI_VERSION "0.3.0"
+#define ZAQNUTI_VERSION "0.4.0"
 #define ZAQNUTI_VERSION_MAJOR 0
-#define ZAQNUTI_VERSION_MINOR 3
+#define ZAQNUTI_VERSION_MINOR 4
 #define ZAQNUTI_VERSION_PATCH 0
-#define ZAQNUTI_VERSION_NUMBER 300
+#define ZAQNUTI_VERSION_NUMBER 400
 
 /* Limits. */
 #define ZAQNUTI_RECORDS 64       /* records of an epoch, states beside it, rows, residuals */
@@ -112,7 +112,8 @@ enum zaqnuti_refusal {
     ZAQNUTI_FIT_FAILED = 10,           /* the fit fails */
     ZAQNUTI_TABLE_FULL = 11,           /* the epoch's corrections do not all fit in the table */
     ZAQNUTI_NO_CORRECTION = 12,        /* the table gives no correction for the query */
-    ZAQNUTI_BAD_TIME = 13              /* a week, a time of week or a time in nanoseconds is out of range */
+    ZAQNUTI_BAD_TIME = 13,             /* a week, a time of week or a time in nanoseconds is out of range */
+    ZAQNUTI_QUALITY_NOT_FINITE = 14    /* chi or pdop of a fix is not finite */
 };
 
 /*
@@ -202,12 +203,13 @@ uint8_t zaqnuti_seconds_since(uint64_t later, uint64_t earlier, double *seconds)
  * settings       sigma_a, sigma_b (m) of sigma = a + b / sin(elevation),
  *                huber (in robust sigmas), mask (degrees)
  * rounds         the most rounds, 1 to 50
- * solution       x, y, z (m), chi (the root of the reduced chi-squared) and
- *                pdop; x, y and z are finite, chi and pdop may not be
+ * solution       x, y, z (m), chi (the root of the reduced chi-squared, of
+ *                the residuals at this very position) and pdop (of the last
+ *                round's rows); all five are finite
  * used           how many observations at or above the mask were used
  *
  * Refuses by 2 (more than 64, or a column shorter than count needs), 3, 4, 8,
- * 9 and 10.
+ * 9, 10 and 14 (chi or pdop is not finite).
  */
 uint8_t zaqnuti_fix(
     const uint8_t *constellation, size_t constellation_length,

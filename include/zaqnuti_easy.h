@@ -65,6 +65,7 @@ static inline const char *zaqnuti_refusal_text(uint8_t number)
     case ZAQNUTI_TABLE_FULL: return "the epoch's corrections do not all fit in the table";
     case ZAQNUTI_NO_CORRECTION: return "the table gives no correction for the signal and time";
     case ZAQNUTI_BAD_TIME: return "a week is above 15,000, a time of week is not in 0 to below 604,800 s, or a time is past the start of week 15,001";
+    case ZAQNUTI_QUALITY_NOT_FINITE: return "chi or pdop of the fix is not finite";
     default: return "no such number";
     }
 }
@@ -124,8 +125,8 @@ typedef struct zaqnuti_fix_settings {
 
 typedef struct zaqnuti_solution {
     zaqnuti_vector position;
-    double chi;   /* the root of the reduced chi-squared; may not be finite */
-    double pdop;  /* may not be finite */
+    double chi;   /* the root of the reduced chi-squared at this position, finite */
+    double pdop;  /* finite */
     size_t used;  /* observations at or above the mask */
 } zaqnuti_solution;
 

@@ -4,6 +4,8 @@
 use crate::rules;
 use drifters_core::frames::Ecef;
 use drifters_core::time::GpsTime;
+use drifters_gnss::record::{rounds_of, Round};
+use drifters_gnss::robust::{elevation_sigma, Clocks, NX};
 use drifters_gnss::tdcp::{self, Carrier, Delta};
 use drifters_gnss::wls::{self, Observation, Solution};
 
@@ -11,6 +13,8 @@ use drifters_gnss::wls::{self, Observation, Solution};
 const AT_ODDS: u8 = 255;
 /// The fit fails.
 const FIT_FAILED: u8 = 10;
+/// chi or pdop is not finite.
+const QUALITY_NOT_FINITE: u8 = 14;
 
 /// Input of a displacement.
 pub struct Displacement {
@@ -98,14 +102,64 @@ impl Fix {
         wls::solve_full(&self.observations, ecef(self.guess), &self.settings)
     }
 
-    /// The Rust's answer, or the number of the refusal.
-    pub fn answer(&self) -> Result<Solution, u8> {
+    /// The Rust's answer with chi at the point handed out, or the number of the refusal; and the
+    /// Rust's rounds.
+    pub fn answer_and_rounds(&self) -> (Result<Solution, u8>, Vec<Round>) {
         match rules::fix(self) {
-            None => self.rust().ok_or(FIT_FAILED),
+            None => {
+                let (found, rounds) = rounds_of(|| self.rust());
+                (self.judged(found, &rounds), rounds)
+            }
             // Added, or a panic of the Rust's.
-            Some(n @ (2..=4 | 9)) => Err(n),
-            Some(n) => Err(if self.rust().is_none() { n } else { AT_ODDS }),
+            Some(n @ (2..=4 | 9)) => (Err(n), Vec::new()),
+            Some(n) => (
+                Err(if self.rust().is_none() { n } else { AT_ODDS }),
+                Vec::new(),
+            ),
         }
+    }
+
+    pub fn answer(&self) -> Result<Solution, u8> {
+        self.answer_and_rounds().0
+    }
+
+    /// The Rust's solution with the model's chi in place of its own, 10 where there is none, and 14
+    /// where chi or pdop is not finite.
+    fn judged(&self, found: Option<Solution>, rounds: &[Round]) -> Result<Solution, u8> {
+        let found = found.ok_or(FIT_FAILED)?;
+        let chi = self.chi(rounds);
+        if chi.is_finite() && found.pdop.is_finite() {
+            Ok(Solution { chi, ..found })
+        } else {
+            Err(QUALITY_NOT_FINITE)
+        }
+    }
+
+    /// chi where the rounds end, over the Rust's own position and clocks: the guess with every step
+    /// added, and the residuals there.
+    fn chi(&self, rounds: &[Round]) -> f64 {
+        let set = &self.settings;
+        let kept = || {
+            let all = self.observations.iter();
+            all.filter(|o| o.elevation >= set.mask)
+        };
+        let clocks = Clocks::assign(kept().map(|o| o.constellation));
+        let n = clocks.unknowns();
+        let mut x = [0.0; NX];
+        x[..3].copy_from_slice(&self.guess);
+        for round in rounds {
+            for (x, step) in x.iter_mut().zip(round.step).take(n) {
+                *x += step;
+            }
+        }
+        let square = |o: &Observation| {
+            let (_, range) = wls::geometry(o, &x);
+            let residual = o.pseudorange - (range + x[clocks.slot(o.constellation)]);
+            let r = residual / elevation_sigma(o.elevation, set.sigma_a, set.sigma_b);
+            r * r
+        };
+        let freedom = kept().count().saturating_sub(n).max(1) as f64;
+        (kept().map(square).sum::<f64>() / freedom).sqrt()
     }
 }
 
@@ -113,7 +167,6 @@ impl Fix {
 mod tests {
     use super::*;
     use crate::random::Random;
-    use drifters_gnss::record::rounds_of;
 
     /// Carriers all over a sky that nothing moved under, one constellation for each of the first.
     fn standstill(count: usize, slots: usize) -> Displacement {

@@ -69,9 +69,9 @@ pub struct Solution {
     pub position: Ecef,
     /// Observations at or above the mask.
     pub used: usize,
-    /// Root of the reduced chi-squared of the last residuals; it may not be finite.
+    /// Root of the reduced chi-squared of the residuals at this position, finite.
     pub chi: f64,
-    /// Position dilution of precision; it may not be finite.
+    /// Position dilution of precision, finite.
     pub pdop: f64,
 }
 

@@ -11,7 +11,7 @@ use Rattle.cholesky.specs.Factor.{at, Factored, Refused as NoFactor, Lower, fac
 use Rattle.cholesky.specs.Answer.{rowsAfter}
 use Rattle.cholesky.specs.Answer as factor
 use Rattle.numeric.specs.declared.refusal.Refusal.{Refusal}
-use Rattle.numeric.specs.declared.refusal.Refusal.the-variants.{FitFailed}
+use Rattle.numeric.specs.declared.refusal.Refusal.the-variants.{FitFailed, QualityNotFinite}
 use Rattle.robust.specs.declared.row.Row.{Row}
 use Rattle.estimator.specs.Rules.{ruled, rowRules}
 use Rattle.records.specs.Record.{Holds, countedObservations}
@@ -19,7 +19,7 @@ use Rattle.clocks.specs.Clocks.{clocksOf}
 use Rattle.records.specs.Mask.{constellations}
 use Rattle.wls.specs.Valid.{fixInputRules}
 use Rattle.estimator.specs.Rounds.{vector, finiteAt}
-use Rattle.wls.specs.Fix.{Input, kept, clocks, chiOf, plainMatrix, pdopOf, endRules, concludedAt, foundOver, fixOf}
+use Rattle.wls.specs.Fix.{Input, kept, clocks, plainMatrix, pdopOf, dilutionOf, endRules, concludedAt, foundOver, fixOf}
 use Rattle.clocks.specs.declared.clocks.Clocks.{Clocks}
 use Rattle.records.specs.declared.record.Observation.{Observation}
 use Rattle.records.specs.declared.record.Observations.{Observations}
@@ -34,9 +34,9 @@ same-rows : (v : Factored) (y z : List (List Float)) → true ≡ factor.accepte
 same-rows NoFactor y z e = absurd (let z : _≡_ {A = ℕ} 0 1 = cc in omega arith)
 same-rows (Lower l) y z e = refl
 
--- ---- the answer at the state x of the rows, by the tests a, b and d of its position
-module _ (n : ℕ) (rows : List Row) (x : List Float) (a b d : Bool) (a-is : a ≡ finite (at x 0)) (b-is : b ≡ finite (at x 1)) (d-is : d ≡ finite (at x 2)) where
-  pub found-no : (a && b && d) ≡ false → Refused FitFailed ≡ concludedAt n rows x
+-- ---- the answer at the state x of the rows, with chi there, by the tests a, b and d of its position
+module _ (n : ℕ) (rows : List Row) (chi : Float) (x : List Float) (a b d : Bool) (a-is : a ≡ finite (at x 0)) (b-is : b ≡ finite (at x 1)) (d-is : d ≡ finite (at x 2)) where
+  pub found-no : (a && b && d) ≡ false → Refused FitFailed ≡ concludedAt n rows chi x
   unfolding endRules finiteAt ruled
   found-no e = rw (rw (a-is, b-is, d-is) at e)
 
@@ -45,16 +45,25 @@ module _ (n : ℕ) (rows : List Row) (x : List Float) (a b d : Bool) (a-is : a �
     factored : ok ≡ factor.accepted (factorOf (plainMatrix n rows))
     factored = ok-is ∙ ap (λ (z : List (List Float)). factor.accepted (factorOf z)) m-is
 
-    pub found-refused : ok ≡ false → Refused FitFailed ≡ concludedAt n rows x
+    pub found-refused : ok ≡ false → Refused FitFailed ≡ concludedAt n rows chi x
     unfolding endRules finiteAt ruled
     found-refused e = rw (rw (a-is, b-is, d-is) at tests, sym factored ∙ e)
 
-    pub found-yes : (count : ℕ) → count ≡ length rows → (l z : List (List Float)) (chi pdop : Float) → l ≡ rowsAfter (factorOf m) z → ok ≡ true → chi ≡ chiOf n rows → pdop ≡ pdopOf l
-        → At (record { position = vector x; used = count; chi = chi; pdop = pdop }) ≡ concludedAt n rows x
-    unfolding endRules finiteAt ruled
-    found-yes count count-is l z chi pdop l-is e chi-is pdop-is =
-        let q : l ≡ rowsAfter (factorOf (plainMatrix n rows)) [] = l-is ∙ same-rows (factorOf m) z [] (sym e ∙ ok-is) ∙ ap (λ (y : List (List Float)). rowsAfter (factorOf y) []) m-is in
-        rw (rw (a-is, b-is, d-is) at tests, sym factored ∙ e, chi-is, pdop-is, q, count-is)
+    -- with the factor l, its pdop, and the tests p and q of chi and pdop
+    module _ (l z : List (List Float)) (l-is : l ≡ rowsAfter (factorOf m) z) (e : ok ≡ true) (pdop : Float) (pdop-is : pdop ≡ pdopOf l) (p q : Bool) (p-is : p ≡ finite chi) (q-is : q ≡ finite pdop) where
+      dilution : pdop ≡ dilutionOf n rows
+      dilution = pdop-is ∙ ap pdopOf (l-is ∙ same-rows (factorOf m) z [] (sym e ∙ ok-is) ∙ ap (λ (y : List (List Float)). rowsAfter (factorOf y) []) m-is)
+
+      quality : (p && q) ≡ (finite chi && finite (dilutionOf n rows))
+      quality = ap₂ _&&_ p-is (q-is ∙ ap finite dilution)
+
+      pub found-unfit : (p && q) ≡ false → Refused QualityNotFinite ≡ concludedAt n rows chi x
+      unfolding endRules finiteAt ruled
+      found-unfit t = rw (rw (a-is, b-is, d-is) at tests, sym factored ∙ e, sym quality ∙ t)
+
+      pub found-yes : (p && q) ≡ true → (count : ℕ) → count ≡ length rows → At (record { position = vector x; used = count; chi = chi; pdop = pdop }) ≡ concludedAt n rows chi x
+      unfolding endRules finiteAt ruled
+      found-yes t count count-is = rw (rw (a-is, b-is, d-is) at tests, sym factored ∙ e, sym quality ∙ t, dilution, count-is)
 
 -- ---- the call
 module _ (i : Input) where

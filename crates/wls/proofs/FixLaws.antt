@@ -17,7 +17,7 @@ use Rattle.clocks.specs.declared.clocks.Clocks.{Clocks}
 use Rattle.records.specs.declared.record.Observation.{Observation}
 use Rattle.wls.specs.declared.fix.Settings.{Settings}
 use Rattle.estimator.specs.Rounds.{Stopped, Reached, Fit, fitFrom, lastRows, concluded}
-use Rattle.wls.specs.Fix.{sigmaOf, rowAt, roundAt, limit, start, fitOver, endRules, solutionAt, concludedAt, foundOver, RowsAt}
+use Rattle.wls.specs.Fix.{sigmaOf, rowAt, roundAt, limit, start, fitOver, endRules, solutionAt, chiOf, chiAt, concludedAt, foundOver, RowsAt}
 use Rattle.wls.specs.declared.fix.Fix.the-variants.{Refused, At}
 use Rattle.estimator.proofs.RoundsLaws.{Left, LeftRows, left-start, rows-start}
 
@@ -65,9 +65,16 @@ module _ (settings : Settings) (k : Clocks) (os : List Observation) (guess : Vec
   unfolding foundOver fitOver
   stopped-at e = rw (sym e)
 
-  pub reached-at : {n : ℕ} {rows : List Row} {x : List Float} → n ≡ 3 + k .count → Reached x ≡ fit settings k os (start guess) .end → rows ≡ lastRows [] (fit settings k os (start guess) .rounds)
-      → concludedAt n rows x ≡ foundOver settings k os guess
+  pub reached-at : {n : ℕ} {rows : List Row} {chi : Float} {x : List Float} → n ≡ 3 + k .count → Reached x ≡ fit settings k os (start guess) .end → rows ≡ lastRows [] (fit settings k os (start guess) .rounds) → chi ≡ chiAt settings k os x
+      → concludedAt n rows chi x ≡ foundOver settings k os guess
   unfolding foundOver fitOver
-  reached-at {n} {rows} {x} n-is e l =
-      ap₂ (λ (m : ℕ) (r : List Row). concludedAt m r x) n-is l
-      ∙ ap (concluded Refused (endRules (3 + k .count) (lastRows [] (fit settings k os (start guess) .rounds))) (λ y. At (solutionAt (3 + k .count) (lastRows [] (fit settings k os (start guess) .rounds)) y))) e
+  reached-at {n} {rows} {chi} {x} n-is e l c =
+      let last = lastRows [] (fit settings k os (start guess) .rounds) in
+      ap₂ (λ (m : ℕ) (r : List Row). concludedAt m r chi x) n-is l
+      ∙ ap (λ (q : Float). concludedAt (3 + k .count) last q x) c
+      ∙ ap (concluded Refused (λ y. endRules (3 + k .count) last (chiAt settings k os y) y) (λ y. At (solutionAt (3 + k .count) last (chiAt settings k os y) y))) e
+
+-- chi at the state s, of columns that hold the rows there
+pub chi-is : (settings : Settings) (k : Clocks) (os : List Observation) (s : List Float) {rows : List Row} {n : ℕ} {chi : Float} → rows ≡ map (rowAt settings k s) os → n ≡ 3 + k .count → chi ≡ chiOf n rows → chi ≡ chiAt settings k os s
+unfolding chiAt
+chi-is settings k os s r n c = c ∙ ap₂ chiOf n r

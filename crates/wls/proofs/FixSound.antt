@@ -1,6 +1,6 @@
 -- What an accepted fix has, DEMAND 3 over all of its rounds among it. Assumes nothing.
 use mathlib.Core.Path.{_≡_, refl, sym, ap, _∙_, subst}
-use mathlib.Core.Bool.{true}
+use mathlib.Core.Bool.{true, _&&_}
 use Prim.Native.Nat.{ℕ, _+_}
 use native.Mathlib.Omega.{arith}
 use mathlib.Core.List.{List, [], map}
@@ -8,6 +8,10 @@ use lib.Dec.{T}
 use lib.ListN.{length, length-map}
 use lib.Ieee.{Float}
 use lib.Ieee.Scale.{finite}
+use lib.Ieee.Bits.{is-true}
+use lib.Ieee.Fits.{and-l, and-r}
+use borrow.Author.Tests.{not-false}
+use Rattle.estimator.specs.Rules.{Rule}
 use Rattle.walk.specs.Walk.{every}
 use Rattle.cholesky.specs.Factor.{at}
 use Rattle.robust.specs.declared.row.Row.{Row}
@@ -20,7 +24,7 @@ use Rattle.clocks.specs.declared.clocks.Clocks.{Clocks}
 use Rattle.records.specs.declared.record.Observation.{Observation}
 use Rattle.wls.specs.declared.fix.Settings.{Settings}
 use Rattle.estimator.specs.Rounds.{lastRows, Each}
-use Rattle.wls.specs.Fix.{Input, rowAt, roundAt, limit, start, fitOver, kept, clocks, fitOf, roundsOf, endRules, solutionAt, foundOver, fixOf, positionOf, positionFloats, Accepted, Promised, PositionPromised}
+use Rattle.wls.specs.Fix.{Input, rowAt, roundAt, limit, start, fitOver, kept, clocks, fitOf, roundsOf, dilutionOf, chiAt, endRules, solutionAt, foundOver, fixOf, positionOf, fixFloats, positionFloats, Accepted, Promised, PositionPromised}
 use Rattle.wls.specs.declared.fix.Solution.{Solution}
 use Rattle.wls.specs.declared.fix.Fix.{Fix}
 use Rattle.wls.specs.declared.fix.Fix.the-variants.{Refused, At}
@@ -50,16 +54,38 @@ rows i = lastRows [] (roundsOf i)
 abbrev fitted : Input → Fix
 fitted i = foundOver (i .settings) (clocks i) (kept i) (i .guess)
 
-ended : (i : Input) (s : Solution) → fixOf i ≡ At s → Finished (endRules (unknowns i) (rows i)) (λ x. At (solutionAt (unknowns i) (rows i) x)) (At s) (fitOf i .end)
+-- the rules at the state that its rounds reach, and the answer there
+abbrev rulesAt : Input → List Float → List Rule
+rulesAt i x = endRules (unknowns i) (rows i) (chiAt (i .settings) (clocks i) (kept i) x) x
+
+abbrev answerAt : Input → List Float → Fix
+answerAt i x = At (solutionAt (unknowns i) (rows i) (chiAt (i .settings) (clocks i) (kept i) x) x)
+
+ended : (i : Input) (s : Solution) → fixOf i ≡ At s → Finished (rulesAt i) (answerAt i) (At s) (fitOf i .end)
 unfolding fixOf foundOver roundsOf fitOf
 ended i s e =
     let rules = fixRules (i .observations) (i .guess) (i .settings) in
-    finished Refused (endRules (unknowns i) (rows i)) (λ x. At (solutionAt (unknowns i) (rows i) x)) (At s) (never s) (fitOf i .end)
+    finished Refused (rulesAt i) (answerAt i) (At s) (never s) (fitOf i .end)
     (sym (passed-by Refused (fitted i) rules (passed-of Refused (fitted i) rules e (never s))) ∙ e)
 
 place : (i : Input) (s : Solution) (e : fixOf i ≡ At s) → Placed (ended i s e .x)
 unfolding endRules
 place i s e = placed (ended i s e .x) (head-passed _ _ (ended i s e .passed) .0)
+
+-- its figures are finite
+record Figured (i : Input) (x : List Float) : Type 0 where
+  chi : T (finite (chiAt (i .settings) (clocks i) (kept i) x))
+  pdop : T (finite (dilutionOf (unknowns i) (rows i)))
+
+figured : (i : Input) (s : Solution) (e : fixOf i ≡ At s) → Figured i (ended i s e .x)
+unfolding endRules
+figured i s e =
+    let x = ended i s e .x in
+    let c = finite (chiAt (i .settings) (clocks i) (kept i) x) in
+    let d = finite (dilutionOf (unknowns i) (rows i)) in
+    let third = head-passed _ _ (head-passed _ _ (head-passed _ _ (ended i s e .passed) .1) .1) .0 in
+    let both : T (c && d) = subst T (sym (not-false (c && d) third)) tt in
+    record { chi = and-l c d both; pdop = and-r c d both }
 
 -- what each of its rounds has
 fix-each : (P : Round → Type 0) → ((settings : Settings) (k : Clocks) (os : List Observation) (x : List Float) (r : Round) → roundAt settings k os x ≡ Solved r → T (finite (at (r .step) 0)) → P r)
@@ -84,6 +110,7 @@ pub fix-accepted : (i : Input) (s : Solution) → fixOf i ≡ At s → Accepted 
 unfolding fixOf
 fix-accepted i s e =
     let p = place i s e in
+    let g = figured i s e in
     let is = solved (ended i s e .answer-is) in
     let many = fix-enough Refused (fitted i) (i .observations) (i .guess) (i .settings) e (never s) in
     let used : s .used ≡ length (kept i) = ap (λ (z : Solution). z .used) (sym is) ∙ used-rows i s e in
@@ -91,6 +118,8 @@ fix-accepted i s e =
       x-finite = subst (λ (z : Solution). T (finite (z .position .x))) is (p .first);
       y-finite = subst (λ (z : Solution). T (finite (z .position .y))) is (p .second);
       z-finite = subst (λ (z : Solution). T (finite (z .position .z))) is (p .third);
+      chi-finite = subst (λ (z : Solution). T (finite (z .chi))) is (g .chi);
+      pdop-finite = subst (λ (z : Solution). T (finite (z .pdop))) is (g .pdop);
       used-counted = used;
       redundant = omega (arith, used, many .redundant);
       sound-rounds = fix-each Sound one-sound i s e;
@@ -100,11 +129,18 @@ fix-accepted i s e =
     solved : {a b : Solution} → At a ≡ At b → a ≡ b
     solved h = cc
 
--- the position that it gives out is finite
-given-finite : (i : Input) (r : Fix) → ((s : Solution) → r ≡ At s → Accepted i s) → every finite (positionFloats (positionOf r)) ≡ true
+-- what it gives out is finite, and so is the position alone
+given-finite : (i : Input) (r : Fix) → ((s : Solution) → r ≡ At s → Accepted i s) → every finite (fixFloats r) ≡ true
 unfolding every
 given-finite i (Refused r) h = refl
-given-finite i (At s) h = let a = h s refl in three-finite (s .position .x) (s .position .y) (s .position .z) (a .x-finite) (a .y-finite) (a .z-finite)
+given-finite i (At s) h =
+    let a = h s refl in
+    rw (is-true (finite (s .position .x)) (a .x-finite), is-true (finite (s .position .y)) (a .y-finite), is-true (finite (s .position .z)) (a .z-finite), is-true (finite (s .chi)) (a .chi-finite), is-true (finite (s .pdop)) (a .pdop-finite))
+
+position-finite : (i : Input) (r : Fix) → ((s : Solution) → r ≡ At s → Accepted i s) → every finite (positionFloats (positionOf r)) ≡ true
+unfolding every
+position-finite i (Refused r) h = refl
+position-finite i (At s) h = let a = h s refl in three-finite (s .position .x) (s .position .y) (s .position .z) (a .x-finite) (a .y-finite) (a .z-finite)
 
 -- the public calls' promises follow from their answers
 pub promised : (i : Input) (r : Fix) → r ≡ fixOf i → Promised i r
@@ -116,6 +152,6 @@ pub position-promised : (i : Input) (f : Fix) (r : Position) → Promised i f �
 position-promised i f r p e =
     record {
       answer = e ∙ ap positionOf (p .answer);
-      given-finite = subst (λ (q : Position). every finite (positionFloats q) ≡ true) (sym e) (p .given-finite);
+      given-finite = subst (λ (q : Position). every finite (positionFloats q) ≡ true) (sym e) (position-finite i f (p .accepted));
       accepted = λ s q. p .accepted s (p .answer ∙ q);
     }

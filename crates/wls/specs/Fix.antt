@@ -1,7 +1,7 @@
 -- The position of a receiver from one epoch (docs/SCOPE.md, "Fix"; wls.rs): its rounds, what the fit says of itself, and the answer. Definitions only.
 use mathlib.Core.Path.{_≡_}
 use Prim.Native.Nat.{ℕ, _+_, _-_, _<_, max}
-use mathlib.Core.Bool.{true, not, cond}
+use mathlib.Core.Bool.{true, not, cond, _&&_}
 use mathlib.Core.List.{List, [], _∷_, map}
 use lib.Dec.{eqb}
 use lib.ListN.{length, take, replicate}
@@ -20,7 +20,7 @@ use Rattle.numeric.specs.Sight.{geometry}
 use Rattle.numeric.specs.Refusal.{numberOf}
 use Rattle.numeric.specs.declared.sight.Sight.{Sight}
 use Rattle.numeric.specs.declared.vec3.Vec3.{Vec3}
-use Rattle.numeric.specs.declared.refusal.Refusal.the-variants.{FitFailed}
+use Rattle.numeric.specs.declared.refusal.Refusal.the-variants.{FitFailed, QualityNotFinite}
 use Rattle.robust.specs.Nine.{nine}
 use Rattle.robust.specs.Round.{wide, total, triangleOf, Round, Outcome, roundOf, Sound, FiniteResiduals}
 use Rattle.robust.specs.Sigma.{elevationSigma}
@@ -98,7 +98,7 @@ fitOf i = fitOver (i .settings) (clocks i) (kept i) (i .guess)
 unfoldable pub roundsOf : Input → List Round
 roundsOf i = fitOf i .rounds
 
--- ---- what the fit says of itself, from the last round's rows, with n unknowns
+-- ---- what the fit says of itself, with n unknowns
 
 -- the degrees of freedom of so many rows, at least 1
 unfoldable pub freedomOf : ℕ → ℕ → Float
@@ -119,21 +119,29 @@ variance l i = at (solutionOf l (nine (λ j. cond (eqb i j) 1·0 +0))) i
 unfoldable pub pdopOf : List (List Float) → Float
 pdopOf l = rootOf (+0 ⊕ variance l 0 ⊕ variance l 1 ⊕ variance l 2)
 
--- ---- the answer, at the state x that the rounds reach with these rows in the last one, of n unknowns
+-- pdop of the last round's rows, by the factor of their unweighted matrix
+abbrev pub dilutionOf : ℕ → List Row → Float
+dilutionOf n rows = pdopOf (rowsAfter (factorOf (plainMatrix n rows)) [])
 
--- 10: the position is not finite, or a pivot of the unweighted matrix is refused
-unfoldable pub endRules : ℕ → List Row → List Float → List Rule
-endRules n rows x =
+-- chi of the point handed out: of the rows at the state x that the rounds reach, where the residuals are worked out anew, with the final clocks
+unfoldable pub chiAt : Settings → Clocks → List Observation → List Float → Float
+chiAt settings k os x = chiOf (3 + k .count) (map (rowAt settings k x) os)
+
+-- ---- the answer, at the state x that the rounds reach with these rows in the last one, of n unknowns, and with chi at x
+
+-- 10: the position is not finite, or a pivot of the unweighted matrix is refused; 14: chi or pdop is not finite
+unfoldable pub endRules : ℕ → List Row → Float → List Float → List Rule
+endRules n rows chi x =
     rule FitFailed (not (finiteAt x))
     ∷ rule FitFailed (not (factor.accepted (factorOf (plainMatrix n rows))))
+    ∷ rule QualityNotFinite (not (finite chi && finite (dilutionOf n rows)))
     ∷ []
 
--- with the factor of the unweighted matrix
-abbrev pub solutionAt : ℕ → List Row → List Float → Solution
-solutionAt n rows x = record { position = vector x; used = length rows; chi = chiOf n rows; pdop = pdopOf (rowsAfter (factorOf (plainMatrix n rows)) []) }
+abbrev pub solutionAt : ℕ → List Row → Float → List Float → Solution
+solutionAt n rows chi x = record { position = vector x; used = length rows; chi = chi; pdop = dilutionOf n rows }
 
-abbrev pub concludedAt : ℕ → List Row → List Float → Fix
-concludedAt n rows x = ruled Refused (endRules n rows x) (At (solutionAt n rows x))
+abbrev pub concludedAt : ℕ → List Row → Float → List Float → Fix
+concludedAt n rows chi x = ruled Refused (endRules n rows chi x) (At (solutionAt n rows chi x))
 
 -- what the rounds over the observations os come to, with the clocks k
 unfoldable pub foundOver : Settings → Clocks → List Observation → Vec3 → Fix
@@ -141,7 +149,7 @@ foundOver settings k os guess =
     let f = fitOver settings k os guess in
     let n = 3 + k .count in
     let rows = lastRows [] (f .rounds) in
-    concluded Refused (endRules n rows) (λ x. At (solutionAt n rows x)) (f .end)
+    concluded Refused (λ x. endRules n rows (chiAt settings k os x) x) (λ x. At (solutionAt n rows (chiAt settings k os x) x)) (f .end)
 
 -- 2 to 9, and then what the rounds come to
 unfoldable pub fixOf : Input → Fix
@@ -177,21 +185,23 @@ positionFloats (PositionAt p) = p .x ∷ p .y ∷ p .z ∷ []
 abbrev pub input : Observations → Vec3 → Settings → Input
 input observations guess settings = record { observations = observations; guess = guess; settings = settings }
 
--- What an accepted fix has: the position is finite, used are the observations at or above the mask and exceed three plus the slots, demand 3 holds of every round, and
+-- What an accepted fix has: position, chi and pdop are finite, used are the observations at or above the mask and exceed three plus the slots, demand 3 holds of every round, and
 -- no round has a residual that is not finite.
 pub record Accepted (i : Input) (s : Solution) : Type 0 where
   pub x-finite : T (finite (s .position .x))
   pub y-finite : T (finite (s .position .y))
   pub z-finite : T (finite (s .position .z))
+  pub chi-finite : T (finite (s .chi))
+  pub pdop-finite : T (finite (s .pdop))
   pub used-counted : s .used ≡ length (kept i)
   pub redundant : 3 + clocks i .count < s .used
   pub sound-rounds : Each Sound (roundsOf i)
   pub finite-residuals : Each FiniteResiduals (roundsOf i)
 
--- the answer is the definition's, for every input whatever, and the position that it gives out is finite
+-- the answer is the definition's, for every input whatever, and what it gives out is finite
 pub record Promised (i : Input) (r : Fix) : Type 0 where
   pub answer : r ≡ fixOf i
-  pub given-finite : every finite (positionFloats (positionOf r)) ≡ true
+  pub given-finite : every finite (fixFloats r) ≡ true
   pub accepted : (s : Solution) → r ≡ At s → Accepted i s
 
 -- the position alone is that of the fix, and demand 3 holds of every round of an accepted one

@@ -152,14 +152,43 @@ pub(crate) fn fit_sky(settings: Settings, k: Clocks, sky: Observations, guess: V
         let next = move_by(n, dx, state);
         state = next;
         if is_short(1e-3, dx) {
-            return found_at(&x, &y, &z, &clock, &sigma, &residual[..count], n, state);
+            let chi = chi_at(settings, k, sky, state);
+            return found_at(
+                &x,
+                &y,
+                &z,
+                &clock,
+                &sigma,
+                &residual[..count],
+                n,
+                state,
+                chi,
+            );
         }
         i += 1;
     }
-    found_at(&x, &y, &z, &clock, &sigma, &residual[..used], n, state)
+    let chi = chi_at(settings, k, sky, state);
+    found_at(&x, &y, &z, &clock, &sigma, &residual[..used], n, state, chi)
 }
 
-// The answer at the state s that the rows of n unknowns lead to, or 10 where it is not finite or the unweighted matrix is refused.
+// chi at the state s, where the residuals are worked out anew.
+pub(crate) fn chi_at(settings: Settings, k: Clocks, sky: Observations, s: [f64; 9]) -> f64
+    requires { ⌜ (sky .count ≤ 64) × (k .count ≤ 6) ⌝ }
+    ensures { λ r. ⌜ r ≡ spec.chiAt settings k (take (sky .count) (sky .observation)) s ⌝ }
+{
+    let count = sky.count;
+    let sigma = sigmas_of(settings, sky);
+    let mut x = [0.0; 64];
+    let mut y = [0.0; 64];
+    let mut z = [0.0; 64];
+    let mut clock = [0usize; 64];
+    let mut residual = [0u64; 64];
+    rows_at(k, sky, s, &mut x, &mut y, &mut z, &mut clock, &mut residual);
+    chi_of(&sigma, &residual[..count], 3 + k.count)
+}
+
+// The answer at the state s that the rows of n unknowns lead to, with chi there: 10 where it is not finite or the unweighted matrix is refused, 14 where chi or
+// pdop is not finite.
 fn found_at(
     x: &[f64; 64],
     y: &[f64; 64],
@@ -169,9 +198,10 @@ fn found_at(
     residual: &[u64],
     n: usize,
     s: [f64; 9],
+    chi: f64,
 ) -> Fix
     requires { ⌜ (length (now residual) ≤ 64) × (n ≤ 9) ⌝ }
-    ensures { λ r. ⌜ r ≡ spec.concludedAt n (rowsIn (columns (now (x .entry)) (now (y .entry)) (now (z .entry)) (now (clock .entry)) (now (sigma .entry)) (now (residual .entry)))) s ⌝ }
+    ensures { λ r. ⌜ r ≡ spec.concludedAt n (rowsIn (columns (now (x .entry)) (now (y .entry)) (now (z .entry)) (now (clock .entry)) (now (sigma .entry)) (now (residual .entry)))) chi s ⌝ }
 {
     let position = Vec3 {
         x: s[0],
@@ -184,14 +214,16 @@ fn found_at(
         let mut l = [[0.0; 9]; 9];
         if factor_into(&a, &mut l) {
             let used = residual.len();
-            let chi = chi_of(sigma, residual, n);
             let pdop = pdop_of(&l);
-            return Fix::At(Solution {
-                position: position,
-                used: used,
-                chi: chi,
-                pdop: pdop,
-            });
+            if is_finite(chi) & is_finite(pdop) {
+                return Fix::At(Solution {
+                    position: position,
+                    used: used,
+                    chi: chi,
+                    pdop: pdop,
+                });
+            }
+            return Fix::Refused(Refusal::QualityNotFinite);
         }
     }
     Fix::Refused(Refusal::FitFailed)

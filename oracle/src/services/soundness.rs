@@ -38,7 +38,8 @@ fn compare(tally: &mut Tally, random: &mut Random, count: u64) {
             rounds_of(|| input.answer().is_ok())
         } else {
             let input: Fix = sky::input(random);
-            rounds_of(|| input.answer().is_ok())
+            let (answer, rounds) = input.answer_and_rounds();
+            (answer.is_ok(), rounds)
         };
         if !accepted {
             continue;

@@ -84,17 +84,20 @@ move-by-requires c κs = search needs
 is-short-requires : tie.Need-is-short-requires Inv-loop μ-loop
 is-short-requires c κs = search needs
 
+chi-at-requires : tie.Need-chi-at-requires Inv-loop μ-loop
+chi-at-requires c κs = search needs
+
 array-share-prefix-residual-2 : tie.Need-array-share-prefix-residual-2 Inv-loop μ-loop
-array-share-prefix-residual-2 c = omega (arith, c .before .before .before .before .before .before .before .before .before .before .before .before .before .before .before .before .before .before .rows-at .ensures .long .residual-long, c .before .before .before .before .before .before .before .before .before .before .before .before .before .before .before .before .before .before .before .before .before .before .before .before .before .before .before .before .before .pre .0)
+array-share-prefix-residual-2 c = omega (arith, c .before .before .before .before .before .before .before .before .before .before .before .before .before .before .before .before .before .before .before .rows-at .ensures .long .residual-long, c .before .before .before .before .before .before .before .before .before .before .before .before .before .before .before .before .before .before .before .before .before .before .before .before .before .before .before .before .before .before .pre .0)
 
 slice-aggregate-found-at : tie.Need-slice-aggregate-found-at Inv-loop μ-loop
-slice-aggregate-found-at c = sym (length-take-le _ _ (omega (arith, c .before .before .before .before .before .before .before .before .before .before .before .before .before .before .before .before .before .before .before .rows-at .ensures .long .residual-long, c .before .before .before .before .before .before .before .before .before .before .before .before .before .before .before .before .before .before .before .before .before .before .before .before .before .before .before .before .before .before .pre .0)))
+slice-aggregate-found-at c = sym (length-take-le _ _ (omega (arith, c .before .before .before .before .before .before .before .before .before .before .before .before .before .before .before .before .before .before .before .before .rows-at .ensures .long .residual-long, c .before .before .before .before .before .before .before .before .before .before .before .before .before .before .before .before .before .before .before .before .before .before .before .before .before .before .before .before .before .before .before .pre .0)))
 
 found-at-requires : tie.Need-found-at-requires Inv-loop μ-loop
-found-at-requires c κs = let s = c .before .before .before .before .before .before .before .before .before .before .before .before .before .before .before .before .before .before .before .before .before .before .before .before .before .before .before .before .before .before in let e = length-take-le (s .args .sky .count) (c .before .before .before .before .before .before .before .before .before .before .before .before .before .before .before .before .before .before .before .rows-at .last .1 .1 .1 .1 .1 .1 .1 .0) (omega (arith, c .before .before .before .before .before .before .before .before .before .before .before .before .before .before .before .before .before .before .before .rows-at .ensures .long .residual-long, s .pre .0)) in (omega (arith, e, s .pre .0), omega (arith, c .before .before .before .before .before .before .before .before .before .before .before .before .before .before .before .before .before .before .before .before .before .before .before .before .before .before .before .loop .inv .1, s .pre .1))
+found-at-requires c κs = let s = c .before .before .before .before .before .before .before .before .before .before .before .before .before .before .before .before .before .before .before .before .before .before .before .before .before .before .before .before .before .before .before in let e = length-take-le (s .args .sky .count) (c .before .before .before .before .before .before .before .before .before .before .before .before .before .before .before .before .before .before .before .before .rows-at .last .1 .1 .1 .1 .1 .1 .1 .0) (omega (arith, c .before .before .before .before .before .before .before .before .before .before .before .before .before .before .before .before .before .before .before .before .rows-at .ensures .long .residual-long, s .pre .0)) in (omega (arith, e, s .pre .0), omega (arith, c .before .before .before .before .before .before .before .before .before .before .before .before .before .before .before .before .before .before .before .before .before .before .before .before .before .before .before .before .loop .inv .1, s .pre .1))
 
 returns-2 : tie.Need-returns-2 Inv-loop μ-loop
-returns-2 c = let s = c .before .before .before .before .before .before .before .before .before .before .before .before .before .before .before .before .before .before .before .before .before .before .before .before .before .before .before .before .before .before .before in let l = c .before .before .before .before .before .before .before .before .before .before .before .before .before .before .before .before .before .before .before .before .before .before .before .before .before .before .before .before .loop in let g = c .before .before .before .before .before .before .before .before .before .before .before .before .round-step in let rows = held (s .args .settings) (s .args .k) (s .args .sky .count) (s .args .sky .observation) (c .before .before .before .before .before .before .before .before .before .before .before .before .before .before .before .before .before .before .before .before .before .before .before .before .before .before .before .before .loop .state) (c .before .before .before .before .before .before .before .before .before .before .before .before .before .before .before .before .before .before .before .before .before .before .before .before .before .before .before .before .before .sigmas-of .result) (omega (arith, long s, s .pre .0)) (s .pre .0) (c .before .before .before .before .before .before .before .before .before .before .before .before .before .before .before .before .before .before .before .before .rows-at .ensures) (c .before .before .before .before .before .before .before .before .before .before .before .before .before .before .before .before .before .before .before .before .before .before .before .before .before .before .before .before .before .sigmas-of .ensures) in let q = solving (s .args .settings) (s .args .k) (os s) (l .state) _ rows _ (g .result) _ _ (l .inv .1) (g .ensures) in let m = c .before .before .before .before .before .before .before .before .before .move-by in let h = c .before .before .before .before .before .before .before .before .is-short in let u = h .ensures ∙ ap (λ z. short z (g .last .1 .1 .1 .1 .1 .1 .1 .1 .0)) three-places in let v = c .before .before .before .before .before .before .before .before .before .before .enum-told .given .1 in c .found-at .ensures ∙ reached-at (s .args .settings) (s .args .k) (os s) (s .args .guess) (l .inv .1) (left-stops (at s) (3 + s .args .k .count) limit (s .args .settings .rounds) (whole s) (l .i) (l .state) (c .before .before .before .before .before .before .before .before .before .before .before .before .before .before .before .before .before .before .before .before .before .before .before .before .before .before .if1 .taken) (g .result) _ _ q v (m .result) (h .result) (m .ensures) u (c .before .before .before .before .before .before .before .if2 .taken) (l .inv .4)) (rows-stop (at s) (3 + s .args .k .count) limit (s .args .settings .rounds) (whole s) (l .i) (l .state) (c .before .before .before .before .before .before .before .before .before .before .before .before .before .before .before .before .before .before .before .before .before .before .before .before .before .before .if1 .taken) (g .result) _ _ q v (m .result) (h .result) (m .ensures) u (rowsIn (columns (l .x) (l .y) (l .z) (l .clock) (c .before .before .before .before .before .before .before .before .before .before .before .before .before .before .before .before .before .before .before .before .before .before .before .before .before .before .before .before .before .sigmas-of .result) (take (l .used) (l .residual)))) _ (made-rows (s .args .settings) (s .args .k) (os s) (l .state) _ rows) (c .before .before .before .before .before .before .before .if2 .taken) (l .inv .5))
+returns-2 c = let s = c .before .before .before .before .before .before .before .before .before .before .before .before .before .before .before .before .before .before .before .before .before .before .before .before .before .before .before .before .before .before .before .before in let l = c .before .before .before .before .before .before .before .before .before .before .before .before .before .before .before .before .before .before .before .before .before .before .before .before .before .before .before .before .before .loop in let g = c .before .before .before .before .before .before .before .before .before .before .before .before .before .round-step in let rows = held (s .args .settings) (s .args .k) (s .args .sky .count) (s .args .sky .observation) (c .before .before .before .before .before .before .before .before .before .before .before .before .before .before .before .before .before .before .before .before .before .before .before .before .before .before .before .before .before .loop .state) (c .before .before .before .before .before .before .before .before .before .before .before .before .before .before .before .before .before .before .before .before .before .before .before .before .before .before .before .before .before .before .sigmas-of .result) (omega (arith, long s, s .pre .0)) (s .pre .0) (c .before .before .before .before .before .before .before .before .before .before .before .before .before .before .before .before .before .before .before .before .before .rows-at .ensures) (c .before .before .before .before .before .before .before .before .before .before .before .before .before .before .before .before .before .before .before .before .before .before .before .before .before .before .before .before .before .before .sigmas-of .ensures) in let q = solving (s .args .settings) (s .args .k) (os s) (l .state) _ rows _ (g .result) _ _ (l .inv .1) (g .ensures) in let m = c .before .before .before .before .before .before .before .before .before .before .move-by in let h = c .before .before .before .before .before .before .before .before .before .is-short in let u = h .ensures ∙ ap (λ z. short z (g .last .1 .1 .1 .1 .1 .1 .1 .1 .0)) three-places in let v = c .before .before .before .before .before .before .before .before .before .before .before .enum-told .given .1 in c .found-at .ensures ∙ reached-at (s .args .settings) (s .args .k) (os s) (s .args .guess) (l .inv .1) (left-stops (at s) (3 + s .args .k .count) limit (s .args .settings .rounds) (whole s) (l .i) (l .state) (c .before .before .before .before .before .before .before .before .before .before .before .before .before .before .before .before .before .before .before .before .before .before .before .before .before .before .before .if1 .taken) (g .result) _ _ q v (m .result) (h .result) (m .ensures) u (c .before .before .before .before .before .before .before .before .if2 .taken) (l .inv .4)) (rows-stop (at s) (3 + s .args .k .count) limit (s .args .settings .rounds) (whole s) (l .i) (l .state) (c .before .before .before .before .before .before .before .before .before .before .before .before .before .before .before .before .before .before .before .before .before .before .before .before .before .before .before .if1 .taken) (g .result) _ _ q v (m .result) (h .result) (m .ensures) u (rowsIn (columns (l .x) (l .y) (l .z) (l .clock) (c .before .before .before .before .before .before .before .before .before .before .before .before .before .before .before .before .before .before .before .before .before .before .before .before .before .before .before .before .before .before .sigmas-of .result) (take (l .used) (l .residual)))) _ (made-rows (s .args .settings) (s .args .k) (os s) (l .state) _ rows) (c .before .before .before .before .before .before .before .before .if2 .taken) (l .inv .5)) (c .before .before .before .before .before .before .before .chi-at .ensures)
 
 add-i : tie.Need-add-i Inv-loop μ-loop
 add-i c = let known = c .before .before .before .before .before .before .before .before .before .before .before .before .before .before .before .before .before .before .before .before .struct-known2 .given in omega (arith, c .before .before .before .before .before .before .before .before .before .before .before .before .before .before .before .before .before .before .before .if1 .taken)
@@ -105,17 +108,20 @@ loop-less c = omega arith
 loop-again : tie.Need-loop-again Inv-loop μ-loop
 loop-again c = let s = c .before .before .before .before .before .before .before .before .before .before .before .before .before .before .before .before .before .before .before .before .before .before .before .before in let l = c .before .before .before .before .before .before .before .before .before .before .before .before .before .before .before .before .before .before .before .before .before .loop in let g = c .before .before .before .before .before .round-step in let rows = held (s .args .settings) (s .args .k) (s .args .sky .count) (s .args .sky .observation) (c .before .before .before .before .before .before .before .before .before .before .before .before .before .before .before .before .before .before .before .before .before .loop .state) (c .before .before .before .before .before .before .before .before .before .before .before .before .before .before .before .before .before .before .before .before .before .before .sigmas-of .result) (omega (arith, long s, s .pre .0)) (s .pre .0) (c .before .before .before .before .before .before .before .before .before .before .before .before .before .rows-at .ensures) (c .before .before .before .before .before .before .before .before .before .before .before .before .before .before .before .before .before .before .before .before .before .before .sigmas-of .ensures) in let q = solving (s .args .settings) (s .args .k) (os s) (l .state) _ rows _ (g .result) _ _ (l .inv .1) (g .ensures) in let m = c .before .before .move-by in let h = c .before .is-short in let u = h .ensures ∙ ap (λ z. short z (g .last .1 .1 .1 .1 .1 .1 .1 .1 .0)) three-places in let v = c .before .before .before .enum-told .given .1 in (omega (arith, c .before .before .before .before .before .before .before .before .before .before .before .before .before .before .before .before .before .before .before .if1 .taken), l .inv .1, s .pre .0, c .before .before .before .before .before .before .before .before .before .before .before .before .before .rows-at .ensures .long, left-goes (at s) (3 + s .args .k .count) limit (s .args .settings .rounds) (whole s) (l .i) (l .state) (c .before .before .before .before .before .before .before .before .before .before .before .before .before .before .before .before .before .before .before .if1 .taken) (g .result) _ _ q v (m .result) (h .result) (m .ensures) u (c .if2 .left) (l .inv .4), rows-go (at s) (3 + s .args .k .count) limit (s .args .settings .rounds) (whole s) (l .i) (l .state) (c .before .before .before .before .before .before .before .before .before .before .before .before .before .before .before .before .before .before .before .if1 .taken) (g .result) _ _ q v (m .result) (h .result) (m .ensures) u (rowsIn (columns (l .x) (l .y) (l .z) (l .clock) (c .before .before .before .before .before .before .before .before .before .before .before .before .before .before .before .before .before .before .before .before .before .before .sigmas-of .result) (take (l .used) (l .residual)))) _ (made-rows (s .args .settings) (s .args .k) (os s) (l .state) _ rows) (c .if2 .left) (l .inv .5))
 
+chi-at-requires-2 : tie.Need-chi-at-requires-2 Inv-loop μ-loop
+chi-at-requires-2 c κs = search needs
+
 array-share-prefix-residual-3 : tie.Need-array-share-prefix-residual-3 Inv-loop μ-loop
-array-share-prefix-residual-3 c = omega (arith, c .before .before .before .before .before .before .before .loop .inv .3 .residual-long, c .before .before .before .before .before .before .before .loop .inv .2)
+array-share-prefix-residual-3 c = omega (arith, c .before .before .before .before .before .before .before .before .loop .inv .3 .residual-long, c .before .before .before .before .before .before .before .before .loop .inv .2)
 
 slice-aggregate-found-at-2 : tie.Need-slice-aggregate-found-at-2 Inv-loop μ-loop
-slice-aggregate-found-at-2 c = sym (length-take-le _ _ (omega (arith, c .before .before .before .before .before .before .before .before .loop .inv .3 .residual-long, c .before .before .before .before .before .before .before .before .loop .inv .2)))
+slice-aggregate-found-at-2 c = sym (length-take-le _ _ (omega (arith, c .before .before .before .before .before .before .before .before .before .loop .inv .3 .residual-long, c .before .before .before .before .before .before .before .before .before .loop .inv .2)))
 
 found-at-requires-2 : tie.Need-found-at-requires-2 Inv-loop μ-loop
-found-at-requires-2 c κs = let l = c .before .before .before .before .before .before .before .before .loop in let e = length-take-le (l .used) (l .residual) (omega (arith, l .inv .3 .residual-long, l .inv .2)) in (omega (arith, e, l .inv .2), omega (arith, l .inv .1, c .before .before .before .before .before .before .before .before .before .before .before .pre .1))
+found-at-requires-2 c κs = let l = c .before .before .before .before .before .before .before .before .before .loop in let e = length-take-le (l .used) (l .residual) (omega (arith, l .inv .3 .residual-long, l .inv .2)) in (omega (arith, e, l .inv .2), omega (arith, l .inv .1, c .before .before .before .before .before .before .before .before .before .before .before .before .pre .1))
 
 returns-3 : tie.Need-returns-3 Inv-loop μ-loop
-returns-3 c = let s = c .before .before .before .before .before .before .before .before .before .before .before .before in let l = c .before .before .before .before .before .before .before .before .before .loop in c .found-at2 .ensures ∙ reached-at (s .args .settings) (s .args .k) (os s) (s .args .guess) (l .inv .1) (left-end (at s) (3 + s .args .k .count) limit (s .args .settings .rounds) (whole s) (l .i) (l .state) (omega (arith, c .before .before .before .before .before .before .before .if1 .left)) (l .inv .4)) (rows-end (at s) (3 + s .args .k .count) limit (s .args .settings .rounds) (whole s) (l .i) (l .state) (omega (arith, c .before .before .before .before .before .before .before .if1 .left)) _ (l .inv .5))
+returns-3 c = let s = c .before .before .before .before .before .before .before .before .before .before .before .before .before in let l = c .before .before .before .before .before .before .before .before .before .before .loop in c .found-at2 .ensures ∙ reached-at (s .args .settings) (s .args .k) (os s) (s .args .guess) (l .inv .1) (left-end (at s) (3 + s .args .k .count) limit (s .args .settings .rounds) (whole s) (l .i) (l .state) (omega (arith, c .before .before .before .before .before .before .before .before .if1 .left)) (l .inv .4)) (rows-end (at s) (3 + s .args .k .count) limit (s .args .settings .rounds) (whole s) (l .i) (l .state) (omega (arith, c .before .before .before .before .before .before .before .before .if1 .left)) _ (l .inv .5)) (c .before .before .before .before .before .before .before .chi-at2 .ensures)
 
 pub fit-sky-spec : {M : Type 1} → statement M
 fit-sky-spec =
@@ -138,6 +144,7 @@ fit-sky-spec =
     enum-told
     move-by-requires
     is-short-requires
+    chi-at-requires
     array-share-prefix-residual-2
     slice-aggregate-found-at
     found-at-requires
@@ -145,6 +152,7 @@ fit-sky-spec =
     add-i
     loop-less
     loop-again
+    chi-at-requires-2
     array-share-prefix-residual-3
     slice-aggregate-found-at-2
     found-at-requires-2
