@@ -1,4 +1,4 @@
--- A displacement between two times in whole nanoseconds (document 02, request (i)): dt is the seconds from the previous time to the current one. Definitions only.
+-- A displacement between two times in whole nanoseconds (docs/SCOPE.md, "Times"): dt is the seconds from the previous time to the current one. Definitions only.
 use mathlib.Core.Path.{_≡_}
 use mathlib.Core.Bool.{true, cond}
 use lib.Dec.{eqb}

@@ -1,4 +1,4 @@
--- Times in whole nanoseconds (document 02, request (i); `GpsTime` of time.rs). Definitions only.
+-- Times in whole nanoseconds (docs/SCOPE.md, "Times"; `GpsTime` of time.rs). Definitions only.
 use Prim.Native.Nat.{ℕ, _+_, _*_}
 use mathlib.Core.Bool.{Bool, cond, _&&_}
 use lib.IntN.{ℤ, pos, _-ℤ_}
