@@ -20,7 +20,11 @@ pub record Seeking (target : ℕ) (k : List ℕ) (len at : ℕ) : Type 0 where
   pub long : length k ≡ 64
   pub is : placed at (take len k) ≡ target
 
-front-length : (l : List ℕ) (r : ℕ) (k : List ℕ) → Front l r k → r ≡ length l
+-- where a search starts
+pub seeking : {k : List ℕ} {n m : ℕ} → (m < n) × (n ≤ 64) × (length k ≡ 64) → Seeking (placed m (take n k)) k n m
+seeking h = record { room = h .1; inside = h .0; long = h .2; is = refl }
+
+pub front-length : (l : List ℕ) (r : ℕ) (k : List ℕ) → Front l r k → r ≡ length l
 front-length l r k f = sym (length-take-le r k (omega (arith, f .few, f .long))) ∙ ap length (f .is)
 
 -- ---- one number or two
@@ -65,26 +69,31 @@ module _ {target : ℕ} {k : List ℕ} {len at : ℕ} (h : Seeking target k len 
 
 -- ---- more numbers: a turn
 
--- p stands among them, and `less` of them are below p
-module _ {target : ℕ} {k : List ℕ} {len at : ℕ} (p : ℕ) {less : ℕ} (h : Seeking target k len at) (some : 1 ≤ count p (take len k)) (e : less ≡ length (lows p (take len k))) where
+-- `less` of them are below p
+module _ {target : ℕ} {k : List ℕ} {len at : ℕ} (p : ℕ) {less : ℕ} (h : Seeking target k len at) (e : less ≡ length (lows p (take len k))) where
   sizes : length (lows p (take len k)) + count p (take len k) + length (highs p (take len k)) ≡ len
   sizes = parts p (take len k) ∙ length-take-le len k (omega (arith, h .room, h .long))
 
   module _ {r : ℕ} {k′ : List ℕ} where
-    pub low-turn : at < less → Front (lows p (take len k)) r k′ → (r < len) × Seeking target k′ r at
-    low-turn a f =
-        let n : r ≡ length (lows p (take len k)) = front-length (lows p (take len k)) r k′ f in (
-          omega (arith, sizes),
-          record {
-            room = f .few;
-            inside = omega arith;
-            long = f .long;
-            is = rw (f .is) (sym (placed-low p at (take len k) (omega arith)) ∙ h .is);
-          },
-        )
+    -- where p stands among them, each part has fewer
+    pub low-fewer : 1 ≤ count p (take len k) → Front (lows p (take len k)) r k′ → r < len
+    low-fewer some f = omega (arith, front-length (lows p (take len k)) r k′ f, sizes)
 
-    pub high-fewer : Front (highs p (take len k)) r k′ → r < len
-    high-fewer f = omega (arith, front-length (highs p (take len k)) r k′ f, sizes)
+    pub high-fewer : 1 ≤ count p (take len k) → Front (highs p (take len k)) r k′ → r < len
+    high-fewer some f = omega (arith, front-length (highs p (take len k)) r k′ f, sizes)
+
+    pub high-most : Front (highs p (take len k)) r k′ → r ≤ len
+    high-most f = omega (arith, front-length (highs p (take len k)) r k′ f, sizes)
+
+    pub low-turn : at < less → Front (lows p (take len k)) r k′ → Seeking target k′ r at
+    low-turn a f =
+        let n : r ≡ length (lows p (take len k)) = front-length (lows p (take len k)) r k′ f in
+        record {
+          room = f .few;
+          inside = omega arith;
+          long = f .long;
+          is = rw (f .is) (sym (placed-low p at (take len k) (omega arith)) ∙ h .is);
+        }
 
     pub high-turn : len - r ≤ at → Front (highs p (take len k)) r k′ → Seeking target k′ r (at - (len - r))
     high-turn a f =
