@@ -2,6 +2,7 @@
 // the part with the place goes on. First by sign, then into numbers, infinities and NaNs, and what is left of one sign and kind by a pattern of the list:
 // those below it, it, and those above it.
 ghost use mathlib.Core.Path.{_≡_};
+ghost use mathlib.Core.List.{[], _∷_};
 ghost use Prim.Native.Nat.{_≤_, _<_, min, max};
 ghost use lib.ListN.{take, length};
 ghost use Rattle.median.specs.Sorted.{medianOf, Unsigned, count};
@@ -80,6 +81,22 @@ fn keep_high(k: &mut [u64; 64], n: usize, p: u64) -> usize
     w
 }
 
+// The number at place m of three in ascending order.
+fn of_three(a: u64, b: u64, c: u64, m: usize) -> u64
+    requires { ⌜ m < 3 ⌝ }
+    ensures { λ r. ⌜ r ≡ placed m (a ∷ (b ∷ (c ∷ []))) ⌝ }
+{
+    let low = lesser(a, b);
+    let high = greater(a, b);
+    if m == 0 {
+        return lesser(low, c);
+    }
+    if m == 1 {
+        return greater(low, lesser(high, c));
+    }
+    greater(high, c)
+}
+
 // The number at place m of the first n numbers of k in ascending order. k is left with other contents.
 // Of patterns whose signs are clear this is the order of magnitudes, since the exponent field stands above the digits; and of NaNs the order of digits, of
 // which the first tells signaling from quiet, and the others are the payload.
@@ -97,6 +114,12 @@ fn select(k: &mut [u64; 64], n: usize, m: usize) -> u64
                 return lesser(a, b);
             }
             return greater(a, b);
+        }
+        if len == 3 {
+            let a = k[0];
+            let b = k[1];
+            let c = k[2];
+            return of_three(a, b, c, at);
         }
         let p = pivot(k, len);
         let less = count_low(k, len, p);
