@@ -21,7 +21,7 @@ use Rattle.clocks.specs.Clocks.{none, given, slot, has, appearing, slotFrom, cl
 use Rattle.records.specs.Pair.{pairOf, firstPair, pairAt, pairsOf}
 use Rattle.records.specs.Screen.{centre, within, keptOf}
 use Rattle.tdcp.specs.Valid.{settingsPass, badInterval, epochRules, intervalRules, displacementCounts}
-use Rattle.tdcp.specs.Front.{allPairs, keptPairs, pairRules}
+use Rattle.tdcp.specs.Front.{allPairs, keptPairs, sightRules, countRules}
 use Rattle.records.specs.declared.record.Carrier.{Carrier}
 use Rattle.records.specs.declared.record.Epoch.{Epoch}
 use Rattle.tdcp.specs.declared.displacement.Settings.{Settings}
@@ -65,9 +65,9 @@ epoch cs = record { count = length cs; carriers = cs }
 abbrev set : Float → Settings
 set m = record { screen = decimal 5 1; «sigma_a» = 1·0; «sigma_b» = +0; huber = 1·0; mask = m; rounds = 4; agreement = nan }
 
--- what the rules say at dt seconds
+-- what the rules but for 15 say at dt seconds
 abbrev said : Float → Float → List Carrier → List Carrier → Check
-said m dt previous current = ruled Refused (epochRules (epoch previous) (epoch current) origin (set m) ++ intervalRules dt ++ pairRules (set m) (allPairs (epoch previous) (epoch current) dt origin (set m))) Passed
+said m dt previous current = ruled Refused (epochRules (epoch previous) (epoch current) origin (set m) ++ intervalRules dt ++ countRules (set m) (allPairs (epoch previous) (epoch current) dt origin (set m))) Passed
 
 abbrev six : List Carrier
 six = map (used 1) (1 ∷ 2 ∷ 3 ∷ 4 ∷ 5 ∷ 6 ∷ [])
@@ -94,7 +94,7 @@ pub record Edges : Type 0 where
   pub mask-not-finite : said nan 1·0 six six ≡ Refused SettingOutOfRange
 
 pub edges : Edges
-unfolding ruled every first collect abs inRange placeable isElevation sound unsigned bitSet usable same has appearing slotFrom clocksIn clocksOf pairOf firstPair pairAt pairsOf centre within keptOf settingsPass badInterval epochRules intervalRules displacementCounts rowRules pairRules sign exponent digits isNanPattern isQuiet payload payloadOrder unordered totalOrder patternOf insertBy sortedBy medianOf centreOf ofInt ofBits toBits neg add sub mul div le lt eq isNan
+unfolding ruled every first collect abs inRange placeable isElevation sound unsigned bitSet usable same has appearing slotFrom clocksIn clocksOf pairOf firstPair pairAt pairsOf centre within keptOf settingsPass badInterval epochRules intervalRules displacementCounts rowRules countRules sign exponent digits isNanPattern isQuiet payload payloadOrder unordered totalOrder patternOf insertBy sortedBy medianOf centreOf ofInt ofBits toBits neg add sub mul div le lt eq isNan
 edges =
     record {
       nothing = refl;
