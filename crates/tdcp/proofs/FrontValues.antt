@@ -11,8 +11,9 @@ use Rattle.walk.specs.Walk.{every, first, collect, fold}
 use Rattle.numeric.specs.Real.{abs, inRange}
 use Rattle.exact.specs.Pattern.{sign, exponent, digits}
 use Rattle.numeric.specs.Order.{isNanPattern, isQuiet, payload, payloadOrder, unordered, totalOrder, patternOf}
+use Rattle.numeric.specs.Sight.{onReceiver}
 use Rattle.numeric.specs.declared.vec3.Vec3.{Vec3}
-use Rattle.numeric.specs.declared.refusal.Refusal.the-variants.{TooMany, SettingOutOfRange, RecordOutOfRange, BadInterval, TooFewPairs, TooFewRows, TooManySlots}
+use Rattle.numeric.specs.declared.refusal.Refusal.the-variants.{TooMany, SettingOutOfRange, RecordOutOfRange, BadInterval, TooFewPairs, TooFewRows, TooManySlots, OnReceiver}
 use Rattle.median.specs.Sorted.{insertBy, sortedBy, medianOf}
 use Rattle.median.specs.Centre.{centreOf}
 use Rattle.estimator.specs.Rules.{ruled, rowRules}
@@ -24,6 +25,7 @@ use Rattle.tdcp.specs.Valid.{settingsPass, badInterval, epochRules, inte
 use Rattle.tdcp.specs.Front.{allPairs, keptPairs, sightRules, countRules}
 use Rattle.records.specs.declared.record.Carrier.{Carrier}
 use Rattle.records.specs.declared.record.Epoch.{Epoch}
+use Rattle.records.specs.declared.pair.Pair.{Pair}
 use Rattle.tdcp.specs.declared.displacement.Settings.{Settings}
 use Rattle.estimator.specs.declared.rules.Check.{Check}
 use Rattle.estimator.specs.declared.rules.Check.the-variants.{Refused, Passed}
@@ -112,3 +114,22 @@ edges =
       records-65 = refl;
       mask-not-finite = refl;
     }
+
+-- ---- 15, of pairs with these ranges, the current satellite's and the previous one's
+
+abbrev ranged : Float → Float → Pair
+ranged now then = record { unit = origin; constellation = 1; elevation = +0; observed = +0; detector = +0; range = now; «previous_range» = then }
+
+abbrev sighted : List Pair → Check
+sighted ps = ruled Refused (sightRules (ranged 1·0 1·0 ∷ ps)) Passed
+
+pub record Ranges : Type 0 where
+  pub all-seen : sighted (ranged (whole 7) 1·0 ∷ []) ≡ Passed
+  pub current-zero : sighted (ranged +0 1·0 ∷ []) ≡ Refused OnReceiver
+  pub previous-zero : sighted (ranged 1·0 (neg +0) ∷ []) ≡ Refused OnReceiver
+  pub current-not-finite : sighted (ranged nan 1·0 ∷ []) ≡ Refused OnReceiver
+  pub previous-not-finite : sighted (ranged 1·0 (inf false) ∷ []) ≡ Refused OnReceiver
+
+pub ranges : Ranges
+unfolding ruled collect sightRules onReceiver eq neg ofInt ofBits
+ranges = record { all-seen = refl; current-zero = refl; previous-zero = refl; current-not-finite = refl; previous-not-finite = refl }

@@ -1,4 +1,5 @@
 -- THE LAW of request (v) for a fix: it is refused by 15, or it is the one from before the request; and where no range met is zero or not finite it is that one. Assumes nothing.
+use mathlib.Core.Logic.{_⊎_, inl, inr}
 use mathlib.Core.Path.{_≡_, refl, sym, ap, ap₂, _∙_}
 use mathlib.Core.Bool.{Bool, true, false, not, cond, _&&_}
 use mathlib.Core.List.{List, [], _∷_, map}
@@ -185,14 +186,14 @@ module _ (settings : Settings) (k : Clocks) (os : List Observation) where
     end-either : (e : End) → let was = concluded Refused (rulesBefore settings k os guess rows) (answerBefore settings k os guess rows) e in let is = concluded Refused rulesNow (answerBefore settings k os guess rows) e in (is ≡ Refused OnReceiver) ⊎ (is ≡ was)
     unfolding ruled
     end-either (Stopped r) = inr refl
-    end-either (Reached x) = go (not (finiteAt x)) (not (factor.accepted (factorOf (plainMatrix n rows)))) (seenAt os x) (end-is x)
+    end-either (Reached x) = go (not (finiteAt x)) (not (factor.accepted (factorOf (plainMatrix n rows)))) (seenAt os x) _ _ (end-is x)
       where
-        go : (a b c : Bool) {is quality : Fix} → is ≡ cond a (Refused FitFailed) (cond b (Refused FitFailed) (cond c quality (Refused OnReceiver)))
+        go : (a b c : Bool) (is quality : Fix) → is ≡ cond a (Refused FitFailed) (cond b (Refused FitFailed) (cond c quality (Refused OnReceiver)))
             → (is ≡ Refused OnReceiver) ⊎ (is ≡ cond a (Refused FitFailed) (cond b (Refused FitFailed) quality))
-        go true b c e = inr e
-        go false true c e = inr e
-        go false false true e = inr e
-        go false false false e = inl e
+        go true b c is quality e = inr e
+        go false true c is quality e = inr e
+        go false false true is quality e = inr e
+        go false false false is quality e = inl e
 
     end-same : (e : End) → ((x : List Float) → e ≡ Reached x → seenAt os x ≡ true) → concluded Refused rulesNow (answerBefore settings k os guess rows) e ≡ concluded Refused (rulesBefore settings k os guess rows) (answerBefore settings k os guess rows) e
     unfolding ruled

@@ -11,7 +11,7 @@ use Rattle.cholesky.specs.Factor.{at, Factored, Refused as NoFactor, Lower, fac
 use Rattle.cholesky.specs.Answer.{rowsAfter}
 use Rattle.cholesky.specs.Answer as factor
 use Rattle.numeric.specs.declared.refusal.Refusal.{Refusal}
-use Rattle.numeric.specs.declared.refusal.Refusal.the-variants.{FitFailed}
+use Rattle.numeric.specs.declared.refusal.Refusal.the-variants.{FitFailed, QualityNotFinite}
 use Rattle.robust.specs.declared.row.Row.{Row}
 use Rattle.estimator.specs.Rules.{Rule, ruled, rowRules}
 use Rattle.records.specs.Record.{Holds, countedObservations}
@@ -36,6 +36,20 @@ use Rattle.wls.proofs.FrontLaws.{fix-input-refused, fix-clocks, fix-cou
 same-rows : (v : Factored) (y z : List (List Float)) → true ≡ factor.accepted v → rowsAfter v y ≡ rowsAfter v z
 same-rows NoFactor y z e = absurd (let z : _≡_ {A = ℕ} 0 1 = cc in omega arith)
 same-rows (Lower l) y z e = refl
+
+-- the code's three ways of what chi and pdop come to
+module _ (position : Vec3) (used : ℕ) (pdop : Float) {v : Chi} where
+  pub rated-no : {r : Refusal} → v ≡ NoChi r → Refused r ≡ ratedBy position used pdop v
+  rated-no e = sym (ap (ratedBy position used pdop) e)
+
+  module _ {c : Float} (e : v ≡ ChiOf c) {p q : Bool} (p-is : p ≡ finite c) (q-is : q ≡ finite pdop) where
+    pub rated-yes : (p && q) ≡ true → At (record { position = position; used = used; chi = c; pdop = pdop }) ≡ ratedBy position used pdop v
+    unfolding ruled
+    rated-yes t = rw (e, sym (ap₂ _&&_ p-is q-is) ∙ t)
+
+    pub rated-unfit : (p && q) ≡ false → Refused QualityNotFinite ≡ ratedBy position used pdop v
+    unfolding ruled
+    rated-unfit t = rw (e, sym (ap₂ _&&_ p-is q-is) ∙ t)
 
 -- what is left of the rules once 10 has let a fit pass, as the code has it of chi
 rated-is : (position : Vec3) (used : ℕ) (pdop : Float) (sights : List Rule) (chi : Float) {v : Chi} → v ≡ ruled NoChi sights (ChiOf chi)

@@ -13,7 +13,7 @@ use Rattle.numeric.specs.declared.refusal.Refusal.the-variants.{OnReceiver}
 use Rattle.numeric.specs.declared.sight.Sight.{Sight}
 use Rattle.numeric.specs.declared.sight.Sighting.{Sighting}
 use Rattle.numeric.specs.declared.sight.Sighting.the-variants.{Refused as NotSeen, Seen}
-use Rattle.numeric.proofs.SightLaws.{seen-by} 
+use Rattle.numeric.proofs.SightLaws.{seen-by}
 use Rattle.numeric.proofs.SightLaws.{refused-by as not-seen-by}
 use Rattle.robust.specs.Round.{Round, Outcome, Refused as NoRound, Solved, roundOf}
 use Rattle.robust.specs.Normal.{Solving}

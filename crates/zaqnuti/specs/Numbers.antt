@@ -2,13 +2,12 @@
 use Prim.Native.Nat.{ℕ}
 use mathlib.Core.Path.{_≡_}
 use mathlib.Core.Bool.{cond}
-use mathlib.Core.List.{List, map}
+use mathlib.Core.List.{List, [], _∷_, map}
 use lib.Ieee.{Float}
 use Rattle.numeric.specs.Refusal.{numberOf}
 use Rattle.numeric.specs.declared.refusal.Refusal.the-variants.{TooMany, FitFailed}
 use Rattle.cholesky.specs.Factor.{Factored, Refused, Lower}
 use Rattle.numeric.specs.Order.{patternOf}
-use Rattle.numeric.specs.Sight.{sightingFloats}
 use Rattle.numeric.specs.declared.sight.Sighting.{Sighting}
 use Rattle.numeric.specs.declared.sight.Sighting.the-variants.{Refused as NotSeen, Seen}
 use Rattle.robust.specs.Step.{Stepped, refused, stepOf}
@@ -42,4 +41,4 @@ clocksFrom slot count = record { slot = slot; count = count }
 -- the patterns of the unit vector and the range; a refusal leaves them as they were, to the last bit
 abbrev pub sightAfter : Sighting → List ℕ → List ℕ
 sightAfter (NotSeen r) before = before
-sightAfter (Seen s) before = map patternOf (sightingFloats (Seen s))
+sightAfter (Seen s) before = map patternOf (s .x ∷ s .y ∷ s .z ∷ s .range ∷ [])
