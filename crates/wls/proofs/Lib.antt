@@ -8,3 +8,4 @@ pub mod QualityValues
 pub mod FixCall
 pub mod CountedLaws
 pub mod BeforeLaws
+pub mod QualityBefore
