@@ -55,7 +55,7 @@ fn standing(random: &mut Random, plan: &Plan) -> Fix {
 }
 
 impl Input for Fix {
-    const EDGES: u64 = 2;
+    const EDGES: u64 = 4;
 
     fn under(random: &mut Random, plan: &Plan) -> Self {
         standing(random, plan)
@@ -107,13 +107,24 @@ impl Input for Fix {
         let Some(&last) = self.observations.last() else {
             return;
         };
-        if which == 0 {
+        match which {
             // About 64 observations.
-            self.observations.resize(63 + random.place(4), last);
-        } else {
+            0 => self.observations.resize(63 + random.place(4), last),
+            // A satellite on the guess.
+            1 => {
+                let k = random.place(self.observations.len());
+                self.observations[k].satellite = self.guess;
+            }
+            // Sigmas so small that a weight is finite and the square of a residual by its sigma is not.
+            2 => {
+                self.settings.sigma_a = exp2(random.between(-512, -500));
+                self.settings.sigma_b = 0.0;
+            }
             // Satellites at one place.
-            for o in &mut self.observations {
-                o.satellite = last.satellite;
+            _ => {
+                for o in &mut self.observations {
+                    o.satellite = last.satellite;
+                }
             }
         }
     }
