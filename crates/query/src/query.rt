@@ -74,12 +74,12 @@ fn past_last(
     if i == 0 {
         return Correction::Refused(Refusal::NoCorrection);
     }
-    let q = sample_at(cs, vs, bs, ts, xs, i - 1);
-    if !is_of(q, c, v, b) {
+    let last = sample_at(cs, vs, bs, ts, xs, i - 1);
+    if !is_of(last, c, v, b) {
         return Correction::Refused(Refusal::NoCorrection);
     }
-    if is_near(q.time, t) {
-        return Correction::Metres(q.correction);
+    if is_near(last.time, t) {
+        return Correction::Metres(last.correction);
     }
     Correction::Refused(Refusal::NoCorrection)
 }
