@@ -1,0 +1,47 @@
+-- `trip::words::add_held` meets its contract. Assumes nothing.
+use mathlib.Core.Path.{sym, _∙_}
+use borrow.Author.Needs.{needs}
+use Rattle.trip.proofs.WordLaws.{add-refused, add-goes}
+use Rattle.trip.proofs.words.add_held.Statement.{statement}
+use Rattle.trip.proofs.words.add_held.Tie as tie
+
+held-requires : tie.Need-held-requires
+held-requires c κs = search needs
+
+enum-known-before : tie.Need-enum-known-before
+enum-known-before c = search needs
+
+enum-known-before-2 : tie.Need-enum-known-before-2
+enum-known-before-2 c = search needs
+
+array-read-t11 : tie.Need-array-read-t11
+array-read-t11 c = search needs
+
+array-read-t14 : tie.Need-array-read-t14
+array-read-t14 c = search needs
+
+array-read-t17 : tie.Need-array-read-t17
+array-read-t17 c = search needs
+
+add-requires : tie.Need-add-requires
+add-requires c κs = search needs
+
+returns : tie.Need-returns
+returns c = let b = c .before in add-refused _ _ _ _ (sym (b .before2 .given .1) ∙ b .before .before .held .ensures)
+
+returns-2 : tie.Need-returns-2
+returns-2 c = let b = c .before .before in add-goes _ _ _ _ (c .add .ensures .is) (sym (b .before3 .given .1) ∙ b .before .before .held .ensures)
+
+pub add-held-spec : {M : Type 1} → statement M
+add-held-spec =
+    tie.close
+    (tie.spec
+    held-requires
+    enum-known-before
+    enum-known-before-2
+    array-read-t11
+    array-read-t14
+    array-read-t17
+    add-requires
+    returns
+    returns-2)
