@@ -229,7 +229,7 @@ module _ (rate : ℕ) where
 
   pub start-goes : 0 < rate → started rate ≡ Goes (tripOf rate [])
   unfolding started
-  start-goes h = rw (ne-eqb rate 0 (λ (e : rate ≡ 0). omega arith))
+  start-goes h = rw (lt-ltb 0 rate h)
 
   -- For every list of calls, from the start: the trip that they leave is that of the epochs that count.
   pub trip-law : (legs : List Leg) → 0 < rate → every narrow legs ≡ true → fold after (tripOf rate []) legs ≡ tripOf rate (counting legs)

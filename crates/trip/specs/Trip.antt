@@ -83,7 +83,7 @@ sound t = ltb 0 (t .rate) && leb (t .epochs) 65535 && leb (t .carrier) (1000000 
 
 -- a trip just started; 16 for a pulse rate of 0
 unfoldable pub started : ℕ → Step
-started rate = cond (eqb rate 0) (Refused BadTrip) (Goes (tripOf rate []))
+started rate = cond (ltb 0 rate) (Goes (tripOf rate [])) (Refused BadTrip)
 
 -- one epoch of so many millimetres and pulses more: the first is the first to reach its difference, a later one where it is above all before it
 unfoldable pub counted : Trip → ℕ → ℕ → Trip
