@@ -20,6 +20,7 @@ mod soundness;
 mod standins;
 pub mod time;
 pub mod track;
+pub mod trip;
 
 use crate::random::Random;
 use crate::tally::Tally;
@@ -63,6 +64,7 @@ pub const KINDS: &[(u64, &str, Make)] = &[
     (21, "since", time::since),
     (22, "between", between::vectors),
     (23, "widen", corrections::stored::widen),
+    (27, "trip", trip::vectors),
 ];
 
 /// Every service, lowest first.
@@ -81,6 +83,7 @@ pub const SERVICES: &[Service] = &[
     displacement::SERVICE,
     time::SERVICE,
     between::SERVICE,
+    trip::SERVICE,
     fix::SERVICE,
     soundness::SERVICE,
     track::SERVICE,
