@@ -402,7 +402,7 @@ static void trip(void)
     expect_number("greatest difference, mm", (unsigned)report[2], 250000);
     expect_number("after epoch", (unsigned)report[3], 18010);
     expect_number("fuel", zaqnuti_trip_fuel(day, 41288, &per_km), 0);
-    expect_number("ml a kilometre", (unsigned)per_km, 89);
+    expect_number("ml a kilometre", (unsigned)per_km, 90);
     printf("  In %lu epochs the van went %lu m by its carriers and %lu m by its odometer. The two were furthest\n"
            "  apart, by %lu m, after epoch %lu; the day took %lu ml of fuel for a kilometre.\n",
            (unsigned long)day[1], metres(report[0]), metres(report[1]), metres(report[2]), (unsigned long)report[3], (unsigned long)per_km);

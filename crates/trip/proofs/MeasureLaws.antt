@@ -3,12 +3,12 @@ use mathlib.Core.Path.{_≡_, refl, sym, ap, _∙_, subst}
 use Prim.Native.Nat.{ℕ, zero, suc, _*_, _/_, _^_, _≤_, _<_}
 use native.Mathlib.Nat.{le-refl, zero-mul, zero-div, mul-le-mul-right, div-le-of-le-mul}
 use native.Mathlib.Omega.{arith}
-use mathlib.Core.Bool.{Bool, true, false, true≢false, false≢true, _&&_, _||_}
+use mathlib.Core.Bool.{Bool, true, false, true≢false, false≢true, and-false, _&&_, _||_}
 use lib.Dec.{T, eqb, lit≤}
 use lib.Pow.{pow-pos}
 use lib.IntN.{ℤ, pos}
 use borrow.Author.Tests.{eq-eqb, eqb-true}
-use lib.Ieee.{Float, nan, inf, fin, up, down, binary64, lt, le, ofBits, ofInt}
+use lib.Ieee.{Float, nan, inf, fin, up, down, binary64, lt, le, mul, ofBits, ofInt}
 use lib.Ieee.Exact.{HasValue}
 use lib.Ieee.Fits.{down-pos, add-fits}
 use lib.Ieee.Scale.{finite}
@@ -20,6 +20,7 @@ use Rattle.walk.proofs.Walk.{and-both}
 use Rattle.numeric.specs.Vec3.{norm}
 use Rattle.numeric.specs.Whole.{wholeTimes}
 use Rattle.numeric.specs.declared.vec3.Vec3.{Vec3}
+use Rattle.numeric.proofs.RealLaws.{sum-finite-left, sum-finite-right}
 use Rattle.numeric.proofs.Growing.{at-most, le-below, from-zero}
 use Rattle.numeric.proofs.WholeLaws.{Greatest, whole-greatest}
 use Rattle.trip.specs.Measure.{millimetres, distance, measurable}
@@ -92,7 +93,7 @@ minus-units m e h =
     let y : m * up e ≡ 0 = omega arith in
     ap (λ (p : ℕ). p * scale / down e) y ∙ ap (λ (p : ℕ). p / down e) (zero-mul scale) ∙ zero-div (down e)
 
-few : (x : Float) → le +0 x ≡ true → le x (whole 1000) ≡ true → millimetres x ≤ 1000000
+pub few : (x : Float) → le +0 x ≡ true → le x (whole 1000) ≡ true → millimetres x ≤ 1000000
 unfolding wholeTimes magnitude scale le
 few nan z h = lit≤ tt
 few (inf s) z h = lit≤ tt
@@ -135,7 +136,7 @@ pub record Measured (d : Vec3) : Type 0 where
   pub exact : value (norm d) ≡ pos (magnitude (norm d))
   pub rounded-down : Greatest (distance d) 1000 (norm d)
 
-length-from-zero : (d : Vec3) → le (norm d) (whole 1000) ≡ true → le +0 (norm d) ≡ true
+pub length-from-zero : (d : Vec3) → le (norm d) (whole 1000) ≡ true → le +0 (norm d) ≡ true
 unfolding norm
 length-from-zero d h =
     let squares = d .x ⊗ d .x ⊕ d .y ⊗ d .y in
@@ -148,6 +149,46 @@ measured d h =
     let k : le (norm d) (whole 1000) ≡ true = and-both (finite (d .x) && finite (d .y) && finite (d .z)) (le (norm d) (whole 1000)) h .1 in
     let z : le +0 (norm d) ≡ true = length-from-zero d k in
     record { from = z; upto = k; is-finite = between-finite (norm d) (whole 1000) z k thousand-finite; short = few (norm d) z k; exact = plain (norm d) z; rounded-down = whole-greatest 1000 (norm d) }
+
+-- ---- a length of at most 1,000 m is that of a finite displacement
+
+root-of-finite : (x r : Float) → IsRoot x r → finite r ≡ true → finite x ≡ true
+root-of-finite nan r i h = absurd (false≢true (ap finite (sym i) ∙ h))
+root-of-finite (inf false) r i h = absurd (false≢true (ap finite (sym i) ∙ h))
+root-of-finite (inf true) r i h = absurd (false≢true (ap finite (sym i) ∙ h))
+root-of-finite (fin s m e) r i h = refl
+
+square-of-finite : (x : Float) → finite (x ⊗ x) ≡ true → finite x ≡ true
+unfolding mul
+square-of-finite nan h = absurd (false≢true h)
+square-of-finite (inf s) h = absurd (false≢true h)
+square-of-finite (fin s m e) h = refl
+
+length-finite : (d : Vec3) → le (norm d) (whole 1000) ≡ true → finite (norm d) ≡ true
+length-finite d h = truth (finite (norm d)) (between-finite (norm d) (whole 1000) (length-from-zero d h) h thousand-finite)
+  where
+    truth : (b : Bool) → T b → b ≡ true
+    truth true t = refl
+    truth false t = absurd t
+
+components-finite : (d : Vec3) → finite (norm d) ≡ true → (finite (d .x) && finite (d .y) && finite (d .z)) ≡ true
+unfolding norm
+components-finite d h =
+    let a = d .x ⊗ d .x in
+    let b = d .y ⊗ d .y in
+    let c = d .z ⊗ d .z in
+    let all = root-of-finite (a ⊕ b ⊕ c) (rootOf (a ⊕ b ⊕ c)) (rootOf-root (a ⊕ b ⊕ c) (add-fits binary64 (a ⊕ b) c)) h in
+    let two = sum-finite-left (a ⊕ b) c all in
+    rw (square-of-finite (d .x) (sum-finite-left a b two), square-of-finite (d .y) (sum-finite-right a b two), square-of-finite (d .z) (sum-finite-right (a ⊕ b) c all))
+
+-- the length alone decides
+pub by-length : (d : Vec3) → measurable d ≡ le (norm d) (whole 1000)
+unfolding measurable
+by-length d = go (le (norm d) (whole 1000)) (λ h. components-finite d (length-finite d h))
+  where
+    go : (b : Bool) → (b ≡ true → (finite (d .x) && finite (d .y) && finite (d .z)) ≡ true) → (finite (d .x) && finite (d .y) && finite (d .z) && b) ≡ b
+    go true f = rw (f refl)
+    go false f = and-false (finite (d .x) && finite (d .y) && finite (d .z))
 
 -- a displacement with a component that is not finite is not measurable
 pub component-not-finite : (d : Vec3) → (finite (d .x) && finite (d .y) && finite (d .z)) ≡ false → measurable d ≡ false

@@ -10,10 +10,14 @@ use lib.Dec.{ltb, eqb, lit≤}
 use lib.ListN.{length, take, length-append}
 use lib.Seq.{take-append-le, take-all, take-nil}
 use borrow.Author.Tests.{lt-ltb, eq-eqb, ne-eqb, ltb-true, ltb-false}
+use lib.Ieee.{Float, le}
+use Rattle.exact.specs.Float.{whole}
 use Rattle.walk.specs.Walk.{collect, fold, every}
 use Rattle.walk.proofs.Walk.{and-both}
+use Rattle.numeric.specs.Vec3.{norm}
+use Rattle.numeric.specs.declared.vec3.Vec3.{Vec3}
 use Rattle.numeric.specs.declared.refusal.Refusal.the-variants.{BadTrip}
-use Rattle.trip.specs.Measure.{distance, measurable}
+use Rattle.trip.specs.Measure.{millimetres, distance, measurable}
 use Rattle.trip.specs.Trip.{Leg, carrierOf, pulsesOf, odometer, apart, differenceAfter, greatest, firstWith, greatestOf, reachedOf, reportOf, tripOf, sound, started, counted, added, reported, Adds, Reports, kept, after, measurables, counting, narrow}
 use Rattle.trip.specs.declared.trip.Trip.{Trip}
 use Rattle.trip.specs.declared.trip.Report.{Report}
@@ -21,6 +25,7 @@ use Rattle.trip.specs.declared.trip.Step.{Step}
 use Rattle.trip.specs.declared.trip.Step.the-variants.{Refused, Goes}
 use Rattle.trip.specs.declared.trip.Reported.{Reported}
 use Rattle.trip.specs.declared.trip.Reported.the-variants.{Refused as Unreported, Totals}
+use Rattle.trip.proofs.MeasureLaws.{by-length}
 use Rattle.trip.proofs.BoundsLaws.{bounded, after-sound}
 
 -- ---- the greatest of some numbers, and the first that reaches it
@@ -167,6 +172,19 @@ list-added t l legs h =
 
 pub adds : (t : Trip) (l : Leg) {r : Step} → r ≡ added t (l .displacement) (l .pulses) → Adds t l r
 adds t l e = record { is = e; of-list = λ legs h. e ∙ list-added t l legs h }
+
+-- the same from the length of the displacement, which alone decides
+module _ (t : Trip) (d : Vec3) (pulses : ℕ) {length : Float} (e : length ≡ norm d) {s : Bool} (s-is : s ≡ sound t) where
+  test-is : (s && ltb (t .epochs) 65535 && le length (whole 1000)) ≡ (sound t && ltb (t .epochs) 65535 && measurable d)
+  test-is = rw (by-length d, e, s-is)
+
+  pub length-refused : (s && ltb (t .epochs) 65535 && le length (whole 1000)) ≡ false → Refused BadTrip ≡ added t d pulses
+  unfolding added
+  length-refused h = rw (sym test-is ∙ h)
+
+  pub length-added : (s && ltb (t .epochs) 65535 && le length (whole 1000)) ≡ true → Goes (counted t (millimetres length) pulses) ≡ added t d pulses
+  unfolding added distance
+  length-added h = rw (sym test-is ∙ h, ← e)
 
 abbrev totals : Trip → ℕ → Report
 totals t rate = record { carrier = t .carrier; odometer = odometer rate (t .pulses); greatest = t .greatest; reached = t .reached }

@@ -1,5 +1,10 @@
 // A trip that the caller holds as six words: pulses per kilometre, epochs, carrier millimetres, pulses, greatest difference, its epoch.
 ghost use mathlib.Core.Path.{_≡_};
+ghost use mathlib.Core.Bool.{true};
+ghost use lib.Ieee.{le};
+ghost use Rattle.exact.specs.Float.{+0, whole};
+ghost use Rattle.numeric.specs.Vec3.{norm};
+ghost use Rattle.numeric.specs.declared.vec3.Vec3.{Vec3};
 ghost use Rattle.trip.specs.Trip.{started};
 ghost use Rattle.trip.specs.Words as spec;
 use crate::trip::Fuel;
@@ -43,21 +48,15 @@ pub fn words(t: Trip) -> [u64; 6]
     ]
 }
 
-// One epoch more for the trip that the words hold.
-pub(crate) fn add_held(w: [u64; 6], d: [f64; 3], pulses: u16) -> Step
-    ensures { λ r. ⌜ r ≡ spec.addedWords w d pulses ⌝ }
+// One epoch more for the trip that the words hold, of a displacement of this length.
+pub(crate) fn add_held(w: [u64; 6], length: f64, pulses: u16) -> Step
+    requires { ⌜ (le length (whole 1000) ≡ true → le +0 length ≡ true) ⌝ }
+    ensures { λ r. ⌜ ((d : Vec3) → length ≡ norm d → r ≡ spec.addedHeld (spec.heldOf w) d pulses) ⌝ }
 {
     let before = held(w);
     match before {
         Step::Refused(r) => Step::Refused(r),
-        Step::Goes(t) => t.add(
-            Vec3 {
-                x: d[0],
-                y: d[1],
-                z: d[2],
-            },
-            pulses,
-        ),
+        Step::Goes(t) => t.add_length(length, pulses),
     }
 }
 
@@ -102,9 +101,15 @@ pub fn add_in(trip: &mut [u64; 6], delta: &[f64; 3], pulses: u16) -> u8
     ensures { λ r. ⌜ (let s = spec.addedWords (now (trip .entry)) (now (delta .entry)) pulses in
         (r ≡ spec.stepNumber s) × (now (trip .exit) ≡ spec.wordsAfter s (now (trip .entry)))) ⌝ }
 {
+    // The length first: its root is a call, over which no word has to be kept.
+    let d = Vec3 {
+        x: delta[0],
+        y: delta[1],
+        z: delta[2],
+    };
+    let length = d.norm();
     let w = *trip;
-    let d = *delta;
-    let answer = add_held(w, d, pulses);
+    let answer = add_held(w, length, pulses);
     match answer {
         Step::Refused(r) => r.number(),
         Step::Goes(t) => {

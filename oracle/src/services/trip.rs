@@ -310,7 +310,9 @@ fn compare(tally: &mut Tally, random: &mut Random, count: u64) {
     let mut way = Way { words: [1, 0, 0, 0, 0, 0], epochs: Some(Vec::new()) };
     let (mut full, mut longest) = (0u64, 0);
     for _ in 0..count {
-        match random.below(65_536) {
+        // A full trip is tried some more, and then left.
+        let left = way.words[1] == FULL && random.below(128) == 0;
+        match if left { random.below(4) } else { random.below(65_536) } {
             0..=1 => {
                 both.whole(&way);
                 let words = both.start(rate(random), [random.bits(); 6]);

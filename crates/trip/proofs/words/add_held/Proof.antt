@@ -14,23 +14,14 @@ enum-known-before c = search needs
 enum-known-before-2 : tie.Need-enum-known-before-2
 enum-known-before-2 c = search needs
 
-array-read-t11 : tie.Need-array-read-t11
-array-read-t11 c = search needs
-
-array-read-t14 : tie.Need-array-read-t14
-array-read-t14 c = search needs
-
-array-read-t17 : tie.Need-array-read-t17
-array-read-t17 c = search needs
-
-add-requires : tie.Need-add-requires
-add-requires c κs = search needs
+add-length-requires : tie.Need-add-length-requires
+add-length-requires c κs = search needs
 
 returns : tie.Need-returns
-returns c = let b = c .before in add-refused _ _ _ _ (sym (b .before2 .given .1) ∙ b .before .before .held .ensures)
+returns c = let b = c .before in λ d e. add-refused _ _ _ _ (sym (b .before2 .given .1) ∙ b .before .before .held .ensures)
 
 returns-2 : tie.Need-returns-2
-returns-2 c = let b = c .before .before in add-goes _ _ _ _ (c .add .ensures .is) (sym (b .before3 .given .1) ∙ b .before .before .held .ensures)
+returns-2 c = let b = c .before .before in λ d e. add-goes _ _ _ _ (c .add-length .ensures d e .is) (sym (b .before3 .given .1) ∙ b .before .before .held .ensures)
 
 pub add-held-spec : {M : Type 1} → statement M
 add-held-spec =
@@ -39,9 +30,6 @@ add-held-spec =
     held-requires
     enum-known-before
     enum-known-before-2
-    array-read-t11
-    array-read-t14
-    array-read-t17
-    add-requires
+    add-length-requires
     returns
     returns-2)
