@@ -1,8 +1,6 @@
 //! The entry points of a trip.
 
-use zaqnuti::sys::{
-    zaqnuti_trip_add, zaqnuti_trip_fuel, zaqnuti_trip_report, zaqnuti_trip_start,
-};
+use zaqnuti::sys::{zaqnuti_trip_add, zaqnuti_trip_fuel, zaqnuti_trip_report, zaqnuti_trip_start};
 
 /// A trip just started in the last and 0, or 16 and it untouched.
 #[inline]

@@ -135,9 +135,17 @@ fn report_of(rate: u64, epochs: &[(u64, u16)]) -> [u64; 4] {
         apart.push(sums[0].abs_diff(odometer(rate.into(), sums[1])));
     }
     let greatest = apart.iter().copied().max().unwrap_or(0);
-    let reached = apart.iter().position(|&d| d == greatest).map_or(0, |k| k + 1);
+    let reached = apart
+        .iter()
+        .position(|&d| d == greatest)
+        .map_or(0, |k| k + 1);
     let [carrier, odometer] = totals(epochs.len());
-    [carrier as u64, odometer as u64, greatest as u64, reached as u64]
+    [
+        carrier as u64,
+        odometer as u64,
+        greatest as u64,
+        reached as u64,
+    ]
 }
 
 /// A float up to two patterns off x.
@@ -170,7 +178,13 @@ fn displacement(random: &mut Random) -> [f64; 3] {
         _ => delta = std::array::from_fn(|_| 30.0 * random.unit()),
     }
     let signs = random.bits();
-    std::array::from_fn(|k| if signs >> k & 1 == 1 { -delta[k] } else { delta[k] })
+    std::array::from_fn(|k| {
+        if signs >> k & 1 == 1 {
+            -delta[k]
+        } else {
+            delta[k]
+        }
+    })
 }
 
 fn rate(random: &mut Random) -> u16 {
@@ -251,25 +265,44 @@ impl Both<'_> {
         let wanted = model.err().unwrap_or(0);
         self.numbers.count(wanted);
         let expected = model.unwrap_or(lent);
-        self.tally
-            .judge(number == wanted && ours == expected, || {
-                let given = hex(given.iter().copied());
-                format!("{what} of {given}: ours {number}, {ours:?}, the model's {wanted}, {expected:?}")
-            });
+        self.tally.judge(number == wanted && ours == expected, || {
+            let given = hex(given.iter().copied());
+            format!(
+                "{what} of {given}: ours {number}, {ours:?}, the model's {wanted}, {expected:?}"
+            )
+        });
     }
 
     fn start(&mut self, per_km: u16, lent: Words) -> Words {
         let mut ours = lent;
         let number = ffi::trip_start(per_km, &mut ours);
-        self.judge("start", &[u64::from(per_km)], number, ours, started(per_km), lent);
+        self.judge(
+            "start",
+            &[u64::from(per_km)],
+            number,
+            ours,
+            started(per_km),
+            lent,
+        );
         ours
     }
 
     fn add(&mut self, trip: Words, delta: [f64; 3], pulses: u16) -> Words {
         let mut ours = trip;
         let number = ffi::trip_add(&mut ours, &delta, pulses);
-        let given: Vec<u64> = trip.into_iter().chain(delta.map(f64::to_bits)).chain([u64::from(pulses)]).collect();
-        self.judge("add", &given, number, ours, added(&trip, &delta, pulses), trip);
+        let given: Vec<u64> = trip
+            .into_iter()
+            .chain(delta.map(f64::to_bits))
+            .chain([u64::from(pulses)])
+            .collect();
+        self.judge(
+            "add",
+            &given,
+            number,
+            ours,
+            added(&trip, &delta, pulses),
+            trip,
+        );
         ours
     }
 
@@ -279,7 +312,14 @@ impl Both<'_> {
             ffi::trip_report(&trip, &mut report),
             ffi::trip_fuel(&trip, millilitres, &mut per_km[0]),
         ];
-        self.judge("report", &trip, numbers[0], report, reported(&trip), [lent; 4]);
+        self.judge(
+            "report",
+            &trip,
+            numbers[0],
+            report,
+            reported(&trip),
+            [lent; 4],
+        );
         let fuel = fuelled(&trip, millilitres).map(|ml| [ml]);
         self.judge("fuel", &trip, numbers[1], per_km, fuel, [lent]);
     }
@@ -290,7 +330,14 @@ impl Both<'_> {
             let mut report = [7; 4];
             let number = ffi::trip_report(&way.words, &mut report);
             let of_list = report_of(way.words[0], epochs);
-            self.judge("report of the list", &way.words, number, report, Ok(of_list), [7; 4]);
+            self.judge(
+                "report of the list",
+                &way.words,
+                number,
+                report,
+                Ok(of_list),
+                [7; 4],
+            );
         }
     }
 }
@@ -299,7 +346,10 @@ impl Both<'_> {
 /// made-up ones at each limit.
 fn compare(tally: &mut Tally, random: &mut Random, count: u64) {
     let mut numbers = Numbers::default();
-    let mut both = Both { tally, numbers: &mut numbers };
+    let mut both = Both {
+        tally,
+        numbers: &mut numbers,
+    };
     for (k, x) in LENGTHS.iter().enumerate() {
         for x in [x.next_down(), *x, x.next_up()] {
             let mut delta = [0.0, -0.0, 0.0];
@@ -307,23 +357,40 @@ fn compare(tally: &mut Tally, random: &mut Random, count: u64) {
             both.add([1000, 0, 0, 0, 0, 0], delta, 1);
         }
     }
-    let mut way = Way { words: [1, 0, 0, 0, 0, 0], epochs: Some(Vec::new()) };
+    let mut way = Way {
+        words: [1, 0, 0, 0, 0, 0],
+        epochs: Some(Vec::new()),
+    };
     let (mut full, mut longest) = (0u64, 0);
     for _ in 0..count {
         // A full trip is tried some more, and then left.
         let left = way.words[1] == FULL && random.below(128) == 0;
-        match if left { random.below(4) } else { random.below(65_536) } {
+        match if left {
+            random.below(4)
+        } else {
+            random.below(65_536)
+        } {
             0..=1 => {
                 both.whole(&way);
                 let words = both.start(rate(random), [random.bits(); 6]);
                 if is_sound(&words) && words[1] == 0 {
-                    way = Way { words, epochs: Some(Vec::new()) };
+                    way = Way {
+                        words,
+                        epochs: Some(Vec::new()),
+                    };
                 }
             }
             // On from a made-up trip that is nearly full.
             2..=3 => {
                 both.whole(&way);
-                way.words = [rate(random).max(1).into(), FULL - random.below(9), 7, 9, 0, 1];
+                way.words = [
+                    rate(random).max(1).into(),
+                    FULL - random.below(9),
+                    7,
+                    9,
+                    0,
+                    1,
+                ];
                 way.epochs = None;
             }
             4..=9 => both.whole(&way),
@@ -332,7 +399,11 @@ fn compare(tally: &mut Tally, random: &mut Random, count: u64) {
             400..=8_191 => {
                 let trip = made_up(random);
                 match random.below(4) {
-                    0 => both.ask(trip, random.bits() as u32 >> random.below(32), random.bits()),
+                    0 => both.ask(
+                        trip,
+                        random.bits() as u32 >> random.below(32),
+                        random.bits(),
+                    ),
                     _ => drop(both.add(trip, displacement(random), pulses(random))),
                 }
             }
@@ -349,7 +420,9 @@ fn compare(tally: &mut Tally, random: &mut Random, count: u64) {
         }
     }
     both.whole(&way);
-    tally.note(format!("{numbers}; trips that became full: {full}; the longest from its start: {longest} epochs"));
+    tally.note(format!(
+        "{numbers}; trips that became full: {full}; the longest from its start: {longest} epochs"
+    ));
 }
 
 /// The same in plain Rust, as a call, since ours is.
@@ -380,7 +453,12 @@ fn rust_add(trip: &mut Words, delta: &[f64; 3], pulses: u16) -> u8 {
 
 fn time(random: &mut Random) {
     let given: Vec<([f64; 3], u16)> = (0..1024)
-        .map(|_| (std::array::from_fn(|_| 30.0 * random.unit()), random.below(80) as u16))
+        .map(|_| {
+            (
+                std::array::from_fn(|_| 30.0 * random.unit()),
+                random.below(80) as u16,
+            )
+        })
         .collect();
     let mut trip = [4000, 0, 0, 0, 0, 0];
     let mut theirs = trip;
@@ -415,15 +493,27 @@ pub fn vectors(random: &mut Random) -> Vectors {
         given.push(([1000, 2, 2_000_000, 9, 1, 1], delta, 65_535, 850));
     }
     for _ in 0..300 {
-        given.push((made_up(random), displacement(random), pulses(random), random.bits() as u32));
+        given.push((
+            made_up(random),
+            displacement(random),
+            pulses(random),
+            random.bits() as u32,
+        ));
     }
     // Accepted ones last, of which the answers are turned in the altered copies.
     for k in 0..16 {
-        given.push(([4000 + k, 3, 7001, 30 + k, 499, 2], [3.0, 4.0, k as f64], 20, 850));
+        given.push((
+            [4000 + k, 3, 7001, 30 + k, 499, 2],
+            [3.0, 4.0, k as f64],
+            20,
+            850,
+        ));
     }
     let case = |(trip, delta, pulses, millilitres): (Words, [f64; 3], u16, u32)| {
         let handed = trip.into_iter().chain(delta.map(f64::to_bits));
-        let handed = handed.chain([u64::from(pulses), u64::from(millilitres)]).collect();
+        let handed = handed
+            .chain([u64::from(pulses), u64::from(millilitres)])
+            .collect();
         let number = |n: Option<u8>| u64::from(n.unwrap_or(0));
         let after = added(&trip, &delta, pulses);
         let now = after.unwrap_or(trip);
