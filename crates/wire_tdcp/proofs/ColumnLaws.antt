@@ -43,6 +43,9 @@ carrier-at c k l =
 
 -- ---- an epoch that was read
 
+abbrev epoch : ℕ → List Carrier → Epoch
+epoch n xs = record { count = n; carriers = xs }
+
 module _ {s : List ℕ} {c₀ c : RecordColumns} {count₀ count : ℕ} (read : ReadAnswers s 0 c₀ c count₀ count) where
   floats-long : 6 * count ≤ length (c .floats)
   floats-long =
@@ -55,13 +58,10 @@ module _ {s : List ℕ} {c₀ c : RecordColumns} {count₀ count : ℕ} (read : 
   pub read-epoch : epochIn s ≡ epochOf (floatColumns c) count
   read-epoch =
       let rs : map carrierOf (recordsOf s) ≡ carriersOf (floatColumns c) count =
-          ap (map carrierOf) (sym (read-records read))
-          ∙ places-map carrierOf (columnRecord c) count
-          ∙ places-ext (λ (k : ℕ). carrierOf (columnRecord c k)) (carrierAt (floatColumns c)) count (λ (k : ℕ) l. carrier-at c k (omega (arith, floats-long, l))) in
-      ap₂ (λ (n : ℕ) (xs : List Carrier). epoch n xs) (sym (read .count-is)) rs
-    where
-      abbrev epoch : ℕ → List Carrier → Epoch
-      epoch n xs = record { count = n; carriers = xs }
+      ap (map carrierOf) (sym (read-records read))
+      ∙ places-map carrierOf (columnRecord c) count
+      ∙ places-ext (λ (k : ℕ). carrierOf (columnRecord c k)) (carrierAt (floatColumns c)) count (λ (k : ℕ) l. carrier-at c k (omega (arith, floats-long, l))) in
+      ap₂ epoch (sym (read .count-is)) rs
 
   was-few : countIn s ≤ 64
   was-few = columns-room c₀ (countIn s) (had-room read) .few
