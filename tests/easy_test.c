@@ -209,6 +209,10 @@ static uint8_t displacement_both(
     return plain_number;
 }
 
+/* ---- carrier records as bytes */
+
+#include "easy_records.h"
+
 /* ---- times */
 
 /* The same of a week and a time of week, and of two times. */
@@ -645,7 +649,8 @@ static void alter_displacements(const struct text *t, size_t times)
             }
             a.count[1] = 65;
         }
-        displacement_both(a.carrier[0], a.count[0], a.carrier[1], a.count[1], a.dt, NULL, a.receiver, &a.settings, &moved);
+        number = displacement_both(a.carrier[0], a.count[0], a.carrier[1], a.count[1], a.dt, NULL, a.receiver, &a.settings, &moved);
+        records_both(a.carrier[0], a.count[0], a.carrier[1], a.count[1], a.dt, a.receiver, &a.settings, number, &moved);
         /* Between two times: the number and the bytes of the call with their interval. */
         times_of(time, a.dt);
         number = displacement_both(a.carrier[0], a.count[0], a.carrier[1], a.count[1], 0.0, time, a.receiver, &a.settings, &between);
@@ -927,12 +932,14 @@ static void texts(void)
 {
     unsigned a;
     unsigned b;
-    for (a = 0; a <= 15; a++) {
+    const char *none = zaqnuti_refusal_text(255);
+    for (a = 0; a <= 21; a++) {
         for (b = 0; b < a; b++) {
-            same(strcmp(zaqnuti_refusal_text((uint8_t)a), zaqnuti_refusal_text((uint8_t)b)) != 0, "texts of two numbers");
+            const char *text = zaqnuti_refusal_text((uint8_t)a);
+            same(strcmp(text, none) == 0 || strcmp(text, zaqnuti_refusal_text((uint8_t)b)) != 0, "texts of two numbers");
         }
     }
-    for (a = 15; a < 256; a++) {
+    for (a = 22; a < 256; a++) {
         same(strcmp(zaqnuti_refusal_text((uint8_t)a), "no such number") == 0, "the text of no number");
     }
 }
@@ -984,6 +991,7 @@ int main(int count, char **word)
     for (k = 2; k <= 13; k++) {
         same(met[k] != 0, "a number that was never met");
     }
+    same(met[ZAQNUTI_BROKEN_RECORDS] != 0, "21 was never met");
     printf("\n%lu compared, %lu differ\n", compared, different);
     return different == 0 ? 0 : 1;
 }

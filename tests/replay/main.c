@@ -58,6 +58,9 @@ static const struct kind kinds[] = {
     {21, "since", same_since},
     {22, "between", same_between},
     {23, "widen", same_widen},
+    {40, "read", same_read},
+    {41, "write", same_write},
+    {42, "records", same_records},
 };
 
 #define KINDS (sizeof kinds / sizeof *kinds)
