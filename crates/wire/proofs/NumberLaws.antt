@@ -106,7 +106,11 @@ reading-end {s} {at} {w} {i} {n} h l =
     let a : at + (w - i) ≡ at = omega arith in
     (h .so-far ∙ ap₂ (λ (k j : ℕ). numberAt s k j) a e, rw e at (h .small))
 
--- what a turn has still fits 64 bits
+-- a byte fits 64 bits
+pub byte-fits : {x : ℕ} → x < 256 → x < 2 ^ 64
+byte-fits l = omega arith
+
+-- what a turn has still fits them
 pub turn-fits : {s : List ℕ} {at w i n : ℕ} (x : ℕ) → Reading s at w i n → w ≤ 8 → i < w → x < 256 → n * 256 + x < 2 ^ 64
 turn-fits {s} {at} {w} {i} {n} x h e l b =
     let m = turn-small i n x (h .small) b in

@@ -20,6 +20,8 @@ mod soundness;
 mod standins;
 pub mod time;
 pub mod track;
+pub mod wire;
+pub mod wire_tdcp;
 
 use crate::random::Random;
 use crate::tally::Tally;
@@ -63,6 +65,9 @@ pub const KINDS: &[(u64, &str, Make)] = &[
     (21, "since", time::since),
     (22, "between", between::vectors),
     (23, "widen", corrections::stored::widen),
+    (40, "read", wire::read),
+    (41, "write", wire::write),
+    (42, "records", wire_tdcp::vectors),
 ];
 
 /// Every service, lowest first.
@@ -81,6 +86,8 @@ pub const SERVICES: &[Service] = &[
     displacement::SERVICE,
     time::SERVICE,
     between::SERVICE,
+    wire::SERVICE,
+    wire_tdcp::SERVICE,
     fix::SERVICE,
     soundness::SERVICE,
     track::SERVICE,

@@ -1,9 +1,9 @@
 -- `wire::number::number_at` meets its contract. Assumes nothing.
-use Prim.Native.Nat.{_+_, _-_}
+use Prim.Native.Nat.{_-_}
 use native.Mathlib.Omega.{arith}
 use denote.Ref.{now}
 use borrow.Author.Needs.{needs}
-use Rattle.wire.proofs.NumberLaws.{Reading, reading-start, reading-more, reading-end, turn-fits}
+use Rattle.wire.proofs.NumberLaws.{byte-fits, Reading, reading-start, reading-more, reading-end, turn-fits}
 use Rattle.wire.proofs.number.number_at.Statement.{statement}
 use Rattle.wire.proofs.number.number_at.Tie as tie
 
@@ -32,10 +32,10 @@ shared-slice-read-n : tie.Need-shared-slice-read-n Inv-loop μ-loop
 shared-slice-read-n c = search needs
 
 cast-n : tie.Need-cast-n Inv-loop μ-loop
-cast-n c = omega (arith, c .shared-slice-known .given (c .before .before .before .args .at + (c .before .before .before .args .w - 1 - c .before .before .loop .i)))
+cast-n c = record { fits = byte-fits (c .shared-slice-known .given _ .fits) }
 
 add-n-2 : tie.Need-add-n-2 Inv-loop μ-loop
-add-n-2 c = record { fits = turn-fits _ (c .before .before .loop .inv) (c .before .before .before .pre .0) (c .before .loop-test .taken) ((c .shared-slice-known .given (c .before .before .before .args .at + (c .before .before .before .args .w - 1 - c .before .before .loop .i))) .fits) }
+add-n-2 c = record { fits = turn-fits _ (c .before .before .loop .inv) (c .before .before .before .pre .0) (c .before .loop-test .taken) (c .shared-slice-known .given _ .fits) }
 
 add-i : tie.Need-add-i Inv-loop μ-loop
 add-i c = search needs
@@ -44,7 +44,7 @@ loop-less : tie.Need-loop-less Inv-loop μ-loop
 loop-less c = search needs
 
 loop-again : tie.Need-loop-again Inv-loop μ-loop
-loop-again c = reading-more (c .before .before .loop .inv) (c .before .before .before .pre .1) (c .before .loop-test .taken) ((c .shared-slice-known .given (c .before .before .before .args .at + (c .before .before .before .args .w - 1 - c .before .before .loop .i))) .fits)
+loop-again c = reading-more (c .before .before .loop .inv) (c .before .before .before .pre .1) (c .before .loop-test .taken) (c .shared-slice-known .given _ .fits)
 
 returns : tie.Need-returns Inv-loop μ-loop
 returns c = reading-end (c .before .loop .inv) (c .loop-test .left)
