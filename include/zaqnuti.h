@@ -57,9 +57,9 @@
  *     displacement    16,640
  *     between         16,128
  *     line            40,704
- *     records         99,999
- *     read_records    99,999
- *     write_records   99,999
+ *     records         24,064
+ *     read_records       256
+ *     write_records      256
  *     add_epoch       17,920
  *     query              512
  *     queries            512

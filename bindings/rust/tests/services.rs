@@ -213,7 +213,8 @@ fn carrier_records() {
     let mut epoch = carriers(64, AT);
     // NaNs of either sign, quiet and signalling, and the ends of each field.
     epoch[0].adr = f64::from_bits(0x7FF0_0000_0000_0001);
-    epoch[1].satellite = [0xFFF8_0000_0000_0002, 0xFFF0_0000_0000_0003, 1 << 63].map(f64::from_bits);
+    epoch[1].satellite =
+        [0xFFF8_0000_0000_0002, 0xFFF0_0000_0000_0003, 1 << 63].map(f64::from_bits);
     epoch[2].rate = f64::from_bits(u64::MAX);
     (epoch[3].constellation, epoch[3].svid) = (u8::MAX, u16::MAX);
     (epoch[4].band, epoch[4].state) = (u32::MAX, i32::MIN);
