@@ -42,11 +42,6 @@ bytes-take (suc n) (x ∷ s) b = bytes-cons x (take n s) (b .byte 0) (bytes-take
 
 -- ---- a number and its bytes
 
-pub length-bytes : (w n : ℕ) → length (bytesIn w n) ≡ w
-unfolding bytesIn
-length-bytes zero n = refl
-length-bytes (suc w) n = ap suc (length-bytes w (n / 256))
-
 -- the number that is written is read again
 pub read-number : (w n : ℕ) → n < 256 ^ w → numberIn (bytesIn w n) ≡ n
 unfolding bytesIn numberIn

@@ -4,11 +4,11 @@ use mathlib.Core.List.{List, [], _∷_, _++_}
 use Prim.Native.Nat.{ℕ, _*_}
 use lib.ListN.{replicate}
 use lib.IntN.{pos, negsuc}
-use Rattle.walk.specs.Walk.{collect, places}
+use Rattle.walk.specs.Walk.{places}
 use Rattle.records.specs.Record.{unsigned}
 use Rattle.wire.specs.declared.record.CarrierRecord.{CarrierRecord}
 use Rattle.wire.specs.Number.{bytesIn, numberIn, signed}
-use Rattle.wire.specs.Record.{bytesOf, recordOf, epochBytes, recordsOf}
+use Rattle.wire.specs.Record.{bytesOf, recordOf, recordsOf}
 use Rattle.wire.specs.Columns.{columnsFit, recordColumns}
 use Rattle.wire.specs.Lent.{readNumber}
 use Rattle.wire.proofs.RecordLaws.{recordWith}

@@ -1,6 +1,5 @@
 -- The displacement of two slices is that of the columns that they are read into. Assumes nothing.
 use mathlib.Core.Path.{_≡_, refl, sym, ap, ap₂, _∙_}
-use mathlib.Core.Bool.{true}
 use mathlib.Core.List.{List, [], _∷_, map}
 use Prim.Native.Nat.{ℕ, zero, suc, _+_, _*_, _%_, _≤_, _<_}
 use native.Mathlib.Omega.{arith}
@@ -17,7 +16,7 @@ use Rattle.records.specs.declared.record.Epoch.{Epoch}
 use Rattle.tdcp.specs.Displacement.{input, displacementOf}
 use Rattle.tdcp.specs.declared.displacement.Settings.{Settings}
 use Rattle.wire.specs.Record.{recordAt, countIn, recordsOf}
-use Rattle.wire.specs.Columns.{RecordColumns, columnRecord, columnRecords, columnsWith, floatsOf}
+use Rattle.wire.specs.Columns.{RecordColumns, columnRecord, floatsOf}
 use Rattle.wire.specs.Lent.{ReadAnswers}
 use Rattle.wire.specs.declared.record.CarrierRecord.{CarrierRecord}
 use Rattle.wire.proofs.RecordLaws.{collect-length}

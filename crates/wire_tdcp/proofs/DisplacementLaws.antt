@@ -1,11 +1,9 @@
 -- The carriers of records, and the answers of the displacement on them. Assumes nothing.
-use mathlib.Core.Path.{_≡_, refl, sym, ap, _∙_}
-use mathlib.Core.Bool.{true, false, not, _&&_, _||_}
-use mathlib.Core.List.{List, []}
+use mathlib.Core.Path.{_≡_, sym, ap, _∙_}
+use mathlib.Core.List.{List}
 use Prim.Native.Nat.{ℕ, _%_, _≤_, _<_}
 use native.Mathlib.Omega.{arith}
 use borrow.Author.Tests.{lt-ltb, le-ltb, eq-eqb, ne-eqb}
-use lib.Dec.{ltb}
 use lib.ListN.{length, getD, length-map}
 use lib.Seq.{sets, sets-eq}
 use Rattle.walk.proofs.Walk.{places-length, places-map, places-at}
@@ -20,7 +18,7 @@ use Rattle.tdcp.specs.declared.displacement.Delta.{Delta}
 use Rattle.tdcp.specs.declared.displacement.Displacement.{Displacement}
 use Rattle.tdcp.specs.declared.displacement.Displacement.the-variants.{Refused, Moved}
 use Rattle.wire.specs.Number.{bytesIn, fiveBytes}
-use Rattle.wire.specs.Record.{recordAt, recordsIn, countIn, isWhole}
+use Rattle.wire.specs.Record.{recordAt, recordsIn, countIn}
 use Rattle.wire.specs.Columns.{over}
 use Rattle.wire_tdcp.specs.Displacement.{carrierOf, carriersIn, Handed, inputOf, recordRules, answerOf, deltaBytes, resultAfter, Answers}
 
