@@ -6,6 +6,7 @@ mod centre;
 mod clocks;
 pub mod corrections;
 mod displacement;
+mod equations;
 mod estimator;
 pub mod factor;
 mod fix;
@@ -84,6 +85,7 @@ pub const SERVICES: &[Service] = &[
     fix::SERVICE,
     soundness::SERVICE,
     track::SERVICE,
+    equations::SERVICE,
     corrections::SERVICE,
     line::SERVICE,
 ];
