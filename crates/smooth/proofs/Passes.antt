@@ -41,7 +41,7 @@ good-pass p h its = go (passes p ones) refl
     go true e = from-pass p h (its - 1) ones e
     go false e = tt
 
--- THE LAW of request (xiv), over all the passes of a list
+-- THE LAW: each of a list of passes meets its equations
 pub all-accurate : (p : Trajectory) (ss : List Scales) → EachPass (PassAccurate p) ss
 unfolding EachPass
 all-accurate p [] = tt

@@ -99,7 +99,7 @@ workAfter need (Refused x) w = cond (leb (numberOf x) 6) w (cleared need w)
 workAfter need (Points ps) w = cleared need w
 
 -- What the call answers and leaves. Every coordinate of a track is finite, and the track is the fit of the last good pass.
--- Each pass whose track is given out or reweighted from meets its equations as closely as request (xiv) says, on every axis and in every row.
+-- Each pass whose track is given out or reweighted from meets its equations as closely as docs/SCOPE.md, "Track", says, on every axis and in every row.
 pub record Called (p : Trajectory) (s : Settings) (r w : List Float) (x : Track) (r' w' : List Float) : Type 0 where
   pub answer : x ≡ answerOf (trackOf p s (length r) (length w))
   pub result : r' ≡ resultAfter (trackOf p s (length r) (length w)) r

@@ -1,4 +1,4 @@
--- How far a solution of tridiagonal equations may miss them, row by row (request (xiv)). All numbers are exact. Definitions only.
+-- How far a solution of tridiagonal equations may miss them, row by row (docs/SCOPE.md, "Track"). All numbers are exact. Definitions only.
 -- The equations are those before the elimination; `pivot` and `factor` are what the elimination makes of them.
 use Prim.Native.Nat.{ℕ, zero, suc, _<_}
 use mathlib.Core.Bool.{cond}
@@ -17,7 +17,7 @@ above x (suc i) = exactly (x i)
 abbrev pub joined : (n i : ℕ) → Float → Number
 joined n i x = cond (ltb (suc i) n) (exactly x) 0ₑ
 
--- The bound of request (xiv) in its own letters: f is the elimination factor, d the pivot, c the pivot above, e and g are the off-diagonal entries left and right, w, v and u the solution at i - 1, i and i + 1.
+-- The bound, in the letters of docs/SCOPE.md: f is the elimination factor, d the pivot, c the pivot above, e and g are the off-diagonal entries left and right, w, v and u the solution at i - 1, i and i + 1.
 abbrev pub rowBound : (f d c e g w v u : Number) → Number
 rowBound f d c e g w v u =
     2^- 50 *ₑ (∣ f *ₑ c *ₑ w ∣ +ₑ ∣ f *ₑ e *ₑ v ∣ +ₑ ∣ d *ₑ v ∣ +ₑ ∣ g *ₑ u ∣)

@@ -1,4 +1,4 @@
-//! How far a track misses its equations, exactly (request (xiv)): in each row of each axis of each pass
+//! How far a track misses its equations, exactly (docs/SCOPE.md, "Track"): in each row of each axis of each pass
 //! whose track is given out or reweighted from, and whose diagonal sums, pivots and solution are finite,
 //! the gap is at most 2^-50 (|f c w| + |f e v| + |d v| + |g u|) + 2^-1070 (1+|f|)(1+|c|+|d|)(1+|w|+|v|).
 
@@ -19,7 +19,7 @@ pub const SERVICE: Service = Service {
     bench: None,
 };
 
-/// A row in the letters of the request: the factor, the pivot, the pivot above, the entries left and right,
+/// A row in the letters of docs/SCOPE.md: the factor, the pivot, the pivot above, the entries left and right,
 /// the solution at i-1, i and i+1, each 0 where absent; and the diagonal sum and the right side.
 #[derive(Clone, Copy)]
 struct Row {
@@ -80,7 +80,7 @@ impl Row {
         ]
     }
 
-    /// The request's own claim.
+    /// The claim itself.
     fn claim(&self) -> Claim {
         Claim {
             places: 50,
@@ -152,7 +152,7 @@ struct Seen {
     edits: [u64; 3],
 }
 
-/// Whether the condition of the request holds of an axis.
+/// Whether the condition of the claim holds of an axis.
 fn counted(axis: &Axis) -> bool {
     all_finite(&axis.diagonal) && all_finite(&axis.pivot) && all_finite(&axis.solution)
 }
@@ -205,7 +205,7 @@ fn check(tally: &mut Tally, seen: &mut Seen, input: &Input) -> Option<f64> {
 }
 
 /// The claims of the must-fail edits: 2^-53, the unknown above behind the factor, and the pivot of the row below
-/// (the request's own in the last row).
+/// (the row's own in the last row).
 fn edited(row: &Row, below: Option<f64>) -> [Claim; 3] {
     let own = row.claim();
     [
