@@ -1,6 +1,6 @@
 /*
  * One of each service as firmware would call it: a fix, times, a displacement,
- * a text in the line form, two epochs of corrections with a query, and a track.
+ * its compass directions, a text in the line form, two epochs of corrections with a query, and a track.
  * The sky is made up, so the answers are known: the program prints them and
  * exits with 1 where one is not as expected.
  *
@@ -360,11 +360,29 @@ static void track(void)
                   ZAQNUTI_BAD_TRACK);
 }
 
+/* A displacement by compass: on the equator at longitude 0 z is north, y is east and x is up. */
+static void directions(void)
+{
+    const double equator[3] = {6378137.0, 0.0, 0.0};
+    const double far[3] = {6378137.0, 0.0, 1000000001.0};
+    const double by[3] = {1.0, 2.0, 3.0};
+    double ned[3] = {0.0, 0.0, 0.0};
+
+    printf("directions\n");
+    expect_number("number", zaqnuti_north_east_down(equator, by, ned), 0);
+    expect("north, m", ned[0], 3.0, 0.0);
+    expect("east, m", ned[1], 2.0, 0.0);
+    expect("down, m", ned[2], -1.0, 0.0);
+    expect_number("beyond 1e9 m", zaqnuti_north_east_down(far, by, ned), ZAQNUTI_NOT_TURNED);
+    expect("result kept, m", ned[0], 3.0, 0.0);
+}
+
 int main(void)
 {
     fix();
     times();
     displacement();
+    directions();
     line_form();
     corrections();
     track();

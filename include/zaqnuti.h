@@ -63,6 +63,7 @@
  *     widen_bands        256
  *     smooth             768
  *     times              256
+ *     north_east_down    256
  *     round            8,704
  *     centre             768
  *     geometry           256
@@ -113,7 +114,8 @@ enum zaqnuti_refusal {
     ZAQNUTI_TABLE_FULL = 11,           /* the epoch's corrections do not all fit in the table */
     ZAQNUTI_NO_CORRECTION = 12,        /* the table gives no correction for the query */
     ZAQNUTI_BAD_TIME = 13,             /* a week, a time of week or a time in nanoseconds is out of range */
-    ZAQNUTI_QUALITY_NOT_FINITE = 14    /* chi or pdop of a fix is not finite */
+    ZAQNUTI_QUALITY_NOT_FINITE = 14,   /* chi or pdop of a fix is not finite */
+    ZAQNUTI_NOT_TURNED = 19            /* a vector cannot be turned to north, east and down */
 };
 
 /*
@@ -322,6 +324,24 @@ uint8_t zaqnuti_displacement_between(
 size_t zaqnuti_line(
     const uint8_t *text, size_t text_length,
     uint8_t *line, size_t line_length);
+
+/* ---- directions */
+
+/*
+ * A displacement along north, east and down at a place, as a compass has them.
+ *
+ * position       the place, earth-centred and earth-fixed (m)
+ * displacement   the displacement along x, y and z (m)
+ * ned            along the north, along the east, and straight down (m),
+ *                finite; a displacement south, west or up is below 0
+ *
+ * It is worked out without angles. Within 1e-9 m of the earth's axis the
+ * longitude is taken as 0.
+ * Refuses by 19 (a coordinate of either is not finite or above 1e9 in
+ * magnitude, or a component of the result is not finite, as 42,698 m from the
+ * earth's centre in the plane of the equator).
+ */
+uint8_t zaqnuti_north_east_down(const double position[3], const double displacement[3], double ned[3]);
 
 /* ---- the corrections */
 

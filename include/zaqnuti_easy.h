@@ -66,6 +66,7 @@ static inline const char *zaqnuti_refusal_text(uint8_t number)
     case ZAQNUTI_NO_CORRECTION: return "the table gives no correction for the signal and time";
     case ZAQNUTI_BAD_TIME: return "a week is above 15,000, a time of week is not in 0 to below 604,800 s, or a time is past the start of week 15,001";
     case ZAQNUTI_QUALITY_NOT_FINITE: return "chi or pdop of the fix is not finite";
+    case ZAQNUTI_NOT_TURNED: return "a coordinate is not finite or above 1e9, or there is no north, east and down at the place";
     default: return "no such number";
     }
 }
@@ -313,6 +314,31 @@ static inline uint8_t zaqnuti_easy_displacement_between(
         moved->delta.z = delta[2];
         moved->used = counts[0];
         moved->screened = counts[1];
+    }
+    return number;
+}
+
+/* ---- directions */
+
+/* A displacement by compass (m); south, west and up are below 0. */
+typedef struct zaqnuti_ned {
+    double north;
+    double east;
+    double down;
+} zaqnuti_ned;
+
+/* A displacement at a place, along north, east and down. */
+static inline uint8_t zaqnuti_easy_north_east_down(zaqnuti_vector place, zaqnuti_vector displacement, zaqnuti_ned *ned)
+{
+    const double at[3] = {place.x, place.y, place.z};
+    const double by[3] = {displacement.x, displacement.y, displacement.z};
+    double along[3] = {0.0, 0.0, 0.0};
+    uint8_t number = zaqnuti_north_east_down(at, by, along);
+
+    if (number == 0) {
+        ned->north = along[0];
+        ned->east = along[1];
+        ned->down = along[2];
     }
     return number;
 }

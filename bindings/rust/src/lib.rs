@@ -5,6 +5,7 @@
 //! | [`wls`] | the position from one epoch of pseudoranges |
 //! | [`tdcp`] | the displacement between two epochs of carrier phases |
 //! | [`time`] | epoch times in whole nanoseconds |
+//! | [`frames`] | displacements along north, east and down |
 //! | [`line`](mod@line) | the displacement of a text in the line form |
 //! | [`differential`] | corrections from a base station |
 //! | [`smooth`](mod@smooth) | the track that fits anchors and links |
@@ -41,6 +42,7 @@
 extern crate alloc;
 
 pub mod differential;
+pub mod frames;
 pub mod line;
 pub mod math;
 mod refusal;

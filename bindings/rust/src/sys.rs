@@ -9,6 +9,12 @@ extern "C" {
     pub fn zaqnuti_nanos_since(later: u64, earlier: u64, nanos: *mut i64) -> u8;
     /// The seconds between two times.
     pub fn zaqnuti_seconds_since(later: u64, earlier: u64, seconds: *mut f64) -> u8;
+    /// A displacement at a place along north, east and down.
+    pub fn zaqnuti_north_east_down(
+        position: *const [f64; 3],
+        displacement: *const [f64; 3],
+        ned: *mut [f64; 3],
+    ) -> u8;
     /// The receiver's position from one epoch, with what the fit says of itself.
     pub fn zaqnuti_fix(
         constellation: *const u8,

@@ -1,6 +1,7 @@
 //! One function for each entry point: decode, lend, call, compare.
 
 mod corrections;
+mod directions;
 mod displacement;
 mod fix;
 mod line;
@@ -27,6 +28,7 @@ pub const ENTRIES: &[Entry] = &[
     ("widen_bands", corrections::widen_bands),
     ("smooth", track::smooth),
     ("times", times::times),
+    ("directions", directions::directions),
     ("round", pieces::a_round),
     ("centre", pieces::centre),
     ("geometry", pieces::geometry),

@@ -5,6 +5,7 @@ pub mod between;
 mod centre;
 mod clocks;
 pub mod corrections;
+pub mod directions;
 mod displacement;
 mod estimator;
 pub mod factor;
@@ -63,6 +64,7 @@ pub const KINDS: &[(u64, &str, Make)] = &[
     (21, "since", time::since),
     (22, "between", between::vectors),
     (23, "widen", corrections::stored::widen),
+    (31, "directions", directions::vectors),
 ];
 
 /// Every service, lowest first.
@@ -80,6 +82,7 @@ pub const SERVICES: &[Service] = &[
     round::SERVICE,
     displacement::SERVICE,
     time::SERVICE,
+    directions::SERVICE,
     between::SERVICE,
     fix::SERVICE,
     soundness::SERVICE,
