@@ -17,7 +17,7 @@
  * and answers or refuses. It never aborts, unwinds or loops on.
  *
  * Answer. A function that gives uint8_t gives 0 where it answers, or the
- * number of its refusal, 1 to 13, of which the first that applies is given
+ * number of its refusal, 1 to 21, of which the first that applies is given
  * (ZAQNUTI_TOO_MANY and so on; docs/REFUSALS.md). A refusal is the number
  * alone: every result and every table keeps its bytes. The functions that
  * give another type, or nothing, never refuse.
@@ -99,7 +99,7 @@ extern "C" {
 #define ZAQNUTI_TEXT 32768       /* bytes of a text in the line form */
 #define ZAQNUTI_LINE 59          /* bytes that are always enough for its answer */
 
-/* Why a call turns back, in checking order, but that 13 is tested between 4 and 5. */
+/* Why a call turns back, in checking order, but that 13 is tested between 4 and 5, and 19 in place of 4. */
 enum zaqnuti_refusal {
     ZAQNUTI_BROKEN_FORM = 1,           /* a text is too long or breaks the line form */
     ZAQNUTI_TOO_MANY = 2,              /* too many records, or too short a buffer */

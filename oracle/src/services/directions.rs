@@ -96,17 +96,7 @@ fn next_to_axis(random: &mut Random) -> [f64; 3] {
         ),
     };
     let far = random.unit() * 7e6;
-    let z = random.pick(&[
-        0.0,
-        -0.0,
-        B,
-        -B,
-        1e9,
-        -1e9,
-        5e-324,
-        -5e-324,
-        far,
-    ]);
+    let z = random.pick(&[0.0, -0.0, B, -B, 1e9, -1e9, 5e-324, -5e-324, far]);
     match random.below(4) {
         0 => [p, 0.0, z],
         1 => [-0.0, -p, z],
