@@ -328,6 +328,7 @@ fn a_trip_refuses() {
     }
 }
 
+#[test]
 fn carrier_records() {
     let mut epoch = carriers(64, AT);
     // NaNs of either sign, quiet and signalling, and the ends of each field.
