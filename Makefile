@@ -7,7 +7,7 @@
 #                 archive for ARM boxes in lib/aarch64 where `make arm` has made it of the sources as they are
 # make arm        target/aarch64/libzaqnuti.a, for 64-bit ARM on Linux: needs Debian's gcc-aarch64-linux-gnu
 # make arm-test   [N=1000000]: runs it under qemu-aarch64 (Debian's qemu-user) beside the one for x86-64, with N answers of the
-#                 Rust of each kind; some hours with a million
+#                 Rust of each kind; with a million about 20 minutes of a processor
 # make clean      removes target/
 
 PREFIX = /usr/local
