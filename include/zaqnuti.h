@@ -4,7 +4,10 @@
  * trip, base-station corrections and a smoothed track.
  *
  * Link libzaqnuti.a (`./run` leaves it in target/staticlib): Linux on x86-64,
- * System V calling convention. Of other libraries it needs memcpy and memset,
+ * System V calling convention. For ARM boxes `make arm` leaves another one in
+ * target/aarch64: Linux on aarch64, AAPCS64. Nothing of this interface differs
+ * between the two, and no bit of an answer; a size_t has 64 bits in both, so
+ * that 32-bit ARM is not served. Of other libraries it needs memcpy and memset,
  * which every C library has and a program without one supplies. It allocates
  * nothing, reads no clock or file, and prints nothing.
  *
@@ -37,8 +40,8 @@
  * handed. It takes no locks.
  *
  * Floats. IEEE 754 binary64 in the default environment: rounding to nearest,
- * subnormal numbers neither flushed nor taken as zero (MXCSR as a process
- * starts with it). A call may raise the exception flags. Results are equal to
+ * subnormal numbers neither flushed nor taken as zero (MXCSR, and FPCR on ARM,
+ * as a process starts with it). A call may raise the exception flags. Results are equal to
  * the last bit on every machine; of a NaN, no bit but its being one counts.
  *
  * Units. Metres, seconds, metres per second and degrees. Positions are
@@ -50,7 +53,8 @@
  * arguments on the stack included, rounded up to 256: measured over full
  * epochs, all rounds and refusals (bindings/rust/tests/stack.rs). No call
  * recurses. Each page is touched in order, so that a stack that is too small
- * ends at its guard page.
+ * ends at its guard page. These are of x86-64; `packaging/aarch64 stack` prints
+ * those of aarch64, and docs/TIMES.md has them.
  *
  *     fix             25,088
  *     position        25,088

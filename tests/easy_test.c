@@ -680,11 +680,14 @@ static void times_of(zaqnuti_gps_time time[2], double dt)
 
     time[0].nanos = end - apart / 2;
     time[1].nanos = time[0].nanos + apart;
+    /* A statement asks chance once, so that every compiler has the same run. */
     if (chance(12) == 0) {
-        time[chance(2)].nanos = 9072604800000000000u + chance(3) - 1;
+        const size_t k = (size_t)chance(2);
+        time[k].nanos = 9072604800000000000u + chance(3) - 1;
     }
     if (chance(12) == 0) {
-        time[chance(2)].nanos = end + chance(3) - 1;
+        const size_t k = (size_t)chance(2);
+        time[k].nanos = end + chance(3) - 1;
     }
 }
 
@@ -958,7 +961,8 @@ static void corrections(void)
         add_both(&e, base_place, rover_place, &plain);
     }
     for (k = 0; k < 40; k++) {
-        widen_both((size_t)chance(50), (size_t)chance(60));
+        const size_t samples = (size_t)chance(50);
+        widen_both(samples, (size_t)chance(60));
     }
     widen_both(ZAQNUTI_SAMPLES, ZAQNUTI_SAMPLES);
     widen_both(ZAQNUTI_SAMPLES + 1, ZAQNUTI_SAMPLES + 1);
