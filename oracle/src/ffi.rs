@@ -2,6 +2,7 @@
 
 mod columns;
 mod displacement;
+mod drives;
 mod fix;
 mod line;
 mod robust;
@@ -10,6 +11,7 @@ mod trips;
 
 pub use columns::Columns;
 pub use displacement::*;
+pub use drives::*;
 pub use fix::*;
 pub use line::*;
 pub use robust::*;

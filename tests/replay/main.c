@@ -59,6 +59,8 @@ static const struct kind kinds[] = {
     {22, "between", same_between},
     {23, "widen", same_widen},
     {27, "trip", same_trip},
+    {28, "drive", same_drive},
+    {38, "settings", same_settings},
 };
 
 #define KINDS (sizeof kinds / sizeof *kinds)

@@ -72,5 +72,7 @@ bool same_since(struct stored *s);
 bool same_between(struct stored *s);
 bool same_widen(struct stored *s);
 bool same_trip(struct stored *s);
+bool same_drive(struct stored *s);
+bool same_settings(struct stored *s);
 
 #endif

@@ -2,6 +2,7 @@
 pub mod between;
 mod columns;
 pub mod corrections;
+pub mod drives;
 pub mod estimates;
 pub mod line;
 pub mod matrix;

@@ -2,6 +2,7 @@
 
 mod corrections;
 mod displacement;
+mod drives;
 mod fix;
 mod line;
 mod pieces;
@@ -29,6 +30,7 @@ pub const ENTRIES: &[Entry] = &[
     ("smooth", track::smooth),
     ("times", times::times),
     ("trip", trips::trip),
+    ("drive", drives::drive),
     ("round", pieces::a_round),
     ("centre", pieces::centre),
     ("geometry", pieces::geometry),

@@ -6,6 +6,7 @@ mod centre;
 mod clocks;
 pub mod corrections;
 mod displacement;
+pub mod drive;
 mod estimator;
 pub mod factor;
 mod fix;
@@ -65,6 +66,8 @@ pub const KINDS: &[(u64, &str, Make)] = &[
     (22, "between", between::vectors),
     (23, "widen", corrections::stored::widen),
     (27, "trip", trip::vectors),
+    (28, "drive", drive::vectors),
+    (38, "settings", drive::settings_vectors),
 ];
 
 /// Every service, lowest first.
@@ -84,6 +87,7 @@ pub const SERVICES: &[Service] = &[
     time::SERVICE,
     between::SERVICE,
     trip::SERVICE,
+    drive::SERVICE,
     fix::SERVICE,
     soundness::SERVICE,
     track::SERVICE,
