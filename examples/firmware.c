@@ -1,8 +1,8 @@
 /*
  * One of each service as firmware would call it: a fix, times, a displacement,
  * its compass directions, the same of epochs that are kept and sent as bytes,
- * a text in the line form, a day's trip, two epochs of corrections with a
- * query, and a track.
+ * a text in the line form, a day's trip, new settings during another, two
+ * epochs of corrections with a query, and a track.
  * The sky is made up, so the answers are known: the program prints them and
  * exits with 1 where one is not as expected.
  *
@@ -522,6 +522,69 @@ static void directions(void)
     expect("result kept, m", ned[0], 3.0, 0.0);
 }
 
+/* The trip's next epoch: one second under the settings in force. */
+static uint8_t travel(uint64_t day[6], const double in_force[5], size_t rounds, const struct epoch *p, const struct epoch *c, size_t count, double delta[3], size_t counts[2])
+{
+    return zaqnuti_trip_displacement(
+        day, in_force, rounds,
+        p->constellation, SATELLITES, p->svid, SATELLITES, p->band, SATELLITES,
+        p->state, SATELLITES, p->floats, 6 * SATELLITES, count,
+        c->constellation, SATELLITES, c->svid, SATELLITES, c->band, SATELLITES,
+        c->state, SATELLITES, c->floats, 6 * SATELLITES, count,
+        1.0, receiver, 10, delta, counts);
+}
+
+/* A day of 2,000 seconds, of which head office raises the mask at noon; the van moves 2.5 m in each. */
+static void new_settings(void)
+{
+    const double morning[5] = {0.5, 0.008, 0.002, 1.5, 10.0};
+    const double noon[5] = {0.5, 0.008, 0.002, 1.5, 30.0};
+    const double no_mask[5] = {0.5, 0.008, 0.002, 1.5, 2e9};
+    const double moved[3] = {receiver[0] + 1.5, receiver[1] - 2.0, receiver[2]};
+    double rate[SATELLITES];
+    struct epoch previous;
+    struct epoch current;
+    uint64_t day[6] = {0, 0, 0, 0, 0, 0};
+    uint64_t report[4] = {0, 0, 0, 0};
+    double in_force[5] = {0.0, 0.0, 0.0, 0.0, 0.0};
+    double delta[3] = {0.0, 0.0, 0.0};
+    size_t counts[2] = {0, 0};
+    size_t rounds = 0;
+    size_t used[2] = {0, 0};
+    unsigned refused = 0;
+    unsigned i;
+
+    printf("new settings at noon\n");
+    for (i = 0; i < SATELLITES; i++) {
+        rate[i] = range_to(sky[i].place, moved) - range_to(sky[i].place, receiver);
+    }
+    measure(&previous, receiver, 0.0, rate);
+    measure(&current, moved, 30.0, rate);
+    expect_number("begin", zaqnuti_trip_begin(morning, 4, 4000, day, in_force, &rounds), 0);
+    for (i = 0; i < 2000; i++) {
+        if (i == 1000) {
+            /* A mask that is none is refused, and the morning's settings stay; the noon's are taken. */
+            expect_number("a mask of 2e9", zaqnuti_trip_settings(day, no_mask, 4, in_force, &rounds), ZAQNUTI_SETTING_OUT_OF_RANGE);
+            expect("mask in force", in_force[4], 10.0, 0.0);
+            expect_number("a mask of 30", zaqnuti_trip_settings(day, noon, 4, in_force, &rounds), 0);
+        }
+        refused += travel(day, in_force, rounds, &previous, &current, SATELLITES, delta, counts) != 0;
+        used[i / 1000] = counts[0];
+        /* Five carriers are too few: the epoch and its pulses are not counted. */
+        refused += travel(day, in_force, rounds, &previous, &current, 5, delta, counts) != ZAQNUTI_TOO_FEW_PAIRS;
+    }
+    expect_number("other answers", refused, 0);
+    expect_number("carriers in the morning", (unsigned)used[0], 10);
+    expect_number("and after noon", (unsigned)used[1], 8);
+    expect_number("report", zaqnuti_trip_report(day, report), 0);
+    expect_number("epochs", (unsigned)day[1], 2000);
+    expect("carrier distance, m", (double)report[0] / 1000.0, 5000.0, 2.1);
+    expect_number("odometer, mm", (unsigned)report[1], 5000000);
+    printf("  In %lu epochs the van went %lu m by its carriers, with %lu satellites before noon and %lu after it,\n"
+           "  and %lu m by its odometer.\n",
+           (unsigned long)day[1], metres(report[0]), (unsigned long)used[0], (unsigned long)used[1], metres(report[1]));
+}
+
 int main(void)
 {
     fix();
@@ -532,6 +595,7 @@ int main(void)
     directions();
     line_form();
     trip();
+    new_settings();
     corrections();
     track();
     printf("%d not as expected\n", failures);

@@ -72,6 +72,7 @@
  *     times              256
  *     trip               256
  *     north_east_down    256
+ *     trip_displacement 21,760
  *     round            8,704
  *     centre             768
  *     geometry           256
@@ -514,6 +515,79 @@ uint8_t zaqnuti_displacement_records(
  * earth's centre in the plane of the equator).
  */
 uint8_t zaqnuti_north_east_down(const double position[3], const double displacement[3], double ned[3]);
+
+/*
+ * A trip whose displacements are worked out here, under settings that may
+ * change between two epochs. The caller holds the settings in force beside the
+ * trip: five doubles and the rounds, as zaqnuti_displacement takes them.
+ *
+ *     uint64_t trip[6];
+ *     double in_force[5];
+ *     size_t rounds;
+ *     zaqnuti_trip_begin(morning, 4, 4000, trip, in_force, &rounds);
+ *     zaqnuti_trip_displacement(trip, in_force, rounds, ..);   for each epoch
+ *     zaqnuti_trip_settings(trip, afternoon, 4, in_force, &rounds);
+ *     zaqnuti_trip_displacement(trip, in_force, rounds, ..);   for each epoch
+ *     zaqnuti_trip_report(trip, report);
+ *
+ * The report is that of the displacements worked out under the old settings up
+ * to the change and under the new ones after it.
+ */
+
+/*
+ * A trip just started, with these settings in force. Refuses by 3 (of the
+ * settings), then 16 (a rate of 0), and leaves trip and settings as they were.
+ */
+uint8_t zaqnuti_trip_begin(
+    const double settings[5],
+    size_t rounds,
+    uint16_t per_km,
+    uint64_t trip[6],
+    double in_force[5],
+    size_t *in_force_rounds);
+
+/*
+ * New settings between two epochs. Refuses by 3 (of the new settings; those in
+ * force are not tested), then 16 (of the trip), and leaves the settings in
+ * force as they were.
+ */
+uint8_t zaqnuti_trip_settings(
+    const uint64_t trip[6],
+    const double settings[5],
+    size_t rounds,
+    double in_force[5],
+    size_t *in_force_rounds);
+
+/*
+ * The displacement between two epochs under the settings in force, added to
+ * the trip with its pulses. Columns, dt, receiver, delta and counts are those
+ * of zaqnuti_displacement.
+ *
+ * Refuses by 2, 3, 4, 5, 7, 8, 9, 10 as that does, then by 16 as
+ * zaqnuti_trip_add does. A refusal leaves the trip as it was, with that epoch
+ * and its pulses uncounted, and delta and counts too.
+ */
+uint8_t zaqnuti_trip_displacement(
+    uint64_t trip[6],
+    const double in_force[5],
+    size_t in_force_rounds,
+    const uint8_t *previous_constellation, size_t previous_constellation_length,
+    const uint16_t *previous_svid, size_t previous_svid_length,
+    const uint32_t *previous_band, size_t previous_band_length,
+    const int32_t *previous_state, size_t previous_state_length,
+    const double *previous_floats, size_t previous_floats_length,
+    size_t previous_count,
+    const uint8_t *current_constellation, size_t current_constellation_length,
+    const uint16_t *current_svid, size_t current_svid_length,
+    const uint32_t *current_band, size_t current_band_length,
+    const int32_t *current_state, size_t current_state_length,
+    const double *current_floats, size_t current_floats_length,
+    size_t current_count,
+    double dt,
+    const double receiver[3],
+    uint16_t pulses,
+    double delta[3],
+    size_t counts[2]);
 
 /* ---- the corrections */
 

@@ -467,6 +467,82 @@ static inline uint8_t zaqnuti_easy_trip_fuel(const zaqnuti_trip *trip, uint32_t 
     return zaqnuti_trip_fuel(trip->word, millilitres, per_km);
 }
 
+/* A trip whose displacements are worked out under the settings in force, which may change between two epochs. */
+typedef struct zaqnuti_drive {
+    zaqnuti_trip trip;
+    zaqnuti_displacement_settings in_force;
+} zaqnuti_drive;
+
+/* The settings of five floats, as a call has left them. */
+static inline void zaqnuti_drive_settings(zaqnuti_drive *drive, const double set[5], size_t rounds)
+{
+    drive->in_force.screen = set[0];
+    drive->in_force.sigma_a = set[1];
+    drive->in_force.sigma_b = set[2];
+    drive->in_force.huber = set[3];
+    drive->in_force.mask = set[4];
+    drive->in_force.rounds = rounds;
+}
+
+/* A trip just started, with these settings in force; a refusal leaves the drive as it was. */
+static inline uint8_t zaqnuti_easy_drive_begin(const zaqnuti_displacement_settings *settings, uint16_t per_km, zaqnuti_drive *drive)
+{
+    const double set[5] = {settings->screen, settings->sigma_a, settings->sigma_b, settings->huber, settings->mask};
+    double in_force[5] = {0.0, 0.0, 0.0, 0.0, 0.0};
+    size_t rounds = 0;
+    const uint8_t number = zaqnuti_trip_begin(set, settings->rounds, per_km, drive->trip.word, in_force, &rounds);
+    if (number == 0) {
+        zaqnuti_drive_settings(drive, in_force, rounds);
+    }
+    return number;
+}
+
+/* New settings between two epochs; a refused change leaves those in force. */
+static inline uint8_t zaqnuti_easy_drive_settings(zaqnuti_drive *drive, const zaqnuti_displacement_settings *settings)
+{
+    const double set[5] = {settings->screen, settings->sigma_a, settings->sigma_b, settings->huber, settings->mask};
+    double in_force[5] = {0.0, 0.0, 0.0, 0.0, 0.0};
+    size_t rounds = 0;
+    const uint8_t number = zaqnuti_trip_settings(drive->trip.word, set, settings->rounds, in_force, &rounds);
+    if (number == 0) {
+        zaqnuti_drive_settings(drive, in_force, rounds);
+    }
+    return number;
+}
+
+/* How the receiver moved in `dt` seconds under the settings in force, added to the trip with its pulses; a refused one leaves the trip as it was. */
+static inline uint8_t zaqnuti_easy_drive_displacement(
+    zaqnuti_drive *drive,
+    const zaqnuti_epoch *previous,
+    const zaqnuti_epoch *current,
+    double dt,
+    zaqnuti_vector receiver,
+    uint16_t pulses,
+    zaqnuti_moved *moved)
+{
+    const zaqnuti_displacement_settings *settings = &drive->in_force;
+    const double from[3] = {receiver.x, receiver.y, receiver.z};
+    const double set[5] = {settings->screen, settings->sigma_a, settings->sigma_b, settings->huber, settings->mask};
+    double delta[3] = {0.0, 0.0, 0.0};
+    size_t counts[2] = {0, 0};
+    uint8_t number = zaqnuti_trip_displacement(
+        drive->trip.word, set, settings->rounds,
+        previous->constellation, ZAQNUTI_RECORDS, previous->svid, ZAQNUTI_RECORDS, previous->band, ZAQNUTI_RECORDS,
+        previous->state, ZAQNUTI_RECORDS, previous->floats, 6 * ZAQNUTI_RECORDS, previous->count,
+        current->constellation, ZAQNUTI_RECORDS, current->svid, ZAQNUTI_RECORDS, current->band, ZAQNUTI_RECORDS,
+        current->state, ZAQNUTI_RECORDS, current->floats, 6 * ZAQNUTI_RECORDS, current->count,
+        dt, from, pulses, delta, counts);
+
+    if (number == 0) {
+        moved->delta.x = delta[0];
+        moved->delta.y = delta[1];
+        moved->delta.z = delta[2];
+        moved->used = counts[0];
+        moved->screened = counts[1];
+    }
+    return number;
+}
+
 /* ---- the corrections */
 
 /* A signal of a satellite. */

@@ -209,6 +209,57 @@ static uint8_t displacement_both(
     return plain_number;
 }
 
+/* ---- a trip with settings */
+
+/* New settings and a displacement under those in force, by both calls on the same trip; at first it is begun. */
+static void drive_both(
+    const zaqnuti_carrier *before, size_t before_count, const zaqnuti_carrier *after, size_t after_count,
+    double dt, zaqnuti_vector receiver, const zaqnuti_displacement_settings *set)
+{
+    static zaqnuti_drive easy;
+    static struct columns p;
+    static struct columns c;
+    const double from[3] = {receiver.x, receiver.y, receiver.z};
+    const double settings[5] = {set->screen, set->sigma_a, set->sigma_b, set->huber, set->mask};
+    const uint16_t pulses = (uint16_t)chance(65536);
+    double in_force[5] = {easy.in_force.screen, easy.in_force.sigma_a, easy.in_force.sigma_b, easy.in_force.huber, easy.in_force.mask};
+    size_t rounds = easy.in_force.rounds;
+    uint64_t word[6];
+    double delta[3] = {1.0, 2.0, 3.0};
+    size_t counts[2] = {4, 5};
+    zaqnuti_moved moved = {{1.0, 2.0, 3.0}, 4, 5};
+    zaqnuti_epoch previous;
+    zaqnuti_epoch current;
+    uint8_t number;
+
+    memcpy(word, easy.trip.word, sizeof word);
+    if (word[0] == 0 || chance(40) == 0) {
+        const uint16_t per_km = (uint16_t)chance(3);
+        number = zaqnuti_trip_begin(settings, set->rounds, per_km, word, in_force, &rounds);
+        same(zaqnuti_easy_drive_begin(set, per_km, &easy) == number, "a trip begun with settings, its number");
+    } else {
+        number = zaqnuti_trip_settings(word, settings, set->rounds, in_force, &rounds);
+        same(zaqnuti_easy_drive_settings(&easy, set) == number, "new settings of a trip, their number");
+    }
+    met[number] += 1;
+    same(memcmp(easy.trip.word, word, sizeof word) == 0 && memcmp(&easy.in_force, in_force, sizeof in_force) == 0 && easy.in_force.rounds == rounds,
+         "a trip and its settings in force");
+    if (epoch_of(&previous, before, before_count) != 0 || epoch_of(&current, after, after_count) != 0) {
+        return;
+    }
+    columns_of(&p, before, before_count);
+    columns_of(&c, after, after_count);
+    number = zaqnuti_trip_displacement(
+        word, in_force, rounds,
+        p.constellation, MOST, p.svid, MOST, p.band, MOST, p.state, MOST, p.floats, 6 * MOST, before_count,
+        c.constellation, MOST, c.svid, MOST, c.band, MOST, c.state, MOST, c.floats, 6 * MOST, after_count,
+        dt, from, pulses, delta, counts);
+    met[number] += 1;
+    same(zaqnuti_easy_drive_displacement(&easy, &previous, &current, dt, receiver, pulses, &moved) == number, "a displacement of a trip, its number");
+    same(memcmp(easy.trip.word, word, sizeof word) == 0, "a displacement of a trip, the trip");
+    same(memcmp(&moved.delta, delta, sizeof delta) == 0 && moved.used == counts[0] && moved.screened == counts[1], "a displacement of a trip");
+}
+
 /* ---- the trip */
 
 /* A trip by both calls: the words, the numbers and the results are the same. */
@@ -736,6 +787,7 @@ static void alter_displacements(const struct text *t, size_t times)
         }
         number = displacement_both(a.carrier[0], a.count[0], a.carrier[1], a.count[1], a.dt, NULL, a.receiver, &a.settings, &moved);
         records_both(a.carrier[0], a.count[0], a.carrier[1], a.count[1], a.dt, a.receiver, &a.settings, number, &moved);
+        drive_both(a.carrier[0], a.count[0], a.carrier[1], a.count[1], a.dt, a.receiver, &a.settings);
         /* Between two times: the number and the bytes of the call with their interval. */
         times_of(time, a.dt);
         number = displacement_both(a.carrier[0], a.count[0], a.carrier[1], a.count[1], 0.0, time, a.receiver, &a.settings, &between);

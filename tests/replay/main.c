@@ -63,6 +63,8 @@ static const struct kind kinds[] = {
     {41, "write", same_write},
     {42, "records", same_records},
     {31, "directions", same_directions},
+    {28, "drive", same_drive},
+    {38, "settings", same_settings},
 };
 
 #define KINDS (sizeof kinds / sizeof *kinds)

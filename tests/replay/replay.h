@@ -76,5 +76,7 @@ bool same_read(struct stored *s);
 bool same_write(struct stored *s);
 bool same_records(struct stored *s);
 bool same_directions(struct stored *s);
+bool same_drive(struct stored *s);
+bool same_settings(struct stored *s);
 
 #endif

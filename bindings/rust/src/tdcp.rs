@@ -74,7 +74,7 @@ impl Settings {
     }
 
     /// Its floats, as the entry points take them.
-    const fn floats(&self) -> [f64; 5] {
+    pub(crate) const fn floats(&self) -> [f64; 5] {
         [
             self.screen,
             self.sigma_a,
@@ -98,13 +98,13 @@ pub struct Delta {
 
 /// What a call writes.
 #[derive(Default)]
-struct Lent {
-    delta: [f64; 3],
-    counts: [usize; 2],
+pub(crate) struct Lent {
+    pub(crate) delta: [f64; 3],
+    pub(crate) counts: [usize; 2],
 }
 
 impl Lent {
-    fn answer(self, number: u8) -> Result<Delta, Refusal> {
+    pub(crate) fn answer(self, number: u8) -> Result<Delta, Refusal> {
         answered(number)?;
         let ([x, y, z], [used, screened]) = (self.delta, self.counts);
         Ok(Delta {
@@ -116,16 +116,16 @@ impl Lent {
 }
 
 /// The columns of an epoch.
-struct Columns {
-    constellation: [u8; RECORDS],
-    svid: [u16; RECORDS],
-    band: [u32; RECORDS],
-    state: [i32; RECORDS],
-    floats: [[f64; 6]; RECORDS],
+pub(crate) struct Columns {
+    pub(crate) constellation: [u8; RECORDS],
+    pub(crate) svid: [u16; RECORDS],
+    pub(crate) band: [u32; RECORDS],
+    pub(crate) state: [i32; RECORDS],
+    pub(crate) floats: [[f64; 6]; RECORDS],
 }
 
 impl Columns {
-    fn of(carriers: &[Carrier]) -> Self {
+    pub(crate) fn of(carriers: &[Carrier]) -> Self {
         Self {
             constellation: column(carriers, |c| c.constellation),
             svid: column(carriers, |c| c.svid),

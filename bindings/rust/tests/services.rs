@@ -11,7 +11,7 @@ use zaqnuti::math::{self, Cholesky};
 use zaqnuti::robust::{centre_scale, elevation_sigma, geometry, step, Clocks, Row};
 use zaqnuti::smooth::{smooth, Anchor, Link};
 use zaqnuti::time::{GpsTime, NANOS_PER_WEEK};
-use zaqnuti::trip::{Report, Trip};
+use zaqnuti::trip::{Drive, Report, Trip};
 use zaqnuti::{differential, line, smooth as track, tdcp, wire, wls, Ecef, Refusal, Vec3, TEXT};
 
 fn near(a: f64, b: f64, within: f64) -> bool {
@@ -284,7 +284,9 @@ fn a_trip() {
     assert_eq!(trip.fuel(850), Ok(85_000));
     // The double below 0.001 has no whole millimetre.
     let mut short = Trip::start(1).unwrap();
-    short.add(Vec3::new(0.001f64.next_down(), 0.0, 0.0), 0).unwrap();
+    short
+        .add(Vec3::new(0.001f64.next_down(), 0.0, 0.0), 0)
+        .unwrap();
     assert_eq!(short.words()[2], 0);
     assert_eq!(short.fuel(1), Err(Refusal::NoDistance));
     short.add(Vec3::new(0.001, 0.0, 0.0), 0).unwrap();
@@ -304,7 +306,13 @@ fn a_trip_refuses() {
     assert_eq!(full.report().unwrap().odometer, 4_294_836_225_000_000);
     assert_eq!(full.report().unwrap().reached, 4_294_967_295);
     let mut trip = Trip::start(65_535).unwrap();
-    for x in [f64::NAN, f64::INFINITY, -f64::INFINITY, 1000f64.next_up(), 1e200] {
+    for x in [
+        f64::NAN,
+        f64::INFINITY,
+        -f64::INFINITY,
+        1000f64.next_up(),
+        1e200,
+    ] {
         assert_eq!(trip.add(Vec3::new(0.0, x, 0.0), 65_535), bad, "{x}");
     }
     assert_eq!(trip.words(), [65_535, 0, 0, 0, 0, 0]);
@@ -379,6 +387,70 @@ fn a_displacement_of_records() {
     assert_eq!(why(&before, &now, 0.0, &odd), Refusal::SettingOutOfRange);
     assert_eq!(why(&before, &now, 0.0, &set), Refusal::BadInterval);
     assert_eq!(why(&[], &now, 1.0, &set), Refusal::TooFewPairs);
+}
+
+#[test]
+fn settings_during_a_trip() {
+    let morning = tdcp::Settings {
+        screen: 1e3,
+        ..tdcp::Settings::default()
+    };
+    let noon = tdcp::Settings {
+        mask: 40.0,
+        iterations: 7,
+        ..morning
+    };
+    let moved = Ecef::new(AT.x + 3.0, AT.y - 2.0, AT.z + 0.5);
+    let (p, c) = (carriers(40, AT), carriers(40, moved));
+    let mut drive = Drive::begin(&morning, 1000).unwrap();
+    assert_eq!(drive.in_force(), morning);
+    let before = drive.travel(&p, &c, 1.0, AT, 4).unwrap();
+    assert_eq!(Ok(before), tdcp::delta_position(&p, &c, 1.0, AT, &morning));
+    drive.change(&noon).unwrap();
+    assert_eq!(drive.in_force(), noon);
+    let after = drive.travel(&p, &c, 1.0, AT, 3).unwrap();
+    assert_eq!(Ok(after), tdcp::delta_position(&p, &c, 1.0, AT, &noon));
+    assert!(after.used < before.used);
+    // The trip is that of the two displacements.
+    let mut plain = Trip::start(1000).unwrap();
+    plain.add(before.delta, 4).unwrap();
+    plain.add(after.delta, 3).unwrap();
+    assert_eq!(drive.trip(), plain);
+    // What is refused leaves trip and settings.
+    let kept = drive;
+    let odd = tdcp::Settings {
+        huber: f64::INFINITY,
+        ..noon
+    };
+    let long = tdcp::Settings {
+        iterations: 51,
+        ..noon
+    };
+    for set in [odd, long] {
+        assert_eq!(drive.change(&set), Err(Refusal::SettingOutOfRange));
+        assert_eq!(Drive::begin(&set, 0), Err(Refusal::SettingOutOfRange));
+    }
+    assert_eq!(Drive::begin(&noon, 0), Err(Refusal::BadTrip));
+    let few = drive.travel(&p[..5], &c, 1.0, AT, 9);
+    assert_eq!(few, Err(Refusal::TooFewPairs));
+    assert_eq!(drive, kept);
+    // The numbers of settings and displacement come before 16; those in force are tested in a displacement only.
+    let bad = Trip::from_words([0; 6]);
+    let mut broken = Drive::from_parts(bad, odd);
+    let why = broken.travel(&p, &c, 1.0, AT, 9);
+    assert_eq!(why, Err(Refusal::SettingOutOfRange));
+    assert_eq!(broken.change(&odd), Err(Refusal::SettingOutOfRange));
+    assert_eq!(broken.change(&noon), Err(Refusal::BadTrip));
+    let mut broken = Drive::from_parts(bad, noon);
+    let why = broken.travel(&p, &c, f64::NAN, AT, 9);
+    assert_eq!(why, Err(Refusal::BadInterval));
+    let why = broken.travel(&p, &c, 1.0, AT, 9);
+    assert_eq!(why, Err(Refusal::BadTrip));
+    assert_eq!(broken, Drive::from_parts(bad, noon));
+    let mut full = Drive::from_parts(Trip::from_words([1, 65_535, 0, 0, 0, 1]), odd);
+    full.change(&noon).unwrap();
+    let why = full.travel(&p, &c, 1.0, AT, 9);
+    assert_eq!(why, Err(Refusal::BadTrip));
 }
 
 /// The example of docs/SCOPE.md, without its LF.

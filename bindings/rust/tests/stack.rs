@@ -224,6 +224,67 @@ fn displacement(count: usize, rounds: usize, screen: f64, times: Option<[u64; 2]
     })
 }
 
+/// Both epochs under settings in force, added to a trip; the settings are begun with and changed.
+fn trip_displacement(count: usize, rounds: usize, screen: f64, words: [u64; 6]) -> usize {
+    let (before, after) = epochs();
+    let floats = |c: &[Carrier]| -> Vec<f64> {
+        let six = |c: &Carrier| {
+            let [x, y, z] = c.satellite;
+            [c.adr, x, y, z, c.elevation, c.rate]
+        };
+        c.iter().flat_map(six).collect()
+    };
+    let (pf, cf) = (floats(&before), floats(&after));
+    let constellation: Vec<u8> = before.iter().map(|c| c.constellation).collect();
+    let svid: Vec<u16> = before.iter().map(|c| c.svid).collect();
+    let (band, state) = (vec![1575u32; 64], vec![1i32; 64]);
+    let set = [screen, 0.008, 0.002, 1e-3, 10.0];
+    let (mut trip, mut force, mut force_rounds) = (words, [0.0; 5], 0);
+    let (mut delta, mut counts) = ([0.0; 3], [0; 2]);
+    measured(move || {
+        let frame = top();
+        // SAFETY: each column has its length beside it, and what is written is ours alone.
+        unsafe {
+            sys::zaqnuti_trip_begin(&set, rounds, 1, &mut trip, &mut force, &mut force_rounds);
+            trip = words;
+            sys::zaqnuti_trip_settings(&trip, &set, rounds, &mut force, &mut force_rounds);
+            sys::zaqnuti_trip_displacement(
+                &mut trip,
+                &set,
+                rounds,
+                constellation.as_ptr(),
+                64,
+                svid.as_ptr(),
+                64,
+                band.as_ptr(),
+                64,
+                state.as_ptr(),
+                64,
+                pf.as_ptr(),
+                pf.len(),
+                count,
+                constellation.as_ptr(),
+                64,
+                svid.as_ptr(),
+                64,
+                band.as_ptr(),
+                64,
+                state.as_ptr(),
+                64,
+                cf.as_ptr(),
+                cf.len(),
+                count,
+                1.0,
+                &AT.coordinates(),
+                7,
+                &mut delta,
+                &mut counts,
+            );
+        }
+        frame
+    })
+}
+
 /// A displacement of the bytes of both epochs, the first so many of each, with a result of so many bytes.
 fn records(previous: usize, current: usize, rounds: u32, screen: f64, room: usize) -> usize {
     let (before, after) = epochs();
@@ -858,6 +919,16 @@ fn no_more_than_the_header_says() {
                 trip([1000, 65_535, 0, 8, 2000, 2], 3.0),
                 trip([0; 6], f64::NAN),
                 trip([u64::MAX; 6], 1e300),
+            ]),
+        ),
+        (
+            "trip_displacement",
+            most([
+                trip_displacement(64, 50, 1e9, [1000, 4, 10_000, 8, 2000, 2]),
+                trip_displacement(64, 50, 0.5, [1000, 4, 10_000, 8, 2000, 2]),
+                trip_displacement(65, 50, 1e9, [u64::MAX; 6]),
+                trip_displacement(64, 51, 1e9, [0; 6]),
+                trip_displacement(5, 4, f64::NAN, [1000, 65_535, 0, 8, 2000, 2]),
             ]),
         ),
         (

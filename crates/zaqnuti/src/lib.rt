@@ -3,6 +3,7 @@ pub mod between;
 mod columns;
 pub mod corrections;
 pub mod directions;
+pub mod drives;
 pub mod estimates;
 pub mod firmware;
 pub mod line;

@@ -3,6 +3,7 @@
 mod corrections;
 mod directions;
 mod displacement;
+mod drives;
 mod fix;
 mod line;
 mod pieces;
@@ -35,6 +36,7 @@ pub const ENTRIES: &[Entry] = &[
     ("times", times::times),
     ("trip", trips::trip),
     ("directions", directions::directions),
+    ("drive", drives::drive),
     ("round", pieces::a_round),
     ("centre", pieces::centre),
     ("geometry", pieces::geometry),

@@ -8,6 +8,7 @@ pub mod corrections;
 pub mod directions;
 mod displacement;
 mod equations;
+pub mod drive;
 mod estimator;
 pub mod factor;
 mod fix;
@@ -74,6 +75,8 @@ pub const KINDS: &[(u64, &str, Make)] = &[
     (41, "write", wire::write),
     (42, "records", wire_tdcp::vectors),
     (31, "directions", directions::vectors),
+    (28, "drive", drive::vectors),
+    (38, "settings", drive::settings_vectors),
 ];
 
 /// Every service, lowest first.
@@ -96,6 +99,7 @@ pub const SERVICES: &[Service] = &[
     trip::SERVICE,
     wire::SERVICE,
     wire_tdcp::SERVICE,
+    drive::SERVICE,
     fix::SERVICE,
     top::DISPLACEMENT,
     top::FIX,

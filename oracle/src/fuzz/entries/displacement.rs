@@ -96,18 +96,18 @@ pub fn displacement_input(b: &mut Bytes) -> Displacement {
 }
 
 /// An epoch of carriers, lent.
-struct Epoch {
-    constellation: Lent<u8>,
-    svid: Lent<u16>,
-    band: Lent<u32>,
-    state: Lent<i32>,
-    floats: Lent<f64>,
-    count: usize,
-    fits: bool,
+pub struct Epoch {
+    pub constellation: Lent<u8>,
+    pub svid: Lent<u16>,
+    pub band: Lent<u32>,
+    pub state: Lent<i32>,
+    pub floats: Lent<f64>,
+    pub count: usize,
+    pub fits: bool,
 }
 
 impl Epoch {
-    fn lend(b: &mut Bytes, lender: &mut Lender, records: &[Carrier]) -> Self {
+    pub fn lend(b: &mut Bytes, lender: &mut Lender, records: &[Carrier]) -> Self {
         let constellation = column(b, records, |c| c.constellation);
         let svid = column(b, records, |c| c.svid);
         let band = column(b, records, |c| c.band);
@@ -135,7 +135,7 @@ impl Epoch {
         }
     }
 
-    fn kept(&self) {
+    pub fn kept(&self) {
         self.constellation.kept();
         self.svid.kept();
         self.band.kept();
