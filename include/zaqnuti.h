@@ -563,7 +563,7 @@ uint8_t zaqnuti_trip_settings(
  * the trip with its pulses. Columns, dt, receiver, delta and counts are those
  * of zaqnuti_displacement.
  *
- * Refuses by 2, 3, 4, 5, 7, 8, 9, 10 as that does, then by 16 as
+ * Refuses by 2, 3, 4, 5, 15, 7, 8, 9, 10 as that does, then by 16 as
  * zaqnuti_trip_add does. A refusal leaves the trip as it was, with that epoch
  * and its pulses uncounted, and delta and counts too.
  */
