@@ -6,16 +6,18 @@ use Prim.Native.Nat.{ℕ, suc, _+_, _*_, _^_, _≤_, _<_}
 use native.Mathlib.Numerals.{add-one}
 use native.Mathlib.Omega.{arith}
 use lib.Dec.{eqb, ltb, leb}
+use lib.Ieee.{Float}
 use lib.ListN.{length, take, drop, length-drop, length-map, take-append-drop}
 use lib.Seq.{drop-drop, drop-length, length-take-le}
 use borrow.Author.Tests.{ltb-true, leb-true, eqb-true, le-leb, lt-ltb, eq-eqb, ne-eqb}
 use Rattle.walk.specs.Walk.{collect, every, first}
-use Rattle.table.specs.Table.{placeOf, ranged, rises, signalOf, sound, timeKey, seriesOf, ofSignal}
+use Rattle.table.specs.Table.{ranged, signalOf, sorted, sound, seriesOf, ofSignal}
 use Rattle.table.specs.declared.sample.Sample.{Sample}
 use Rattle.table.proofs.TableLaws.{and-left, and-right}
-use Rattle.table.proofs.UnitLaws.{never, key-lt}
+use Rattle.table.proofs.UnitLaws.{never}
+use Rattle.table.proofs.Places.{timeKey, placeOf, rises, key-lt, earlier-key, not-ltb, sorted-rises}
 use Rattle.table.proofs.SeriesLaws.{mine, other}
-use Rattle.directory.specs.Directory.{Entry, Reading, Directory, signalIn, sampleOf, block, flat, blockOf, ascends, tiles, timely, inOrder, inReach, soundDirectory, entryOf, isMine, joined, entriesFrom, readingOf, directoryOf}
+use Rattle.directory.specs.Directory.{Entry, Reading, Directory, signalIn, sampleOf, block, flat, blockOf, ascends, tiles, timely, timelyFrom, inOrder, inReach, soundDirectory, entryOf, isMine, joined, entriesFrom, readingOf, directoryOf}
 
 -- ---- a table from its directory
 
@@ -226,6 +228,21 @@ unfolding every inReach ranged
 in-reach-ranged [] = refl
 in-reach-ranged (s ∷ l) = rw (in-reach-ranged l)
 
+-- times in order, by their numbers; the first is not below k
+unfoldable pub keyed : ℕ → List Sample → Bool
+keyed k [] = true
+keyed k (s ∷ l) = leb k (timeKey (s .time)) && keyed (timeKey (s .time)) l
+
+from-keyed : (p : Float) (l : List Sample) → timelyFrom p l ≡ keyed (timeKey p) l
+unfolding timelyFrom keyed
+from-keyed p [] = refl
+from-keyed p (s ∷ l) = rw (earlier-key (s .time) p, not-ltb (timeKey (s .time)) (timeKey p), from-keyed (s .time) l)
+
+pub timely-keyed : (l : List Sample) → timely l ≡ keyed 0 l
+unfolding timely keyed
+timely-keyed [] = refl
+timely-keyed (s ∷ l) = from-keyed (s .time) l ∙ rw (le-leb 0 (timeKey (s .time)) (omega arith))
+
 above : (g k : ℕ) → k < 2 ^ 64 → g * 2 ^ 64 + k ≤ suc g * 2 ^ 64
 above g k h = omega arith
 
@@ -233,9 +250,9 @@ later : (g j k : ℕ) → j ≤ k → g * 2 ^ 64 + j ≤ g * 2 ^ 64 + k
 later g j k h = omega arith
 
 -- a block in order, and what follows from the next signal on
-rises-block : (e : Entry) (k : ℕ) (rs : List Reading) (rest : List Sample) → k < 2 ^ 64 → timely k (map (sampleOf e) rs) ≡ true → rises (suc (signalIn e) * 2 ^ 64) rest ≡ true
+rises-block : (e : Entry) (k : ℕ) (rs : List Reading) (rest : List Sample) → k < 2 ^ 64 → keyed k (map (sampleOf e) rs) ≡ true → rises (suc (signalIn e) * 2 ^ 64) rest ≡ true
     → rises (signalIn e * 2 ^ 64 + k) (map (sampleOf e) rs ++ rest) ≡ true
-unfolding timely rises
+unfolding keyed rises
 rises-block e k [] rest l t r = rises-weak (signalIn e * 2 ^ 64 + k) (suc (signalIn e) * 2 ^ 64) rest (above (signalIn e) k l) r
 rises-block e k (x ∷ rs) rest l t r =
     rw (le-leb (signalIn e * 2 ^ 64 + k) (signalIn e * 2 ^ 64 + timeKey (x .time)) (later (signalIn e) k (timeKey (x .time)) (leb-true k (timeKey (x .time)) (and-left _ _ t))))
@@ -246,7 +263,7 @@ unfolding collect block every
 rises-flat rs p [] a o = unfold rises in refl
 rises-flat rs p (e ∷ es) a o =
     rises-weak (p * 2 ^ 64) (signalIn e * 2 ^ 64 + 0) (map (sampleOf e) (take (e .count) (drop (e .start) rs)) ++ collect (block rs) es) (low p (signalIn e) (ascends-low e es p a))
-    (rises-block e 0 (take (e .count) (drop (e .start) rs)) (collect (block rs) es) (omega arith) (and-left _ _ o) (rises-flat rs (suc (signalIn e)) es (ascends-rest e es p a) (and-right (timely 0 (block rs e)) _ o)))
+    (rises-block e 0 (take (e .count) (drop (e .start) rs)) (collect (block rs) es) (omega arith) (sym (timely-keyed (block rs e)) ∙ and-left _ _ o) (rises-flat rs (suc (signalIn e)) es (ascends-rest e es p a) (and-right (timely (block rs e)) _ o)))
   where
     low : (p g : ℕ) → p ≤ g → p * 2 ^ 64 ≤ g * 2 ^ 64 + 0
     low p g h = omega arith
@@ -257,7 +274,7 @@ sound-flat d h =
     let p = sound-parts d h in
     let r : every ranged (collect (block (d .readings)) (d .entries)) ≡ true =
     sym (in-reach-ranged (collect (block (d .readings)) (d .entries))) ∙ ap (every inReach) (readings-from (d .readings) 0 (d .entries) (p .tiled)) ∙ p .in-reach in
-    rw r (rises-flat (d .readings) 0 (d .entries) (p .ascending) (p .ordered))
+    rw r (sorted-rises (collect (block (d .readings)) (d .entries)) ∙ rises-flat (d .readings) 0 (d .entries) (p .ascending) (p .ordered))
 
 -- ---- a sound table is a sound directory
 
@@ -366,22 +383,22 @@ rises-right p (s ∷ a) b r = rises-right (placeOf s) a b (and-right (leb p (pla
 least : (g j k : ℕ) → g * 2 ^ 64 + j ≤ g * 2 ^ 64 + k → j ≤ k
 least g j k h = omega arith
 
-timely-rises : (e : Entry) (k : ℕ) (rs : List Reading) → rises (signalIn e * 2 ^ 64 + k) (map (sampleOf e) rs) ≡ true → timely k (map (sampleOf e) rs) ≡ true
-unfolding rises timely
-timely-rises e k [] r = refl
-timely-rises e k (x ∷ rs) r =
+keyed-rises : (e : Entry) (k : ℕ) (rs : List Reading) → rises (signalIn e * 2 ^ 64 + k) (map (sampleOf e) rs) ≡ true → keyed k (map (sampleOf e) rs) ≡ true
+unfolding rises keyed
+keyed-rises e k [] r = refl
+keyed-rises e k (x ∷ rs) r =
     rw (le-leb k (timeKey (x .time)) (least (signalIn e) k (timeKey (x .time)) (leb-true (signalIn e * 2 ^ 64 + k) (signalIn e * 2 ^ 64 + timeKey (x .time)) (and-left _ _ r))))
-    (timely-rises e (timeKey (x .time)) rs (and-right (leb (signalIn e * 2 ^ 64 + k) (signalIn e * 2 ^ 64 + timeKey (x .time))) _ r))
+    (keyed-rises e (timeKey (x .time)) rs (and-right (leb (signalIn e * 2 ^ 64 + k) (signalIn e * 2 ^ 64 + timeKey (x .time))) _ r))
 
-timely-run : (e : Entry) (rs : List Reading) → rises 0 (map (sampleOf e) rs) ≡ true → timely 0 (map (sampleOf e) rs) ≡ true
-unfolding rises timely
-timely-run e [] r = refl
-timely-run e (x ∷ rs) r =
-    rw (le-leb 0 (timeKey (x .time)) (omega arith)) (timely-rises e (timeKey (x .time)) rs (and-right (leb 0 (signalIn e * 2 ^ 64 + timeKey (x .time))) _ r))
+keyed-run : (e : Entry) (rs : List Reading) → rises 0 (map (sampleOf e) rs) ≡ true → keyed 0 (map (sampleOf e) rs) ≡ true
+unfolding rises keyed
+keyed-run e [] r = refl
+keyed-run e (x ∷ rs) r =
+    rw (le-leb 0 (timeKey (x .time)) (omega arith)) (keyed-rises e (timeKey (x .time)) rs (and-right (leb 0 (signalIn e * 2 ^ 64 + timeKey (x .time))) _ r))
 
-timely-block : (rs : List Reading) (e : Entry) → rises 0 (block rs e) ≡ true → timely 0 (block rs e) ≡ true
+timely-block : (rs : List Reading) (e : Entry) → rises 0 (block rs e) ≡ true → timely (block rs e) ≡ true
 unfolding block
-timely-block rs e r = timely-run e (take (e .count) (drop (e .start) rs)) r
+timely-block rs e r = timely-keyed (block rs e) ∙ keyed-run e (take (e .count) (drop (e .start) rs)) r
 
 in-order-of : (rs : List Reading) (es : List Entry) → rises 0 (collect (block rs) es) ≡ true → inOrder rs es ≡ true
 unfolding collect every
@@ -396,7 +413,7 @@ sound-directory t n r =
     let o : inOrder (map readingOf t) (entriesFrom 0 t) ≡ true = in-order-of (map readingOf t) (entriesFrom 0 t) (rw (flat-from (map readingOf t) 0 t refl) r) in
     let z : length t ≡ 0 + length t = omega arith in
     let i : tiles 0 (length (map readingOf t)) (entriesFrom 0 t) ≡ true = ap (λ (k : ℕ). tiles 0 k (entriesFrom 0 t)) (length-map t readingOf ∙ z) ∙ tiles-entries 0 t in
-    rw (ascends-entries 0 0 0 t r n, i, o, r, in-reach-ranged t)
+    rw (ascends-entries 0 0 0 t r n, i, o, sorted-rises t, r, in-reach-ranged t)
 
 -- ---- the block of a signal is its series
 series-append : (g : ℕ) (xs ys : List Sample) → seriesOf g (xs ++ ys) ≡ seriesOf g xs ++ seriesOf g ys

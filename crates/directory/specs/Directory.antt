@@ -1,13 +1,13 @@
 -- The table as one block per satellite (request (ix)): a directory of satellites beside the columns of times and corrections. Definitions only.
 use Prim.Native.Nat.{ℕ, suc, _+_, min}
-use mathlib.Core.Bool.{Bool, true, cond, _&&_}
+use mathlib.Core.Bool.{Bool, true, cond, not, _&&_}
 use mathlib.Core.List.{List, [], _∷_, _++_, map}
 use lib.Dec.{eqb, leb, ltb}
 use lib.ListN.{length, take, drop}
 use lib.Ieee.{Float, nan}
 use Rattle.walk.specs.Walk.{every, first, collect}
 use Rattle.numeric.specs.Real.{inRange}
-use Rattle.table.specs.Table.{signal, timeKey}
+use Rattle.table.specs.Table.{signal, timeBefore}
 use Rattle.table.specs.declared.sample.Sample.{Sample}
 
 -- a satellite of the directory, with the place of its first sample and its count of samples
@@ -136,14 +136,19 @@ unfoldable pub tiles : ℕ → ℕ → List Entry → Bool
 tiles place n [] = eqb place n
 tiles place n (e ∷ es) = eqb (e .start) place && (ltb 0 (e .count) && tiles (place + e .count) n es)
 
--- times in order, in totalOrder; equals are allowed, and the first has no place below k
-unfoldable pub timely : ℕ → List Sample → Bool
-timely k [] = true
-timely k (s ∷ l) = leb k (timeKey (s .time)) && timely (timeKey (s .time)) l
+-- none is before the one ahead of it, which is at the time p for the first
+unfoldable pub timelyFrom : Float → List Sample → Bool
+timelyFrom p [] = true
+timelyFrom p (s ∷ l) = not (timeBefore (s .time) p) && timelyFrom (s .time) l
+
+-- times in order, in totalOrder; equals are allowed
+unfoldable pub timely : List Sample → Bool
+timely [] = true
+timely (s ∷ l) = timelyFrom (s .time) l
 
 -- times are in order within each block
 abbrev pub inOrder : List Reading → List Entry → Bool
-inOrder rs es = every (λ e. timely 0 (block rs e)) es
+inOrder rs es = every (λ e. timely (block rs e)) es
 
 -- time and correction are finite and not above 1e9 in magnitude
 unfoldable pub inReach : Reading → Bool
