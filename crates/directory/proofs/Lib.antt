@@ -3,3 +3,4 @@ pub mod DirectoryLaws
 pub mod FaultLaws
 pub mod ColumnLaws
 pub mod BlockLaws
+pub mod SoundLaws
