@@ -4,3 +4,4 @@ pub mod FaultLaws
 pub mod ColumnLaws
 pub mod BlockLaws
 pub mod SoundLaws
+pub mod EntryLaws
