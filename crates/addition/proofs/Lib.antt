@@ -2,3 +2,5 @@
 pub mod SortLaws
 pub mod FillLaws
 pub mod MixLaws
+pub mod LastLaws
+pub mod CursorLaws

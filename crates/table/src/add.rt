@@ -125,7 +125,7 @@ fn insert(
 }
 
 // The first m samples of new, one after the other, into the n samples of a sound table that has room for them all.
-fn insert_all(
+pub fn insert_all(
     cs: &mut [u8],
     vs: &mut [u16],
     bs: &mut [u32],
@@ -151,7 +151,7 @@ fn insert_all(
 }
 
 // Whether rule 4 lets the counted samples pass.
-fn all_ranged(new: Samples) -> bool
+pub fn all_ranged(new: Samples) -> bool
     requires { ⌜ new .count ≤ 64 ⌝ }
     ensures { λ r. ⌜ r ≡ every ranged (counted new) ⌝ }
 {
