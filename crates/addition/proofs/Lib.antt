@@ -4,3 +4,4 @@ pub mod FillLaws
 pub mod MixLaws
 pub mod LastLaws
 pub mod CursorLaws
+pub mod MergeLaws
