@@ -21,7 +21,7 @@ use Rattle.directory.specs.Directory.{Entry, Reading, ascends, block, entriesFr
 use Rattle.directory.proofs.DirectoryLaws.{Same, Narrow, same-of, same-signal, signal-same, run}
 use Rattle.directory.proofs.SoundLaws.{tiles-at}
 use Rattle.directory.proofs.EntryLaws.{ascends-at, block-length, tiles-first, tiles-next}
-use Rattle.addition.specs.Merge.{blocksUpTo, entriesUpTo}
+use Rattle.addition.specs.Merge.{Lies, blocksUpTo, entriesUpTo}
 use Rattle.addition.proofs.SortLaws.{signal-before, signal-after, every-all, every-append, every-insertAll, insertAll-left, insertAll-right}
 
 -- the entry with another first sample and count
@@ -126,13 +126,6 @@ collect-end f (x ∷ l) a = ap (λ (m : List Sample). f x ++ m) (collect-end f l
 
 pub upto-suc : (rs : List Reading) (es : List Entry) (i : ℕ) → i < length es → blocksUpTo rs es (suc i) ≡ blocksUpTo rs es i ++ block rs (getD es i noEntry)
 upto-suc rs es i h = ap (collect (block rs)) (take-suc es i noEntry h) ∙ collect-end (block rs) (take i es) (getD es i noEntry)
-
--- the first i blocks lie one after the other within the readings
-pub record Lies (rs : List Reading) (es : List Entry) (i : ℕ) : Type 0 where
-  pub few : i ≤ length es
-  pub starts : (x : ℕ) → x < i → length (blocksUpTo rs es x) ≡ getD es x noEntry .start
-  pub ends : (x : ℕ) → x < i → getD es x noEntry .start + getD es x noEntry .count ≤ length rs
-  pub filled : (x : ℕ) → x < i → 0 < getD es x noEntry .count
 
 pub lies-fewer : {rs : List Reading} {es : List Entry} {i : ℕ} (k : ℕ) → k ≤ i → Lies rs es i → Lies rs es k
 lies-fewer k h l = record { few = omega (arith, l .few); starts = λ x m. l .starts x (omega arith); ends = λ x m. l .ends x (omega arith); filled = λ x m. l .filled x (omega arith) }

@@ -5,3 +5,4 @@ pub mod MixLaws
 pub mod LastLaws
 pub mod CursorLaws
 pub mod MergeLaws
+pub mod OwnLaws

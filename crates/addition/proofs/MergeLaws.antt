@@ -57,6 +57,14 @@ pub record Merging (es : List Entry) (t u : List Sample) (ts₀ xs₀ : List Flo
   pub times : Filling ts₀ ts (map timeOf (mixed t u n k) ++ drop (n + k) ts₀) (map timeOf (mixed t u i j)) i (i + j)
   pub corrections : Filling xs₀ xs (map correctionOf (mixed t u n k) ++ drop (n + k) xs₀) (map correctionOf (mixed t u i j)) i (i + j)
 
+-- there is an old sample where one comes last
+pub some-old : {i a b : ℕ} {x v : Float} {r : Bool} → ComesLast i a x b v r → r ≡ true → 0 < i
+some-old {i} c q = go i refl
+  where
+    go : (m : ℕ) → i ≡ m → 0 < i
+    go zero z = never (sym (c .no-more z) ∙ q)
+    go (suc m) z = omega arith
+
 map-end : {A : Type 0} (f : Sample → A) (m l : List Sample) (a : Sample) → m ≡ l ++ (a ∷ []) → map f m ≡ map f l ++ (f a ∷ [])
 map-end f m l a e = ap (map f) e ∙ map-append f l (a ∷ [])
 
@@ -133,18 +141,10 @@ module _ {es : List Entry} {rs : List Reading} {t u : List Sample} {ts₀ xs₀ 
           rw (ea, eb p, ex, s, v)
 
       module _ {a b : ℕ} {x : Float} {r : Bool} (c : ComesLast i a x b (getD ts (i - 1) nan) r) (ea : a ≡ signalOf (getD u (j - 1) blank)) (eb : 0 < e → b ≡ signalIn (getD es (e - 1) noEntry)) (ex : x ≡ getD u (j - 1) blank .time) where
-        -- there is an old sample where one comes last
-        pub some-old : r ≡ true → 0 < i
-        some-old q = go i refl
-          where
-            go : (m : ℕ) → i ≡ m → 0 < i
-            go zero z = never (sym (c .no-more z) ∙ q)
-            go (suc m) z = omega arith
-
         pub merging-old : r ≡ true → (e′ : ℕ) → (getD es (e - 1) noEntry .start ≡ i - 1 → e′ ≡ e - 1) → ((getD es (e - 1) noEntry .start ≡ i - 1 → ⊥) → e′ ≡ e)
             → Merging es t u ts₀ xs₀ n k (set ts (i + j - 1) (getD ts (i - 1) nan)) (set xs (i + j - 1) (getD xs (i - 1) nan)) e′ (i - 1) j
         merging-old q e′ leave stay =
-            let h : 0 < i = some-old q in
+            let h : 0 < i = some-old c q in
             let z : suc (i - 1) ≡ i = omega arith in
             let y : i - 1 + j ≡ i + j - 1 = omega arith in
             let before = sym (stands h ea eb ex) ∙ sym (c .compared h) ∙ q in

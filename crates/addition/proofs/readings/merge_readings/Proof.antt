@@ -60,20 +60,7 @@ comes-last-requires c κs =
     (hj, (omega (arith, h .inv .new, z), (omega (arith, h .inv .new, z), (omega (arith, h .inv .new, z), omega (arith, h .inv .new, z)))))))
 
 sub-i : tie.Need-sub-i Inv-loop μ-loop
-sub-i c =
-    let s = c .before .before .before .before .before .before .before .before .before .before .before .before .before .before .before .before .before in
-    let a = s .args in
-    let h = c .before .before .before .before .loop in
-    let z = sizes-by (a .dc .now) (a .dv .now) (a .db .now) (a .df .now) (a .dn .now) (a .m) (a .cs .now) (a .vs .now) (a .bs .now) (a .us .now) (a .ys .now) (a .k) (s .pre .0 .0) (s .pre .1 .1 .0) in
-    let l : length (take (a .m) (entryRows (a .dc .now) (a .dv .now) (a .db .now) (a .df .now) (a .dn .now))) ≡ a .m = length-take-le (a .m) _ (s .pre .0 .0) in
-    let t = readings-length (a .ts .now) (a .xs .now) in
-    let g = (given-by (a .dc .now) (a .dv .now) (a .db .now) (a .df .now) (a .dn .now) (a .m) (a .ts .now) (a .xs .now) (a .n) (a .cs .now) (a .vs .now) (a .bs .now) (a .us .now) (a .ys .now) (a .k) (s .pre .0 .1) (s .pre .1 .0) (s .pre .1 .1 .0) (s .pre .1 .1 .1)) in
-    let hj = c .before .before .before .loop-test .taken in
-    let new = new-row (a .dc .now) (a .dv .now) (a .db .now) (a .df .now) (a .dn .now) (a .m) (a .cs .now) (a .vs .now) (a .bs .now) (a .us .now) (a .ys .now) (a .k) (s .pre .0 .0) (s .pre .1 .1 .0) (h .j - 1) (omega (arith, h .inv .new, hj)) in
-    let old = old-row (a .dc .now) (a .dv .now) (a .db .now) (a .df .now) (a .dn .now) (a .m) (a .cs .now) (a .vs .now) (a .bs .now) (a .us .now) (a .ys .now) (a .k) (s .pre .0 .0) (s .pre .1 .1 .0) (h .e - 1) in
-    let r = c .before .comes-last .ensures in
-    let p = some-old g (h .inv) hj r (ap signalOf new) (λ p. ap signalIn (old (omega (arith, p, h .inv .cursor .few, l)))) (ap (λ (x : Sample). x .time) new) (c .if1 .taken) in
-    omega (arith, p)
+sub-i c = omega (arith, some-old (c .before .comes-last .ensures) (c .if1 .taken))
 
 mul-ts : tie.Need-mul-ts Inv-loop μ-loop
 mul-ts c =
@@ -83,12 +70,8 @@ mul-ts c =
     let z = sizes-by (a .dc .now) (a .dv .now) (a .db .now) (a .df .now) (a .dn .now) (a .m) (a .cs .now) (a .vs .now) (a .bs .now) (a .us .now) (a .ys .now) (a .k) (s .pre .0 .0) (s .pre .1 .1 .0) in
     let l : length (take (a .m) (entryRows (a .dc .now) (a .dv .now) (a .db .now) (a .df .now) (a .dn .now))) ≡ a .m = length-take-le (a .m) _ (s .pre .0 .0) in
     let t = readings-length (a .ts .now) (a .xs .now) in
-    let g = (given-by (a .dc .now) (a .dv .now) (a .db .now) (a .df .now) (a .dn .now) (a .m) (a .ts .now) (a .xs .now) (a .n) (a .cs .now) (a .vs .now) (a .bs .now) (a .us .now) (a .ys .now) (a .k) (s .pre .0 .1) (s .pre .1 .0) (s .pre .1 .1 .0) (s .pre .1 .1 .1)) in
-    let hj = c .before .before .before .loop-test .taken in
-    let new = new-row (a .dc .now) (a .dv .now) (a .db .now) (a .df .now) (a .dn .now) (a .m) (a .cs .now) (a .vs .now) (a .bs .now) (a .us .now) (a .ys .now) (a .k) (s .pre .0 .0) (s .pre .1 .1 .0) (h .j - 1) (omega (arith, h .inv .new, hj)) in
-    let old = old-row (a .dc .now) (a .dv .now) (a .db .now) (a .df .now) (a .dn .now) (a .m) (a .cs .now) (a .vs .now) (a .bs .now) (a .us .now) (a .ys .now) (a .k) (s .pre .0 .0) (s .pre .1 .1 .0) (h .e - 1) in
     let r = c .before .comes-last .ensures in
-    let p = some-old g (h .inv) hj r (ap signalOf new) (λ p. ap signalIn (old (omega (arith, p, h .inv .cursor .few, l)))) (ap (λ (x : Sample). x .time) new) (c .if1 .taken) in
+    let p = some-old r (c .if1 .taken) in
     omega (arith, p, h .inv .old, h .inv .times .long, s .pre .0 .1, t)
 
 slice-read-ts : tie.Need-slice-read-ts Inv-loop μ-loop
@@ -99,12 +82,8 @@ slice-read-ts c =
     let z = sizes-by (a .dc .now) (a .dv .now) (a .db .now) (a .df .now) (a .dn .now) (a .m) (a .cs .now) (a .vs .now) (a .bs .now) (a .us .now) (a .ys .now) (a .k) (s .pre .0 .0) (s .pre .1 .1 .0) in
     let l : length (take (a .m) (entryRows (a .dc .now) (a .dv .now) (a .db .now) (a .df .now) (a .dn .now))) ≡ a .m = length-take-le (a .m) _ (s .pre .0 .0) in
     let t = readings-length (a .ts .now) (a .xs .now) in
-    let g = (given-by (a .dc .now) (a .dv .now) (a .db .now) (a .df .now) (a .dn .now) (a .m) (a .ts .now) (a .xs .now) (a .n) (a .cs .now) (a .vs .now) (a .bs .now) (a .us .now) (a .ys .now) (a .k) (s .pre .0 .1) (s .pre .1 .0) (s .pre .1 .1 .0) (s .pre .1 .1 .1)) in
-    let hj = c .before .before .before .before .loop-test .taken in
-    let new = new-row (a .dc .now) (a .dv .now) (a .db .now) (a .df .now) (a .dn .now) (a .m) (a .cs .now) (a .vs .now) (a .bs .now) (a .us .now) (a .ys .now) (a .k) (s .pre .0 .0) (s .pre .1 .1 .0) (h .j - 1) (omega (arith, h .inv .new, hj)) in
-    let old = old-row (a .dc .now) (a .dv .now) (a .db .now) (a .df .now) (a .dn .now) (a .m) (a .cs .now) (a .vs .now) (a .bs .now) (a .us .now) (a .ys .now) (a .k) (s .pre .0 .0) (s .pre .1 .1 .0) (h .e - 1) in
     let r = c .before .before .comes-last .ensures in
-    let p = some-old g (h .inv) hj r (ap signalOf new) (λ p. ap signalIn (old (omega (arith, p, h .inv .cursor .few, l)))) (ap (λ (x : Sample). x .time) new) (c .before .if1 .taken) in
+    let p = some-old r (c .before .if1 .taken) in
     omega (arith, p, h .inv .old, h .inv .times .long, s .pre .0 .1, t)
 
 mul-ts-2 : tie.Need-mul-ts-2 Inv-loop μ-loop
@@ -135,12 +114,8 @@ mul-xs c =
     let z = sizes-by (a .dc .now) (a .dv .now) (a .db .now) (a .df .now) (a .dn .now) (a .m) (a .cs .now) (a .vs .now) (a .bs .now) (a .us .now) (a .ys .now) (a .k) (s .pre .0 .0) (s .pre .1 .1 .0) in
     let l : length (take (a .m) (entryRows (a .dc .now) (a .dv .now) (a .db .now) (a .df .now) (a .dn .now))) ≡ a .m = length-take-le (a .m) _ (s .pre .0 .0) in
     let t = readings-length (a .ts .now) (a .xs .now) in
-    let g = (given-by (a .dc .now) (a .dv .now) (a .db .now) (a .df .now) (a .dn .now) (a .m) (a .ts .now) (a .xs .now) (a .n) (a .cs .now) (a .vs .now) (a .bs .now) (a .us .now) (a .ys .now) (a .k) (s .pre .0 .1) (s .pre .1 .0) (s .pre .1 .1 .0) (s .pre .1 .1 .1)) in
-    let hj = c .before .before .before .before .loop-test .taken in
-    let new = new-row (a .dc .now) (a .dv .now) (a .db .now) (a .df .now) (a .dn .now) (a .m) (a .cs .now) (a .vs .now) (a .bs .now) (a .us .now) (a .ys .now) (a .k) (s .pre .0 .0) (s .pre .1 .1 .0) (h .j - 1) (omega (arith, h .inv .new, hj)) in
-    let old = old-row (a .dc .now) (a .dv .now) (a .db .now) (a .df .now) (a .dn .now) (a .m) (a .cs .now) (a .vs .now) (a .bs .now) (a .us .now) (a .ys .now) (a .k) (s .pre .0 .0) (s .pre .1 .1 .0) (h .e - 1) in
     let r = c .before .before .comes-last .ensures in
-    let p = some-old g (h .inv) hj r (ap signalOf new) (λ p. ap signalIn (old (omega (arith, p, h .inv .cursor .few, l)))) (ap (λ (x : Sample). x .time) new) (c .before .if1 .taken) in
+    let p = some-old r (c .before .if1 .taken) in
     omega (arith, p, h .inv .old, h .inv .corrections .long, s .pre .0 .1, t)
 
 slice-read-xs : tie.Need-slice-read-xs Inv-loop μ-loop
@@ -151,12 +126,8 @@ slice-read-xs c =
     let z = sizes-by (a .dc .now) (a .dv .now) (a .db .now) (a .df .now) (a .dn .now) (a .m) (a .cs .now) (a .vs .now) (a .bs .now) (a .us .now) (a .ys .now) (a .k) (s .pre .0 .0) (s .pre .1 .1 .0) in
     let l : length (take (a .m) (entryRows (a .dc .now) (a .dv .now) (a .db .now) (a .df .now) (a .dn .now))) ≡ a .m = length-take-le (a .m) _ (s .pre .0 .0) in
     let t = readings-length (a .ts .now) (a .xs .now) in
-    let g = (given-by (a .dc .now) (a .dv .now) (a .db .now) (a .df .now) (a .dn .now) (a .m) (a .ts .now) (a .xs .now) (a .n) (a .cs .now) (a .vs .now) (a .bs .now) (a .us .now) (a .ys .now) (a .k) (s .pre .0 .1) (s .pre .1 .0) (s .pre .1 .1 .0) (s .pre .1 .1 .1)) in
-    let hj = c .before .before .before .before .before .loop-test .taken in
-    let new = new-row (a .dc .now) (a .dv .now) (a .db .now) (a .df .now) (a .dn .now) (a .m) (a .cs .now) (a .vs .now) (a .bs .now) (a .us .now) (a .ys .now) (a .k) (s .pre .0 .0) (s .pre .1 .1 .0) (h .j - 1) (omega (arith, h .inv .new, hj)) in
-    let old = old-row (a .dc .now) (a .dv .now) (a .db .now) (a .df .now) (a .dn .now) (a .m) (a .cs .now) (a .vs .now) (a .bs .now) (a .us .now) (a .ys .now) (a .k) (s .pre .0 .0) (s .pre .1 .1 .0) (h .e - 1) in
     let r = c .before .before .before .comes-last .ensures in
-    let p = some-old g (h .inv) hj r (ap signalOf new) (λ p. ap signalIn (old (omega (arith, p, h .inv .cursor .few, l)))) (ap (λ (x : Sample). x .time) new) (c .before .before .if1 .taken) in
+    let p = some-old r (c .before .before .if1 .taken) in
     omega (arith, p, h .inv .old, h .inv .corrections .long, s .pre .0 .1, t)
 
 mul-xs-2 : tie.Need-mul-xs-2 Inv-loop μ-loop
@@ -187,30 +158,13 @@ blocks-left-requires c κs =
     let z = sizes-by (a .dc .now) (a .dv .now) (a .db .now) (a .df .now) (a .dn .now) (a .m) (a .cs .now) (a .vs .now) (a .bs .now) (a .us .now) (a .ys .now) (a .k) (s .pre .0 .0) (s .pre .1 .1 .0) in
     let l : length (take (a .m) (entryRows (a .dc .now) (a .dv .now) (a .db .now) (a .df .now) (a .dn .now))) ≡ a .m = length-take-le (a .m) _ (s .pre .0 .0) in
     let t = readings-length (a .ts .now) (a .xs .now) in
-    let g = (given-by (a .dc .now) (a .dv .now) (a .db .now) (a .df .now) (a .dn .now) (a .m) (a .ts .now) (a .xs .now) (a .n) (a .cs .now) (a .vs .now) (a .bs .now) (a .us .now) (a .ys .now) (a .k) (s .pre .0 .1) (s .pre .1 .0) (s .pre .1 .1 .0) (s .pre .1 .1 .1)) in
-    let hj = c .before .before .before .before .before .loop-test .taken in
-    let new = new-row (a .dc .now) (a .dv .now) (a .db .now) (a .df .now) (a .dn .now) (a .m) (a .cs .now) (a .vs .now) (a .bs .now) (a .us .now) (a .ys .now) (a .k) (s .pre .0 .0) (s .pre .1 .1 .0) (h .j - 1) (omega (arith, h .inv .new, hj)) in
-    let old = old-row (a .dc .now) (a .dv .now) (a .db .now) (a .df .now) (a .dn .now) (a .m) (a .cs .now) (a .vs .now) (a .bs .now) (a .us .now) (a .ys .now) (a .k) (s .pre .0 .0) (s .pre .1 .1 .0) (h .e - 1) in
     let r = c .before .before .before .comes-last .ensures in
-    let p = some-old g (h .inv) hj r (ap signalOf new) (λ p. ap signalIn (old (omega (arith, p, h .inv .cursor .few, l)))) (ap (λ (x : Sample). x .time) new) (c .before .before .if1 .taken) in
+    let p = some-old r (c .before .before .if1 .taken) in
     let q = cursor-some _ (h .e) (h .i) (h .inv .cursor) p in
     (q, omega (arith, h .inv .cursor .few, l, z))
 
 loop-less : tie.Need-loop-less Inv-loop μ-loop
-loop-less c =
-    let s = c .before .before .before .before .before .before .before .before .before .before .before .before .before .before .before .before .before .before .before .before in
-    let a = s .args in
-    let h = c .before .before .before .before .before .before .before .loop in
-    let z = sizes-by (a .dc .now) (a .dv .now) (a .db .now) (a .df .now) (a .dn .now) (a .m) (a .cs .now) (a .vs .now) (a .bs .now) (a .us .now) (a .ys .now) (a .k) (s .pre .0 .0) (s .pre .1 .1 .0) in
-    let l : length (take (a .m) (entryRows (a .dc .now) (a .dv .now) (a .db .now) (a .df .now) (a .dn .now))) ≡ a .m = length-take-le (a .m) _ (s .pre .0 .0) in
-    let t = readings-length (a .ts .now) (a .xs .now) in
-    let g = (given-by (a .dc .now) (a .dv .now) (a .db .now) (a .df .now) (a .dn .now) (a .m) (a .ts .now) (a .xs .now) (a .n) (a .cs .now) (a .vs .now) (a .bs .now) (a .us .now) (a .ys .now) (a .k) (s .pre .0 .1) (s .pre .1 .0) (s .pre .1 .1 .0) (s .pre .1 .1 .1)) in
-    let hj = c .before .before .before .before .before .before .loop-test .taken in
-    let new = new-row (a .dc .now) (a .dv .now) (a .db .now) (a .df .now) (a .dn .now) (a .m) (a .cs .now) (a .vs .now) (a .bs .now) (a .us .now) (a .ys .now) (a .k) (s .pre .0 .0) (s .pre .1 .1 .0) (h .j - 1) (omega (arith, h .inv .new, hj)) in
-    let old = old-row (a .dc .now) (a .dv .now) (a .db .now) (a .df .now) (a .dn .now) (a .m) (a .cs .now) (a .vs .now) (a .bs .now) (a .us .now) (a .ys .now) (a .k) (s .pre .0 .0) (s .pre .1 .1 .0) (h .e - 1) in
-    let r = c .before .before .before .before .comes-last .ensures in
-    let p = some-old g (h .inv) hj r (ap signalOf new) (λ p. ap signalIn (old (omega (arith, p, h .inv .cursor .few, l)))) (ap (λ (x : Sample). x .time) new) (c .before .before .before .if1 .taken) in
-    omega (arith, p)
+loop-less c = omega (arith, some-old (c .before .before .before .before .comes-last .ensures) (c .before .before .before .if1 .taken))
 
 loop-again : tie.Need-loop-again Inv-loop μ-loop
 loop-again c =
@@ -225,7 +179,7 @@ loop-again c =
     let new = new-row (a .dc .now) (a .dv .now) (a .db .now) (a .df .now) (a .dn .now) (a .m) (a .cs .now) (a .vs .now) (a .bs .now) (a .us .now) (a .ys .now) (a .k) (s .pre .0 .0) (s .pre .1 .1 .0) (h .j - 1) (omega (arith, h .inv .new, hj)) in
     let old = old-row (a .dc .now) (a .dv .now) (a .db .now) (a .df .now) (a .dn .now) (a .m) (a .cs .now) (a .vs .now) (a .bs .now) (a .us .now) (a .ys .now) (a .k) (s .pre .0 .0) (s .pre .1 .1 .0) (h .e - 1) in
     let r = c .before .before .before .before .comes-last .ensures in
-    let p = some-old g (h .inv) hj r (ap signalOf new) (λ p. ap signalIn (old (omega (arith, p, h .inv .cursor .few, l)))) (ap (λ (x : Sample). x .time) new) (c .before .before .before .if1 .taken) in
+    let p = some-old r (c .before .before .before .if1 .taken) in
     let q = cursor-some _ (h .e) (h .i) (h .inv .cursor) p in
     let start = ap (λ (x : Entry). x .start) (old (omega (arith, q, h .inv .cursor .few, l))) in
     merging-old g (h .inv) hj r (ap signalOf new) (λ p. ap signalIn (old (omega (arith, p, h .inv .cursor .few, l)))) (ap (λ (x : Sample). x .time) new) (c .before .before .before .if1 .taken) _ (λ e. c .blocks-left .ensures .0 (start ∙ e)) (λ ne. c .blocks-left .ensures .1 (λ e. ne (sym start ∙ e)))
