@@ -6,3 +6,5 @@ pub mod LastLaws
 pub mod CursorLaws
 pub mod MergeLaws
 pub mod OwnLaws
+pub mod CountLaws
+pub mod WriteLaws

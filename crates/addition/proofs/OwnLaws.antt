@@ -10,8 +10,9 @@ use borrow.Author.Tests.{eqb-true, eqb-false, ltb-true, ltb-false}
 use Rattle.table.specs.Table.{blank, signal, signalOf}
 use Rattle.table.specs.declared.sample.Sample.{Sample}
 use Rattle.table.proofs.Places.{rises, sorted-rises}
-use Rattle.directory.specs.Directory.{Entry, Reading, ascends, entriesFrom, isMine, joined, noEntry, signalIn}
+use Rattle.directory.specs.Directory.{Entry, Reading, ascends, entriesFrom, entryRows, isMine, joined, noEntry, signalIn}
 use Rattle.directory.proofs.DirectoryLaws.{Narrow}
+use Rattle.directory.proofs.ColumnLaws.{entries-length, entry-at}
 use Rattle.addition.specs.Merge.{LastIs, LastOf, Lies, NewLast, OfSignals, OwnFrom, blocksUpTo, entriesUpTo, lastEntry}
 use Rattle.addition.specs.declared.entries.Last.{Last}
 use Rattle.addition.proofs.LastLaws.{entryAt, last-new, last-old, lies-fewer, mine-by-signal, signals-rise, upto-length}
@@ -83,7 +84,77 @@ module _ {cs vs bs : List ℕ} {k : ℕ} {u : List Sample} (o : OfSignals cs vs 
         same : (e : Entry) → take i es ++ (entryAt e (e .start + 0) (e .count + (0 - 0)) ∷ []) ≡ take i es ++ (e ∷ [])
         same e = let a : e .start + 0 ≡ e .start = omega arith in let b : e .count + (0 - 0) ≡ e .count = omega arith in rw (a, b)
 
+-- the new samples of a signal begin somewhere
+record Begins (cs vs bs : List ℕ) (g j : ℕ) : Type 0 where
+  a : ℕ
+  is : OwnFrom cs vs bs g a j
+
+begins : (cs vs bs : List ℕ) (g j : ℕ) → Begins cs vs bs g j
+begins cs vs bs g zero = record { a = 0; is = record { within = omega arith; own = λ x l m. absurd (omega arith); other = λ p e. omega arith } }
+begins cs vs bs g (suc j) = go (eqb (signal (getD cs j 0) (getD vs j 0) (getD bs j 0)) g) refl (begins cs vs bs g j)
+  where
+    go : (b : Bool) → eqb (signal (getD cs j 0) (getD vs j 0) (getD bs j 0)) g ≡ b → Begins cs vs bs g j → Begins cs vs bs g (suc j)
+    go true q r = record { a = r .a; is = record { within = omega (arith, r .is .within); own = λ x l m. one x l m (eqb x j) refl; other = r .is .other } }
+      where
+        one : (x : ℕ) → r .a ≤ x → x < suc j → (y : Bool) → eqb x j ≡ y → signal (getD cs x 0) (getD vs x 0) (getD bs x 0) ≡ g
+        one x l m true w = let z : x ≡ j = eqb-true x j w in rw z (eqb-true _ _ q)
+        one x l m false w = let z = eqb-false x j w in r .is .own x l (omega arith)
+    go false q r =
+        let z : suc j - 1 ≡ j = omega arith in
+        record { a = suc j; is = record { within = omega arith; own = λ x l m. absurd (omega arith); other = λ p e. eqb-false _ _ q (rw z at e) } }
+
+length-end : {A : Type 0} (l m : List A) (x : A) → l ≡ m ++ (x ∷ []) → length l ≡ length m + 1
+length-end l m x e = ap length e ∙ length-append m (x ∷ [])
+
+-- there are as many entries as old blocks at least
+module _ {cs vs bs : List ℕ} {k : ℕ} {u : List Sample} (o : OfSignals cs vs bs k u) (rs : List Reading) (es : List Entry) (ae : ascends 0 es ≡ true) (fv : (x : ℕ) → getD vs x 0 < 2 ^ 16) (fb : (x : ℕ) → getD bs x 0 < 2 ^ 32)
+    (ne : (x : ℕ) → x < length es → Narrow (getD es x noEntry .svid) (getD es x noEntry .band)) where
+  step : (f i j : ℕ) → ((x y : ℕ) → x + y ≤ f → Lies rs es x → y ≤ k → x ≤ length (entriesUpTo rs es u x y)) → i + j ≤ suc f → Lies rs es i → j ≤ k → i ≤ length (entriesUpTo rs es u i j)
+  step f zero j ih h l q = omega arith
+  step f (suc i) zero ih h l q = rw (nothing-new o rs es ae (suc i) l) (omega (arith, lib.Seq.length-take-le (suc i) es (l .few)))
+  step f (suc i) (suc j) ih h l q = go (ltb (signalIn (getD es i noEntry)) (signalOf (getD u j blank))) refl
+    where
+      z : suc j - 1 ≡ j
+      z = omega arith
+
+      go : (b : Bool) → ltb (signalIn (getD es i noEntry)) (signalOf (getD u j blank)) ≡ b → suc i ≤ length (entriesUpTo rs es u (suc i) (suc j))
+      go false w =
+          let g = begins cs vs bs (signalIn (getD es i noEntry)) (suc j) in
+          let s = old-is o rs es ae i (g .a) (suc j) l q (g .is) (λ p. rw z (ltb-false _ _ w)) (ne i (l .few)) fv fb in
+          let n = length-end (entriesUpTo rs es u (suc i) (suc j)) (entriesUpTo rs es u i (g .a)) (entryAt (getD es i noEntry) (getD es i noEntry .start + g .a) (getD es i noEntry .count + (suc j - g .a))) s in
+          omega (arith, n, ih i (g .a) (omega (arith, g .is .within)) (lies-fewer i (omega arith) l) (omega (arith, g .is .within)))
+      go true w =
+          let e : Entry = record { constellation = getD u j blank .constellation; svid = getD u j blank .svid; band = getD u j blank .band; start = 0; count = 0 } in
+          let g = begins cs vs bs (signalIn e) (suc j) in
+          let y : suc i - 1 ≡ i = omega arith in
+          let s = new-is o rs es ae e (suc i) (g .a) (suc j) (l .few) (omega arith) q (rw z) (g .is) (λ p. rw y (ltb-true _ _ w)) (narrow-at o fv fb j q) fv fb in
+          let n = length-end (entriesUpTo rs es u (suc i) (suc j)) (entriesUpTo rs es u (suc i) (g .a)) (entryAt e (length (blocksUpTo rs es (suc i)) + g .a) (suc j - g .a)) (s .1) in
+          omega (arith, n, ih (suc i) (g .a) (omega (arith, s .0)) l (omega (arith, s .0)))
+
+  pub enough : (f i j : ℕ) → i + j ≤ f → Lies rs es i → j ≤ k → i ≤ length (entriesUpTo rs es u i j)
+  enough zero i j h l q = omega arith
+  enough (suc f) i j h l q = step f i j (λ x y p m n. enough f x y p m n) h l q
+
 -- ---- what the code finds
+
+-- the directory's columns have room for m entries
+pub record Room (m : ℕ) (dc dv db df dn : List ℕ) : Type 0 where
+  pub in-dc : m ≤ length dc
+  pub in-dv : m ≤ length dv
+  pub in-db : m ≤ length db
+  pub in-df : m ≤ length df
+  pub in-dn : m ≤ length dn
+
+pub room-of : (m : ℕ) (dc dv db df dn : List ℕ) → m ≤ length (entryRows dc dv db df dn) → Room m dc dv db df dn
+room-of m dc dv db df dn h =
+    let a = entries-length dc dv db df dn in
+    record { in-dc = omega (arith, a); in-dv = omega (arith, a); in-db = omega (arith, a); in-df = omega (arith, a); in-dn = omega (arith, a) }
+
+-- the entry at a place of the columns
+pub row-at : (dc dv db df dn : List ℕ) (m : ℕ) → m ≤ length (entryRows dc dv db df dn) → (x : ℕ) → x < m
+    → _≡_ {A = Entry} (record { constellation = getD dc x 0; svid = getD dv x 0; band = getD db x 0; start = getD df x 0; count = getD dn x 0 }) (getD (take m (entryRows dc dv db df dn)) x noEntry)
+row-at dc dv db df dn m h x l = entry-at dc dv db df dn x (omega arith) ∙ sym (lib.Seq.getD-take m (entryRows dc dv db df dn) x noEntry l)
+
 module _ (es : List Entry) (ae : ascends 0 es ≡ true) (cs vs bs : List ℕ) (i j end : ℕ) (r : Last) where
   -- a block of new samples alone
   pub found-new : NewLast cs vs bs i j end r → i ≤ length es → 0 < j → j ≤ end → (0 < i → signalIn (getD es (i - 1) noEntry) < signal (getD cs (j - 1) 0) (getD vs (j - 1) 0) (getD bs (j - 1) 0)) → LastOf es cs vs bs i j end r
@@ -94,6 +165,7 @@ module _ (es : List Entry) (ae : ascends 0 es ≡ true) (cs vs bs : List ℕ) (i
         fewer-entries = omega (arith, n .entries-is);
         fewer-samples = own .within;
         fewer = omega (arith, n .entries-is, some);
+        tail = let z : r .first ≡ end - (j - r .samples) = ap (λ (f : Entry). f .start) (n .entry-is) in omega (arith, some);
         last = λ rs u k l o h q.
         let e : Entry = record { constellation = getD cs (j - 1) 0; svid = getD vs (j - 1) 0; band = getD bs (j - 1) 0; start = 0; count = 0 } in
         let w = new-is o rs es ae e i (r .samples) j hi hj h (sym (signal-of o (j - 1) (omega arith))) own high (n .svids-fit (j - 1), n .bands-fit (j - 1)) (n .svids-fit) (n .bands-fit) in
@@ -120,6 +192,7 @@ module _ (es : List Entry) (ae : ascends 0 es ≡ true) (cs vs bs : List ℕ) (i
         fewer-entries = omega (arith, ne);
         fewer-samples = own .within;
         fewer = omega (arith, ne, own .within);
+        tail = let z : r .first ≡ f + r .samples = ap (λ (f : Entry). f .start) el in omega arith;
         last = λ rs u k l o h q.
         let z : suc (i - 1) ≡ i = omega arith in
         let e : signal c v b ≡ signalIn (getD es (i - 1) noEntry) = rw (← at) in

@@ -10,7 +10,7 @@ use Rattle.walk.specs.Walk.{collect}
 use Rattle.table.specs.Table.{blank, signal, sorted, timeBefore}
 use Rattle.table.specs.Add.{insertAll}
 use Rattle.table.specs.declared.sample.Sample.{Sample}
-use Rattle.directory.specs.Directory.{Entry, Reading, block, columnOf, entriesFrom, noEntry}
+use Rattle.directory.specs.Directory.{Entry, Reading, ascends, block, columnOf, entriesFrom, entryRows, noEntry, tiles}
 use Rattle.addition.specs.declared.entries.Last.{Last}
 
 -- the first i samples of a table with the first j of new ones
@@ -74,6 +74,7 @@ pub record LastOf (es : List Entry) (cs vs bs : List ℕ) (i j end : ℕ) (r : L
   pub fewer-entries : r .entries ≤ i
   pub fewer-samples : r .samples ≤ j
   pub fewer : r .entries + r .samples < i + j
+  pub tail : r .samples ≤ r .first
   pub last : (rs : List Reading) (u : List Sample) (k : ℕ) → Lies rs es i → OfSignals cs vs bs k u → j ≤ k → length (blocksUpTo rs es i) + j ≡ end → LastIs rs es u i j r
 
 -- a block of the new samples from its place `samples` up to j, after i old blocks; the satellite is that of the sample at j - 1, whose numbers have the bits of their columns
@@ -83,3 +84,22 @@ pub record NewLast (cs vs bs : List ℕ) (i j end : ℕ) (r : Last) : Type 0 whe
   pub entry-is : lastEntry r ≡ record { constellation = getD cs (j - 1) 0; svid = getD vs (j - 1) 0; band = getD bs (j - 1) 0; start = end - (j - r .samples); count = j - r .samples }
   pub svids-fit : (x : ℕ) → getD vs x 0 < 2 ^ 16
   pub bands-fit : (x : ℕ) → getD bs x 0 < 2 ^ 32
+
+-- the columns hold the signals of a sorted list
+pub record SomeSignals (cs vs bs : List ℕ) (k : ℕ) : Type 0 where
+  pub samples : List Sample
+  pub of : OfSignals cs vs bs k samples
+
+-- m entries in the columns that ascend, and whose blocks lie one after the other from place 0 to n
+pub record Tiled (dc dv db df dn : List ℕ) (m n : ℕ) : Type 0 where
+  pub few : m ≤ length (entryRows dc dv db df dn)
+  pub ascending : ascends 0 (take m (entryRows dc dv db df dn)) ≡ true
+  pub tiling : tiles 0 n (take m (entryRows dc dv db df dn)) ≡ true
+
+-- the columns have the entries es, and past them what was there
+pub record EntriesMerged (es : List Entry) (dc dv db df dn dc′ dv′ db′ df′ dn′ : List ℕ) : Type 0 where
+  pub constellations : dc′ ≡ columnOf (λ (e : Entry). e .constellation) es dc
+  pub svids : dv′ ≡ columnOf (λ (e : Entry). e .svid) es dv
+  pub bands : db′ ≡ columnOf (λ (e : Entry). e .band) es db
+  pub firsts : df′ ≡ columnOf (λ (e : Entry). e .start) es df
+  pub counts : dn′ ≡ columnOf (λ (e : Entry). e .count) es dn

@@ -2,10 +2,11 @@
 ghost use mathlib.Core.Path.{_≡_};
 ghost use mathlib.Core.Bool.{true};
 ghost use Prim.Native.Nat.{_+_, _-_, _^_, _≤_, _<_};
+ghost use mathlib.Core.List.{List};
 ghost use lib.ListN.{length, getD, take};
-ghost use Rattle.table.specs.Table.{signal};
-ghost use Rattle.directory.specs.Directory.{entryRows, ascends};
-ghost use Rattle.addition.specs.Merge.{OwnFrom, NewLast, LastOf};
+ghost use Rattle.table.specs.declared.sample.Sample.{Sample};
+ghost use Rattle.directory.specs.Directory.{Reading, entryRows, ascends};
+ghost use Rattle.addition.specs.Merge.{OwnFrom, NewLast, LastOf, OfSignals, SomeSignals, Tiled, entriesUpTo, EntriesMerged};
 use directory::entry::signal_at;
 
 // The last entry of the first blocks with the first new samples, and how many blocks and new samples come before it.
@@ -89,5 +90,80 @@ fn last_of(
         band: db[i - 1],
         first: df[i - 1] + a,
         count: dn[i - 1] + (j - a),
+    }
+}
+
+// How many entries the directory of m entries and n samples has with the k new samples.
+pub(crate) fn entries_after(
+    dc: &[u8],
+    dv: &[u16],
+    db: &[u32],
+    df: &[usize],
+    dn: &[usize],
+    m: usize,
+    n: usize,
+    cs: &[u8],
+    vs: &[u16],
+    bs: &[u32],
+    k: usize,
+) -> usize
+    requires { ⌜ Tiled (now dc) (now dv) (now db) (now df) (now dn) m n ⌝ }
+    requires { ⌜ (m + (n + k) < 2 ^ 64) × ((k ≤ length (now cs)) × ((k ≤ length (now vs)) × (k ≤ length (now bs)))) ⌝ }
+    ensures { λ r. ⌜ ((rs : List Reading) (u : List Sample) → length rs ≡ n → OfSignals (now (cs .entry)) (now (vs .entry)) (now (bs .entry)) k u
+        → r ≡ length (entriesUpTo rs (take m (entryRows (now (dc .entry)) (now (dv .entry)) (now (db .entry)) (now (df .entry)) (now (dn .entry)))) u m k)) ⌝ }
+{
+    let mut i = m;
+    let mut j = k;
+    let mut end = n + k;
+    let mut count: usize = 0;
+    while 0 < j {
+        let last = last_of(dc, dv, db, df, dn, i, cs, vs, bs, j, end);
+        i = last.entries;
+        j = last.samples;
+        end = last.first;
+        count += 1;
+    }
+    count + i
+}
+
+// The entries of the directory of m entries and n samples with the k new samples, `count` of them; each old one is moved at most once.
+pub(crate) fn merge_entries(
+    dc: &mut [u8],
+    dv: &mut [u16],
+    db: &mut [u32],
+    df: &mut [usize],
+    dn: &mut [usize],
+    m: usize,
+    n: usize,
+    cs: &[u8],
+    vs: &[u16],
+    bs: &[u32],
+    k: usize,
+    count: usize,
+)
+    requires { ⌜ Tiled (now dc) (now dv) (now db) (now df) (now dn) m n ⌝ }
+    requires { ⌜ (n + k < 2 ^ 64) × ((k ≤ length (now cs)) × ((k ≤ length (now vs)) × (k ≤ length (now bs)))) ⌝ }
+    requires { ⌜ SomeSignals (now cs) (now vs) (now bs) k ⌝ }
+    requires { ⌜ count ≤ length (entryRows (now dc) (now dv) (now db) (now df) (now dn)) ⌝ }
+    requires { ⌜ ((rs : List Reading) (u : List Sample) → length rs ≡ n → OfSignals (now cs) (now vs) (now bs) k u → count ≡ length (entriesUpTo rs (take m (entryRows (now dc) (now dv) (now db) (now df) (now dn))) u m k)) ⌝ }
+    ensures { λ _. ⌜ ((rs : List Reading) (u : List Sample) → length rs ≡ n → OfSignals (now (cs .entry)) (now (vs .entry)) (now (bs .entry)) k u
+        → EntriesMerged (entriesUpTo rs (take m (entryRows (now (dc .entry)) (now (dv .entry)) (now (db .entry)) (now (df .entry)) (now (dn .entry)))) u m k)
+        (now (dc .entry)) (now (dv .entry)) (now (db .entry)) (now (df .entry)) (now (dn .entry)) (now (dc .exit)) (now (dv .exit)) (now (db .exit)) (now (df .exit)) (now (dn .exit))) ⌝ }
+{
+    let mut i = m;
+    let mut j = k;
+    let mut end = n + k;
+    let mut w = count;
+    while 0 < j {
+        let last = last_of(dc, dv, db, df, dn, i, cs, vs, bs, j, end);
+        w -= 1;
+        dc[w] = last.constellation;
+        dv[w] = last.svid;
+        db[w] = last.band;
+        df[w] = last.first;
+        dn[w] = last.count;
+        i = last.entries;
+        j = last.samples;
+        end = last.first;
     }
 }
