@@ -9,6 +9,7 @@ use lib.Seq.{take-take}
 use Rattle.table.specs.declared.sample.Sample.{Sample}
 use Rattle.directory.specs.Directory.{Entry, Reading, columnOf, entryRows, noEntry, noReading}
 use Rattle.directory.proofs.DirectoryLaws.{Narrow}
+use Rattle.directory.proofs.ColumnLaws.{entries-length}
 use Rattle.addition.specs.Merge.{EntriesMerged, LastIs, LastOf, OfSignals, SomeSignals, Tiled, blocksUpTo, entriesUpTo, lastEntry}
 use Rattle.addition.specs.declared.entries.Last.{Last}
 use Rattle.addition.proofs.LastLaws.{lies-fewer}
@@ -72,6 +73,9 @@ module _ {cs vs bs dc₀ dv₀ db₀ df₀ dn₀ : List ℕ} {m n : ℕ} (t : Ti
 
       pub long-n : length dn ≡ length dn₀
       long-n = now .in-n .long
+
+      pub same-rows : length (entryRows dc dv db df dn) ≡ length (entryRows dc₀ dv₀ db₀ df₀ dn₀)
+      same-rows = entries-length dc dv db df dn ∙ rw (long-c, long-v, long-b, long-f, long-n) (sym (entries-length dc₀ dv₀ db₀ df₀ dn₀))
 
       -- the first sample and the count of the last entry that is left
       pub same-f : 0 < i → getD df (i - 1) 0 ≡ getD df₀ (i - 1) 0
