@@ -8,3 +8,5 @@ pub mod MergeLaws
 pub mod OwnLaws
 pub mod CountLaws
 pub mod WriteLaws
+pub mod PlaceLaws
+pub mod AddLaws
