@@ -7,10 +7,11 @@ use native.Mathlib.Omega.{arith}
 use lib.ListN.{length, getD, take, drop, length-map}
 use lib.Seq.{length-take-le, take-take}
 use lib.Ieee.{Float}
-use Rattle.walk.specs.Walk.{collect}
-use Rattle.table.specs.Table.{blank, lent, rows, sorted, tableOf}
-use Rattle.table.specs.Add.{insertAll}
+use Rattle.walk.specs.Walk.{collect, every}
+use Rattle.table.specs.Table.{Columns, blank, lent, rows, sorted, sound, tableOf}
+use Rattle.table.specs.Add.{InsertedAll, insertAll}
 use Rattle.table.specs.declared.sample.Sample.{Sample}
+use Rattle.table.proofs.ColumnLaws.{rows-length}
 use Rattle.table.proofs.InsertLaws.{insertAll-length}
 use Rattle.table.proofs.SeriesLaws.{insertAll-rises}
 use Rattle.table.proofs.Places.{rises, sorted-rises}
@@ -94,3 +95,22 @@ with-sorted d ss = ap directoryOf (sorted-first (flat d) ss)
 
 pub sorted-new : (ss : List Sample) → sorted (insertAll [] ss) ≡ true
 sorted-new ss = sorted-rises (insertAll [] ss) ∙ insertAll-rises [] ss (unfold rises in refl)
+
+-- ---- columns of 64 places
+pub fits-64 : (l : Columns) (k : ℕ) → length (l .constellations) ≡ 64 → length (l .svids) ≡ 64 → length (l .bands) ≡ 64 → length (l .times) ≡ 64 → length (l .corrections) ≡ 64 → k ≤ 64 → k ≤ length (rows l)
+fits-64 l k a b c d e h = omega (arith, rows-length l)
+
+pub none-sound : sound [] ≡ true
+unfolding sound every sorted
+none-sound = refl
+
+-- what was put into an empty table is sorted
+pub table-is : (k : ℕ) (ss : List Sample) (l l′ : Columns) → InsertedAll 0 k ss l l′ → tableOf k l′ ≡ insertAll [] ss
+table-is k ss l l′ i = let z : 0 + k ≡ k = omega arith in sym (ap (λ (n : ℕ). tableOf n l′) z) ∙ i .table
+
+module _ (k : ℕ) (ss : List Sample) (l l′ : Columns) (i : InsertedAll 0 k ss l l′) where
+  pub table-sorted : sorted (tableOf k l′) ≡ true
+  table-sorted = ap sorted (table-is k ss l l′ i) ∙ sorted-new ss
+
+  pub with-table : (d : Directory) → directoryWith d (tableOf k l′) ≡ directoryWith d ss
+  with-table d = ap (directoryWith d) (table-is k ss l l′ i) ∙ with-sorted d ss

@@ -14,7 +14,7 @@ returns c = test-count _ _ _ _ (c .before .block-capacity .ensures) _ _ (c .if1 
 is-sound-directory-requires : tie.Need-is-sound-directory-requires
 is-sound-directory-requires c κs =
     let a = c .before .before .before .before .before .before .before .before .before .args in
-    let f = few-of _ _ _ _ (c .if1 .left) in
+    let f = few-of (a .m) (a .n) (c .before .block-capacity .result) (a .new .count) (c .if1 .left) in
     let q = c .before .block-capacity .ensures in
     (omega (arith, f .entries, q), omega (arith, f .samples, q))
 
@@ -22,13 +22,13 @@ returns-2 : tie.Need-returns-2
 returns-2 c = test-sound _ _ _ _ (c .before .before .before .block-capacity .ensures) _ _ (c .before .before .if1 .left) (c .before .is-sound-directory .ensures) (c .if2 .taken)
 
 all-ranged-requires : tie.Need-all-ranged-requires
-all-ranged-requires c κs = few-of _ _ _ _ (c .before .before .if1 .left) .new
+all-ranged-requires c κs = let a = c .before .before .before .before .before .before .before .before .before .before .before .args in few-of (a .m) (a .n) (c .before .before .before .block-capacity .result) (a .new .count) (c .before .before .if1 .left) .new
 
 returns-3 : tie.Need-returns-3
 returns-3 c = test-ranged _ _ _ _ (c .before .before .before .before .before .block-capacity .ensures) _ _ (c .before .before .before .before .if1 .left) (c .before .before .before .is-sound-directory .ensures) (c .before .before .if2 .left) (c .before .all-ranged .ensures) (c .if3 .taken)
 
 add-if4 : tie.Need-add-if4
-add-if4 c = let f = few-of _ _ _ _ (c .before .before .before .before .if1 .left) in omega (arith, f .samples, f .new, c .before .before .before .before .before .block-capacity .ensures)
+add-if4 c = let a = c .before .before .before .before .before .before .before .before .before .before .before .before .before .args in let f = few-of (a .m) (a .n) (c .before .before .before .before .before .block-capacity .result) (a .new .count) (c .before .before .before .before .if1 .left) in omega (arith, f .samples, f .new, c .before .before .before .before .before .block-capacity .ensures)
 
 returns-4 : tie.Need-returns-4
 returns-4 c = test-room _ _ _ _ (c .before .before .before .before .before .before .block-capacity .ensures) _ _ (c .before .before .before .before .before .if1 .left) (c .before .before .before .before .is-sound-directory .ensures) (c .before .before .before .if2 .left) (c .before .before .all-ranged .ensures) (c .before .if3 .left) (c .if4 .taken)
