@@ -6,6 +6,7 @@ use Prim.Native.Nat.{ℕ, _+_, _≤_, _<_, min}
 use native.Mathlib.Omega.{arith}
 use lib.Dec.{ltb}
 use lib.ListN.{length, length-map}
+use lib.Seq.{length-take-le}
 use borrow.Author.Tests.{ltb-false, lt-ltb, le-ltb, not-true, not-false}
 use Rattle.walk.specs.Walk.{every}
 use Rattle.numeric.specs.declared.refusal.Refusal.{Refusal}
@@ -116,3 +117,12 @@ module _ (m n room : ℕ) (d : Directory) (new : Samples) (l : Blocks) where
       (a ≡ additionOf (addIn m n room d new)) × Places (addIn m n room d new) 0 m k n (n + new .count) l l′)
   unfolding addIn
   add-passed k l′ e qk qn ql = rw (← e) (rw (qk, qn), record { number-is = refl; entries-are = qk; samples-are = qn; columns = ql })
+
+pub samples-left : (m n : ℕ) (l : Blocks) (new : Samples) → Fitting m n (new .count) l → new .count ≤ 64 → length (new .samples) ≡ 64 → n + new .count ≡ length ((directoryWith (directoryIn m n l) (counted new)) .readings)
+unfolding directoryOf
+samples-left m n l new f h e =
+    let d = directoryIn m n l in
+    sym
+    (length-map (insertAll (flat d) (counted new)) readingOf
+    ∙ insertAll-length (flat d) (counted new)
+    ∙ rw (flat-length d (f .steady), length-take-le n (readingsIn l) (omega (arith, f .room-readings)), length-take-le (new .count) (new .samples) (omega arith)))

@@ -32,9 +32,13 @@ merge-entries-requires c κs =
     let f = s .pre .0 in
     let o = signals-by f (a .cs .now) (a .vs .now) (a .bs .now) (a .us .now) (a .ys .now) (s .pre .1 .0) (s .pre .1 .1) in
     let z = rows-length (lent (a .cs .now) (a .vs .now) (a .bs .now) (a .us .now) (a .ys .now)) in
-    let q = c .before .before .before .before .before .before .before .before .before .before .before .before .before .before .before .before .before .entries-after .ensures (take (a .n) (readingRows (a .ts .now) (a .xs .now))) (tableOf (a .k) (lent (a .cs .now) (a .vs .now) (a .bs .now) (a .us .now) (a .ys .now))) (sizes f) o ∙ ap length (entries-all f (a .cs .now) (a .vs .now) (a .bs .now) (a .us .now) (a .ys .now) (s .pre .1 .0) (s .pre .1 .1)) in
-    (tiled-by f, ((omega (arith, f .room), (omega (arith, z, s .pre .1 .0), (omega (arith, z, s .pre .1 .0), omega (arith, z, s .pre .1 .0)))),
-    (record { samples = (tableOf (a .k) (lent (a .cs .now) (a .vs .now) (a .bs .now) (a .us .now) (a .ys .now))); of = o }, (omega (arith, q, count-fits f (a .cs .now) (a .vs .now) (a .bs .now) (a .us .now) (a .ys .now) (s .pre .1 .0) (s .pre .1 .1), f .room-entries), c .before .before .before .before .before .before .before .before .before .before .before .before .before .before .before .before .before .entries-after .ensures))))
+    let q = c .before .before .before .before .before .before .before .before .before .before .before .before .before .before .before .before .before .entries-after .ensures (take (a .n) (readingRows (a .ts .now) (a .xs .now))) (tableOf (a .k) (lent (a .cs .now) (a .vs .now) (a .bs .now) (a .us .now) (a .ys .now))) (sizes f) o ∙ ap length (entries-all f (a .cs .now) (a .vs .now) (a .bs .now) (a .us .now) (a .ys .now) (s .pre .1 .0) (s .pre .1 .1)) in (
+      tiled-by f,
+      (
+        (omega (arith, f .room), (omega (arith, z, s .pre .1 .0), (omega (arith, z, s .pre .1 .0), omega (arith, z, s .pre .1 .0)))),
+        (record { samples = (tableOf (a .k) (lent (a .cs .now) (a .vs .now) (a .bs .now) (a .us .now) (a .ys .now))); of = o }, (omega (arith, q, count-fits f (a .cs .now) (a .vs .now) (a .bs .now) (a .us .now) (a .ys .now) (s .pre .1 .0) (s .pre .1 .1), f .room-entries), c .before .before .before .before .before .before .before .before .before .before .before .before .before .before .before .before .before .entries-after .ensures)),
+      ),
+    )
 
 same-length : tie.Need-same-length
 same-length c = search needs
@@ -63,9 +67,10 @@ returns c =
     let a = s .args in
     let f = s .pre .0 in
     let o = signals-by f (a .cs .now) (a .vs .now) (a .bs .now) (a .us .now) (a .ys .now) (s .pre .1 .0) (s .pre .1 .1) in
-    let z = rows-length (lent (a .cs .now) (a .vs .now) (a .bs .now) (a .us .now) (a .ys .now)) in
-    (c .before .before .before .before .before .before .before .before .before .before .before .before .before .before .before .before .before .before .before .before .before .before .before .before .before .before .before .before .entries-after .ensures (take (a .n) (readingRows (a .ts .now) (a .xs .now))) (tableOf (a .k) (lent (a .cs .now) (a .vs .now) (a .bs .now) (a .us .now) (a .ys .now))) (sizes f) o ∙ ap length (entries-all f (a .cs .now) (a .vs .now) (a .bs .now) (a .us .now) (a .ys .now) (s .pre .1 .0) (s .pre .1 .1)),
-    columns-all f (a .cs .now) (a .vs .now) (a .bs .now) (a .us .now) (a .ys .now) (s .pre .1 .0) (s .pre .1 .1) (c .before .before .before .before .before .before .before .before .before .before .merge-entries .ensures (take (a .n) (readingRows (a .ts .now) (a .xs .now))) (tableOf (a .k) (lent (a .cs .now) (a .vs .now) (a .bs .now) (a .us .now) (a .ys .now))) (sizes f) o) (c .before .before .before .before .before .before .before .before .before .before .before .before .before .before .before .before .before .before .before .before .merge-readings .ensures))
+    let z = rows-length (lent (a .cs .now) (a .vs .now) (a .bs .now) (a .us .now) (a .ys .now)) in (
+      c .before .before .before .before .before .before .before .before .before .before .before .before .before .before .before .before .before .before .before .before .before .before .before .before .before .before .before .before .entries-after .ensures (take (a .n) (readingRows (a .ts .now) (a .xs .now))) (tableOf (a .k) (lent (a .cs .now) (a .vs .now) (a .bs .now) (a .us .now) (a .ys .now))) (sizes f) o ∙ ap length (entries-all f (a .cs .now) (a .vs .now) (a .bs .now) (a .us .now) (a .ys .now) (s .pre .1 .0) (s .pre .1 .1)),
+      columns-all f (a .cs .now) (a .vs .now) (a .bs .now) (a .us .now) (a .ys .now) (s .pre .1 .0) (s .pre .1 .1) (c .before .before .before .before .before .before .before .before .before .before .merge-entries .ensures (take (a .n) (readingRows (a .ts .now) (a .xs .now))) (tableOf (a .k) (lent (a .cs .now) (a .vs .now) (a .bs .now) (a .us .now) (a .ys .now))) (sizes f) o) (c .before .before .before .before .before .before .before .before .before .before .before .before .before .before .before .before .before .before .before .before .merge-readings .ensures),
+    )
 
 pub merge-spec : {M : Type 1} → statement M
 merge-spec =
