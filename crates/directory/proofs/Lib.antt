@@ -1,0 +1,5 @@
+-- What the proofs of more than one function use, and the theorems.
+pub mod DirectoryLaws
+pub mod FaultLaws
+pub mod ColumnLaws
+pub mod BlockLaws
