@@ -1,6 +1,9 @@
 -- What the proofs of more than one function use, and the theorems.
 pub mod FoundLaws
 pub mod QueryLaws
+pub mod HalvingLaws
+pub mod EntryLaws
+pub mod BlockLaws
 pub mod PastLaws
 pub mod FiniteLaws
 pub mod QueriesLaws
