@@ -17,7 +17,7 @@ use Rattle.table.proofs.TableLaws.{and-left, and-right}
 use Rattle.table.proofs.UnitLaws.{never}
 use Rattle.table.proofs.Places.{timeKey, placeOf, rises, key-lt, earlier-key, not-ltb, sorted-rises}
 use Rattle.table.proofs.SeriesLaws.{mine, other}
-use Rattle.directory.specs.Directory.{Entry, Reading, Directory, signalIn, sampleOf, block, flat, blockOf, ascends, tiles, timely, timelyFrom, inOrder, inReach, soundDirectory, entryOf, isMine, joined, entriesFrom, readingOf, directoryOf}
+use Rattle.directory.specs.Directory.{Entry, Reading, Directory, signalIn, sampleOf, block, blockTimes, flat, blockOf, ascends, tiles, timely, timelyFrom, inOrder, inReach, soundDirectory, entryOf, isMine, joined, entriesFrom, readingOf, directoryOf}
 
 -- ---- a table from its directory
 
@@ -233,15 +233,20 @@ unfoldable pub keyed : ℕ → List Sample → Bool
 keyed k [] = true
 keyed k (s ∷ l) = leb k (timeKey (s .time)) && keyed (timeKey (s .time)) l
 
-from-keyed : (p : Float) (l : List Sample) → timelyFrom p l ≡ keyed (timeKey p) l
+from-keyed : (e : Entry) (p : Float) (rs : List Reading) → timelyFrom p (map (λ (r : Reading). r .time) rs) ≡ keyed (timeKey p) (map (sampleOf e) rs)
 unfolding timelyFrom keyed
-from-keyed p [] = refl
-from-keyed p (s ∷ l) = rw (earlier-key (s .time) p, not-ltb (timeKey (s .time)) (timeKey p), from-keyed (s .time) l)
+from-keyed e p [] = refl
+from-keyed e p (r ∷ rs) = rw (earlier-key (r .time) p, not-ltb (timeKey (r .time)) (timeKey p), from-keyed e (r .time) rs)
 
-pub timely-keyed : (l : List Sample) → timely l ≡ keyed 0 l
+pub timely-keyed : (e : Entry) (rs : List Reading) → timely (map (λ (r : Reading). r .time) rs) ≡ keyed 0 (map (sampleOf e) rs)
 unfolding timely keyed
-timely-keyed [] = refl
-timely-keyed (s ∷ l) = from-keyed (s .time) l ∙ rw (le-leb 0 (timeKey (s .time)) (omega arith))
+timely-keyed e [] = refl
+timely-keyed e (r ∷ rs) = from-keyed e (r .time) rs ∙ rw (le-leb 0 (timeKey (r .time)) (omega arith))
+
+-- the times of a block are in order where its samples are
+pub block-keyed : (rs : List Reading) (e : Entry) → timely (blockTimes rs e) ≡ keyed 0 (block rs e)
+unfolding block blockTimes
+block-keyed rs e = timely-keyed e (take (e .count) (drop (e .start) rs))
 
 above : (g k : ℕ) → k < 2 ^ 64 → g * 2 ^ 64 + k ≤ suc g * 2 ^ 64
 above g k h = omega arith
@@ -263,7 +268,7 @@ unfolding collect block every
 rises-flat rs p [] a o = unfold rises in refl
 rises-flat rs p (e ∷ es) a o =
     rises-weak (p * 2 ^ 64) (signalIn e * 2 ^ 64 + 0) (map (sampleOf e) (take (e .count) (drop (e .start) rs)) ++ collect (block rs) es) (low p (signalIn e) (ascends-low e es p a))
-    (rises-block e 0 (take (e .count) (drop (e .start) rs)) (collect (block rs) es) (omega arith) (sym (timely-keyed (block rs e)) ∙ and-left _ _ o) (rises-flat rs (suc (signalIn e)) es (ascends-rest e es p a) (and-right (timely (block rs e)) _ o)))
+    (rises-block e 0 (take (e .count) (drop (e .start) rs)) (collect (block rs) es) (omega arith) (sym (block-keyed rs e) ∙ and-left _ _ o) (rises-flat rs (suc (signalIn e)) es (ascends-rest e es p a) (and-right (timely (blockTimes rs e)) _ o)))
   where
     low : (p g : ℕ) → p ≤ g → p * 2 ^ 64 ≤ g * 2 ^ 64 + 0
     low p g h = omega arith
@@ -396,9 +401,9 @@ keyed-run e [] r = refl
 keyed-run e (x ∷ rs) r =
     rw (le-leb 0 (timeKey (x .time)) (omega arith)) (keyed-rises e (timeKey (x .time)) rs (and-right (leb 0 (signalIn e * 2 ^ 64 + timeKey (x .time))) _ r))
 
-timely-block : (rs : List Reading) (e : Entry) → rises 0 (block rs e) ≡ true → timely (block rs e) ≡ true
+timely-block : (rs : List Reading) (e : Entry) → rises 0 (block rs e) ≡ true → timely (blockTimes rs e) ≡ true
 unfolding block
-timely-block rs e r = timely-keyed (block rs e) ∙ keyed-run e (take (e .count) (drop (e .start) rs)) r
+timely-block rs e r = block-keyed rs e ∙ keyed-run e (take (e .count) (drop (e .start) rs)) r
 
 in-order-of : (rs : List Reading) (es : List Entry) → rises 0 (collect (block rs) es) ≡ true → inOrder rs es ≡ true
 unfolding collect every

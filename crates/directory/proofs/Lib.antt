@@ -3,3 +3,5 @@ pub mod DirectoryLaws
 pub mod FaultLaws
 pub mod ColumnLaws
 pub mod BlockLaws
+pub mod SoundLaws
+pub mod EntryLaws

@@ -136,19 +136,23 @@ unfoldable pub tiles : ℕ → ℕ → List Entry → Bool
 tiles place n [] = eqb place n
 tiles place n (e ∷ es) = eqb (e .start) place && (ltb 0 (e .count) && tiles (place + e .count) n es)
 
--- none is before the one ahead of it, which is at the time p for the first
-unfoldable pub timelyFrom : Float → List Sample → Bool
+-- none is before the one ahead of it, which is p for the first
+unfoldable pub timelyFrom : Float → List Float → Bool
 timelyFrom p [] = true
-timelyFrom p (s ∷ l) = not (timeBefore (s .time) p) && timelyFrom (s .time) l
+timelyFrom p (t ∷ ts) = not (timeBefore t p) && timelyFrom t ts
 
 -- times in order, in totalOrder; equals are allowed
-unfoldable pub timely : List Sample → Bool
+unfoldable pub timely : List Float → Bool
 timely [] = true
-timely (s ∷ l) = timelyFrom (s .time) l
+timely (t ∷ ts) = timelyFrom t ts
+
+-- the times of an entry's block
+unfoldable pub blockTimes : List Reading → Entry → List Float
+blockTimes rs e = map (λ (r : Reading). r .time) (take (e .count) (drop (e .start) rs))
 
 -- times are in order within each block
 abbrev pub inOrder : List Reading → List Entry → Bool
-inOrder rs es = every (λ e. timely (block rs e)) es
+inOrder rs es = every (λ e. timely (blockTimes rs e)) es
 
 -- time and correction are finite and not above 1e9 in magnitude
 unfoldable pub inReach : Reading → Bool

@@ -1,6 +1,6 @@
 // The entries of a directory in its columns: their satellites, and how many the columns have room for.
 ghost use mathlib.Core.Path.{_≡_};
-ghost use Prim.Native.Nat.{_<_, min};
+ghost use Prim.Native.Nat.{_^_, _<_, min};
 ghost use lib.ListN.{length, getD};
 ghost use Rattle.table.specs.Table.{signal};
 ghost use Rattle.directory.specs.Directory.{lentBlocks, blockCapacity};
@@ -36,7 +36,7 @@ pub fn block_capacity(
 // The satellite of the entry at i, as one number.
 pub fn signal_at(dc: &[u8], dv: &[u16], db: &[u32], i: usize) -> u64
     requires { ⌜ (i < length (now dc)) × ((i < length (now dv)) × (i < length (now db))) ⌝ }
-    ensures { λ r. ⌜ r ≡ signal (getD (now (dc .entry)) i 0) (getD (now (dv .entry)) i 0) (getD (now (db .entry)) i 0) ⌝ }
+    ensures { λ r. ⌜ (r ≡ signal (getD (now (dc .entry)) i 0) (getD (now (dv .entry)) i 0) (getD (now (db .entry)) i 0)) × (r < 2 ^ 56) ⌝ }
 {
     signal_of(dc[i], dv[i], db[i])
 }
