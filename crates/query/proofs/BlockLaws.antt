@@ -12,7 +12,7 @@ use lib.Ieee.{Float, nan, lt}
 use Rattle.exact.specs.Float.{_⊖_}
 use Rattle.walk.proofs.Walk.{and-both}
 use Rattle.numeric.specs.declared.refusal.Refusal.the-variants.{NoCorrection}
-use Rattle.table.specs.Table.{blank, seriesOf, signal}
+use Rattle.table.specs.Table.{blank, signal}
 use Rattle.table.specs.declared.sample.Sample.{Sample}
 use Rattle.table.proofs.UnitLaws.{never}
 use Rattle.directory.specs.Directory.{Directory, blockOf, flat, soundDirectory}
@@ -21,7 +21,7 @@ use Rattle.query.specs.Query.{missing, the, near, firstOf, lastOf, befor
 use Rattle.query.specs.Search.{Split, isBefore}
 use Rattle.query.specs.declared.query.Correction.the-variants.{Refused, Metres}
 use Rattle.query.proofs.FoundLaws.{first-at, first-none, last-at, last-none}
-use Rattle.query.proofs.EntryLaws.{Lies}
+use Rattle.query.proofs.PlaceLaws.{Lies}
 
 -- ---- what is found in a list whose samples before the time are the first r
 module _ (t : Float) (l : List Sample) (r : ℕ) (s : Split (λ j. before t (getD l j blank)) (length l) r) where

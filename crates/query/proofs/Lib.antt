@@ -2,7 +2,7 @@
 pub mod FoundLaws
 pub mod QueryLaws
 pub mod HalvingLaws
-pub mod EntryLaws
+pub mod PlaceLaws
 pub mod BlockLaws
 pub mod PastLaws
 pub mod FiniteLaws

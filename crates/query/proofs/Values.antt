@@ -4,13 +4,13 @@ use mathlib.Core.Bool.{false}
 use mathlib.Core.List.{List, [], _∷_}
 use lib.Ieee.{Float, nan, inf, lt, le, eq, add, sub, mul, div, ofBits, ofInt, toBits, isNan}
 use Rattle.exact.specs.Float.{whole, bits, +0}
-use Rattle.walk.specs.Walk.{every, collect, places}
+use Rattle.walk.specs.Walk.{every, collect}
 use Rattle.exact.specs.Pattern.{sign}
 use Rattle.numeric.specs.Order.{totalOrder, patternOf}
 use Rattle.numeric.specs.Real.{abs, inRange}
-use Rattle.numeric.specs.declared.refusal.Refusal.the-variants.{TooMany, NoCorrection, RecordOutOfRange}
+use Rattle.numeric.specs.declared.refusal.Refusal.the-variants.{NoCorrection, RecordOutOfRange}
 use Rattle.table.specs.Table.{timeBefore, standsBefore, sortedFrom, sorted, ranged, sound}
-use Rattle.query.specs.Query.{near, firstOf, lastOf, through, nearOr, spanned, ruled, answerIn, answerAt, guarded, queryOf, metresAfter}
+use Rattle.query.specs.Query.{near, firstOf, lastOf, through, nearOr, spanned, ruled, answerIn, answerAt, guarded, queryOf}
 use Rattle.query.specs.Past.{bridged, between, answerBefore, queryBefore}
 use Rattle.table.specs.declared.sample.Sample.{Sample}
 use Rattle.query.specs.declared.query.Correction.{Correction}

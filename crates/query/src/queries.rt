@@ -7,8 +7,8 @@ ghost use Rattle.query.specs.Query.{queryNumber, metresAfter, Passed};
 ghost use Rattle.query.specs.Queries.{placesShort, queryAt, queriesIn, answers, askingOf, askingNumber, Replies};
 use crate::query::Correction;
 use crate::query::answer_of;
-use directory::sound::is_sound_directory;
 use directory::entry::block_capacity;
+use directory::sound::is_sound_directory;
 use numeric::real::in_range;
 use numeric::refusal::Refusal;
 

@@ -9,9 +9,9 @@ ghost use Rattle.directory.specs.Directory.{lentBlocks, entriesIn, readingsIn, 
 ghost use Rattle.query.specs.Query.{near, through, answerIn, answerAt, queryIn, GivesFinite, Passed};
 use crate::search::entry_of;
 use crate::search::front_of;
-use directory::sound::is_sound_directory;
 use directory::entry::block_capacity;
 use directory::entry::signal_at;
+use directory::sound::is_sound_directory;
 use numeric::real::abs;
 use numeric::real::in_range;
 use numeric::real::is_finite;

@@ -12,7 +12,7 @@ use Rattle.directory.specs.Directory.{Blocks, lentBlocks, entriesIn, readingsIn
 use Rattle.directory.proofs.ColumnLaws.{entries-length, readings-length}
 use Rattle.query.specs.Query.{near}
 use Rattle.query.specs.declared.query.Correction.the-variants.{Metres}
-use Rattle.query.proofs.EntryLaws.{Lies, inside, filled, lies, falling-times}
+use Rattle.query.proofs.PlaceLaws.{Lies, inside, filled, lies, falling-times}
 use Rattle.query.proofs.BlockLaws.{answer-since, answer-before, answer-ends, answer-gap, answer-line}
 use Rattle.query.proofs.query.answer_in.Statement.{statement}
 use Rattle.query.proofs.query.answer_in.Tie as tie

@@ -9,7 +9,7 @@ use Rattle.directory.specs.Directory.{lentBlocks, entriesIn, readingsIn}
 use Rattle.directory.proofs.DirectoryLaws.{sound-flat}
 use Rattle.query.specs.Query.{GivesFinite}
 use Rattle.query.proofs.QueryLaws.{time-refused, time-passed}
-use Rattle.query.proofs.EntryLaws.{held-flat}
+use Rattle.query.proofs.PlaceLaws.{held-flat}
 use Rattle.query.proofs.FiniteLaws.{answer-finite}
 use Rattle.query.proofs.query.answer_of.Statement.{statement}
 use Rattle.query.proofs.query.answer_of.Tie as tie

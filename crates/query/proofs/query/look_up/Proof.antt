@@ -6,7 +6,7 @@ use lib.ListN.{length}
 use borrow.Author.Needs.{needs}
 use Rattle.directory.specs.Directory.{Blocks, lentBlocks}
 use Rattle.directory.proofs.ColumnLaws.{entries-length}
-use Rattle.query.proofs.EntryLaws.{falling-signals, no-block, block-past, block-other, block-found}
+use Rattle.query.proofs.PlaceLaws.{falling-signals, no-block, block-past, block-other, block-found}
 use Rattle.query.proofs.BlockLaws.{answer-none, answer-some}
 use Rattle.query.proofs.query.look_up.Statement.{statement}
 use Rattle.query.proofs.query.look_up.Tie as tie
@@ -61,7 +61,7 @@ returns-3 c =
     let l = lentBlocks (a .dc .now) (a .dv .now) (a .db .now) (a .df .now) (a .dn .now) (a .ts .now) (a .xs .now) in
     let r = c .before .before .before .entry-of .ensures .within in
     let ne = c .before .before .if2 .left in
-    answer-none _ (s .pre .1) (a .gap) (a .c) (a .v) (a .b) (a .t) (block-other (a .m) (a .n) l (s .pre .0 .0) (s .pre .0 .1) (s .pre .1) _ (c .before .before .before .entry-of .result) (rw (c .before .before .before .before .signal-of .ensures) at (c .before .before .before .entry-of .ensures)) (omega (arith, r, ne)) (λ q. c .if3 .taken (c .before .signal-at .ensures ∙ q ∙ sym (c .before .before .before .before .signal-of .ensures))))
+    answer-none _ (s .pre .1) (a .gap) (a .c) (a .v) (a .b) (a .t) (block-other (a .m) (a .n) l (s .pre .0 .0) (s .pre .0 .1) (s .pre .1) _ (c .before .before .before .entry-of .result) (rw (c .before .before .before .before .signal-of .ensures) at (c .before .before .before .entry-of .ensures)) (omega (arith, r, ne)) (λ q. c .if3 .taken (c .before .signal-at .ensures .0 ∙ q ∙ sym (c .before .before .before .before .signal-of .ensures))))
 
 answer-in-requires : tie.Need-answer-in-requires
 answer-in-requires c κs =
@@ -79,7 +79,7 @@ returns-4 c =
     let l = lentBlocks (a .dc .now) (a .dv .now) (a .db .now) (a .df .now) (a .dn .now) (a .ts .now) (a .xs .now) in
     let r = c .before .before .before .before .entry-of .ensures .within in
     let ne = c .before .before .before .if2 .left in
-    c .answer-in .ensures ∙ answer-some _ (s .pre .1) (a .gap) (a .c) (a .v) (a .b) (a .t) _ (block-found (a .m) (a .n) l (s .pre .0 .0) (s .pre .0 .1) (s .pre .1) _ (c .before .before .before .before .entry-of .result) (rw (c .before .before .before .before .before .signal-of .ensures) at (c .before .before .before .before .entry-of .ensures)) (omega (arith, r, ne)) (sym (c .before .before .signal-at .ensures) ∙ c .before .if3 .left ∙ c .before .before .before .before .before .signal-of .ensures))
+    c .answer-in .ensures ∙ answer-some _ (s .pre .1) (a .gap) (a .c) (a .v) (a .b) (a .t) _ (block-found (a .m) (a .n) l (s .pre .0 .0) (s .pre .0 .1) (s .pre .1) _ (c .before .before .before .before .entry-of .result) (rw (c .before .before .before .before .before .signal-of .ensures) at (c .before .before .before .before .entry-of .ensures)) (omega (arith, r, ne)) (sym (c .before .before .signal-at .ensures .0) ∙ c .before .if3 .left ∙ c .before .before .before .before .before .signal-of .ensures))
 
 pub look-up-spec : {M : Type 1} → statement M
 look-up-spec =

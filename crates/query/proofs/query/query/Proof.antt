@@ -1,13 +1,6 @@
 -- `query::query::query` meets its contract. Assumes nothing.
-use native.Mathlib.Omega.{arith}
-use Prim.Native.Nat.{_≤_}
-use mathlib.Core.Path.{sym, _∙_, ap, subst}
 use borrow.Author.Needs.{needs}
-use borrow.Author.Tests.{ltb-false}
-use lib.ListN.{length}
-use Rattle.walk.proofs.Walk.{or-no}
-use Rattle.directory.specs.Directory.{lentBlocks, entriesIn, readingsIn}
-use Rattle.query.proofs.QueryLaws.{rule-2, rule-3, rule-4, no-rule}
+use Rattle.query.proofs.QueryLaws.{roomy, rule-2, rule-3, rule-4, no-rule}
 use Rattle.query.proofs.query.query.Statement.{statement}
 use Rattle.query.proofs.query.query.Tie as tie
 
@@ -24,9 +17,7 @@ returns-2 : tie.Need-returns-2
 returns-2 c = (rule-3 _ _ _ _ _ _ _ _ _ (rw (c .before .before .before .block-capacity .ensures) at (c .before .before .if1 .left)) (c .before .in-range .ensures) (c .if2 .taken), tt)
 
 is-sound-directory-requires : tie.Need-is-sound-directory-requires
-is-sound-directory-requires c κs =
-    let w = or-no _ _ (c .before .before .if1 .left) in let p = ltb-false _ _ (w .0) in let q = ltb-false _ _ (w .1) in let r = c .before .before .before .block-capacity .ensures in
-    (omega (arith, p, r), omega (arith, q, r))
+is-sound-directory-requires c κs = let a = c .before .before .before .before .before .before .before .before .before .before .before .args in roomy (a .m) (a .n) (c .before .before .before .block-capacity .result) _ (c .before .before .before .block-capacity .ensures) (c .before .before .if1 .left)
 
 returns-3 : tie.Need-returns-3
 returns-3 c = (rule-4 _ _ _ _ _ _ _ _ _ (rw (c .before .before .before .before .before .block-capacity .ensures) at (c .before .before .before .before .if1 .left)) (c .before .before .before .in-range .ensures) (c .before .before .if2 .left) (c .before .is-sound-directory .ensures) (c .if3 .taken), tt)

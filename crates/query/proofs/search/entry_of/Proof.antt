@@ -38,7 +38,7 @@ loop-less c = omega arith
 loop-again : tie.Need-loop-again Inv-loop μ-loop
 loop-again c =
     let h = c .before .before .before .loop in
-    (halving-half _ _ (c .before .before .before .before .before .before .before .pre .1 .1) (h .lo) (h .len) (h .inv .0) _ (omega arith) (rw (c .before .signal-at .ensures) at (c .step-below .ensures .0)), omega arith)
+    (halving-half _ _ (c .before .before .before .before .before .before .before .pre .1 .1) (h .lo) (h .len) (h .inv .0) _ (omega arith) (rw (c .before .signal-at .ensures .0) at (c .step-below .ensures .0)), omega arith)
 
 signal-at-requires-2 : tie.Need-signal-at-requires-2 Inv-loop μ-loop
 signal-at-requires-2 c κs = (omega arith, (omega arith, omega arith))
@@ -52,7 +52,7 @@ add-result c = omega arith
 returns : tie.Need-returns Inv-loop μ-loop
 returns c =
     let h = c .before .before .before .loop in
-    halving-end _ _ (c .before .before .before .before .before .before .before .pre .1 .1) (h .lo) (h .len) (h .inv .0) _ (h .inv .1) (c .before .before .loop-test .left) (rw (c .before .signal-at2 .ensures) at (c .step-below2 .ensures .0))
+    halving-end _ _ (c .before .before .before .before .before .before .before .pre .1 .1) (h .lo) (h .len) (h .inv .0) _ (h .inv .1) (c .before .before .loop-test .left) (rw (c .before .signal-at2 .ensures .0) at (c .step-below2 .ensures .0))
 
 pub entry-of-spec : {M : Type 1} → statement M
 entry-of-spec =

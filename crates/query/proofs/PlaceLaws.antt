@@ -1,15 +1,15 @@
 -- The entries of a sound directory and their blocks, place by place in the columns. Assumes nothing.
 use mathlib.Core.Path.{_≡_, refl, sym, ap, _∙_, subst}
-use mathlib.Core.List.{List, [], _∷_, map}
-use mathlib.Core.Bool.{Bool, true, false, cond, _&&_}
+use mathlib.Core.List.{List, [], _∷_}
+use mathlib.Core.Bool.{Bool, true, false}
 use Prim.Native.Nat.{ℕ, zero, suc, _+_, _≤_, _<_}
 use native.Mathlib.Nat.{not-suc-le-zero, le-of-suc-le-suc, le-trans, le-refl}
 use native.Mathlib.Omega.{arith}
 use lib.Dec.{T, eqb, ltb, leb}
-use lib.ListN.{length, getD, take, drop, length-map, length-drop, List·getD-map}
-use lib.Seq.{getD-take, getD-drop, length-take-le}
+use lib.ListN.{length, getD, take, length-map, List·getD-map}
+use lib.Seq.{getD-take, length-take-le}
 use borrow.Author.Tests.{ltb-true, ltb-false, leb-true, lt-ltb, eq-eqb, ne-eqb}
-use lib.Ieee.{Float, nan, lt, fits, binary64}
+use lib.Ieee.{Float, nan, fits, binary64}
 use Rattle.walk.specs.Walk.{every, first}
 use Rattle.numeric.specs.Real.{inRange}
 use Rattle.table.specs.Table.{blank, signal}
@@ -17,8 +17,10 @@ use Rattle.table.specs.declared.sample.Sample.{Sample}
 use Rattle.table.proofs.Places.{timeKey}
 use Rattle.table.proofs.TableLaws.{and-left, and-right}
 use Rattle.table.proofs.UnitLaws.{earlier-of}
-use Rattle.directory.specs.Directory.{Entry, Reading, Directory, Blocks, ascends, block, blockOf, directoryIn, entriesIn, flat, inReach, noEntry, noReading, readingOf, readingsIn, sampleOf, signalIn, soundDirectory, tiles, timely}
-use Rattle.directory.proofs.DirectoryLaws.{tiles-le, tiles-start, tiles-count, tiles-rest, ascends-low, ascends-rest, sound-parts, flat-readings, keyed, timely-keyed}
+use Rattle.directory.specs.Directory.{Entry, Reading, Blocks, block, blockOf, blockTimes, directoryIn, entriesIn, flat, inReach, noEntry, noReading, readingOf, readingsIn, sampleOf, signalIn, soundDirectory, timely}
+use Rattle.directory.proofs.DirectoryLaws.{sound-parts, flat-readings, keyed, block-keyed}
+use Rattle.directory.proofs.SoundLaws.{tiles-at}
+use Rattle.directory.proofs.EntryLaws.{ascends-at, block-length, block-at}
 use Rattle.directory.proofs.ColumnLaws.{entry-at, reading-at}
 use Rattle.query.specs.Search.{Split, Falling, isBelow, isBefore}
 use Rattle.query.proofs.QueryLaws.{Held}
@@ -30,31 +32,7 @@ every-at q d [] i e h = absurd (not-suc-le-zero h)
 every-at q d (x ∷ l) zero e h = and-left _ _ e
 every-at q d (x ∷ l) (suc i) e h = every-at q d l i (and-right (q x) _ e) (le-of-suc-le-suc h)
 
-map-at : {A B : Type 0} (f : A → B) (l : List A) (i : ℕ) (d : A) (e : B) → i < length l → getD (map f l) i e ≡ f (getD l i d)
-map-at f [] i d e h = absurd (not-suc-le-zero h)
-map-at f (x ∷ l) zero d e h = refl
-map-at f (x ∷ l) (suc i) d e h = map-at f l i d e (le-of-suc-le-suc h)
-
 -- ---- the entries
-tiles-at : (place n : ℕ) (es : List Entry) (i : ℕ) → tiles place n es ≡ true → i < length es → (getD es i noEntry .start + getD es i noEntry .count ≤ n) × (0 < getD es i noEntry .count)
-tiles-at place n [] i h k = absurd (not-suc-le-zero k)
-tiles-at place n (e ∷ es) zero h k =
-    (omega (arith, tiles-start e es place n h, tiles-le (place + e .count) n es (tiles-rest e es place n h)), tiles-count e es place n h)
-tiles-at place n (e ∷ es) (suc i) h k = tiles-at (place + e .count) n es i (tiles-rest e es place n h) (le-of-suc-le-suc k)
-
-ascends-from : (p : ℕ) (es : List Entry) (j : ℕ) → ascends p es ≡ true → j < length es → p ≤ signalIn (getD es j noEntry)
-ascends-from p [] j h k = absurd (not-suc-le-zero k)
-ascends-from p (e ∷ es) zero h k = ascends-low e es p h
-ascends-from p (e ∷ es) (suc j) h k =
-    let low : p ≤ signalIn e = ascends-low e es p h in
-    let next : suc (signalIn e) ≤ signalIn (getD es j noEntry) = ascends-from (suc (signalIn e)) es j (ascends-rest e es p h) (le-of-suc-le-suc k) in
-    omega arith
-
-ascends-at : (p : ℕ) (es : List Entry) (i j : ℕ) → ascends p es ≡ true → i < j → j < length es → signalIn (getD es i noEntry) < signalIn (getD es j noEntry)
-ascends-at p [] i j h l k = absurd (not-suc-le-zero k)
-ascends-at p (e ∷ es) i zero h l k = absurd (not-suc-le-zero l)
-ascends-at p (e ∷ es) zero (suc j) h l k = ascends-from (suc (signalIn e)) es j (ascends-rest e es p h) (le-of-suc-le-suc k)
-ascends-at p (e ∷ es) (suc i) (suc j) h l k = ascends-at (suc (signalIn e)) es i j (ascends-rest e es p h) (le-of-suc-le-suc l) (le-of-suc-le-suc k)
 
 -- the first entry that passes a test
 first-at : {B : Type 0} (q : Entry → Bool) (f : Entry → B) (b : B) (es : List Entry) (i : ℕ) → i < length es → ((j : ℕ) → j < i → q (getD es j noEntry) ≡ false) → q (getD es i noEntry) ≡ true → first q f b es ≡ f (getD es i noEntry)
@@ -144,7 +122,7 @@ module _ (m n : ℕ) (l : Blocks) (fm : m ≤ length (entriesIn l)) (fn : n ≤ 
         let e = is i im ∙ sym (taken i im) in
         let f = ap (λ (x : Entry). x .start) e in
         let k = ap (λ (x : Entry). x .count) e in
-        (omega (arith, h, f, k, readings), omega (arith, h, k))
+        (omega (arith, h .within, f, k, readings), omega (arith, h .filled, k))
 
     pub inside : getD (l .firsts) i 0 + getD (l .counts) i 0 ≤ n
     inside = tiled .0
@@ -156,28 +134,16 @@ module _ (m n : ℕ) (l : Blocks) (fm : m ≤ length (entriesIn l)) (fn : n ≤ 
     lies = rw (← (is i im)) (here (record { constellation = getD (l .constellations) i 0; svid = getD (l .svids) i 0; band = getD (l .bands) i 0; start = getD (l .firsts) i 0; count = getD (l .counts) i 0 }) inside)
       where
         here : (e : Entry) → e .start + e .count ≤ n → Lies (block (take n (readingsIn l)) e) (l .times) (l .corrections) (e .start) (e .count)
-        here e h = record { long = long-enough; time = λ j k. ap (λ (x : Sample). x .time) (at j k); value = λ j k. ap (λ (x : Sample). x .correction) (at j k) }
+        here e h = record { long = block-length (take n (readingsIn l)) e (omega (arith, readings)); time = λ j k. ap (λ (x : Sample). x .time) (at j k); value = λ j k. ap (λ (x : Sample). x .correction) (at j k) }
           where
-            part : List Reading
-            part = take (e .count) (drop (e .start) (take n (readingsIn l)))
-
-            part-long : length (take (e .count) (drop (e .start) (take n (readingsIn l)))) ≡ e .count
-            part-long = length-take-le (e .count) (drop (e .start) (take n (readingsIn l))) (omega (arith, length-drop (e .start) (take n (readingsIn l)), readings))
-
-            long-enough : length (block (take n (readingsIn l)) e) ≡ e .count
-            long-enough = unfold block in length-map (take (e .count) (drop (e .start) (take n (readingsIn l)))) (sampleOf e) ∙ part-long
-
             at : (j : ℕ) → j < e .count → getD (block (take n (readingsIn l)) e) j blank ≡ sampleOf e (record { time = getD (l .times) (e .start + j) nan; correction = getD (l .corrections) (e .start + j) nan })
-            at j k =
-                unfold block in
-                map-at (sampleOf e) (take (e .count) (drop (e .start) (take n (readingsIn l)))) j noReading blank (omega (arith, part-long))
-                ∙ ap (sampleOf e) (getD-take (e .count) (drop (e .start) (take n (readingsIn l))) j noReading k ∙ getD-drop (e .start) (take n (readingsIn l)) j noReading ∙ read (e .start + j) (omega arith))
+            at j k = block-at (take n (readingsIn l)) e j (omega (arith, readings)) k ∙ ap (sampleOf e) (read (e .start + j) (omega arith))
 
     ordered : keyed 0 (block (take n (readingsIn l)) (getD (entriesIn l) i noEntry)) ≡ true
     ordered =
-        sym (timely-keyed (block (take n (readingsIn l)) (getD (entriesIn l) i noEntry)))
-        ∙ ap (λ (e : Entry). timely (block (take n (readingsIn l)) e)) (sym (taken i im))
-        ∙ every-at (λ e. timely (block (take n (readingsIn l)) e)) noEntry (take m (entriesIn l)) i (sound-parts (directoryIn m n l) s .ordered) (omega (arith, entries))
+        sym (block-keyed (take n (readingsIn l)) (getD (entriesIn l) i noEntry))
+        ∙ ap (λ (e : Entry). timely (blockTimes (take n (readingsIn l)) e)) (sym (taken i im))
+        ∙ every-at (λ e. timely (blockTimes (take n (readingsIn l)) e)) noEntry (take m (entriesIn l)) i (sound-parts (directoryIn m n l) s .ordered) (omega (arith, entries))
 
     -- the times of a block rise, so those before a time are the first
     pub falling-times : ((j : ℕ) → T (fits binary64 (getD (l .times) j nan))) → (t : Float) → T (fits binary64 t) → Falling (isBefore (l .times) (getD (l .firsts) i 0) t) (getD (l .counts) i 0)
