@@ -4,7 +4,7 @@ use mathlib.Core.Path.{refl}
 use native.Mathlib.Omega.{arith}
 use borrow.Author.Needs.{needs}
 use Rattle.query.specs.Search.{Halving, isBelow}
-use Rattle.query.proofs.HalvingLaws.{halving-start, halving-half, halving-end}
+use Rattle.query.proofs.HalvingLaws.{halving-start, halving-half}
 use Rattle.query.proofs.search.entry_of.Statement.{statement}
 use Rattle.query.proofs.search.entry_of.Tie as tie
 
@@ -40,19 +40,14 @@ loop-again c =
     let h = c .before .before .before .loop in
     (halving-half _ _ (c .before .before .before .before .before .before .before .pre .1 .1) (h .lo) (h .len) (h .inv .0) _ (omega arith) (rw (c .before .signal-at .ensures .0) at (c .step-below .ensures .0)), omega arith)
 
-signal-at-requires-2 : tie.Need-signal-at-requires-2 Inv-loop μ-loop
-signal-at-requires-2 c κs = (omega arith, (omega arith, omega arith))
-
-step-below-requires-2 : tie.Need-step-below-requires-2 Inv-loop μ-loop
-step-below-requires-2 c κs = search needs
-
-add-result : tie.Need-add-result Inv-loop μ-loop
-add-result c = omega arith
+entry-within-requires : tie.Need-entry-within-requires Inv-loop μ-loop
+entry-within-requires c κs =
+    let s = c .before .before .before .before .before in
+    let h = c .before .loop in
+    (s .pre .0, (s .pre .1 .1, (h .inv .0, (h .inv .1, c .loop-test .left))))
 
 returns : tie.Need-returns Inv-loop μ-loop
-returns c =
-    let h = c .before .before .before .loop in
-    halving-end _ _ (c .before .before .before .before .before .before .before .pre .1 .1) (h .lo) (h .len) (h .inv .0) _ (h .inv .1) (c .before .before .loop-test .left) (rw (c .before .signal-at2 .ensures .0) at (c .step-below2 .ensures .0))
+returns c = c .entry-within .ensures
 
 pub entry-of-spec : {M : Type 1} → statement M
 entry-of-spec =
@@ -68,7 +63,5 @@ entry-of-spec =
     sub-len
     loop-less
     loop-again
-    signal-at-requires-2
-    step-below-requires-2
-    add-result
+    entry-within-requires
     returns)

@@ -4,7 +4,7 @@ use mathlib.Core.Path.{refl}
 use native.Mathlib.Omega.{arith}
 use borrow.Author.Needs.{needs}
 use Rattle.query.specs.Search.{Halving, isBefore}
-use Rattle.query.proofs.HalvingLaws.{halving-start, halving-half, halving-end}
+use Rattle.query.proofs.HalvingLaws.{halving-start, halving-half}
 use Rattle.query.proofs.search.front_of.Statement.{statement}
 use Rattle.query.proofs.search.front_of.Tie as tie
 
@@ -46,25 +46,14 @@ loop-again c =
     let h = c .before .before .before .loop in
     (halving-half _ _ (c .before .before .before .before .before .pre .1 .1) (h .lo) (h .len) (h .inv .0) _ (omega arith) (c .step-before .ensures .0), omega arith)
 
-add-x-2 : tie.Need-add-x-2 Inv-loop μ-loop
-add-x-2 c = omega arith
-
-mul-x-2 : tie.Need-mul-x-2 Inv-loop μ-loop
-mul-x-2 c = omega arith
-
-shared-slice-read-x-2 : tie.Need-shared-slice-read-x-2 Inv-loop μ-loop
-shared-slice-read-x-2 c = omega arith
-
-step-before-requires-2 : tie.Need-step-before-requires-2 Inv-loop μ-loop
-step-before-requires-2 c κs = search needs
-
-add-result : tie.Need-add-result Inv-loop μ-loop
-add-result c = omega arith
+front-within-requires : tie.Need-front-within-requires Inv-loop μ-loop
+front-within-requires c κs =
+    let s = c .before .before .before in
+    let h = c .before .loop in
+    (s .pre .0, (s .pre .1 .1, (h .inv .0, (h .inv .1, c .loop-test .left))))
 
 returns : tie.Need-returns Inv-loop μ-loop
-returns c =
-    let h = c .before .before .before .loop in
-    halving-end _ _ (c .before .before .before .before .before .pre .1 .1) (h .lo) (h .len) (h .inv .0) _ (h .inv .1) (c .before .before .loop-test .left) (c .step-before2 .ensures .0)
+returns c = c .front-within .ensures
 
 pub front-of-spec : {M : Type 1} → statement M
 front-of-spec =
@@ -82,9 +71,5 @@ front-of-spec =
     sub-len
     loop-less
     loop-again
-    add-x-2
-    mul-x-2
-    shared-slice-read-x-2
-    step-before-requires-2
-    add-result
+    front-within-requires
     returns)
