@@ -5,3 +5,5 @@ pub mod TestLaws
 pub mod EpochLaws
 pub mod SampleValues
 pub mod WidenedLaws
+pub mod BuildLaws
+pub mod SameLaws
