@@ -4,7 +4,7 @@ use super::{column, count, floats, signal, sys};
 use crate::fuzz::lent::{Lender, Lent};
 use crate::fuzz::Bytes;
 use crate::services::corrections::naming::Naming;
-use crate::services::corrections::{self, lent as base};
+use crate::services::corrections::{self, lent as base, past};
 use drifters_gnss::differential::{self, Corrections, SatelliteState};
 use drifters_gnss::rinex::BaseRange;
 
@@ -336,7 +336,9 @@ fn answer(
     if time.is_finite() && !base::in_range(time) {
         return (4, None);
     }
-    let metres = naming.code(band).and_then(|code| c.at(k, v, code, time));
+    let metres = naming
+        .code(band)
+        .and_then(|code| past::answer(c, (k, v, code), time));
     // A query's time that is not finite meets 12.
     assert!(time.is_finite() || metres.is_none());
     assert!(metres.is_none_or(f64::is_finite));
