@@ -328,12 +328,18 @@ size_t zaqnuti_line(
 /*
  * One epoch of a base station added to a table of corrections.
  *
- * table_..       the table: constellation, svid and band of each sample, its
- *                time (s of the week) and correction (m, to be subtracted
- *                from a rover's pseudorange), sorted by constellation, svid,
- *                band and time. Its capacity is the shortest of the five
- *                columns, at most 2,048.
+ * table_..       the table's samples: time (s of the week) and correction (m,
+ *                to be subtracted from a rover's pseudorange), one block after
+ *                the other, each in the order of time
  * table_count    how many samples the table has; 0 is an empty table
+ * block_..       its directory: constellation, svid and band of each block's
+ *                signal, the place of its first sample and how many it has,
+ *                sorted by constellation, svid and band
+ * blocks         how many blocks the directory has
+ *
+ * The table's capacity is the shortest of its seven columns, the directory's
+ * too, at most 2,048. A directory as long as the columns is always enough.
+ *
  * time           the epoch's time, s of the week
  * ranges         how many ranges, at most 64
  * range_..       constellation, svid and band of each range, and its
@@ -351,16 +357,22 @@ size_t zaqnuti_line(
  * corrected      whether each constellation 0 to 7 is corrected; those from 8
  *                up yield nothing
  *
- * Where it answers, the columns and table_count hold the table with the
- * epoch's samples in their places; otherwise every byte of them is as it was.
- * Refuses by 2 (more than 64 ranges or states, a column shorter than its
- * count needs, table_count above the capacity), 3 (max_gap, max_correction),
- * 4 (also a table that is not sorted) and 11.
+ * Where it answers, the columns, blocks and table_count hold the table with
+ * the epoch's samples in their places; otherwise every byte of them is as it
+ * was. Refuses by 2 (more than 64 ranges or states, a column shorter than its
+ * count needs, table_count or blocks above the capacity), 3 (max_gap,
+ * max_correction), 4 (also a directory that is not sorted, names a signal
+ * twice, holds an empty block or does not lay its blocks one after the other
+ * from the first sample to the last, and times out of order in a block) and
+ * 11.
  */
 uint8_t zaqnuti_add_epoch(
-    uint8_t *table_constellation, size_t table_constellation_length,
-    uint16_t *table_svid, size_t table_svid_length,
-    uint32_t *table_band, size_t table_band_length,
+    uint8_t *block_constellation, size_t block_constellation_length,
+    uint16_t *block_svid, size_t block_svid_length,
+    uint32_t *block_band, size_t block_band_length,
+    size_t *block_first, size_t block_first_length,
+    size_t *block_samples, size_t block_samples_length,
+    size_t *blocks,
     double *table_time, size_t table_time_length,
     double *table_metres, size_t table_metres_length,
     size_t *table_count,
@@ -384,19 +396,22 @@ uint8_t zaqnuti_add_epoch(
 
 /*
  * The correction of a signal (constellation, svid, band) at a time (s of the
- * week) in metres, from the first table_count samples of a table as
- * zaqnuti_add_epoch leaves it. A sample less than 1e-6 s away is answered as
+ * week) in metres, from a table as zaqnuti_add_epoch leaves it. A sample less than 1e-6 s away is answered as
  * it stands, also just past the last one. A gap between two samples is bridged
  * where it is at most max_gap seconds.
  *
- * Refuses by 2 (table_count above the capacity), 3 (max_gap), 4 (a float of
- * the table, or the table not sorted; a finite time above 1e9) and 12 (no
- * sample, the time outside the samples or in too long a gap, or not finite).
+ * Refuses by 2 (table_count or blocks above the capacity), 3 (max_gap), 4 (a
+ * float of the table, or its directory, as above; a finite time above 1e9) and
+ * 12 (no sample, the time outside the samples or in too long a gap, or not
+ * finite).
  */
 uint8_t zaqnuti_query(
-    const uint8_t *table_constellation, size_t table_constellation_length,
-    const uint16_t *table_svid, size_t table_svid_length,
-    const uint32_t *table_band, size_t table_band_length,
+    const uint8_t *block_constellation, size_t block_constellation_length,
+    const uint16_t *block_svid, size_t block_svid_length,
+    const uint32_t *block_band, size_t block_band_length,
+    const size_t *block_first, size_t block_first_length,
+    const size_t *block_samples, size_t block_samples_length,
+    size_t blocks,
     const double *table_time, size_t table_time_length,
     const double *table_metres, size_t table_metres_length,
     size_t table_count,
@@ -417,14 +432,17 @@ uint8_t zaqnuti_query(
  * metres         for each place its correction; as it was where it is refused
  *
  * Each place has what zaqnuti_query would answer for it. The call itself
- * refuses by 2 (table_count above the capacity, or one of the last six columns
- * shorter than count), 3 (max_gap) and 4 (the table): then every place is as
- * it was.
+ * refuses by 2 (table_count or blocks above the capacity, or one of the last
+ * six columns shorter than count), 3 (max_gap) and 4 (the table): then every
+ * place is as it was.
  */
 uint8_t zaqnuti_queries(
-    const uint8_t *table_constellation, size_t table_constellation_length,
-    const uint16_t *table_svid, size_t table_svid_length,
-    const uint32_t *table_band, size_t table_band_length,
+    const uint8_t *block_constellation, size_t block_constellation_length,
+    const uint16_t *block_svid, size_t block_svid_length,
+    const uint32_t *block_band, size_t block_band_length,
+    const size_t *block_first, size_t block_first_length,
+    const size_t *block_samples, size_t block_samples_length,
+    size_t blocks,
     const double *table_time, size_t table_time_length,
     const double *table_metres, size_t table_metres_length,
     size_t table_count,
