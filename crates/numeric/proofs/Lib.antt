@@ -3,6 +3,7 @@ pub mod RealLaws
 pub mod RealValues
 pub mod OrderMagnitude
 pub mod OrderLaws
+pub mod OrderCases
 pub mod OrderValues
 pub mod Zeros
 pub mod SightLaws

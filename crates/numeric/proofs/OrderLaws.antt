@@ -6,18 +6,20 @@ use mathlib.Core.Logic.{_⊎_, inl, inr}
 use mathlib.Core.Bool.{Bool, true, false, not, _&&_, Bool·beq, cond}
 use lib.Dec.{T, leb, ltb, eqb}
 use borrow.Author.Tests.{lt-ltb, le-ltb, le-leb, lt-leb, eq-eqb, ltb-true, ltb-false, leb-true, leb-false}
+use lib.IntN.{ℤ}
 use lib.Ieee.{Float, nan, inf, fin, binary64, below, level, lt, eq, ne, toBits, isNan, fits}
 use lib.Ieee.Compare.{differs-from-itself, nan-differs}
 use lib.Ieee.Bits.{ofBits-toBits, toBits-ofBits, toBits-lt}
 use Rattle.exact.specs.Float.{bits}
 use Rattle.exact.specs.Pattern.{sign, digits}
-use Rattle.numeric.specs.Order.{isNanPattern, isQuiet, payload, equalOrder, payloadOrder, nanOrder, unordered, totalOrder, keyOf, patternAt, patternOf}
+use Rattle.numeric.specs.Real.{abs}
+use Rattle.numeric.specs.Order.{isNanPattern, isQuiet, payload, equalOrder, payloadOrder, nanOrder, unordered, totalOrder, patternOf}
 use Rattle.numeric.proofs.OrderMagnitude.{unsigned, infinity, trichotomy, lt-bits, eq-bits, isNanPattern-above, isNan-bits, bits-nan}
 
 -- ---- numbers
 
 -- Like signs go by the pattern without the sign, negative ones in the reverse order, and negative patterns come before the others.
-abbrev ordered : Bool → ℕ → Bool → ℕ → Bool
+abbrev pub ordered : Bool → ℕ → Bool → ℕ → Bool
 ordered false a false b = leb a b
 ordered false a true b = false
 ordered true a false b = true
@@ -50,7 +52,7 @@ numbers true true a b d = like b a (level true a true b) d (λ e. rw (eq-eqb a b
 -- ---- NaNs
 
 -- a test that follows another
-leb-same : (p q a b : ℕ) → (p ≤ q → a ≤ b) → (q < p → b < a) → leb p q ≡ leb a b
+pub leb-same : (p q a b : ℕ) → (p ≤ q → a ≤ b) → (q < p → b < a) → leb p q ≡ leb a b
 leb-same p q a b f g = go (leb p q) refl
   where
     go : (t : Bool) → leb p q ≡ t → t ≡ leb a b
@@ -125,7 +127,7 @@ unfolding totalOrder
 at-numbers x y h k = rw (lt-bits x y h k, lt-bits y x k h, eq-bits x y h k) (numbers (sign x) (sign y) (unsigned x) (unsigned y) (unordered x y))
 
 -- all four cases
-totalOrder-ordered : (x y : ℕ) → totalOrder x y ≡ ordered (sign x) (unsigned x) (sign y) (unsigned y)
+pub totalOrder-ordered : (x y : ℕ) → totalOrder x y ≡ ordered (sign x) (unsigned x) (sign y) (unsigned y)
 unfolding unordered
 totalOrder-ordered x y = go (ltb infinity (unsigned x)) (ltb infinity (unsigned y)) refl refl
   where
@@ -144,83 +146,95 @@ totalOrder-ordered x y = go (ltb infinity (unsigned x)) (ltb infinity (unsigned 
         let k : infinity < unsigned y = ltb-true _ _ f in
         at-nan x y (inr (bits-nan y k)) ∙ rw (isNanPattern-above x ∙ e) (right-nan (sign x) (sign y) (unsigned x) (unsigned y) (omega arith))
 
--- ---- the order of the keys
+-- ---- the order is that of a number for each pattern, which proofs compare
 
--- the two cases of a key
-key-positive : (b : ℕ) → sign b ≡ false → (b < 2 ^ 63) × (keyOf b ≡ b + 2 ^ 63)
+-- A number for each pattern: of those without a sign the pattern and 2 ^ 63, of the others what is left of 2 ^ 63 - 1 without the sign.
+unfoldable pub keyOf : ℕ → ℕ
+keyOf b = cond (sign b) (2 ^ 63 - 1 - unsigned b) (unsigned b + 2 ^ 63)
+
+-- the sign by the pattern
+pub sign-plus : (b : ℕ) → b < 2 ^ 63 → sign b ≡ false
+unfolding sign
+sign-plus b h = lt-leb (2 ^ 63) b h
+
+pub sign-minus : (b : ℕ) → 2 ^ 63 ≤ b → sign b ≡ true
+unfolding sign
+sign-minus b h = le-leb (2 ^ 63) b h
+
+-- the two cases of it
+pub key-positive : (b : ℕ) → sign b ≡ false → (b < 2 ^ 63) × (keyOf b ≡ b + 2 ^ 63)
 unfolding sign keyOf
-key-positive b e = let h : b < 2 ^ 63 = leb-false _ _ e in (h, rw (lt-ltb b (2 ^ 63) h))
+key-positive b e =
+    let h : b < 2 ^ 63 = leb-false _ _ e in
+    let u : b % 2 ^ 63 ≡ b = omega arith in
+    (h, rw (e, u))
 
-key-negative : (b : ℕ) → sign b ≡ true → (2 ^ 63 ≤ b) × (keyOf b ≡ 2 ^ 64 - 1 - b)
+pub key-negative : (b : ℕ) → sign b ≡ true → (2 ^ 63 ≤ b) × (keyOf b ≡ 2 ^ 63 - 1 - b % 2 ^ 63)
 unfolding sign keyOf
-key-negative b e = let h : 2 ^ 63 ≤ b = leb-true _ _ e in (h, rw (le-ltb b (2 ^ 63) h))
+key-negative b e = (leb-true _ _ e, rw e)
 
-ordered-keys : (a b : ℕ) → a < 2 ^ 64 → b < 2 ^ 64 → ordered (sign a) (unsigned a) (sign b) (unsigned b) ≡ leb (keyOf a) (keyOf b)
-ordered-keys a b ha hb = go (sign a) (sign b) refl refl
+-- the order is that of the numbers
+pub totalOrder-key : (a b : ℕ) → totalOrder a b ≡ leb (keyOf a) (keyOf b)
+unfolding keyOf
+totalOrder-key a b = totalOrder-ordered a b ∙ go (sign a) (sign b)
   where
-    go : (s t : Bool) → sign a ≡ s → sign b ≡ t → ordered s (unsigned a) t (unsigned b) ≡ leb (keyOf a) (keyOf b)
-    go false false e f = let k = key-positive a e in let l = key-positive b f in leb-same (unsigned a) (unsigned b) (keyOf a) (keyOf b) (omega arith) (omega arith)
-    go false true e f = let k = key-positive a e in let l = key-negative b f in sym (lt-leb (keyOf a) (keyOf b) (omega arith))
-    go true false e f = let k = key-negative a e in let l = key-positive b f in sym (le-leb (keyOf a) (keyOf b) (omega arith))
-    go true true e f = let k = key-negative a e in let l = key-negative b f in leb-same (unsigned b) (unsigned a) (keyOf a) (keyOf b) (omega arith) (omega arith)
+    go : (s t : Bool) → ordered s (unsigned a) t (unsigned b) ≡ leb (cond s (2 ^ 63 - 1 - unsigned a) (unsigned a + 2 ^ 63)) (cond t (2 ^ 63 - 1 - unsigned b) (unsigned b + 2 ^ 63))
+    go false false = leb-same (unsigned a) (unsigned b) (unsigned a + 2 ^ 63) (unsigned b + 2 ^ 63) (omega arith) (omega arith)
+    go false true = sym (lt-leb (unsigned a + 2 ^ 63) (2 ^ 63 - 1 - unsigned b) (omega arith))
+    go true false = sym (le-leb (2 ^ 63 - 1 - unsigned a) (unsigned b + 2 ^ 63) (omega arith))
+    go true true = leb-same (unsigned b) (unsigned a) (2 ^ 63 - 1 - unsigned a) (2 ^ 63 - 1 - unsigned b) (omega arith) (omega arith)
 
--- the order is that of the keys
-pub totalOrder-key : (a b : ℕ) → a < 2 ^ 64 → b < 2 ^ 64 → totalOrder a b ≡ leb (keyOf a) (keyOf b)
-totalOrder-key a b ha hb = totalOrder-ordered a b ∙ ordered-keys a b ha hb
+pub keyOf-lt : (b : ℕ) → keyOf b < 2 ^ 64
+unfolding keyOf
+keyOf-lt b = go (sign b)
+  where
+    go : (s : Bool) → cond s (2 ^ 63 - 1 - unsigned b) (unsigned b + 2 ^ 63) < 2 ^ 64
+    go true = omega arith
+    go false = omega arith
+
+module _ (a b : ℕ) where
+  -- two patterns have two numbers
+  pub keyOf-injective : a < 2 ^ 64 → b < 2 ^ 64 → keyOf a ≡ keyOf b → a ≡ b
+  keyOf-injective ha hb e = go (sign a) (sign b) refl refl
+    where
+      go : (s t : Bool) → sign a ≡ s → sign b ≡ t → a ≡ b
+      go false false p q = let k = key-positive a p in let l = key-positive b q in omega arith
+      go false true p q = let k = key-positive a p in let l = key-negative b q in omega arith
+      go true false p q = let k = key-negative a p in let l = key-positive b q in omega arith
+      go true true p q = let k = key-negative a p in let l = key-negative b q in omega arith
+
+  -- `totalOrder-key` as a fact, both ways
+  pub totalOrder-le : totalOrder a b ≡ true → keyOf a ≤ keyOf b
+  totalOrder-le h = leb-true (keyOf a) (keyOf b) (sym (totalOrder-key a b) ∙ h)
+
+  pub le-totalOrder : keyOf a ≤ keyOf b → totalOrder a b ≡ true
+  le-totalOrder h = totalOrder-key a b ∙ le-leb (keyOf a) (keyOf b) h
 
 -- ---- the order is a total one: reflexive, antisymmetric, transitive, total
 
 module _ (a : ℕ) (ha : a < 2 ^ 64) where
   pub reflexive : totalOrder a a ≡ true
-  reflexive = totalOrder-key a a ha ha ∙ le-leb (keyOf a) (keyOf a) (omega arith)
-
-  -- the pattern at a pattern's place is that pattern
-  pub patternAt-key : patternAt (keyOf a) ≡ a
-  unfolding patternAt
-  patternAt-key = go (sign a) refl
-    where
-      go : (s : Bool) → sign a ≡ s → cond (ltb (keyOf a) (2 ^ 63)) (2 ^ 64 - 1 - keyOf a) (keyOf a - 2 ^ 63) ≡ a
-      go false e = let k = key-positive a e in rw (le-ltb (keyOf a) (2 ^ 63) (omega arith)) (omega arith)
-      go true e = let k = key-negative a e in rw (lt-ltb (keyOf a) (2 ^ 63) (omega arith)) (omega arith)
-
-  -- a key has 64 bits
-  pub keyOf-lt : keyOf a < 2 ^ 64
-  keyOf-lt = go (sign a) refl
-    where
-      go : (s : Bool) → sign a ≡ s → keyOf a < 2 ^ 64
-      go false e = let k = key-positive a e in omega arith
-      go true e = let k = key-negative a e in omega arith
+  reflexive = le-totalOrder a a (omega arith)
 
 module _ (a b : ℕ) (ha : a < 2 ^ 64) (hb : b < 2 ^ 64) where
-  -- two patterns have two keys
-  pub keyOf-injective : keyOf a ≡ keyOf b → a ≡ b
-  keyOf-injective e = sym (patternAt-key a ha) ∙ ap patternAt e ∙ patternAt-key b hb
-
-  -- `totalOrder-key` as a fact, both ways
-  pub totalOrder-le : totalOrder a b ≡ true → keyOf a ≤ keyOf b
-  totalOrder-le h = leb-true (keyOf a) (keyOf b) (sym (totalOrder-key a b ha hb) ∙ h)
-
-  pub le-totalOrder : keyOf a ≤ keyOf b → totalOrder a b ≡ true
-  le-totalOrder h = totalOrder-key a b ha hb ∙ le-leb (keyOf a) (keyOf b) h
-
   pub antisymmetric : totalOrder a b ≡ true → totalOrder b a ≡ true → a ≡ b
   antisymmetric h k =
-      let l : keyOf a ≤ keyOf b = totalOrder-le h in
-      let g : keyOf b ≤ keyOf a = leb-true (keyOf b) (keyOf a) (sym (totalOrder-key b a hb ha) ∙ k) in
-      keyOf-injective (omega arith)
+      let l : keyOf a ≤ keyOf b = totalOrder-le a b h in
+      let g : keyOf b ≤ keyOf a = totalOrder-le b a k in
+      keyOf-injective a b ha hb (omega arith)
 
   pub total : (totalOrder a b ≡ true) ⊎ (totalOrder b a ≡ true)
   total = go (leb (keyOf a) (keyOf b)) refl
     where
       go : (t : Bool) → leb (keyOf a) (keyOf b) ≡ t → (totalOrder a b ≡ true) ⊎ (totalOrder b a ≡ true)
-      go true e = inl (totalOrder-key a b ha hb ∙ e)
-      go false e = let h : keyOf b < keyOf a = leb-false _ _ e in inr (totalOrder-key b a hb ha ∙ le-leb (keyOf b) (keyOf a) (omega arith))
+      go true e = inl (totalOrder-key a b ∙ e)
+      go false e = let h : keyOf b < keyOf a = leb-false _ _ e in inr (le-totalOrder b a (omega arith))
 
 pub transitive : (a b c : ℕ) → a < 2 ^ 64 → b < 2 ^ 64 → c < 2 ^ 64 → totalOrder a b ≡ true → totalOrder b c ≡ true → totalOrder a c ≡ true
 transitive a b c ha hb hc h k =
-    let p : keyOf a ≤ keyOf b = totalOrder-le a b ha hb h in
-    let q : keyOf b ≤ keyOf c = totalOrder-le b c hb hc k in
-    le-totalOrder a c ha hc (omega arith)
+    let p : keyOf a ≤ keyOf b = totalOrder-le a b h in
+    let q : keyOf b ≤ keyOf c = totalOrder-le b c k in
+    le-totalOrder a c (omega arith)
 
 -- ---- patterns and floats
 
@@ -268,3 +282,21 @@ pub pattern-same : (b : ℕ) → b < 2 ^ 64 → isNanPattern b ≡ false → pat
 pattern-same b h n =
     let m : isNan (bits b) ≡ false = isNan-bits b ∙ sym (isNanPattern-above b) ∙ n in
     pattern-bits (bits b) ∙ toBits-ofBits binary64 b h (rw m tt)
+
+-- the bits of a number of plus, and the sign
+bits-of-minus : (m : ℕ) (e : ℤ) → toBits binary64 (fin true m e) ≡ 2 ^ 63 + toBits binary64 (fin false m e)
+unfolding toBits
+bits-of-minus m e = omega arith
+
+bits-of-infinity : toBits binary64 (inf false) ≡ 0x7FF0_0000_0000_0000
+unfolding toBits
+bits-of-infinity = refl
+
+-- the pattern of a magnitude has no sign
+pub abs-pattern-lt : (x : Float) → T (fits binary64 x) → patternOf (abs x) < 2 ^ 63
+unfolding abs isNan fits
+abs-pattern-lt nan h = rw (pattern-of-nan nan refl) (omega arith)
+abs-pattern-lt (inf s) h = rw (pattern-bits (inf false), bits-of-infinity) (omega arith)
+abs-pattern-lt (fin s m e) h =
+    let l : toBits binary64 (fin true m e) < 2 ^ 64 = toBits-lt binary64 (fin true m e) h in
+    rw (pattern-bits (fin false m e)) (omega (arith, bits-of-minus m e))

@@ -1,4 +1,4 @@
--- Worked values of the order: sixteen patterns in their order, and keys and patterns. Assumes nothing.
+-- Worked values of the order: sixteen patterns in their order, and patterns of floats. Assumes nothing.
 use Prim.Native.Nat.{ℕ}
 use mathlib.Core.Path.{_≡_, refl}
 use mathlib.Core.Bool.{Bool, true, not, _&&_}
@@ -6,7 +6,7 @@ use mathlib.Core.List.{List, [], _∷_, map}
 use lib.Ieee.{nan, lt, eq, ofBits, toBits, isNan}
 use Rattle.exact.specs.Float.{1·0}
 use Rattle.exact.specs.Pattern.{sign, exponent, digits}
-use Rattle.numeric.specs.Order.{isNanPattern, isQuiet, payload, payloadOrder, unordered, totalOrder, keyOf, patternOf}
+use Rattle.numeric.specs.Order.{isNanPattern, isQuiet, payload, payloadOrder, unordered, totalOrder, patternOf}
 
 chain : List ℕ
 chain =
@@ -45,11 +45,6 @@ chain-ascends = refl
 chain-reflexive : map (λ (x : ℕ). totalOrder x x) chain ≡ map (λ (x : ℕ). true) chain
 unfolding chain totalOrder unordered payloadOrder sign isNanPattern isQuiet payload exponent digits lt eq ofBits
 chain-reflexive = refl
-
--- +0 is in the middle of the places
-key-zero : keyOf 0 ≡ 0x8000_0000_0000_0000
-unfolding keyOf
-key-zero = refl
 
 pattern-one : patternOf 1·0 ≡ 0x3FF0_0000_0000_0000
 unfolding patternOf isNan toBits ofBits

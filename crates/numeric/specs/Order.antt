@@ -1,11 +1,15 @@
 -- The total order of IEEE 754-2019, 5.10, at binary64, on patterns: a pattern is 64 bits, as a natural number below 2 ^ 64. Definitions only.
 -- The order speaks of patterns, since it tells NaNs apart by sign and payload, and the one NaN of a float here has neither.
-use Prim.Native.Nat.{ℕ, _+_, _-_, _%_, _^_}
+use Prim.Native.Nat.{ℕ, _%_, _^_}
 use mathlib.Core.Bool.{Bool, true, false, not, _&&_, Bool·beq, cond}
-use lib.Dec.{leb, ltb, eqb}
+use lib.Dec.{leb, eqb}
 use lib.Ieee.{Float, binary64, toBits, isNan, lt, eq}
 use Rattle.exact.specs.Float.{bits}
 use Rattle.exact.specs.Pattern.{sign, exponent, digits}
+use Rattle.numeric.specs.declared.order.Sign.{Sign}
+use Rattle.numeric.specs.declared.order.Sign.the-variants.{Minus, Plus}
+use Rattle.numeric.specs.declared.order.Class.{Class}
+use Rattle.numeric.specs.declared.order.Class.the-variants.{Zero, Number, Infinity, Signaling, Quiet}
 
 -- ---- NaNs, by the fields of a pattern
 
@@ -20,6 +24,18 @@ isQuiet b = leb (2 ^ 51) (digits b)
 -- the payload of a NaN: its other digits, bits 50 to 0 (6.2.1)
 unfoldable pub payload : ℕ → ℕ
 payload b = b % 2 ^ 51
+
+-- ---- the cases of a pattern: its sign, and what it stands for without it
+
+unfoldable pub signOf : ℕ → Sign
+signOf b = cond (sign b) Minus Plus
+
+-- a number here is finite and not 0
+unfoldable pub classOf : ℕ → Class
+classOf b =
+    cond (eqb (exponent b) 0) (cond (eqb (digits b) 0) Zero Number)
+    (cond (eqb (exponent b) 0x7FF) (cond (eqb (digits b) 0) Infinity (cond (isQuiet b) Quiet Signaling))
+    Number)
 
 -- ---- the order
 
@@ -54,14 +70,6 @@ totalOrder x y =
     (cond (lt (bits y) (bits x)) false
     (cond (eq (bits x) (bits y)) (equalOrder (sign x) (sign y))
     (unordered x y)))
-
--- The place of a pattern in the order, from 0: the negative ones, from the greatest magnitude down, and then the others.
-unfoldable pub keyOf : ℕ → ℕ
-keyOf b = cond (ltb b (2 ^ 63)) (b + 2 ^ 63) (2 ^ 64 - 1 - b)
-
--- the pattern at a place: what undoes `keyOf`
-unfoldable pub patternAt : ℕ → ℕ
-patternAt k = cond (ltb k (2 ^ 63)) (2 ^ 64 - 1 - k) (k - 2 ^ 63)
 
 -- ---- patterns and floats
 

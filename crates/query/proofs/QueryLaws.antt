@@ -14,15 +14,16 @@ use lib.Ieee.Scale.{finite}
 use Rattle.exact.specs.Float.{_⊖_}
 use Rattle.numeric.specs.Real.{inRange}
 use Rattle.numeric.specs.declared.refusal.Refusal.the-variants.{NoCorrection, RecordOutOfRange, SettingOutOfRange, TooMany}
-use Rattle.table.specs.Table.{Columns, blank, placeOf, rows, seriesOf, signal, signalOf, sound, timeKey}
+use Rattle.table.specs.Table.{Columns, blank, rows, seriesOf, signal, signalOf, sound}
 use Rattle.query.specs.Query.{bridged, answerAt, answerIn, between, firstSince, lastBefore, line, missing, near, queryOf, the, PassedTable}
 use Rattle.query.specs.Search.{ahead, Leading, Searching}
 use Rattle.table.specs.declared.sample.Sample.{Sample}
 use Rattle.query.specs.declared.query.Correction.the-variants.{Refused, Metres}
+use Rattle.table.proofs.Places.{timeKey, placeOf, key-lt}
 use Rattle.table.proofs.TableLaws.{Sound}
 use Rattle.query.proofs.FoundLaws.{earlier, later, earlier-series, later-series, first-at, first-none, last-at, last-none}
 use Rattle.table.proofs.ColumnLaws.{rows-at, rows-within}
-use Rattle.table.proofs.UnitLaws.{key-lt, earlier-of}
+use Rattle.table.proofs.UnitLaws.{earlier-of}
 
 -- every time is a value of the format
 unfoldable pub Held : List Sample → Type 0

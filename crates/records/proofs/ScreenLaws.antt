@@ -10,7 +10,7 @@ use Rattle.walk.specs.Walk.{collect}
 use Rattle.walk.proofs.Walk.{Collecting}
 use Rattle.median.specs.Sorted.{medianOf}
 use Rattle.median.specs.Centre.{centreOf}
-use Rattle.median.proofs.MedianKeys.{median-few}
+use Rattle.median.proofs.MedianSigns.{median-few}
 use Rattle.records.specs.Record.{keep}
 use Rattle.records.specs.Screen.{detectors, centre, within}
 use Rattle.records.specs.declared.pair.Pair.{Pair}

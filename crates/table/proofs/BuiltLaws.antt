@@ -8,12 +8,13 @@ use native.Mathlib.Nat.{le-trans, le-refl}
 use lib.Dec.{ltb, leb, eqb}
 use borrow.Author.Tests.{ltb-true, ltb-false, leb-true, eqb-true, eqb-false, le-leb, ne-eqb}
 use Rattle.walk.specs.Walk.{collect}
-use Rattle.table.specs.Table.{placeOf, rises, signalOf, timeKey, ofSignal, seriesOf}
+use Rattle.table.specs.Table.{timeBefore, signalOf, ofSignal, seriesOf}
 use Rattle.table.specs.Add.{insertAll}
 use Rattle.table.specs.Build.{builtOf, put, signals, sortTimes, withSignal}
 use Rattle.table.specs.declared.sample.Sample.{Sample}
+use Rattle.table.proofs.Places.{timeKey, placeOf, rises, key-lt}
 use Rattle.table.proofs.TableLaws.{and-left, and-right}
-use Rattle.table.proofs.UnitLaws.{never, key-lt}
+use Rattle.table.proofs.UnitLaws.{never}
 use Rattle.table.proofs.SeriesLaws.{mine, other, insertAll-rises, series-law}
 
 clash : {A : Type 0} (x : Sample) (l : List Sample) → x ∷ l ≡ [] → A
@@ -101,7 +102,7 @@ Only g (a ∷ l) = (signalOf a ≡ g) × Only g l
 only-put : (g : ℕ) (s : Sample) (l : List Sample) → signalOf s ≡ g → Only g l → Only g (put s l)
 unfolding put
 only-put g s [] e h = (e, tt)
-only-put g s (a ∷ l) e h = go (ltb (timeKey (a .time)) (timeKey (s .time))) (only-put g s l e (h .1))
+only-put g s (a ∷ l) e h = go (timeBefore (a .time) (s .time)) (only-put g s l e (h .1))
   where
     go : (x : Bool) → Only g (put s l) → Only g (cond x (a ∷ put s l) (s ∷ a ∷ l))
     go true r = (h .0, r)

@@ -8,9 +8,8 @@ use native.Mathlib.Numerals.{add-one}
 use native.Mathlib.Omega.{arith}
 use lib.ListN.{length, getD, take, drop, set}
 use lib.Seq.{drop-drop, getD-set-other}
-use lib.Dec.{ltb}
 use lib.Ieee.{Float, nan}
-use Rattle.table.specs.Table.{Columns, beside, blank, placeOf, rows, tableOf}
+use Rattle.table.specs.Table.{Columns, beside, blank, standsBefore, rows, tableOf}
 use Rattle.table.specs.Add.{insertAll, Inserted, insert, opened, past, pushed, spotOf}
 use Rattle.table.specs.declared.sample.Sample.{Sample}
 
@@ -229,7 +228,7 @@ beside-opened (suc p) k c v b t x (c₁ ∷ cs) (v₁ ∷ vs) (b₁ ∷ bs) (t�
 pub spot-le : (s : Sample) (l : List Sample) → spotOf s l ≤ length l
 unfolding spotOf
 spot-le s [] = omega arith
-spot-le s (a ∷ l) = go (ltb (placeOf s) (placeOf a)) (spot-le s l)
+spot-le s (a ∷ l) = go (standsBefore s a) (spot-le s l)
   where
     go : (t : Bool) → spotOf s l ≤ length l → cond t 0 (suc (spotOf s l)) ≤ suc (length l)
     go true h = omega arith
@@ -240,9 +239,9 @@ insert-opened : (s : Sample) (n : ℕ) (l : List Sample) (k : ℕ) → n < lengt
 unfolding spotOf insert opened pushed
 insert-opened s n [] k h e = absurd (not-suc-le-zero h)
 insert-opened s zero (a ∷ l) k h e = let z : k ≡ 0 = omega arith in rw z
-insert-opened s (suc n) (a ∷ l) k h e = go (ltb (placeOf s) (placeOf a)) refl e (insert-opened s n l k (le-of-suc-le-suc h))
+insert-opened s (suc n) (a ∷ l) k h e = go (standsBefore s a) refl e (insert-opened s n l k (le-of-suc-le-suc h))
   where
-    go : (t : Bool) → ltb (placeOf s) (placeOf a) ≡ t → cond t 0 (suc (spotOf s (take n l))) + k ≡ suc n
+    go : (t : Bool) → standsBefore s a ≡ t → cond t 0 (suc (spotOf s (take n l))) + k ≡ suc n
         → (spotOf s (take n l) + k ≡ n → take (suc n) (opened (spotOf s (take n l)) k s l) ≡ insert s (take n l))
         → take (suc (suc n)) (opened (cond t 0 (suc (spotOf s (take n l)))) k s (a ∷ l)) ≡ cond t (s ∷ a ∷ take n l) (a ∷ insert s (take n l))
     go true q e ih = let z : k ≡ suc n = omega arith in rw z (ap (λ (m : List Sample). s ∷ m) (take-pushed a n l (le-of-suc-le-suc h)))

@@ -5,13 +5,13 @@ use mathlib.Core.Bool.{Bool, true, false, cond}
 use Prim.Native.Nat.{ℕ, suc, _+_, _≤_, _<_}
 use native.Mathlib.Omega.{arith}
 use native.Mathlib.Numerals.{add-one}
-use lib.Dec.{ltb}
 use lib.ListN.{length, getD, take, drop}
 use lib.Seq.{take-suc, drop-drop}
 use Rattle.walk.specs.Walk.{every}
-use Rattle.table.specs.Table.{Columns, blank, placeOf, ranged, rows, sound, tableOf}
+use Rattle.table.specs.Table.{Columns, blank, standsBefore, ranged, rows, sound, tableOf}
 use Rattle.table.specs.Add.{Inserted, InsertedAll, insert, insertAll, past}
 use Rattle.table.specs.declared.sample.Sample.{Sample}
+use Rattle.table.proofs.Places.{sorted-rises}
 use Rattle.table.proofs.TableLaws.{and-left, and-right, every-at}
 use Rattle.table.proofs.ColumnLaws.{Alike, alike-same, alike-next, rows-alike}
 use Rattle.table.proofs.SeriesLaws.{insert-rises, insertAll-append}
@@ -19,7 +19,7 @@ use Rattle.table.proofs.SeriesLaws.{insert-rises, insertAll-append}
 every-insert : (s : Sample) (t : List Sample) → ranged s ≡ true → every ranged t ≡ true → every ranged (insert s t) ≡ true
 unfolding every insert
 every-insert s [] r e = rw r
-every-insert s (a ∷ t) r e = go (ltb (placeOf s) (placeOf a)) (every-insert s t r (and-right (ranged a) _ e))
+every-insert s (a ∷ t) r e = go (standsBefore s a) (every-insert s t r (and-right (ranged a) _ e))
   where
     go : (x : Bool) → every ranged (insert s t) ≡ true → every ranged (cond x (s ∷ a ∷ t) (a ∷ insert s t)) ≡ true
     go true i = rw r e
@@ -28,7 +28,7 @@ every-insert s (a ∷ t) r e = go (ltb (placeOf s) (placeOf a)) (every-insert s 
 -- a sound table stays sound
 pub insert-sound : (s : Sample) (t : List Sample) → ranged s ≡ true → sound t ≡ true → sound (insert s t) ≡ true
 unfolding sound
-insert-sound s t r e = rw (every-insert s t r (and-left (every ranged t) _ e)) (insert-rises 0 s t (omega arith) (and-right (every ranged t) _ e))
+insert-sound s t r e = rw (every-insert s t r (and-left (every ranged t) _ e)) (sorted-rises (insert s t) ∙ insert-rises 0 s t (omega arith) (sym (sorted-rises t) ∙ and-right (every ranged t) _ e))
 
 pub insertAll-sound : (t ss : List Sample) → every ranged ss ≡ true → sound t ≡ true → sound (insertAll t ss) ≡ true
 unfolding insertAll every
@@ -38,7 +38,7 @@ insertAll-sound t (s ∷ ss) r e = insertAll-sound (insert s t) ss (and-right (r
 insert-length : (s : Sample) (t : List Sample) → length (insert s t) ≡ suc (length t)
 unfolding insert
 insert-length s [] = refl
-insert-length s (a ∷ t) = go (ltb (placeOf s) (placeOf a)) (insert-length s t)
+insert-length s (a ∷ t) = go (standsBefore s a) (insert-length s t)
   where
     go : (x : Bool) → length (insert s t) ≡ suc (length t) → length (cond x (s ∷ a ∷ t) (a ∷ insert s t)) ≡ suc (suc (length t))
     go true i = refl

@@ -1,4 +1,6 @@
 -- What the proofs of more than one function use, and the theorems.
+pub mod Lex
+pub mod Places
 pub mod UnitLaws
 pub mod SmallLaws
 pub mod TableLaws

@@ -5,19 +5,20 @@ use mathlib.Core.Bool.{Bool, true, false, cond}
 use Prim.Native.Nat.{ℕ, _+_, _*_, _^_, _≤_, _<_}
 use native.Mathlib.Omega.{arith}
 use lib.Dec.{ltb, leb, eqb}
-use borrow.Author.Tests.{ltb-true, ltb-false, leb-true, eqb-true, lt-ltb, le-ltb, le-leb, eq-eqb}
+use borrow.Author.Tests.{ltb-true, ltb-false, leb-true, eqb-true, le-leb, eq-eqb}
 use Rattle.walk.specs.Walk.{collect}
-use Rattle.table.specs.Table.{placeOf, rises, signalOf, timeKey, ofSignal, seriesOf}
+use Rattle.table.specs.Table.{standsBefore, timeBefore, signalOf, ofSignal, seriesOf}
 use Rattle.table.specs.Add.{insert, insertAll}
 use Rattle.table.specs.Build.{put, sortTimes}
 use Rattle.table.specs.declared.sample.Sample.{Sample}
+use Rattle.table.proofs.Places.{timeKey, placeOf, rises, before-place, earlier-true, earlier-false, lt-earlier, le-earlier}
 use Rattle.table.proofs.TableLaws.{and-left, and-right}
 
 -- ---- the table stays sorted
 pub insert-rises : (p : ℕ) (s : Sample) (t : List Sample) → p ≤ placeOf s → rises p t ≡ true → rises p (insert s t) ≡ true
 unfolding rises insert
 insert-rises p s [] h r = rw (le-leb p (placeOf s) h)
-insert-rises p s (a ∷ t) h r = go (ltb (placeOf s) (placeOf a)) refl (λ l. insert-rises (placeOf a) s t l (and-right (leb p (placeOf a)) _ r))
+insert-rises p s (a ∷ t) h r = go (standsBefore s a) (sym (before-place s a)) (λ l. insert-rises (placeOf a) s t l (and-right (leb p (placeOf a)) _ r))
   where
     first : leb p (placeOf a) ≡ true
     first = and-left _ _ r
@@ -42,7 +43,7 @@ insertAll-append t (s ∷ a) b = insertAll-append (insert s t) a b
 -- ---- within a series: after those that it does not precede in time
 unfoldable pub after : Sample → List Sample → List Sample
 after s [] = s ∷ []
-after s (a ∷ l) = cond (ltb (timeKey (s .time)) (timeKey (a .time))) (s ∷ a ∷ l) (a ∷ after s l)
+after s (a ∷ l) = cond (timeBefore (s .time) (a .time)) (s ∷ a ∷ l) (a ∷ after s l)
 
 unfoldable pub afterAll : List Sample → List Sample → List Sample
 afterAll t [] = t
@@ -51,22 +52,22 @@ afterAll t (s ∷ ss) = afterAll (after s t) ss
 -- an earlier x and a later y go in either way round
 swap : (x y : Sample) (l : List Sample) → after y (put x l) ≡ put x (after y l)
 unfolding after put
-swap x y [] = go (ltb (timeKey (y .time)) (timeKey (x .time))) refl
+swap x y [] = go (timeBefore (y .time) (x .time)) refl
   where
-    go : (t : Bool) → ltb (timeKey (y .time)) (timeKey (x .time)) ≡ t → cond t (y ∷ x ∷ []) (x ∷ y ∷ []) ≡ cond t (y ∷ x ∷ []) (x ∷ y ∷ [])
+    go : (t : Bool) → timeBefore (y .time) (x .time) ≡ t → cond t (y ∷ x ∷ []) (x ∷ y ∷ []) ≡ cond t (y ∷ x ∷ []) (x ∷ y ∷ [])
     go t e = refl
-swap x y (a ∷ l) = go (ltb (timeKey (a .time)) (timeKey (x .time))) (ltb (timeKey (y .time)) (timeKey (a .time))) (ltb (timeKey (y .time)) (timeKey (x .time))) refl refl refl (swap x y l)
+swap x y (a ∷ l) = go (timeBefore (a .time) (x .time)) (timeBefore (y .time) (a .time)) (timeBefore (y .time) (x .time)) refl refl refl (swap x y l)
   where
-    go : (t u v : Bool) → ltb (timeKey (a .time)) (timeKey (x .time)) ≡ t → ltb (timeKey (y .time)) (timeKey (a .time)) ≡ u → ltb (timeKey (y .time)) (timeKey (x .time)) ≡ v
+    go : (t u v : Bool) → timeBefore (a .time) (x .time) ≡ t → timeBefore (y .time) (a .time) ≡ u → timeBefore (y .time) (x .time) ≡ v
         → after y (put x l) ≡ put x (after y l) → after y (cond t (a ∷ put x l) (x ∷ a ∷ l)) ≡ put x (cond u (y ∷ a ∷ l) (a ∷ after y l))
     go true true v p q r ih =
-        let w : ltb (timeKey (y .time)) (timeKey (x .time)) ≡ true = lt-ltb (timeKey (y .time)) (timeKey (x .time)) (omega (arith, ltb-true (timeKey (a .time)) (timeKey (x .time)) p, ltb-true (timeKey (y .time)) (timeKey (a .time)) q)) in
+        let w : timeBefore (y .time) (x .time) ≡ true = lt-earlier (y .time) (x .time) (omega (arith, earlier-true (a .time) (x .time) p, earlier-true (y .time) (a .time) q)) in
         rw (q, w, p)
     go true false v p q r ih = rw (q, p, ih)
     go false true true p q r ih = rw (r, p)
     go false true false p q r ih = rw (r, q)
     go false false true p q r ih =
-        absurd (let z : ⊥ = omega (arith, ltb-false (timeKey (a .time)) (timeKey (x .time)) p, ltb-false (timeKey (y .time)) (timeKey (a .time)) q, ltb-true (timeKey (y .time)) (timeKey (x .time)) r) in z)
+        absurd (let z : ⊥ = omega (arith, earlier-false (a .time) (x .time) p, earlier-false (y .time) (a .time) q, earlier-true (y .time) (x .time) r) in z)
     go false false false p q r ih = rw (r, q, p)
 
 put-first : (x : Sample) (t l : List Sample) → afterAll (put x t) l ≡ put x (afterAll t l)
@@ -115,7 +116,7 @@ after-front g s p (a ∷ t) e h r = go (eqb (signalOf a) g) refl (after-front g 
     far = native.Mathlib.Nat.lt-of-lt-of-le h (leb-true p (placeOf a) (and-left _ _ r))
 
     go : (x : Bool) → eqb (signalOf a) g ≡ x → after s (seriesOf g t) ≡ s ∷ seriesOf g t → after s (cond x (a ∷ []) [] ++ seriesOf g t) ≡ s ∷ cond x (a ∷ []) [] ++ seriesOf g t
-    go true q ih = rw (lt-ltb _ _ (key-less s a (e ∙ sym (eqb-true _ _ q)) far))
+    go true q ih = rw (lt-earlier (s .time) (a .time) (key-less s a (e ∙ sym (eqb-true _ _ q)) far))
     go false q ih = ih
 
 after-none : (g : ℕ) (s : Sample) → after s (seriesOf g []) ≡ s ∷ seriesOf g []
@@ -125,7 +126,7 @@ after-none g s = refl
 insert-mine : (g : ℕ) (s : Sample) (p : ℕ) (t : List Sample) → signalOf s ≡ g → rises p t ≡ true → seriesOf g (insert s t) ≡ after s (seriesOf g t)
 unfolding insert after rises
 insert-mine g s p [] e r = mine g s [] e ∙ sym (after-none g s)
-insert-mine g s p (a ∷ t) e r = go (ltb (placeOf s) (placeOf a)) refl (insert-mine g s (placeOf a) t e rest)
+insert-mine g s p (a ∷ t) e r = go (standsBefore s a) (sym (before-place s a)) (insert-mine g s (placeOf a) t e rest)
   where
     rest : rises (placeOf a) t ≡ true
     rest = and-right (leb p (placeOf a)) _ r
@@ -140,14 +141,14 @@ insert-mine g s p (a ∷ t) e r = go (ltb (placeOf s) (placeOf a)) refl (insert-
         in-turn : (y : Bool) → eqb (signalOf a) g ≡ y → seriesOf g (a ∷ insert s t) ≡ after s (seriesOf g (a ∷ t))
         in-turn true w =
             let same = eqb-true _ _ w in
-            let late : ltb (timeKey (s .time)) (timeKey (a .time)) ≡ false = le-ltb _ _ (key-least a s (same ∙ sym e) (ltb-false _ _ q)) in
+            let late : timeBefore (s .time) (a .time) ≡ false = le-earlier (s .time) (a .time) (key-least a s (same ∙ sym e) (ltb-false _ _ q)) in
             rw (mine g a (insert s t) same, mine g a t same, late, ih)
         in-turn false w = other g a (insert s t) w ∙ ih ∙ ap (after s) (sym (other g a t w))
 
 insert-other : (g : ℕ) (s : Sample) (t : List Sample) → eqb (signalOf s) g ≡ false → seriesOf g (insert s t) ≡ seriesOf g t
 unfolding insert
 insert-other g s [] e = other g s [] e
-insert-other g s (a ∷ t) e = go (ltb (placeOf s) (placeOf a)) (insert-other g s t e)
+insert-other g s (a ∷ t) e = go (standsBefore s a) (insert-other g s t e)
   where
     go : (x : Bool) → seriesOf g (insert s t) ≡ seriesOf g t → seriesOf g (cond x (s ∷ a ∷ t) (a ∷ insert s t)) ≡ seriesOf g (a ∷ t)
     go true ih = other g s (a ∷ t) e

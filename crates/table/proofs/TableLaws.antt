@@ -1,55 +1,19 @@
 -- The order of the table, and the pass that tests it. Assumes nothing.
-use mathlib.Core.Path.{_≡_, refl, sym, _∙_}
+use mathlib.Core.Path.{_≡_, refl, sym, ap, _∙_}
 use mathlib.Core.List.{List, [], _∷_}
-use mathlib.Core.Bool.{Bool, true, false, _&&_, _||_}
+use mathlib.Core.Bool.{Bool, true, false, _&&_}
 use Prim.Native.Nat.{ℕ, zero, suc, _+_, _*_, _^_, _≤_, _<_}
 use native.Mathlib.Nat.{not-suc-le-zero, le-of-suc-le-suc}
 use native.Mathlib.Omega.{arith}
 use lib.ListN.{length, getD, take, drop}
-use lib.Dec.{ltb, leb, eqb}
-use borrow.Author.Tests.{ltb-true, ltb-false, leb-true, eqb-true, eqb-false, lt-ltb, le-ltb, le-leb, lt-leb, eq-eqb, ne-eqb}
+use lib.Dec.{ltb, leb}
+use borrow.Author.Tests.{ltb-true, ltb-false, leb-true, le-leb, lt-leb}
 use Rattle.walk.specs.Walk.{every}
 use Rattle.walk.proofs.Walk.{left-at, left-end}
 use Rattle.numeric.specs.Real.{inRange}
-use Rattle.table.specs.Table.{blank, placeOf, ranged, rises, sound}
+use Rattle.table.specs.Table.{blank, ranged, sound}
 use Rattle.table.specs.declared.sample.Sample.{Sample}
-
--- ---- two numbers in one: by the first, and where that is equal by the second
-pub lex : (g h j k w : ℕ) → j < w → k < w → (ltb g h || (eqb g h && ltb j k)) ≡ ltb (g * w + j) (h * w + k)
-lex g h j k w jl kl = first (ltb g h) refl
-  where
-    up-by : (x y : ℕ) → x ≤ y → x * w ≤ y * w
-    up-by x y q = native.Mathlib.Nat.mul-le-mul-right w q
-
-    above : (a b i l : ℕ) → a < b → i < w → a * w + i < b * w + l
-    above a b i l p q = omega (arith, up-by (suc a) b p)
-
-    third : (t : Bool) → ltb j k ≡ t → g ≡ h → t ≡ ltb (g * w + j) (h * w + k)
-    third true e q = rw q (sym (lt-ltb (h * w + j) (h * w + k) (omega (arith, ltb-true j k e))))
-    third false e q = rw q (sym (le-ltb (h * w + j) (h * w + k) (omega (arith, ltb-false j k e))))
-
-    second : (t : Bool) → eqb g h ≡ t → h ≤ g → (t && ltb j k) ≡ ltb (g * w + j) (h * w + k)
-    second true e l = third (ltb j k) refl (eqb-true g h e)
-    second false e l =
-        let ne : g ≡ h → ⊥ = eqb-false g h e in
-        let s : h < g = omega arith in
-        sym (le-ltb (g * w + j) (h * w + k) (omega (arith, above h g k j s kl)))
-
-    first : (t : Bool) → ltb g h ≡ t → (t || (eqb g h && ltb j k)) ≡ ltb (g * w + j) (h * w + k)
-    first true e = sym (lt-ltb (g * w + j) (h * w + k) (above g h j k (ltb-true g h e) jl))
-    first false e = second (eqb g h) refl (ltb-false g h e)
-
--- where the first are not equal, they decide
-pub lex-first : (g h j k w : ℕ) → j < w → k < w → (g ≡ h → ⊥) → ltb g h ≡ ltb (g * w + j) (h * w + k)
-lex-first g h j k w jl kl ne = sym (or-no (ltb g h)) ∙ (rw (ne-eqb g h ne) at (lex g h j k w jl kl))
-  where
-    or-no : (a : Bool) → (a || false) ≡ a
-    or-no true = refl
-    or-no false = refl
-
--- where they are equal, the second decide
-pub lex-second : (g h j k w : ℕ) → j < w → k < w → g ≡ h → ltb j k ≡ ltb (g * w + j) (h * w + k)
-lex-second g h j k w jl kl e = rw (le-ltb g h (omega arith), eq-eqb g h e) at (lex g h j k w jl kl)
+use Rattle.table.proofs.Places.{placeOf, rises, sorted-rises}
 
 -- ---- a table that rises
 pub and-left : (a b : Bool) → (a && b) ≡ true → a ≡ true
@@ -82,10 +46,6 @@ every-at q [] j e h = absurd (not-suc-le-zero h)
 every-at q (a ∷ l) zero e h = and-left _ _ e
 every-at q (a ∷ l) (suc j) e h = every-at q l j (and-right (q a) _ e) (le-of-suc-le-suc h)
 
-pub ranged-time : (s : Sample) → ranged s ≡ true → inRange (s .time) ≡ true
-unfolding ranged
-ranged-time s e = and-left _ _ e
-
 -- a sound table, place by place
 pub record Sound (l : List Sample) : Type 0 where
   pub rising : (i j : ℕ) → i ≤ j → j < length l → placeOf (getD l i blank) ≤ placeOf (getD l j blank)
@@ -96,7 +56,7 @@ pub sound-at : (l : List Sample) → sound l ≡ true → Sound l
 unfolding sound ranged
 sound-at l e =
     record {
-      rising = λ i j g h. rises-at 0 l i j (and-right (every ranged l) _ e) g h;
+      rising = λ i j g h. rises-at 0 l i j (sym (sorted-rises l) ∙ and-right (every ranged l) _ e) g h;
       times = λ j h. and-left _ _ (every-at ranged l j (and-left _ _ e) h);
       values = λ j h. and-right (inRange (getD l j blank .time)) _ (every-at ranged l j (and-left _ _ e) h);
     }
@@ -107,7 +67,7 @@ soundFrom p l = every ranged l && rises p l
 
 pub sound-starts : (l : List Sample) → soundFrom 0 l ≡ sound l
 unfolding sound
-sound-starts l = refl
+sound-starts l = ap (λ (b : Bool). every ranged l && b) (sym (sorted-rises l))
 
 and-no : (a b : Bool) → (a && (false && b)) ≡ false
 and-no true b = refl

@@ -1,8 +1,8 @@
 -- Finite floats as whole numbers of the smallest one, 2 ^ -1074: their order, and their places in totalOrder. Assumes nothing.
 use mathlib.Core.Path.{_≡_, refl, sym, ap, _∙_}
 use mathlib.Core.Logic.{inl, inr}
-use mathlib.Core.Bool.{Bool, true, false, cond}
-use Prim.Native.Nat.{ℕ, zero, suc, _+_, _*_, _/_, _^_, _-_, _≤_, _<_}
+use mathlib.Core.Bool.{Bool, true, false}
+use Prim.Native.Nat.{ℕ, zero, suc, _+_, _*_, _/_, _%_, _^_, _-_, _≤_, _<_}
 use native.Mathlib.Nat.{le-trans, le-of-eq, lt-of-le-of-lt, mul-le-mul-right, mul-pos, div-mul-cancel, dvd-mul-left-of-dvd, dvd-mul-right, one-dvd, le-of-mul-le-mul-right, le-div-iff-mul-le, eq-or-lt-of-le, not-le-of-lt}
 use native.Mathlib.Omega.{arith}
 use lib.Dec.{T, ltb, leb→le, eqb→eq}
@@ -15,9 +15,10 @@ use lib.Ieee.Digits.{size-lt, size-le, size-reaches}
 use lib.Ieee.Bits.{ofBits-toBits, toBits-lt}
 use lib.Ieee.Order.{transfer}
 use lib.Ieee.Positive.{first-pos}
-use Rattle.numeric.specs.Order.{keyOf, patternOf}
+use Rattle.numeric.specs.Order.{patternOf}
+use Rattle.numeric.proofs.OrderLaws.{keyOf, sign-plus, sign-minus}
 use Rattle.numeric.specs.Real.{inRange}
-use Rattle.table.specs.Table.{timeKey}
+use Rattle.table.proofs.Places.{timeKey}
 
 -- how many of the smallest floats the number m * 2 ^ e is
 abbrev pub units : ℕ → ℤ → ℕ
@@ -169,25 +170,25 @@ digits-back s m e t n d f g h = go (ltb (units n d) (units m e)) refl
         let j : fin false m e ≡ fin false n d = sym (ofBits-toBits binary64 (fin false m e) (flip s false m e f)) ∙ ap (ofBits binary64) i ∙ ofBits-toBits binary64 (fin false n d) (flip t false n d g) in
         le-of-eq (ap unitsOf j)
 
--- ---- the place in totalOrder
+-- ---- the number of a time
 key-pos : (m : ℕ) (e : ℤ) → T (fits binary64 (fin false m e)) → timeKey (fin false m e) ≡ digits (units m e) + 2 ^ 63
 unfolding timeKey keyOf patternOf isNan
-key-pos m e f = rw (bits-pos m e, lt-ltb (digits (units m e)) (2 ^ 63) (digits-lt false m e f))
+key-pos m e f =
+    rw (bits-pos m e, sign-plus (digits (units m e)) (digits-lt false m e f), small (digits (units m e)) (digits-lt false m e f))
+  where
+    small : (x : ℕ) → x < 2 ^ 63 → x % 2 ^ 63 ≡ x
+    small x h = omega arith
 
-key-neg : (m : ℕ) (e : ℤ) → T (fits binary64 (fin true m e)) → timeKey (fin true m e) ≡ 2 ^ 64 - 1 - (2 ^ 63 + digits (units m e))
+key-neg : (m : ℕ) (e : ℤ) → T (fits binary64 (fin true m e)) → timeKey (fin true m e) ≡ 2 ^ 63 - 1 - digits (units m e)
 unfolding timeKey keyOf patternOf isNan
-key-neg m e f = rw (bits-neg m e, le-ltb (2 ^ 63 + digits (units m e)) (2 ^ 63) (more (digits (units m e))))
+key-neg m e f =
+    rw (bits-neg m e, sign-minus (2 ^ 63 + digits (units m e)) (more (digits (units m e))), left (digits (units m e)) (digits-lt true m e f))
   where
     more : (x : ℕ) → 2 ^ 63 ≤ 2 ^ 63 + x
     more x = omega arith
 
-pub key-lt : (x : Float) → timeKey x < 2 ^ 64
-unfolding timeKey keyOf
-key-lt x = go (ltb (patternOf x) (2 ^ 63)) refl
-  where
-    go : (b : Bool) → ltb (patternOf x) (2 ^ 63) ≡ b → cond b (patternOf x + 2 ^ 63) (2 ^ 64 - 1 - patternOf x) < 2 ^ 64
-    go true e = omega (arith, ltb-true (patternOf x) (2 ^ 63) e)
-    go false e = omega arith
+    left : (x : ℕ) → x < 2 ^ 63 → (2 ^ 63 + x) % 2 ^ 63 ≡ x
+    left x h = omega arith
 
 pub not-inf : (s : Bool) {A : Type 0} → inRange (inf s) ≡ true → A
 unfolding inRange
@@ -214,7 +215,7 @@ earlier-fin false m e false n d r u f g h q =
 earlier-fin false m e true n d r u f g h q =
     absurd (no-way (digits (units m e)) (digits (units n d)) (rw (key-pos m e f) at (rw (key-neg n d g) at h)))
   where
-    no-way : (x y : ℕ) → x + 2 ^ 63 ≤ 2 ^ 64 - 1 - (2 ^ 63 + y) → ⊥
+    no-way : (x y : ℕ) → x + 2 ^ 63 ≤ 2 ^ 63 - 1 - y → ⊥
     no-way x y h = omega arith
 earlier-fin true m e false n d r u f g h q = go r q
   where
@@ -224,7 +225,7 @@ earlier-fin true m e false n d r u f g h q = go r q
 earlier-fin true m e true n d r u f g h q =
     go r (digits-back true n d true m e g f (by (digits (units m e)) (digits (units n d)) (digits-lt true m e f) (digits-lt true n d g) (rw (key-neg m e f) at (rw (key-neg n d g) at h)))) q
   where
-    by : (x y : ℕ) → x < 2 ^ 63 → y < 2 ^ 63 → 2 ^ 64 - 1 - (2 ^ 63 + x) ≤ 2 ^ 64 - 1 - (2 ^ 63 + y) → y ≤ x
+    by : (x y : ℕ) → x < 2 ^ 63 → y < 2 ^ 63 → 2 ^ 63 - 1 - x ≤ 2 ^ 63 - 1 - y → y ≤ x
     by x y a b h = omega arith
 
     go : (r : Bool) → units n d ≤ units m e → below true (units n d) r u ≡ true → below true (units m e) r u ≡ true
@@ -241,20 +242,3 @@ earlier-of (fin s m d) (fin t n k) nan fx fy fq rx ry h e = unfold lt in e
 earlier-of (fin s m d) (fin t n k) (inf r) fx fy fq rx ry h e = unfold lt in e
 earlier-of (fin s m d) (fin t n k) (fin r u j) fx fy fq rx ry h e =
     lt-is s m d r u j fx fq ∙ earlier-fin s m d t n k r (units u j) fx fy h (sym (lt-is t n k r u j fy fq) ∙ e)
-
-lt-self : (x : Float) → T (fits binary64 x) → inRange x ≡ true → lt x x ≡ false
-lt-self nan f r = not-nan r
-lt-self (inf s) f r = not-inf s r
-lt-self (fin s m e) f r = lt-is s m e s m e f f ∙ go s
-  where
-    go : (s : Bool) → below s (units m e) s (units m e) ≡ false
-    go false = le-ltb (units m e) (units m e) (native.Mathlib.Nat.le-refl (units m e))
-    go true = le-ltb (units m e) (units m e) (native.Mathlib.Nat.le-refl (units m e))
-
--- a later time has no lower place
-pub key-of-later : (x y : Float) → T (fits binary64 x) → T (fits binary64 y) → inRange x ≡ true → inRange y ≡ true → lt x y ≡ true → timeKey x ≤ timeKey y
-key-of-later x y fx fy rx ry e = go (ltb (timeKey y) (timeKey x)) refl
-  where
-    go : (b : Bool) → ltb (timeKey y) (timeKey x) ≡ b → timeKey x ≤ timeKey y
-    go false q = ltb-false (timeKey y) (timeKey x) q
-    go true q = never (sym (lt-self y fy ry) ∙ earlier-of y x y fy fx fy ry rx (native.Mathlib.Nat.le-of-lt (ltb-true (timeKey y) (timeKey x) q)) e)

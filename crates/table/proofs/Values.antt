@@ -1,10 +1,11 @@
 -- A worked value of adding. Assumes nothing.
 use mathlib.Core.Path.{_≡_, refl}
 use mathlib.Core.List.{List, [], _∷_}
-use lib.Ieee.{Float, ofInt, toBits, isNan}
+use lib.Ieee.{Float, lt, eq, ofBits, ofInt, toBits, isNan}
 use Rattle.exact.specs.Float.{whole}
-use Rattle.numeric.specs.Order.{keyOf, patternOf}
-use Rattle.table.specs.Table.{timeKey}
+use Rattle.exact.specs.Pattern.{sign}
+use Rattle.numeric.specs.Order.{totalOrder, patternOf}
+use Rattle.table.specs.Table.{timeBefore, standsBefore}
 use Rattle.table.specs.Add.{insert, insertAll}
 use Rattle.table.specs.declared.sample.Sample.{Sample}
 
@@ -17,5 +18,5 @@ two = sample (whole 10) (whole 1) ∷ sample (whole 20) (whole 3) ∷ []
 
 -- a sample of equal time goes after the one that is there
 pub equal-time : insertAll two (sample (whole 10) (whole 7) ∷ []) ≡ sample (whole 10) (whole 1) ∷ sample (whole 10) (whole 7) ∷ sample (whole 20) (whole 3) ∷ []
-unfolding insertAll insert timeKey keyOf patternOf ofInt toBits isNan
+unfolding insertAll insert standsBefore timeBefore totalOrder sign patternOf lt eq ofBits ofInt toBits isNan
 equal-time = refl

@@ -9,7 +9,7 @@ use Rattle.walk.specs.Walk.{every}
 use Rattle.numeric.specs.Refusal.{numberOf}
 use Rattle.numeric.specs.declared.refusal.Refusal.{Refusal}
 use Rattle.numeric.specs.declared.refusal.Refusal.the-variants.{TooMany, RecordOutOfRange, TableFull}
-use Rattle.table.specs.Table.{Columns, tableOf, placeOf, ranged, sound}
+use Rattle.table.specs.Table.{Columns, tableOf, standsBefore, ranged, sound}
 use Rattle.table.specs.declared.sample.Sample.{Sample}
 use Rattle.table.specs.declared.add.Adding.{Adding}
 use Rattle.table.specs.declared.add.Adding.the-variants.{Refused, Count}
@@ -20,7 +20,7 @@ use Rattle.table.specs.declared.add.Test.the-variants as Test
 -- one sample more: before the first that it precedes, so after those of an equal time
 unfoldable pub insert : Sample → List Sample → List Sample
 insert s [] = s ∷ []
-insert s (a ∷ ss) = cond (ltb (placeOf s) (placeOf a)) (s ∷ a ∷ ss) (a ∷ insert s ss)
+insert s (a ∷ ss) = cond (standsBefore s a) (s ∷ a ∷ ss) (a ∷ insert s ss)
 
 -- samples one after the other, as they arrive
 unfoldable pub insertAll : List Sample → List Sample → List Sample
@@ -101,7 +101,7 @@ addOf n room t new = outcomeOf (testOf n room t new) (insertAll t (counted new))
 -- how many samples at the front of the table the sample s does not precede
 unfoldable pub spotOf : Sample → List Sample → ℕ
 spotOf s [] = 0
-spotOf s (a ∷ ss) = cond (ltb (placeOf s) (placeOf a)) 0 (suc (spotOf s ss))
+spotOf s (a ∷ ss) = cond (standsBefore s a) 0 (suc (spotOf s ss))
 
 -- v at the front, the n elements from there on moved up by one, and the one after them gone
 unfoldable pub pushed : {A : Type 0} → A → ℕ → List A → List A

@@ -4,13 +4,13 @@ use mathlib.Core.Bool.{cond}
 use mathlib.Core.List.{List, [], _∷_}
 use lib.Dec.{eqb, ltb}
 use Rattle.walk.specs.Walk.{collect}
-use Rattle.table.specs.Table.{signalOf, timeKey, seriesOf}
+use Rattle.table.specs.Table.{signalOf, timeBefore, seriesOf}
 use Rattle.table.specs.declared.sample.Sample.{Sample}
 
 -- s into a sorted list of samples that arrived after it: before the first that it does not follow in time
 unfoldable pub put : Sample → List Sample → List Sample
 put s [] = s ∷ []
-put s (a ∷ l) = cond (ltb (timeKey (a .time)) (timeKey (s .time))) (a ∷ put s l) (s ∷ a ∷ l)
+put s (a ∷ l) = cond (timeBefore (a .time) (s .time)) (a ∷ put s l) (s ∷ a ∷ l)
 
 -- a series in the order of time, in totalOrder; equal times as they arrived
 unfoldable pub sortTimes : List Sample → List Sample

@@ -1,12 +1,12 @@
 -- The table of correction samples in lent columns: its rows, its order, when it is sound, and the series of one signal. Definitions only.
 use Prim.Native.Nat.{ℕ, _+_, _*_, _^_, min}
-use mathlib.Core.Bool.{Bool, true, cond, _&&_}
+use mathlib.Core.Bool.{Bool, true, cond, not, _&&_, _||_}
 use mathlib.Core.List.{List, [], _∷_}
-use lib.Dec.{eqb, leb}
+use lib.Dec.{ltb, eqb}
 use lib.ListN.{length, take}
 use lib.Ieee.{Float, nan}
 use Rattle.walk.specs.Walk.{every, collect}
-use Rattle.numeric.specs.Order.{keyOf, patternOf}
+use Rattle.numeric.specs.Order.{totalOrder, patternOf}
 use Rattle.numeric.specs.Real.{inRange}
 use Rattle.table.specs.declared.sample.Sample.{Sample}
 
@@ -59,22 +59,23 @@ signal c v b = (c * 2 ^ 16 + v) * 2 ^ 32 + b
 abbrev pub signalOf : Sample → ℕ
 signalOf s = signal (s .constellation) (s .svid) (s .band)
 
--- the place of a time in totalOrder, of 64 bits
-unfoldable pub timeKey : Float → ℕ
-timeKey t = keyOf (patternOf t)
+-- the time t comes before u in totalOrder, and is not u
+unfoldable pub timeBefore : Float → Float → Bool
+timeBefore t u = not (totalOrder (patternOf u) (patternOf t))
 
--- the place of a sample in the table's order: by its signal, and then by its time
-abbrev pub placeOf : Sample → ℕ
-placeOf s = signalOf s * 2 ^ 64 + timeKey (s .time)
+-- the sample a stands before b: by its signal, and where the signals are equal by its time
+unfoldable pub standsBefore : Sample → Sample → Bool
+standsBefore a b = ltb (signalOf a) (signalOf b) || (eqb (signalOf a) (signalOf b) && timeBefore (a .time) (b .time))
 
--- no place is below the one before it, and the first is not below p
-unfoldable pub rises : ℕ → List Sample → Bool
-rises p [] = true
-rises p (s ∷ ss) = leb p (placeOf s) && rises (placeOf s) ss
+-- none stands before the one ahead of it, which is p for the first
+unfoldable pub sortedFrom : Sample → List Sample → Bool
+sortedFrom p [] = true
+sortedFrom p (s ∷ ss) = not (standsBefore s p) && sortedFrom s ss
 
 -- equals are allowed
-abbrev pub sorted : List Sample → Bool
-sorted ss = rises 0 ss
+unfoldable pub sorted : List Sample → Bool
+sorted [] = true
+sorted (s ∷ ss) = sortedFrom s ss
 
 -- ---- docs/SCOPE.md, number 4
 

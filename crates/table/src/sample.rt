@@ -1,12 +1,11 @@
 // A sample of a correction, and the table's rows, order and soundness.
 ghost use mathlib.Core.Path.{_≡_};
-ghost use mathlib.Core.Bool.{true};
-ghost use Prim.Native.Nat.{_+_, _*_, _^_, _≤_, _<_, min};
+ghost use mathlib.Core.Bool.{_&&_, _||_};
+ghost use Prim.Native.Nat.{_≤_, _<_, min};
 ghost use lib.ListN.{length, getD};
-ghost use lib.Dec.{ltb};
-ghost use Rattle.numeric.specs.Real.{inRange};
-ghost use Rattle.table.specs.Table.{lent, rows, blank, capacity, tableOf, signal, timeKey, placeOf, ranged, sound};
-use numeric::order::key;
+ghost use lib.Dec.{ltb, eqb};
+ghost use Rattle.table.specs.Table.{lent, rows, blank, capacity, tableOf, signal, timeBefore, standsBefore, ranged, sound};
+use numeric::order::before;
 use numeric::order::pattern;
 use numeric::real::in_range;
 
@@ -25,11 +24,17 @@ pub fn signal_of(constellation: u8, svid: u16, band: u32) -> u64
     ((constellation as u64) * 0x1_0000 + (svid as u64)) * 0x1_0000_0000 + (band as u64)
 }
 
-// The place of a time in totalOrder.
-pub fn time_key(t: f64) -> u64
-    ensures { λ r. ⌜ r ≡ timeKey t ⌝ }
+// Whether the time t comes before u in totalOrder and is not u. Where one number is below the other (5.10 a, b), they are compared as they are.
+pub fn is_earlier(t: f64, u: f64) -> bool
+    ensures { λ r. ⌜ r ≡ timeBefore t u ⌝ }
 {
-    key(pattern(t))
+    if u < t {
+        return false;
+    }
+    if t < u {
+        return true;
+    }
+    !before(pattern(u), pattern(t))
 }
 
 // The lesser of a and b.
@@ -66,15 +71,23 @@ pub fn sample_at(cs: &[u8], vs: &[u16], bs: &[u32], ts: &[f64], xs: &[f64], i: u
     }
 }
 
+// Whether a sample of the signal s at the time t stands before one of the signal h at the time u.
+fn is_below(s: u64, t: f64, h: u64, u: f64) -> bool
+    ensures { λ r. ⌜ r ≡ (ltb s h || (eqb s h && timeBefore t u)) ⌝ }
+{
+    if s != h {
+        return s < h;
+    }
+    is_earlier(t, u)
+}
+
 // Whether a stands before b in the table's order.
 pub fn precedes(a: Sample, b: Sample) -> bool
-    ensures { λ r. ⌜ r ≡ ltb (placeOf a) (placeOf b) ⌝ }
+    ensures { λ r. ⌜ r ≡ standsBefore a b ⌝ }
 {
     let g = signal_of(a.constellation, a.svid, a.band);
     let h = signal_of(b.constellation, b.svid, b.band);
-    let j = time_key(a.time);
-    let k = time_key(b.time);
-    (g < h) | ((g == h) & (j < k))
+    is_below(g, a.time, h, b.time)
 }
 
 // Whether time and correction are in range.
@@ -82,20 +95,6 @@ pub fn is_ranged(s: Sample) -> bool
     ensures { λ r. ⌜ r ≡ ranged s ⌝ }
 {
     in_range(s.time) & in_range(s.correction)
-}
-
-// Whether a sample of the signal s at the time t stands before one of the signal h at the time u. Where the times tell, they are compared as they are.
-fn is_below(s: u64, t: f64, h: u64, u: f64) -> bool
-    requires { ⌜ (inRange t ≡ true) × (inRange u ≡ true) ⌝ }
-    ensures { λ r. ⌜ r ≡ ltb (s * 2 ^ 64 + timeKey t) (h * 2 ^ 64 + timeKey u) ⌝ }
-{
-    if s != h {
-        return s < h;
-    }
-    if u < t {
-        return false;
-    }
-    time_key(t) < time_key(u)
 }
 
 // Whether rule 4 lets the first n samples pass, in one pass.

@@ -6,15 +6,15 @@ use native.Mathlib.Omega.{arith}
 use borrow.Author.Needs.{needs}
 use borrow.Author.Tests.{not-true, not-false, le-ltb}
 use lib.ListN.{take, drop}
-use Rattle.numeric.specs.Real.{inRange}
-use Rattle.table.specs.Table.{lent, ranged, rows, sound, timeKey}
-use Rattle.table.proofs.TableLaws.{soundFrom, sound-starts, pass-end, pass-low, pass-out, pass-on, ranged-time}
+use Rattle.table.specs.Table.{lent, ranged, rows, sound}
+use Rattle.table.proofs.Places.{timeKey, below-place}
+use Rattle.table.proofs.TableLaws.{soundFrom, sound-starts, pass-end, pass-low, pass-out, pass-on}
 use Rattle.table.proofs.sample.is_sound.Statement.{statement}
 use Rattle.table.proofs.sample.is_sound.Tie as tie
 
 abbrev Inv-loop : tie.InvT-loop
 Inv-loop cs vs bs ts xs n signal₀ time₀ i₀ signal time i =
-    (i ≤ n) × (inRange time ≡ true) × (soundFrom (signal * 2 ^ 64 + timeKey time) (drop i (take n (rows (lent cs vs bs ts xs)))) ≡ sound (take n (rows (lent cs vs bs ts xs))))
+    (i ≤ n) × (soundFrom (signal * 2 ^ 64 + timeKey time) (drop i (take n (rows (lent cs vs bs ts xs)))) ≡ sound (take n (rows (lent cs vs bs ts xs))))
 
 abbrev μ-loop : tie.MeasureT-loop
 μ-loop cs vs bs ts xs n signal₀ time₀ i₀ signal time i = n - i
@@ -52,7 +52,6 @@ loop-holds c =
     let z = c .before .before .before .before .if1 .left in
     let r : ranged (c .before .before .before .sample-at .result) ≡ true = sym (c .before .before .is-ranged .ensures) ∙ not-false (c .before .before .is-ranged .result) (c .before .if2 .left) in (
       omega arith,
-      ranged-time (c .before .before .before .sample-at .result) r,
       pass-on (rows columns) (a .n) (s .pre) 0 0 (sound-starts _) (omega arith) (c .signal-of .result) (timeKey (c .before .before .before .sample-at .result .time)) (cc) (le-ltb (c .signal-of .result * 2 ^ 64 + timeKey (c .before .before .before .sample-at .result .time)) 0 (omega arith)) (sym (ap ranged (c .before .before .before .sample-at .ensures)) ∙ r),
     )
 
@@ -68,15 +67,14 @@ returns-3 c =
     let s = c .before .before .before .before .before .before .before .before .before .before .before .before .before .before .before in
     let a = s .args in
     let columns = lent (a .cs .now) (a .vs .now) (a .bs .now) (a .ts .now) (a .xs .now) in
-    pass-out (rows columns) (a .n) (s .pre) (h .i) _ (h .inv .2) (c .before .before .before .loop-test .taken) _ _ refl
+    pass-out (rows columns) (a .n) (s .pre) (h .i) _ (h .inv .1) (c .before .before .before .loop-test .taken) _ _ refl
     (sym (ap ranged (c .before .before .sample-at2 .ensures)) ∙ sym (c .before .is-ranged2 .ensures) ∙ not-true (c .before .is-ranged2 .result) (c .if3 .taken))
 
 signal-of-requires-2 : tie.Need-signal-of-requires-2 Inv-loop μ-loop
 signal-of-requires-2 c κs = search needs
 
 is-below-requires : tie.Need-is-below-requires Inv-loop μ-loop
-is-below-requires c κs =
-    (ranged-time (c .before .before .before .sample-at2 .result) (sym (c .before .before .is-ranged2 .ensures) ∙ not-false (c .before .before .is-ranged2 .result) (c .before .if3 .left)), c .before .before .before .before .before .loop .inv .1)
+is-below-requires c κs = search needs
 
 returns-4 : tie.Need-returns-4 Inv-loop μ-loop
 returns-4 c =
@@ -84,7 +82,7 @@ returns-4 c =
     let s = c .before .before .before .before .before .before .before .before .before .before .before .before .before .before .before .before .before .before in
     let a = s .args in
     let columns = lent (a .cs .now) (a .vs .now) (a .bs .now) (a .ts .now) (a .xs .now) in
-    pass-low (rows columns) (a .n) (s .pre) (h .i) _ (h .inv .2) (c .before .before .before .before .before .before .loop-test .taken) (c .before .before .signal-of2 .result) (timeKey (c .before .before .before .before .before .sample-at2 .result .time)) (cc) (sym (c .before .is-below .ensures) ∙ c .if4 .taken)
+    pass-low (rows columns) (a .n) (s .pre) (h .i) _ (h .inv .1) (c .before .before .before .before .before .before .loop-test .taken) (c .before .before .signal-of2 .result) (timeKey (c .before .before .before .before .before .sample-at2 .result .time)) (cc) (sym (c .before .is-below .ensures ∙ below-place _ _ _ _) ∙ c .if4 .taken)
 
 add-i : tie.Need-add-i Inv-loop μ-loop
 add-i c = let s = c .before .before .before .before .before .before .before .before .before .before .before .before .before .before .before .before .before .before in omega (arith, s .good, s .fits)
@@ -100,12 +98,11 @@ loop-again c =
     let columns = lent (a .cs .now) (a .vs .now) (a .bs .now) (a .ts .now) (a .xs .now) in
     let r : ranged (c .before .before .before .before .before .sample-at2 .result) ≡ true = sym (c .before .before .before .before .is-ranged2 .ensures) ∙ not-false (c .before .before .before .before .is-ranged2 .result) (c .before .before .before .if3 .left) in (
       omega arith,
-      ranged-time (c .before .before .before .before .before .sample-at2 .result) r,
-      pass-on (rows columns) (a .n) (s .pre) (h .i) _ (h .inv .2) (c .before .before .before .before .before .before .loop-test .taken) (c .before .before .signal-of2 .result) (timeKey (c .before .before .before .before .before .sample-at2 .result .time)) (cc) (sym (c .before .is-below .ensures) ∙ c .if4 .left) (sym (ap ranged (c .before .before .before .before .before .sample-at2 .ensures)) ∙ r),
+      pass-on (rows columns) (a .n) (s .pre) (h .i) _ (h .inv .1) (c .before .before .before .before .before .before .loop-test .taken) (c .before .before .signal-of2 .result) (timeKey (c .before .before .before .before .before .sample-at2 .result .time)) (cc) (sym (c .before .is-below .ensures ∙ below-place _ _ _ _) ∙ c .if4 .left) (sym (ap ranged (c .before .before .before .before .before .sample-at2 .ensures)) ∙ r),
     )
 
 returns-5 : tie.Need-returns-5 Inv-loop μ-loop
-returns-5 c = pass-end _ _ (c .before .before .before .before .before .before .before .before .before .before .before .before .pre) _ _ (c .before .loop .inv .2) (c .loop-test .left)
+returns-5 c = pass-end _ _ (c .before .before .before .before .before .before .before .before .before .before .before .before .pre) _ _ (c .before .loop .inv .1) (c .loop-test .left)
 
 pub is-sound-spec : {M : Type 1} → statement M
 is-sound-spec =
