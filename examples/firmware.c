@@ -62,8 +62,7 @@ static void expect_number(const char *what, unsigned got, unsigned wanted)
 static double range_to(const double satellite[3], const double place[3])
 {
     double sight[4];
-    zaqnuti_geometry(satellite, place, sight);
-    return sight[3];
+    return zaqnuti_geometry(satellite, place, sight) == 0 ? sight[3] : 0.0;
 }
 
 /* A fix from ranges to the receiver, with a clock offset for each constellation. */

@@ -98,7 +98,7 @@ extern "C" {
 #define ZAQNUTI_TEXT 32768       /* bytes of a text in the line form */
 #define ZAQNUTI_LINE 59          /* bytes that are always enough for its answer */
 
-/* Why a call turns back, in checking order, but that 13 is tested between 4 and 5. */
+/* Why a call turns back, in checking order, but that 13 is tested between 4 and 5, and 15 before 7 and before 10. */
 enum zaqnuti_refusal {
     ZAQNUTI_BROKEN_FORM = 1,           /* a text is too long or breaks the line form */
     ZAQNUTI_TOO_MANY = 2,              /* too many records, or too short a buffer */
@@ -113,7 +113,8 @@ enum zaqnuti_refusal {
     ZAQNUTI_TABLE_FULL = 11,           /* the epoch's corrections do not all fit in the table */
     ZAQNUTI_NO_CORRECTION = 12,        /* the table gives no correction for the query */
     ZAQNUTI_BAD_TIME = 13,             /* a week, a time of week or a time in nanoseconds is out of range */
-    ZAQNUTI_QUALITY_NOT_FINITE = 14    /* chi or pdop of a fix is not finite */
+    ZAQNUTI_QUALITY_NOT_FINITE = 14,   /* chi or pdop of a fix is not finite */
+    ZAQNUTI_ON_RECEIVER = 15           /* the range of a satellite is zero or not finite */
 };
 
 /*
@@ -209,7 +210,9 @@ uint8_t zaqnuti_seconds_since(uint64_t later, uint64_t earlier, double *seconds)
  * used           how many observations at or above the mask were used
  *
  * Refuses by 2 (more than 64, or a column shorter than count needs), 3, 4, 8,
- * 9, 10 and 14 (chi or pdop is not finite).
+ * 9, in each round 15 (the range of an observation at or above the mask is
+ * zero or not finite) before 10, at the end 10, 15 at the returned position,
+ * and 14 (chi or pdop is not finite).
  */
 uint8_t zaqnuti_fix(
     const uint8_t *constellation, size_t constellation_length,
@@ -258,7 +261,8 @@ uint8_t zaqnuti_position(
  *                dropped
  *
  * Refuses by 2 (an epoch has more than 64, or a column is shorter than its
- * count needs), 3, 4, 5, 7, 8, 9 and 10.
+ * count needs), 3, 4, 5, 15 (a range of a carrier pair, kept or screened out,
+ * is zero or not finite), 7, 8, 9 and 10, in this order.
  */
 uint8_t zaqnuti_displacement(
     const uint8_t *previous_constellation, size_t previous_constellation_length,
@@ -289,7 +293,8 @@ uint8_t zaqnuti_displacement(
  *                first
  *
  * The answer is that of zaqnuti_displacement with this dt. Refuses by 2, 3, 4,
- * 13 (a time past the start of week 15,001), 5, 7, 8, 9 and 10, in this order.
+ * 13 (a time past the start of week 15,001), 5, 15, 7, 8, 9 and 10, in this
+ * order.
  */
 uint8_t zaqnuti_displacement_between(
     const uint8_t *previous_constellation, size_t previous_constellation_length,
@@ -540,8 +545,9 @@ double zaqnuti_elevation_sigma(double elevation, double a, double b);
 /*
  * The unit vector from the satellite to the receiver, and the range (m), with
  * the earth's turn during the signal's travel removed: out is x, y, z, range.
+ * Refuses by 15 (the range is zero or not finite).
  */
-void zaqnuti_geometry(
+uint8_t zaqnuti_geometry(
     const double satellite[3],
     const double receiver[3],
     double out[4]);

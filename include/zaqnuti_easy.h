@@ -66,6 +66,7 @@ static inline const char *zaqnuti_refusal_text(uint8_t number)
     case ZAQNUTI_NO_CORRECTION: return "the table gives no correction for the signal and time";
     case ZAQNUTI_BAD_TIME: return "a week is above 15,000, a time of week is not in 0 to below 604,800 s, or a time is past the start of week 15,001";
     case ZAQNUTI_QUALITY_NOT_FINITE: return "chi or pdop of the fix is not finite";
+    case ZAQNUTI_ON_RECEIVER: return "the range of a satellite is zero or not finite";
     default: return "no such number";
     }
 }

@@ -248,7 +248,7 @@ extern "C" {
         satellite: *const [f64; 3],
         receiver: *const [f64; 3],
         out: *mut [f64; 4],
-    );
+    ) -> u8;
     /// The Cholesky factor of nine rows of nine.
     pub fn zaqnuti_factor(a: *const [[f64; 9]; 9], l: *mut [[f64; 9]; 9]) -> u8;
     /// The solution of `l lᵀ x = b`.

@@ -255,7 +255,9 @@ fn epoch(tow: f64, error: f64, n: usize) -> (BaseEpoch, Vec<SatelliteState>) {
             constellation,
             svid,
             band,
-            pseudorange: geometry(o.satellite, AT).1 + 250.0 + if i == 0 { error } else { 0.0 },
+            pseudorange: geometry(o.satellite, AT).expect("it is seen").1
+                + 250.0
+                + if i == 0 { error } else { 0.0 },
         });
         states.push(SatelliteState {
             constellation,

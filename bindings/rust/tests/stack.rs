@@ -524,7 +524,9 @@ fn geometry() -> usize {
     measured(move || {
         let frame = top();
         // SAFETY: each points to as many floats as its type says, and the last is ours alone.
-        unsafe { sys::zaqnuti_geometry(&[2e7, 1e7, 1e7], &AT.coordinates(), &mut out) };
+        let number =
+            unsafe { sys::zaqnuti_geometry(&[2e7, 1e7, 1e7], &AT.coordinates(), &mut out) };
+        assert_eq!(number, 0);
         frame
     })
 }

@@ -19,6 +19,7 @@ pub mod solve;
 mod soundness;
 mod standins;
 pub mod time;
+mod top;
 pub mod track;
 
 use crate::random::Random;
@@ -82,6 +83,8 @@ pub const SERVICES: &[Service] = &[
     time::SERVICE,
     between::SERVICE,
     fix::SERVICE,
+    top::DISPLACEMENT,
+    top::FIX,
     soundness::SERVICE,
     track::SERVICE,
     corrections::SERVICE,
