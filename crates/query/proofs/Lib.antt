@@ -1,6 +1,7 @@
 -- What the proofs of more than one function use, and the theorems.
 pub mod FoundLaws
 pub mod QueryLaws
+pub mod PastLaws
 pub mod FiniteLaws
 pub mod QueriesLaws
 pub mod Values

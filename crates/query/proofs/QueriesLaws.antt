@@ -16,7 +16,7 @@ use Rattle.numeric.specs.Real.{inRange}
 use Rattle.numeric.specs.declared.refusal.Refusal.{Refusal}
 use Rattle.numeric.specs.declared.refusal.Refusal.the-variants.{TooMany, SettingOutOfRange, RecordOutOfRange}
 use Rattle.table.specs.Table.{sound}
-use Rattle.query.specs.Query.{answerAt, queryOf, queryNumber, metresAfter, GivesFinite, PassedTable}
+use Rattle.query.specs.Query.{answerAt, guarded, queryOf, queryNumber, metresAfter, GivesFinite, PassedTable}
 use Rattle.table.specs.declared.sample.Sample.{Sample}
 use Rattle.query.specs.declared.query.Correction.{Correction}
 use Rattle.query.specs.declared.query.Correction.the-variants as Correction
@@ -221,7 +221,7 @@ module _ (n room : ℕ) (l : List Sample) (gap : Float) (c v b : List ℕ) (t : 
   -- where the samples are too many or the lent columns are long enough, and the call is refused, every query of the table is refused by the same number
   pub each-refused : (ltb room n || not (placesShort count c v b t numbers metres)) ≡ true → (r : Refusal) → queriesOf n room l gap c v b t count numbers metres ≡ refusal r
       → (c′ v′ b′ : ℕ) (t′ : Float) → queryOf n room l gap c′ v′ b′ t′ ≡ Correction.Refused r
-  unfolding queriesOf queryOf
+  unfolding queriesOf queryOf guarded
   each-refused h r e c′ v′ b′ t′ = go (ltb room n) (placesShort count c v b t numbers metres) (not (inRange gap)) (sound l) h e
     where
       go : (w x y z : Bool) → (w || not x) ≡ true → cond (w || x) (refusal TooMany) (cond y (refusal SettingOutOfRange) (cond (not z) (refusal RecordOutOfRange) (answers (places (queryAt n room l gap c v b t) count)))) ≡ refusal r

@@ -15,7 +15,7 @@ use Rattle.exact.specs.Float.{_⊖_}
 use Rattle.numeric.specs.Real.{inRange}
 use Rattle.numeric.specs.declared.refusal.Refusal.the-variants.{NoCorrection, RecordOutOfRange, SettingOutOfRange, TooMany}
 use Rattle.table.specs.Table.{Columns, blank, rows, seriesOf, signal, signalOf, sound}
-use Rattle.query.specs.Query.{bridged, answerAt, answerIn, between, firstSince, lastBefore, line, missing, near, queryOf, the, PassedTable}
+use Rattle.query.specs.Query.{answerAt, answerIn, firstSince, guarded, lastBefore, line, missing, near, nearOr, queryOf, ruled, spanned, the, PassedTable}
 use Rattle.query.specs.Search.{ahead, Leading, Searching}
 use Rattle.table.specs.declared.sample.Sample.{Sample}
 use Rattle.query.specs.declared.query.Correction.the-variants.{Refused, Metres}
@@ -265,31 +265,46 @@ module _ (g : ℕ) (t : Float) (l : List Sample) (n : ℕ) where
 
 -- ---- what the code answers, way by way
 module _ (l : List Sample) (s : Sound l) (f : Held l) (gap : Float) (c v b : ℕ) (t : Float) (ft : T (fits binary64 t)) (r : ℕ) (leading : Leading (signal c v b) t l r) where
-  pub answer-end : r ≡ length l → Refused NoCorrection ≡ answerAt l gap c v b t
-  unfolding answerAt answerIn between bridged
-  answer-end e = rw (later-end l s f (signal c v b) t ft r leading e)
+  -- no sample of the signal is at or after the time
+  module _ (none : firstSince t (seriesOf (signal c v b) l) ≡ missing) where
+    pub past-start : r ≡ 0 → Refused NoCorrection ≡ answerAt l gap c v b t
+    unfolding answerAt answerIn ruled nearOr spanned
+    past-start e = rw (none, earlier-start l s f (signal c v b) t ft r leading e)
+
+    module _ (q : Sample) (k : ℕ) (next : r ≡ suc k) (is : q ≡ getD l k blank) where
+      pub past-other : (signalOf q ≡ signal c v b → ⊥) → Refused NoCorrection ≡ answerAt l gap c v b t
+      unfolding answerAt answerIn ruled nearOr spanned
+      past-other ne = rw (none, earlier-other l s f (signal c v b) t ft r leading k next (λ (e : signalOf (getD l k blank) ≡ signal c v b). ne (ap signalOf is ∙ e)))
+
+      module _ (mine : signalOf q ≡ signal c v b) where
+        last-past : lastBefore t (seriesOf (signal c v b) l) ≡ the q
+        last-past = earlier-is l s f (signal c v b) t ft r leading k next (sym (ap signalOf is) ∙ mine) ∙ ap the (sym is)
+
+        pub past-near : near (q .time) t ≡ true → Metres (q .correction) ≡ answerAt l gap c v b t
+        unfolding answerAt answerIn ruled nearOr spanned
+        past-near e = rw (none, last-past, e)
+
+        pub past-far : near (q .time) t ≡ false → Refused NoCorrection ≡ answerAt l gap c v b t
+        unfolding answerAt answerIn ruled nearOr spanned
+        past-far e = rw (none, last-past, e)
 
   module _ (p : Sample) (is : p ≡ getD l r blank) (h : r < length l) where
-    pub answer-other : (signalOf p ≡ signal c v b → ⊥) → Refused NoCorrection ≡ answerAt l gap c v b t
-    unfolding answerAt answerIn between bridged
-    answer-other ne = rw (later-other l s f (signal c v b) t ft r leading h (λ (e : signalOf (getD l r blank) ≡ signal c v b). ne (ap signalOf is ∙ e)))
-
     module _ (mine : signalOf p ≡ signal c v b) where
       after : firstSince t (seriesOf (signal c v b) l) ≡ the p
       after = later-is l s f (signal c v b) t ft r leading h (sym (ap signalOf is) ∙ mine) ∙ ap the (sym is)
 
       pub answer-near : near (p .time) t ≡ true → Metres (p .correction) ≡ answerAt l gap c v b t
-      unfolding answerAt answerIn between bridged
+      unfolding answerAt answerIn ruled nearOr spanned
       answer-near e = rw (after, e)
 
       module _ (far : near (p .time) t ≡ false) where
         pub answer-start : r ≡ 0 → Refused NoCorrection ≡ answerAt l gap c v b t
-        unfolding answerAt answerIn between bridged
+        unfolding answerAt answerIn ruled nearOr spanned
         answer-start e = rw (after, far, earlier-start l s f (signal c v b) t ft r leading e)
 
         module _ (q : Sample) (k : ℕ) (next : r ≡ suc k) (is′ : q ≡ getD l k blank) where
           pub answer-other-before : (signalOf q ≡ signal c v b → ⊥) → Refused NoCorrection ≡ answerAt l gap c v b t
-          unfolding answerAt answerIn between bridged
+          unfolding answerAt answerIn ruled nearOr spanned
           answer-other-before ne =
               rw (after, far, earlier-other l s f (signal c v b) t ft r leading k next (λ (e : signalOf (getD l k blank) ≡ signal c v b). ne (ap signalOf is′ ∙ e)))
 
@@ -298,22 +313,22 @@ module _ (l : List Sample) (s : Sound l) (f : Held l) (gap : Float) (c v b : ℕ
             last = earlier-is l s f (signal c v b) t ft r leading k next (sym (ap signalOf is′) ∙ mine′) ∙ ap the (sym is′)
 
             pub answer-near-before : near (q .time) t ≡ true → Metres (q .correction) ≡ answerAt l gap c v b t
-            unfolding answerAt answerIn between bridged
+            unfolding answerAt answerIn ruled nearOr spanned
             answer-near-before e = rw (after, far, last, e)
 
             module _ (far′ : near (q .time) t ≡ false) where
               pub answer-gap : lt gap (p .time ⊖ q .time) ≡ true → Refused NoCorrection ≡ answerAt l gap c v b t
-              unfolding answerAt answerIn between bridged
+              unfolding answerAt answerIn ruled nearOr spanned
               answer-gap e = rw (after, far, last, far′, e)
 
               pub answer-line : lt gap (p .time ⊖ q .time) ≡ false → Metres (line t q p) ≡ answerAt l gap c v b t
-              unfolding answerAt answerIn between bridged
+              unfolding answerAt answerIn ruled nearOr spanned
               answer-line e = rw (after, far, last, far′, e)
 
 -- ---- rules 2 to 4
 module _ (n room r : ℕ) (e : r ≡ room) (l : List Sample) (gap : Float) (c v b : ℕ) (t : Float) where
   pub rule-2 : r < n → Refused TooMany ≡ queryOf n room l gap c v b t
-  unfolding queryOf
+  unfolding queryOf guarded
   rule-2 h = rw (lt-ltb room n (omega arith))
 
   module _ (h : n ≤ r) {q : Bool} (eq : q ≡ inRange gap) where
@@ -321,12 +336,12 @@ module _ (n room r : ℕ) (e : r ≡ room) (l : List Sample) (gap : Float) (c v 
     few = le-ltb room n (omega arith)
 
     pub rule-3 : not q ≡ true → Refused SettingOutOfRange ≡ queryOf n room l gap c v b t
-    unfolding queryOf
+    unfolding queryOf guarded
     rule-3 w = rw (few, sym eq ∙ not-true q w)
 
     module _ (w : not q ≡ false) {y : Bool} (ey : y ≡ sound l) where
       pub rule-4 : not y ≡ true → Refused RecordOutOfRange ≡ queryOf n room l gap c v b t
-      unfolding queryOf
+      unfolding queryOf guarded
       rule-4 u = rw (few, sym eq ∙ not-false q w, sym ey ∙ not-true y u)
 
       pub no-rule : not y ≡ false → PassedTable n room l gap
@@ -335,9 +350,9 @@ module _ (n room r : ℕ) (e : r ≡ room) (l : List Sample) (gap : Float) (c v 
 -- ---- the time of a query that has passed them
 module _ (n room : ℕ) (l : List Sample) (gap : Float) (p : PassedTable n room l gap) (c v b : ℕ) (t : Float) {i k : Bool} (ei : i ≡ inRange t) (ek : k ≡ finite t) where
   pub time-refused : not (i || not k) ≡ true → Refused RecordOutOfRange ≡ queryOf n room l gap c v b t
-  unfolding queryOf
+  unfolding queryOf guarded
   time-refused z = rw (le-ltb room n (p .few), p .in-range, p .steady, ← ei, ← ek, not-true (i || not k) z)
 
   pub time-passed : not (i || not k) ≡ false → answerAt l gap c v b t ≡ queryOf n room l gap c v b t
-  unfolding queryOf
+  unfolding queryOf guarded
   time-passed z = rw (le-ltb room n (p .few), p .in-range, p .steady, ← ei, ← ek, not-false (i || not k) z)

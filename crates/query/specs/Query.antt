@@ -57,34 +57,40 @@ firstSince t l = firstOf (since t) l
 unfoldable pub line : Float → Sample → Sample → Float
 line t a b = a .correction ⊕ (t ⊖ a .time) ⊘ (b .time ⊖ a .time) ⊗ (b .correction ⊖ a .correction)
 
--- What the last sample before t, if there is one, and the first one at or after it, b, give, b not being near: where there is none, the end refuses;
--- then a sample less than 1e-6 s away comes first, and then the gap is tested.
-unfoldable pub bridged : Float → Float → Found → Sample → Correction
-bridged gap t missing b = Refused NoCorrection
-bridged gap t (the a) b =
-    cond (near (a .time) t) (Metres (a .correction))
-    (cond (lt gap (b .time ⊖ a .time)) (Refused NoCorrection) (Metres (line t a b)))
+-- a found sample's value where it is less than 1e-6 s away, and otherwise what the rest of the rule gives
+unfoldable pub nearOr : Float → Found → Correction → Correction
+nearOr t missing rest = rest
+nearOr t (the s) rest = cond (near (s .time) t) (Metres (s .correction)) rest
 
--- What they give, where there may be none at or after t: the end refuses; a sample less than 1e-6 s away comes first.
-unfoldable pub between : Float → Float → Found → Found → Correction
-between gap t f missing = Refused NoCorrection
-between gap t f (the b) = cond (near (b .time) t) (Metres (b .correction)) (bridged gap t f b)
+-- the ends, and then the gap: what the last sample before t and the first one at or after it give, neither being near
+unfoldable pub spanned : Float → Float → Found → Found → Correction
+spanned gap t missing h = Refused NoCorrection
+spanned gap t (the a) missing = Refused NoCorrection
+spanned gap t (the a) (the b) = cond (lt gap (b .time ⊖ a .time)) (Refused NoCorrection) (Metres (line t a b))
+
+-- request (vi): what the last sample f before t and the first one h at or after it give, a near h first, then a near f, then the ends, then the gap
+unfoldable pub ruled : Float → Float → Found → Found → Correction
+ruled gap t f h = nearOr t h (nearOr t f (spanned gap t f h))
 
 -- the correction at the time t from one satellite's series, by the last sample before t and the first one at or after it
 unfoldable pub answerIn : List Sample → Float → Float → Correction
-answerIn l gap t = between gap t (lastBefore t l) (firstSince t l)
+answerIn l gap t = ruled gap t (lastBefore t l) (firstSince t l)
 
 -- the correction of the signal c, v, b at the time t: that of its series
 unfoldable pub answerAt : List Sample → Float → ℕ → ℕ → ℕ → Float → Correction
 answerAt ss gap c v b t = answerIn (seriesOf (signal c v b) ss) gap t
 
--- a query of the first n samples of columns with that capacity: numbers 2, 3 and 4, and then the answer; a time that is not finite passes 4
-unfoldable pub queryOf : ℕ → ℕ → List Sample → Float → ℕ → ℕ → ℕ → Float → Correction
-queryOf n room ss gap c v b t =
+-- numbers 2, 3 and 4 of a query of the first n samples of columns with that capacity, and then the answer; a time that is not finite passes 4
+unfoldable pub guarded : ℕ → ℕ → List Sample → Float → Float → Correction → Correction
+guarded n room ss gap t answer =
     cond (ltb room n) (Refused TooMany)
     (cond (not (inRange gap)) (Refused SettingOutOfRange)
     (cond (not (sound ss && (inRange t || not (finite t)))) (Refused RecordOutOfRange)
-    (answerAt ss gap c v b t)))
+    answer))
+
+-- the query
+unfoldable pub queryOf : ℕ → ℕ → List Sample → Float → ℕ → ℕ → ℕ → Float → Correction
+queryOf n room ss gap c v b t = guarded n room ss gap t (answerAt ss gap c v b t)
 
 -- 0, or the number of the refusal
 abbrev pub queryNumber : Correction → ℕ

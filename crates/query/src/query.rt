@@ -4,8 +4,9 @@ ghost use mathlib.Core.Bool.{true};
 ghost use Prim.Native.Nat.{_≤_};
 ghost use lib.ListN.{length};
 ghost use lib.Dec.{eqb};
-ghost use Rattle.table.specs.Table.{lent, rows, capacity, tableOf, signal, signalOf, sound};
-ghost use Rattle.query.specs.Query.{near, line, answerAt, queryOf, GivesFinite, PassedTable};
+ghost use Rattle.table.specs.Table.{lent, rows, capacity, tableOf, signal, signalOf, seriesOf, sound};
+ghost use Rattle.query.specs.Query.{near, missing, firstSince, line, answerAt, queryOf, GivesFinite, PassedTable};
+ghost use Rattle.query.specs.Search.{Leading};
 use crate::search::first_from;
 use numeric::real::abs;
 use numeric::real::in_range;
@@ -49,6 +50,40 @@ fn is_of(a: Sample, c: u8, v: u16, b: u32) -> bool
     a.band == b
 }
 
+// The correction past a signal's last sample: that one's where it is near. The row i is the first that does not stand before the signal at the time.
+fn past_last(
+    cs: &[u8],
+    vs: &[u16],
+    bs: &[u32],
+    ts: &[f64],
+    xs: &[f64],
+    n: usize,
+    gap: f64,
+    c: u8,
+    v: u16,
+    b: u32,
+    t: f64,
+    i: usize,
+) -> Correction
+    requires { ⌜ n ≤ length (rows (lent (now cs) (now vs) (now bs) (now ts) (now xs))) ⌝ }
+    requires { ⌜ sound (tableOf n (lent (now cs) (now vs) (now bs) (now ts) (now xs))) ≡ true ⌝ }
+    requires { ⌜ Leading (signal c v b) t (tableOf n (lent (now cs) (now vs) (now bs) (now ts) (now xs))) i ⌝ }
+    requires { ⌜ firstSince t (seriesOf (signal c v b) (tableOf n (lent (now cs) (now vs) (now bs) (now ts) (now xs)))) ≡ missing ⌝ }
+    ensures { λ r. ⌜ r ≡ answerAt (tableOf n (lent (now (cs .entry)) (now (vs .entry)) (now (bs .entry)) (now (ts .entry)) (now (xs .entry)))) gap c v b t ⌝ }
+{
+    if i == 0 {
+        return Correction::Refused(Refusal::NoCorrection);
+    }
+    let last = sample_at(cs, vs, bs, ts, xs, i - 1);
+    if !is_of(last, c, v, b) {
+        return Correction::Refused(Refusal::NoCorrection);
+    }
+    if is_near(last.time, t) {
+        return Correction::Metres(last.correction);
+    }
+    Correction::Refused(Refusal::NoCorrection)
+}
+
 // The correction that a sound table gives.
 fn look_up(
     cs: &[u8],
@@ -69,11 +104,11 @@ fn look_up(
 {
     let i = first_from(cs, vs, bs, ts, xs, n, c, v, b, t);
     if i == n {
-        return Correction::Refused(Refusal::NoCorrection);
+        return past_last(cs, vs, bs, ts, xs, n, gap, c, v, b, t, i);
     }
     let p = sample_at(cs, vs, bs, ts, xs, i);
     if !is_of(p, c, v, b) {
-        return Correction::Refused(Refusal::NoCorrection);
+        return past_last(cs, vs, bs, ts, xs, n, gap, c, v, b, t, i);
     }
     if is_near(p.time, t) {
         return Correction::Metres(p.correction);

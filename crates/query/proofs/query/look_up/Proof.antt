@@ -7,9 +7,9 @@ use lib.ListN.{length, take}
 use lib.Seq.{length-take-le, getD-take}
 use lib.Dec.{T}
 use borrow.Author.Tests.{eqb-true, eqb-false, not-true, not-false}
-use Rattle.table.specs.Table.{lent, blank, rows}
+use Rattle.table.specs.Table.{lent, blank, rows, signalOf}
 use Rattle.table.proofs.TableLaws.{sound-at}
-use Rattle.query.proofs.QueryLaws.{Held, held, answer-end, answer-other, answer-near, answer-start, answer-other-before, answer-near-before, answer-gap, answer-line}
+use Rattle.query.proofs.QueryLaws.{Held, held, later-end, later-other, answer-near, answer-start, answer-other-before, answer-near-before, answer-gap, answer-line}
 use borrow.Author.Needs.{needs}
 use Rattle.query.proofs.query.look_up.Statement.{statement}
 use Rattle.query.proofs.query.look_up.Tie as tie
@@ -27,14 +27,18 @@ within c =
 first-from-requires : tie.Need-first-from-requires
 first-from-requires c κs = search needs
 
-returns : tie.Need-returns
-returns c =
+past-last-requires : tie.Need-past-last-requires
+past-last-requires c κs =
     let s = c .before .before .before .before .before .before .before in
     let a = s .args in
     let columns = lent (a .cs .now) (a .vs .now) (a .bs .now) (a .ts .now) (a .xs .now) in
     let i = c .before .first-from .result in
     let w : length (take (a .n) (rows columns)) ≡ a .n = length-take-le (a .n) (rows columns) (s .pre .0) in
-    answer-end (take (a .n) (rows columns)) (sound-at _ (s .pre .1)) (known (c .before .before)) (a .gap) (a .c) (a .v) (a .b) (a .t) (subst T (sym (s .good .1 .1 .1 .1 .1 .1 .1 .1 .1 .1 .0 .1)) tt) i (c .before .first-from .ensures) (c .if1 .taken ∙ sym w)
+    let none = later-end (take (a .n) (rows columns)) (sound-at _ (s .pre .1)) (known (c .before .before)) _ (a .t) (subst T (sym (s .good .1 .1 .1 .1 .1 .1 .1 .1 .1 .1 .0 .1)) tt) i (c .before .first-from .ensures) (c .if1 .taken ∙ sym w) in
+    (s .pre .0, (s .pre .1, (c .before .first-from .ensures, none)))
+
+returns : tie.Need-returns
+returns c = c .past-last .ensures
 
 sample-at-requires : tie.Need-sample-at-requires
 sample-at-requires c κs = let b = within c in omega (arith, b)
@@ -42,15 +46,21 @@ sample-at-requires c κs = let b = within c in omega (arith, b)
 is-of-requires : tie.Need-is-of-requires
 is-of-requires c κs = search needs
 
-returns-2 : tie.Need-returns-2
-returns-2 c =
+past-last-requires-2 : tie.Need-past-last-requires-2
+past-last-requires-2 c κs =
     let s = c .before .before .before .before .before .before .before .before .before .before in
     let a = s .args in
     let columns = lent (a .cs .now) (a .vs .now) (a .bs .now) (a .ts .now) (a .xs .now) in
     let i = c .before .before .before .before .first-from .result in
     let w : length (take (a .n) (rows columns)) ≡ a .n = length-take-le (a .n) (rows columns) (s .pre .0) in
     let b : i < a .n = within (c .before .before .before) in
-    answer-other (take (a .n) (rows columns)) (sound-at _ (s .pre .1)) (known (c .before .before .before .before .before)) (a .gap) (a .c) (a .v) (a .b) (a .t) (subst T (sym (s .good .1 .1 .1 .1 .1 .1 .1 .1 .1 .1 .0 .1)) tt) i (c .before .before .before .before .first-from .ensures) (c .before .before .sample-at .result) (c .before .before .sample-at .ensures ∙ sym (getD-take (a .n) (rows columns) i blank b)) (rw w b) (eqb-false _ _ (sym (c .before .is-of .ensures) ∙ not-true _ (c .if2 .taken)))
+    let is = c .before .before .sample-at .ensures ∙ sym (getD-take (a .n) (rows columns) i blank b) in
+    let ne = eqb-false _ _ (sym (c .before .is-of .ensures) ∙ not-true _ (c .if2 .taken)) in
+    let none = later-other (take (a .n) (rows columns)) (sound-at _ (s .pre .1)) (known (c .before .before .before .before .before)) _ (a .t) (subst T (sym (s .good .1 .1 .1 .1 .1 .1 .1 .1 .1 .1 .0 .1)) tt) i (c .before .before .before .before .first-from .ensures) (rw w b) (λ e. ne (ap signalOf is ∙ e)) in
+    (s .pre .0, (s .pre .1, (c .before .before .before .before .first-from .ensures, none)))
+
+returns-2 : tie.Need-returns-2
+returns-2 c = c .past-last2 .ensures
 
 is-near-requires : tie.Need-is-near-requires
 is-near-requires c κs = search needs
@@ -147,9 +157,11 @@ look-up-spec =
     tie.close
     (tie.spec
     first-from-requires
+    past-last-requires
     returns
     sample-at-requires
     is-of-requires
+    past-last-requires-2
     returns-2
     is-near-requires
     returns-3
