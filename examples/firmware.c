@@ -1,6 +1,7 @@
 /*
  * One of each service as firmware would call it: a fix, times, a displacement,
- * a text in the line form, two epochs of corrections with a query, and a track.
+ * a text in the line form, a day's trip, two epochs of corrections with a
+ * query, and a track.
  * The sky is made up, so the answers are known: the program prints them and
  * exits with 1 where one is not as expected.
  *
@@ -359,12 +360,60 @@ static void track(void)
                   ZAQNUTI_BAD_TRACK);
 }
 
+/* Whole metres of so many millimetres, for a sentence. */
+static unsigned long metres(uint64_t millimetres)
+{
+    return (unsigned long)(millimetres / 1000);
+}
+
+/*
+ * A day of 65,535 epochs, a second each: the van goes 12 m, 9 m or nothing in a
+ * second, the odometer has 4,000 pulses to the kilometre, and its wheels slip
+ * for ten seconds after five hours.
+ */
+static void trip(void)
+{
+    static const double step[3][3] = {{12.0, 0.0, 0.0}, {0.0, -9.0, 0.0}, {0.0, 0.0, 0.0}};
+    static const uint16_t pulses[3] = {48, 36, 0};
+    const double too_far[3] = {1000.0, 0.0, 0.001};
+    uint64_t day[6] = {0, 0, 0, 0, 0, 0};
+    uint64_t report[4] = {0, 0, 0, 0};
+    uint64_t per_km = 7;
+    unsigned refused = 0;
+    uint32_t i;
+
+    printf("trip\n");
+    expect_number("a rate of 0", zaqnuti_trip_start(0, day), ZAQNUTI_BAD_TRIP);
+    expect_number("start", zaqnuti_trip_start(4000, day), 0);
+    expect_number("fuel at no distance", zaqnuti_trip_fuel(day, 1, &per_km), ZAQNUTI_NO_DISTANCE);
+    expect_number("result kept", (unsigned)per_km, 7);
+    for (i = 0; i < 65535; i++) {
+        const uint16_t slipped = i / 10 == 1800 ? 100 : 0;
+        refused += zaqnuti_trip_add(day, step[i % 3], (uint16_t)(pulses[i % 3] + slipped)) != 0;
+        /* An epoch that is refused leaves the trip as it was, its pulses too. */
+        refused += i % 1000 == 0 && zaqnuti_trip_add(day, too_far, 65535) != ZAQNUTI_BAD_TRIP;
+    }
+    expect_number("other answers", refused, 0);
+    expect_number("one epoch more", zaqnuti_trip_add(day, step[2], 0), ZAQNUTI_BAD_TRIP);
+    expect_number("report", zaqnuti_trip_report(day, report), 0);
+    expect_number("carrier as driven", report[0] == 21845u * 21000u, 1);
+    expect_number("odometer with its slip", report[1] == 21845u * 21000u + 250000u, 1);
+    expect_number("greatest difference, mm", (unsigned)report[2], 250000);
+    expect_number("after epoch", (unsigned)report[3], 18010);
+    expect_number("fuel", zaqnuti_trip_fuel(day, 41288, &per_km), 0);
+    expect_number("ml a kilometre", (unsigned)per_km, 90);
+    printf("  In %lu epochs the van went %lu m by its carriers and %lu m by its odometer. The two were furthest\n"
+           "  apart, by %lu m, after epoch %lu; the day took %lu ml of fuel for a kilometre.\n",
+           (unsigned long)day[1], metres(report[0]), metres(report[1]), metres(report[2]), (unsigned long)report[3], (unsigned long)per_km);
+}
+
 int main(void)
 {
     fix();
     times();
     displacement();
     line_form();
+    trip();
     corrections();
     track();
     printf("%d not as expected\n", failures);

@@ -1,7 +1,7 @@
 /*
  * Zaqnuti: a position from pseudoranges, the displacement between two carrier
- * epochs, times in whole nanoseconds, base-station corrections and a smoothed
- * track.
+ * epochs, times in whole nanoseconds, the totals of a trip, base-station
+ * corrections and a smoothed track.
  *
  * Link libzaqnuti.a (`./run` leaves it in target/staticlib): Linux on x86-64,
  * System V calling convention. Of other libraries it needs memcpy and memset,
@@ -17,7 +17,7 @@
  * and answers or refuses. It never aborts, unwinds or loops on.
  *
  * Answer. A function that gives uint8_t gives 0 where it answers, or the
- * number of its refusal, 1 to 13, of which the first that applies is given
+ * number of its refusal, 1 to 17, of which the first that applies is given
  * (ZAQNUTI_TOO_MANY and so on; docs/REFUSALS.md). A refusal is the number
  * alone: every result and every table keeps its bytes. The functions that
  * give another type, or nothing, never refuse.
@@ -63,6 +63,7 @@
  *     widen_bands        256
  *     smooth             768
  *     times              256
+ *     trip               256
  *     round            8,704
  *     centre             768
  *     geometry           256
@@ -94,6 +95,7 @@ extern "C" {
 #define ZAQNUTI_SAMPLES 2048     /* samples of a table of corrections */
 #define ZAQNUTI_EPOCHS 1024      /* epochs, anchors or links of a track */
 #define ZAQNUTI_WEEKS 15000      /* the last week of a time */
+#define ZAQNUTI_TRIP_EPOCHS 65535 /* epochs of a trip */
 #define ZAQNUTI_ROUNDS 50        /* rounds of an estimate, iterations of a track */
 #define ZAQNUTI_TEXT 32768       /* bytes of a text in the line form */
 #define ZAQNUTI_LINE 59          /* bytes that are always enough for its answer */
@@ -114,7 +116,9 @@ enum zaqnuti_refusal {
     ZAQNUTI_NO_CORRECTION = 12,        /* the table gives no correction for the query */
     ZAQNUTI_BAD_TIME = 13,             /* a week, a time of week or a time in nanoseconds is out of range */
     ZAQNUTI_QUALITY_NOT_FINITE = 14,   /* chi or pdop of a fix is not finite */
-    ZAQNUTI_ON_RECEIVER = 15           /* the range of a satellite is zero or not finite */
+    ZAQNUTI_ON_RECEIVER = 15,          /* the range of a satellite is zero or not finite */
+    ZAQNUTI_BAD_TRIP = 16,             /* a trip, its pulse rate or a displacement for it is out of its limits */
+    ZAQNUTI_NO_DISTANCE = 17           /* fuel per kilometre is wanted at zero carrier distance */
 };
 
 /*
@@ -327,6 +331,64 @@ uint8_t zaqnuti_displacement_between(
 size_t zaqnuti_line(
     const uint8_t *text, size_t text_length,
     uint8_t *line, size_t line_length);
+
+/* ---- the trip */
+
+/*
+ * A trip has two recordings of the same epochs: displacements, and pulses of
+ * the odometer. The caller holds it as six words, which these calls read and
+ * write:
+ *
+ *     0  pulses per kilometre, 1 to 65,535, one rate for the whole trip
+ *     1  epochs so far, at most 65,535
+ *     2  carrier distance in millimetres
+ *     3  pulses
+ *     4  the greatest difference of the two distances after an epoch, mm
+ *     5  the first epoch that reached it, counted from 1
+ *
+ *     uint64_t trip[6], report[4], ml;
+ *     zaqnuti_trip_start(4000, trip);
+ *     zaqnuti_trip_add(trip, delta, 53);             for each epoch
+ *     zaqnuti_trip_report(trip, report);
+ *     zaqnuti_trip_fuel(trip, 850, &ml);
+ *
+ * Each call refuses by 16 a trip that no calls can have left: a rate of 0 or
+ * above 65,535, more than 65,535 epochs, more than 1,000,000 mm or 65,535
+ * pulses times its epochs, or an epoch in word 5 above 32 bits. A refusal
+ * leaves the trip as it was.
+ */
+
+/* A trip just started: zeros behind its rate. Refuses by 16 (a rate of 0). */
+uint8_t zaqnuti_trip_start(uint16_t per_km, uint64_t trip[6]);
+
+/*
+ * One epoch more.
+ *
+ * delta          a displacement in metres, as zaqnuti_displacement gives it:
+ *                its length is the root of the sum of its squares, each
+ *                operation rounded once; the exact value of that root times
+ *                1,000, rounded down, is added in whole millimetres
+ * pulses         the odometer's in this epoch
+ *
+ * Refuses by 16: a displacement that is not finite or longer than 1,000 m, one
+ * epoch more than 65,535, or a trip as above.
+ */
+uint8_t zaqnuti_trip_add(uint64_t trip[6], const double delta[3], uint16_t pulses);
+
+/*
+ * Carrier distance and odometer distance in millimetres, the greatest absolute
+ * difference of the two after an epoch, and the first epoch that reached it,
+ * counted from 1: zeros for a trip just started. The odometer's distance is
+ * its pulses times 1,000,000 by the rate, rounded down. Refuses by 16.
+ */
+uint8_t zaqnuti_trip_report(const uint64_t trip[6], uint64_t report[4]);
+
+/*
+ * Millilitres for a kilometre: millilitres times 1,000,000 by the carrier
+ * distance in millimetres, rounded down. Refuses by 16, and by 17 at zero
+ * carrier distance.
+ */
+uint8_t zaqnuti_trip_fuel(const uint64_t trip[6], uint32_t millilitres, uint64_t *per_km);
 
 /* ---- the corrections */
 

@@ -67,6 +67,8 @@ static inline const char *zaqnuti_refusal_text(uint8_t number)
     case ZAQNUTI_BAD_TIME: return "a week is above 15,000, a time of week is not in 0 to below 604,800 s, or a time is past the start of week 15,001";
     case ZAQNUTI_QUALITY_NOT_FINITE: return "chi or pdop of the fix is not finite";
     case ZAQNUTI_ON_RECEIVER: return "the range of a satellite is zero or not finite";
+    case ZAQNUTI_BAD_TRIP: return "a displacement not finite or longer than 1,000 m, a full trip, a pulse rate of 0, or a trip out of its limits";
+    case ZAQNUTI_NO_DISTANCE: return "fuel per kilometre at zero carrier distance";
     default: return "no such number";
     }
 }
@@ -316,6 +318,52 @@ static inline uint8_t zaqnuti_easy_displacement_between(
         moved->screened = counts[1];
     }
     return number;
+}
+
+/* ---- the trip */
+
+/* A trip, which its calls alone write. */
+typedef struct zaqnuti_trip {
+    uint64_t word[6];
+} zaqnuti_trip;
+
+typedef struct zaqnuti_report {
+    uint64_t carrier;   /* mm */
+    uint64_t odometer;  /* mm */
+    uint64_t greatest;  /* the greatest difference of the two after an epoch, mm */
+    uint64_t reached;   /* the first epoch that reached it, counted from 1 */
+} zaqnuti_report;
+
+/* A trip just started, with so many pulses to the kilometre. */
+static inline uint8_t zaqnuti_easy_trip_start(uint16_t per_km, zaqnuti_trip *trip)
+{
+    return zaqnuti_trip_start(per_km, trip->word);
+}
+
+/* One epoch more: how far the van moved, and the odometer's pulses. A refused one leaves the trip as it was. */
+static inline uint8_t zaqnuti_easy_trip_add(zaqnuti_trip *trip, zaqnuti_vector delta, uint16_t pulses)
+{
+    const double d[3] = {delta.x, delta.y, delta.z};
+    return zaqnuti_trip_add(trip->word, d, pulses);
+}
+
+static inline uint8_t zaqnuti_easy_trip_report(const zaqnuti_trip *trip, zaqnuti_report *report)
+{
+    uint64_t r[4] = {0, 0, 0, 0};
+    const uint8_t number = zaqnuti_trip_report(trip->word, r);
+    if (number == 0) {
+        report->carrier = r[0];
+        report->odometer = r[1];
+        report->greatest = r[2];
+        report->reached = r[3];
+    }
+    return number;
+}
+
+/* Millilitres for a kilometre of carrier distance. */
+static inline uint8_t zaqnuti_easy_trip_fuel(const zaqnuti_trip *trip, uint32_t millilitres, uint64_t *per_km)
+{
+    return zaqnuti_trip_fuel(trip->word, millilitres, per_km);
 }
 
 /* ---- the corrections */

@@ -209,6 +209,52 @@ static uint8_t displacement_both(
     return plain_number;
 }
 
+/* ---- the trip */
+
+/* A trip by both calls: the words, the numbers and the results are the same. */
+static void trips(void)
+{
+    size_t round;
+    for (round = 0; round < 200; round++) {
+        const uint16_t per_km = (uint16_t)(round % 9 == 0 ? 0 : chance(65536));
+        zaqnuti_trip easy = {{round, 1, 2, 3, 4, 5}};
+        uint64_t word[6] = {round, 1, 2, 3, 4, 5};
+        size_t k;
+        same(zaqnuti_easy_trip_start(per_km, &easy) == zaqnuti_trip_start(per_km, word), "the start of a trip, its number");
+        same(memcmp(easy.word, word, sizeof word) == 0, "the start of a trip");
+        for (k = 0; k < 40; k++) {
+            zaqnuti_vector delta = {(double)chance(1000) / 7.0, 3.0, -0.25};
+            zaqnuti_report report = {11, 12, 13, 14};
+            uint64_t plain_report[4] = {11, 12, 13, 14};
+            uint64_t fuel = 15;
+            uint64_t plain_fuel = 15;
+            const uint16_t pulses = (uint16_t)chance(65536);
+            const uint32_t millilitres = (uint32_t)chance(100000);
+            double d[3];
+            uint8_t number;
+            alter(&delta.y, 9);
+            if (chance(20) == 0) {
+                word[chance(6)] = chance(100000);
+                memcpy(easy.word, word, sizeof word);
+            }
+            d[0] = delta.x;
+            d[1] = delta.y;
+            d[2] = delta.z;
+            number = zaqnuti_trip_add(word, d, pulses);
+            met[number] += 1;
+            same(zaqnuti_easy_trip_add(&easy, delta, pulses) == number, "an epoch of a trip, its number");
+            same(memcmp(easy.word, word, sizeof word) == 0, "an epoch of a trip");
+            number = zaqnuti_trip_report(word, plain_report);
+            same(zaqnuti_easy_trip_report(&easy, &report) == number, "the report of a trip, its number");
+            same(report.carrier == plain_report[0] && report.odometer == plain_report[1] && report.greatest == plain_report[2] &&
+                     report.reached == plain_report[3], "the report of a trip");
+            number = zaqnuti_trip_fuel(word, millilitres, &plain_fuel);
+            met[number] += 1;
+            same(zaqnuti_easy_trip_fuel(&easy, millilitres, &fuel) == number && fuel == plain_fuel, "the fuel of a trip");
+        }
+    }
+}
+
 /* ---- times */
 
 /* The same of a week and a time of week, and of two times. */
@@ -927,13 +973,12 @@ static void texts(void)
 {
     unsigned a;
     unsigned b;
-    for (a = 0; a <= 15; a++) {
-        for (b = 0; b < a; b++) {
+    for (a = 0; a < 256; a++) {
+        const bool given = a <= ZAQNUTI_QUALITY_NOT_FINITE || a == ZAQNUTI_BAD_TRIP || a == ZAQNUTI_NO_DISTANCE;
+        same((strcmp(zaqnuti_refusal_text((uint8_t)a), "no such number") == 0) != given, "the text of no number");
+        for (b = 0; given && b < a; b++) {
             same(strcmp(zaqnuti_refusal_text((uint8_t)a), zaqnuti_refusal_text((uint8_t)b)) != 0, "texts of two numbers");
         }
-    }
-    for (a = 15; a < 256; a++) {
-        same(strcmp(zaqnuti_refusal_text((uint8_t)a), "no such number") == 0, "the text of no number");
     }
 }
 
@@ -971,6 +1016,7 @@ int main(int count, char **word)
         }
     }
     times();
+    trips();
     tracks();
     corrections();
     texts();
@@ -984,6 +1030,7 @@ int main(int count, char **word)
     for (k = 2; k <= 13; k++) {
         same(met[k] != 0, "a number that was never met");
     }
+    same(met[ZAQNUTI_BAD_TRIP] != 0 && met[ZAQNUTI_NO_DISTANCE] != 0, "a number of a trip that was never met");
     printf("\n%lu compared, %lu differ\n", compared, different);
     return different == 0 ? 0 : 1;
 }

@@ -6,6 +6,7 @@ mod fix;
 mod line;
 mod robust;
 mod times;
+mod trips;
 
 pub use columns::Columns;
 pub use displacement::*;
@@ -13,6 +14,7 @@ pub use fix::*;
 pub use line::*;
 pub use robust::*;
 pub use times::*;
+pub use trips::*;
 pub use zaqnuti::math::{
     abs, before, elevation_sine, hypot, max, pattern, radians, sqrt, square, travel_cosine,
     travel_sine,

@@ -58,6 +58,7 @@ static const struct kind kinds[] = {
     {21, "since", same_since},
     {22, "between", same_between},
     {23, "widen", same_widen},
+    {27, "trip", same_trip},
 };
 
 #define KINDS (sizeof kinds / sizeof *kinds)

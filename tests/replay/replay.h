@@ -71,5 +71,6 @@ bool same_time(struct stored *s);
 bool same_since(struct stored *s);
 bool same_between(struct stored *s);
 bool same_widen(struct stored *s);
+bool same_trip(struct stored *s);
 
 #endif

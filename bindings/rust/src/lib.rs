@@ -5,6 +5,7 @@
 //! | [`wls`] | the position from one epoch of pseudoranges |
 //! | [`tdcp`] | the displacement between two epochs of carrier phases |
 //! | [`time`] | epoch times in whole nanoseconds |
+//! | [`trip`] | odometer beside carrier distance: the totals of a trip |
 //! | [`line`](mod@line) | the displacement of a text in the line form |
 //! | [`differential`] | corrections from a base station |
 //! | [`smooth`](mod@smooth) | the track that fits anchors and links |
@@ -49,6 +50,7 @@ pub mod smooth;
 pub mod sys;
 pub mod tdcp;
 pub mod time;
+pub mod trip;
 pub mod wls;
 
 pub use math::Vec3;

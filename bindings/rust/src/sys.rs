@@ -9,6 +9,14 @@ extern "C" {
     pub fn zaqnuti_nanos_since(later: u64, earlier: u64, nanos: *mut i64) -> u8;
     /// The seconds between two times.
     pub fn zaqnuti_seconds_since(later: u64, earlier: u64, seconds: *mut f64) -> u8;
+    /// A trip just started.
+    pub fn zaqnuti_trip_start(per_km: u16, trip: *mut [u64; 6]) -> u8;
+    /// One epoch more for a trip.
+    pub fn zaqnuti_trip_add(trip: *mut [u64; 6], delta: *const [f64; 3], pulses: u16) -> u8;
+    /// The report of a trip.
+    pub fn zaqnuti_trip_report(trip: *const [u64; 6], report: *mut [u64; 4]) -> u8;
+    /// The fuel of a trip for a kilometre.
+    pub fn zaqnuti_trip_fuel(trip: *const [u64; 6], millilitres: u32, per_km: *mut u64) -> u8;
     /// The receiver's position from one epoch, with what the fit says of itself.
     pub fn zaqnuti_fix(
         constellation: *const u8,

@@ -10,6 +10,7 @@ use zaqnuti::math::{self, Cholesky};
 use zaqnuti::robust::{centre_scale, elevation_sigma, geometry, step, Clocks, Row};
 use zaqnuti::smooth::{smooth, Anchor, Link};
 use zaqnuti::time::{GpsTime, NANOS_PER_WEEK};
+use zaqnuti::trip::{Report, Trip};
 use zaqnuti::{differential, line, smooth as track, tdcp, wls, Ecef, Refusal, Vec3, TEXT};
 
 fn near(a: f64, b: f64, within: f64) -> bool {
@@ -206,6 +207,69 @@ fn a_displacement_between_times() {
     assert_eq!(why(&p[..3], now, before, &set), Refusal::BadInterval);
     assert_eq!(why(&p[..3], now, now, &set), Refusal::BadInterval);
     assert_eq!(why(&p[..3], before, now, &set), Refusal::TooFewPairs);
+}
+
+#[test]
+fn a_trip() {
+    let mut trip = Trip::start(1000).unwrap();
+    assert_eq!(trip.words(), [1000, 0, 0, 0, 0, 0]);
+    assert_eq!(trip.report(), Ok(Report::default()));
+    // A difference of 0 is reached by the first epoch.
+    trip.add(Vec3::new(3.0, 4.0, 0.0), 5).unwrap();
+    assert_eq!(trip.words(), [1000, 1, 5000, 5, 0, 1]);
+    trip.add(Vec3::new(0.0, 0.0, 1.0), 3).unwrap();
+    trip.add(Vec3::new(2.0, 0.0, 0.0), 0).unwrap();
+    trip.add(Vec3::new(0.0, -2.0, 0.0), 0).unwrap();
+    // 2,000 mm are reached by the second epoch and again by the fourth.
+    assert_eq!(trip.words(), [1000, 4, 10_000, 8, 2000, 2]);
+    let report = trip.report().unwrap();
+    assert_eq!([report.carrier, report.odometer], [10_000, 8000]);
+    assert_eq!([report.greatest, report.reached], [2000, 2]);
+    assert_eq!(trip.fuel(850), Ok(85_000));
+    // The double below 0.001 has no whole millimetre.
+    let mut short = Trip::start(1).unwrap();
+    short.add(Vec3::new(0.001f64.next_down(), 0.0, 0.0), 0).unwrap();
+    assert_eq!(short.words()[2], 0);
+    assert_eq!(short.fuel(1), Err(Refusal::NoDistance));
+    short.add(Vec3::new(0.001, 0.0, 0.0), 0).unwrap();
+    assert_eq!(short.words()[2], 1);
+    assert_eq!(short.fuel(u32::MAX), Ok(4_294_967_295_000_000));
+}
+
+#[test]
+fn a_trip_refuses() {
+    let bad = Err(Refusal::BadTrip);
+    assert_eq!(Trip::start(0), Err(Refusal::BadTrip));
+    let step = Vec3::new(1.0, 0.0, 0.0);
+    let mut full = Trip::from_words([1, 65_535, 65_535_000_000, 4_294_836_225, 9, 4_294_967_295]);
+    let kept = full;
+    assert_eq!(full.add(step, 1), bad);
+    assert_eq!(full, kept);
+    assert_eq!(full.report().unwrap().odometer, 4_294_836_225_000_000);
+    assert_eq!(full.report().unwrap().reached, 4_294_967_295);
+    let mut trip = Trip::start(65_535).unwrap();
+    for x in [f64::NAN, f64::INFINITY, -f64::INFINITY, 1000f64.next_up(), 1e200] {
+        assert_eq!(trip.add(Vec3::new(0.0, x, 0.0), 65_535), bad, "{x}");
+    }
+    assert_eq!(trip.words(), [65_535, 0, 0, 0, 0, 0]);
+    trip.add(Vec3::new(0.0, 0.0, -1000.0), 65_535).unwrap();
+    assert_eq!(trip.words(), [65_535, 1, 1_000_000, 65_535, 0, 1]);
+    // One above each limit; 17 comes after 16.
+    for words in [
+        [0, 1, 0, 0, 0, 1],
+        [65_536, 1, 0, 0, 0, 1],
+        [1, 65_536, 0, 0, 0, 1],
+        [1, 1, 1_000_001, 0, 0, 1],
+        [1, 1, 0, 65_536, 0, 1],
+        [1, 1, 0, 0, 0, 1 << 32],
+        [u64::MAX; 6],
+    ] {
+        let mut trip = Trip::from_words(words);
+        assert_eq!(trip.add(step, 1), bad, "{words:?}");
+        assert_eq!(trip.words(), words);
+        assert_eq!(trip.report(), Err(Refusal::BadTrip), "{words:?}");
+        assert_eq!(trip.fuel(1), Err(Refusal::BadTrip), "{words:?}");
+    }
 }
 
 /// The example of docs/SCOPE.md, without its LF.

@@ -238,6 +238,23 @@ fn times(week: u32, tow: f64, earlier: u64) -> usize {
     })
 }
 
+/// A trip as it is handed in, and one epoch more for it.
+fn trip(words: [u64; 6], x: f64) -> usize {
+    let (mut lent, mut report, mut per_km) = (words, [0; 4], 0);
+    measured(move || {
+        let frame = top();
+        // SAFETY: what is written is ours alone.
+        unsafe {
+            sys::zaqnuti_trip_start(words[0] as u16, &mut lent);
+            lent = words;
+            sys::zaqnuti_trip_add(&mut lent, &[x, -x, x], 7);
+            sys::zaqnuti_trip_report(&lent, &mut report);
+            sys::zaqnuti_trip_fuel(&lent, 850, &mut per_km);
+        }
+        frame
+    })
+}
+
 /// The text of both epochs, of which the last byte is replaced, and a buffer of so many bytes for the line.
 fn line(rounds: usize, last: &[u8], room: usize) -> usize {
     let (before, after) = epochs();
@@ -699,6 +716,16 @@ fn no_more_than_the_header_says() {
                 times(15_001, 0.5, 77),
                 times(15_000, f64::NAN, u64::MAX),
                 times(2, 5e-324, u64::MAX),
+            ]),
+        ),
+        (
+            "trip",
+            most([
+                trip([1000, 4, 10_000, 8, 2000, 2], 3.0),
+                trip([1, 0, 0, 0, 0, 0], 0.001),
+                trip([1000, 65_535, 0, 8, 2000, 2], 3.0),
+                trip([0; 6], f64::NAN),
+                trip([u64::MAX; 6], 1e300),
             ]),
         ),
         ("geometry", geometry()),

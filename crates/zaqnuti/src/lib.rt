@@ -10,3 +10,4 @@ pub mod round;
 pub mod slots;
 pub mod times;
 pub mod track;
+pub mod trips;

@@ -7,6 +7,7 @@ mod line;
 mod pieces;
 mod times;
 mod track;
+mod trips;
 
 use super::Bytes;
 use crate::random::pattern;
@@ -15,7 +16,7 @@ use zaqnuti::sys;
 /// The name of an entry point, and its call.
 type Entry = (&'static str, fn(&mut Bytes));
 
-/// Every entry point; times, clocks and numbers together.
+/// Every entry point; times, those of a trip, clocks and numbers together.
 pub const ENTRIES: &[Entry] = &[
     ("fix", fix::fix),
     ("displacement", displacement::displacement),
@@ -27,6 +28,7 @@ pub const ENTRIES: &[Entry] = &[
     ("widen_bands", corrections::widen_bands),
     ("smooth", track::smooth),
     ("times", times::times),
+    ("trip", trips::trip),
     ("round", pieces::a_round),
     ("centre", pieces::centre),
     ("geometry", pieces::geometry),

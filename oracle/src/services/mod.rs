@@ -21,6 +21,7 @@ mod standins;
 pub mod time;
 mod top;
 pub mod track;
+pub mod trip;
 
 use crate::random::Random;
 use crate::tally::Tally;
@@ -64,6 +65,7 @@ pub const KINDS: &[(u64, &str, Make)] = &[
     (21, "since", time::since),
     (22, "between", between::vectors),
     (23, "widen", corrections::stored::widen),
+    (27, "trip", trip::vectors),
 ];
 
 /// Every service, lowest first.
@@ -82,6 +84,7 @@ pub const SERVICES: &[Service] = &[
     displacement::SERVICE,
     time::SERVICE,
     between::SERVICE,
+    trip::SERVICE,
     fix::SERVICE,
     top::DISPLACEMENT,
     top::FIX,
