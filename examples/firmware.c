@@ -1,7 +1,7 @@
 /*
  * One of each service as firmware would call it: a fix, times, a displacement,
- * a text in the line form, a day's trip, two epochs of corrections with a
- * query, and a track.
+ * the same of epochs that are kept and sent as bytes, a text in the line form,
+ * a day's trip, two epochs of corrections with a query, and a track.
  * The sky is made up, so the answers are known: the program prints them and
  * exits with 1 where one is not as expected.
  *
@@ -181,18 +181,16 @@ static uint8_t displace_between(const struct epoch *p, const struct epoch *c, ui
         before, now, receiver, settings, 4, delta, counts);
 }
 
-/* A displacement of a few metres in a second; one carrier slips and is screened out. */
-static void displacement(void)
+/* Two epochs a second and a few metres apart; one carrier slips. */
+static const double moved[3] = {4.0, -2.5, 1.5};
+static struct epoch previous;
+static struct epoch current;
+
+/* Measures them. */
+static void drive(void)
 {
-    const double moved[3] = {4.0, -2.5, 1.5};
     double place[3];
     double rate[SATELLITES];
-    struct epoch previous;
-    struct epoch current;
-    double delta[3] = {0.0, 0.0, 0.0};
-    double across[3] = {0.0, 0.0, 0.0};
-    size_t counts[2] = {0, 0};
-    uint8_t number;
     size_t i;
 
     for (i = 0; i < 3; i++) {
@@ -204,6 +202,16 @@ static void displacement(void)
     measure(&previous, receiver, 0.0, rate);
     measure(&current, place, 30.0, rate);
     current.floats[6 * 4] += 9.0;
+}
+
+/* The displacement between them: the carrier that slips is screened out. */
+static void displacement(void)
+{
+    double delta[3] = {0.0, 0.0, 0.0};
+    double across[3] = {0.0, 0.0, 0.0};
+    size_t counts[2] = {0, 0};
+    uint8_t number;
+
     printf("displacement\n");
     number = displace(&previous, &current, SATELLITES, delta, counts);
     expect_number("answer", number, 0);
@@ -223,6 +231,95 @@ static void displacement(void)
     expect_number("the later time first", number, ZAQNUTI_BAD_INTERVAL);
     number = displace_between(&previous, &current, before_midnight, UINT64_MAX, across, counts);
     expect_number("no such time", number, ZAQNUTI_BAD_TIME);
+}
+
+#define EPOCH_BYTES (SATELLITES * ZAQNUTI_RECORD)
+
+/* An epoch as bytes, to be kept between calls or sent. */
+static uint8_t pack(const struct epoch *e, uint8_t bytes[EPOCH_BYTES])
+{
+    uint64_t floats[6 * SATELLITES];
+
+    memcpy(floats, e->floats, sizeof floats);
+    return zaqnuti_write_records(
+        e->constellation, SATELLITES, e->svid, SATELLITES, e->band, SATELLITES, e->state, SATELLITES,
+        floats, 6 * SATELLITES, SATELLITES, bytes, EPOCH_BYTES);
+}
+
+/* The epoch of such bytes; 21 where some of them were lost. */
+static uint8_t unpack(const uint8_t *bytes, size_t length, struct epoch *e, size_t *count)
+{
+    uint64_t floats[6 * SATELLITES];
+    uint8_t number = zaqnuti_read_records(
+        bytes, length, e->constellation, SATELLITES, e->svid, SATELLITES, e->band, SATELLITES, e->state, SATELLITES,
+        floats, 6 * SATELLITES, count);
+
+    if (number == 0) {
+        memcpy(e->floats, floats, *count * 6 * sizeof *floats);
+    }
+    return number;
+}
+
+/* The number of eight bytes, the least significant first. */
+static uint64_t word(const uint8_t *bytes)
+{
+    uint64_t n = 0;
+    size_t i;
+
+    for (i = 8; i > 0; i--) {
+        n = n << 8 | bytes[i - 1];
+    }
+    return n;
+}
+
+/* The epochs of the displacement kept as bytes: written, sent, read, and handed over as they are. */
+static void records(void)
+{
+    uint8_t kept[EPOCH_BYTES];
+    uint8_t now[EPOCH_BYTES];
+    uint8_t radio[EPOCH_BYTES];
+    uint8_t result[ZAQNUTI_RESULT] = {0};
+    struct epoch received;
+    double delta[3] = {0.0, 0.0, 0.0};
+    double same[3] = {0.0, 0.0, 0.0};
+    size_t counts[2] = {0, 0};
+    size_t count = 0;
+    uint64_t bits;
+    uint8_t number;
+    size_t i;
+
+    printf("records\n");
+    expect_number("written", pack(&previous, kept), 0);
+    expect_number("written", pack(&current, now), 0);
+    memcpy(radio, now, sizeof radio);
+    memset(&received, 0, sizeof received);
+    expect_number("read", unpack(radio, sizeof radio, &received, &count), 0);
+    expect_number("records", (unsigned)count, SATELLITES);
+    expect_number("as they were sent", memcmp(received.floats, current.floats, sizeof current.floats) == 0, 1);
+    expect_number("one byte lost", unpack(radio, sizeof radio - 1, &received, &count), ZAQNUTI_BROKEN_RECORDS);
+    /* The displacement by the bytes is that by the columns. */
+    number = zaqnuti_displacement_records(
+        kept, sizeof kept, radio, sizeof radio, 1.0, receiver[0], receiver[1], receiver[2],
+        0.5, 0.008, 0.002, 1.5, 10.0, 4, result, sizeof result);
+    expect_number("answer", number, 0);
+    expect_number("used", (unsigned)word(result), SATELLITES - 1);
+    expect_number("screened", (unsigned)word(result + 8), 1);
+    for (i = 0; i < 3; i++) {
+        bits = word(result + 16 + 8 * i);
+        memcpy(&delta[i], &bits, sizeof bits);
+    }
+    expect("dx, m", delta[0], moved[0], 1e-3);
+    number = displace(&previous, &current, SATELLITES, same, counts);
+    expect_number("the same", number == 0 && memcmp(same, delta, sizeof delta) == 0, 1);
+    number = zaqnuti_displacement_records(
+        kept, sizeof kept - 1, radio, sizeof radio, 1.0, receiver[0], receiver[1], receiver[2],
+        0.5, 0.008, 0.002, 1.5, 10.0, 4, result, sizeof result);
+    expect_number("one byte lost", number, ZAQNUTI_BROKEN_RECORDS);
+    number = zaqnuti_displacement_records(
+        kept, sizeof kept, radio, sizeof radio, 1.0, receiver[0], receiver[1], receiver[2],
+        0.5, 0.008, 0.002, 1.5, 10.0, 4, result, sizeof result - 1);
+    expect_number("39 bytes for the result", number, ZAQNUTI_TOO_MANY);
+    expect_number("result kept", (unsigned)word(result), SATELLITES - 1);
 }
 
 /* A text in the line form without a carrier, which is refused by its line. */
@@ -411,7 +508,9 @@ int main(void)
 {
     fix();
     times();
+    drive();
     displacement();
+    records();
     line_form();
     trip();
     corrections();

@@ -1,7 +1,7 @@
 /*
  * Zaqnuti: a position from pseudoranges, the displacement between two carrier
- * epochs, times in whole nanoseconds, the totals of a trip, base-station
- * corrections and a smoothed track.
+ * epochs, in columns or as bytes, times in whole nanoseconds, the totals of a
+ * trip, base-station corrections and a smoothed track.
  *
  * Link libzaqnuti.a (`./run` leaves it in target/staticlib): Linux on x86-64,
  * System V calling convention. Of other libraries it needs memcpy and memset,
@@ -57,6 +57,9 @@
  *     displacement    16,640
  *     between         16,128
  *     line            40,704
+ *     records         24,064
+ *     read_records       256
+ *     write_records      256
  *     add_epoch       17,920
  *     query              512
  *     queries            512
@@ -99,8 +102,13 @@ extern "C" {
 #define ZAQNUTI_ROUNDS 50        /* rounds of an estimate, iterations of a track */
 #define ZAQNUTI_TEXT 32768       /* bytes of a text in the line form */
 #define ZAQNUTI_LINE 59          /* bytes that are always enough for its answer */
+#define ZAQNUTI_RECORD 59        /* bytes of a carrier record */
+#define ZAQNUTI_RESULT 40        /* bytes of the result of a displacement of such records */
 
-/* Why a call turns back, in checking order, but that 13 is tested between 4 and 5, and 15 before 7 and before 10. */
+/*
+ * Why a call turns back, in checking order, but that 13 is tested between 4 and 5,
+ * 15 before 7 and before 10, and 21 before 2.
+ */
 enum zaqnuti_refusal {
     ZAQNUTI_BROKEN_FORM = 1,           /* a text is too long or breaks the line form */
     ZAQNUTI_TOO_MANY = 2,              /* too many records, or too short a buffer */
@@ -118,7 +126,8 @@ enum zaqnuti_refusal {
     ZAQNUTI_QUALITY_NOT_FINITE = 14,   /* chi or pdop of a fix is not finite */
     ZAQNUTI_ON_RECEIVER = 15,          /* the range of a satellite is zero or not finite */
     ZAQNUTI_BAD_TRIP = 16,             /* a trip, its pulse rate or a displacement for it is out of its limits */
-    ZAQNUTI_NO_DISTANCE = 17           /* fuel per kilometre is wanted at zero carrier distance */
+    ZAQNUTI_NO_DISTANCE = 17,          /* fuel per kilometre is wanted at zero carrier distance */
+    ZAQNUTI_BROKEN_RECORDS = 21        /* the bytes of carrier records are no multiple of 59 */
 };
 
 /*
@@ -389,6 +398,98 @@ uint8_t zaqnuti_trip_report(const uint64_t trip[6], uint64_t report[4]);
  * carrier distance.
  */
 uint8_t zaqnuti_trip_fuel(const uint64_t trip[6], uint32_t millilitres, uint64_t *per_km);
+/* ---- carrier records as bytes */
+
+/*
+ * An epoch that is kept or sent as bytes is its carrier records, one after
+ * the other. A record is 59 bytes, the least significant byte of each number
+ * first, whatever the machine:
+ *
+ *     at  bytes
+ *      0      1  constellation
+ *      1      2  svid
+ *      3      4  band (MHz)
+ *      7      8  accumulated delta range
+ *     15      4  state, two's complement
+ *     19     24  x, y, z of the satellite
+ *     43      8  elevation
+ *     51      8  range rate
+ *
+ * A float is its 64 bits. An epoch of none is no bytes at all. The pointers of
+ * bytes need no alignment.
+ *
+ * Reading a written epoch yields its count and its records, and writing a read
+ * one its bytes, whatever the floats are: a NaN keeps its sign and its payload.
+ * Only the displacement asks whether a float is in range.
+ */
+
+/*
+ * Writes the first `count` records of the columns into bytes, 59 each. What
+ * lies behind them stays as it was.
+ *
+ * constellation, svid, band, state
+ *                one number for each carrier
+ * floats         the bits of six floats for each carrier: accumulated delta
+ *                range, x, y, z, elevation, range rate
+ * count          how many carriers, at most 64
+ *
+ * Refuses by 2 (more than 64, a column or bytes shorter than count needs).
+ */
+uint8_t zaqnuti_write_records(
+    const uint8_t *constellation, size_t constellation_length,
+    const uint16_t *svid, size_t svid_length,
+    const uint32_t *band, size_t band_length,
+    const int32_t *state, size_t state_length,
+    const uint64_t *floats, size_t floats_length,
+    size_t count,
+    uint8_t *bytes, size_t bytes_length);
+
+/*
+ * Reads the records of bytes into the columns, from their first places on, and
+ * their number into count. What lies behind them in a column stays as it was.
+ *
+ * Refuses by 21 (bytes_length is no multiple of 59) and 2 (more than 64
+ * records, or a column shorter than they need); then every column and count
+ * are as they were.
+ */
+uint8_t zaqnuti_read_records(
+    const uint8_t *bytes, size_t bytes_length,
+    uint8_t *constellation, size_t constellation_length,
+    uint16_t *svid, size_t svid_length,
+    uint32_t *band, size_t band_length,
+    int32_t *state, size_t state_length,
+    uint64_t *floats, size_t floats_length,
+    size_t *count);
+
+/*
+ * The displacement between two epochs that are held as bytes: that of
+ * zaqnuti_displacement on the columns that zaqnuti_read_records reads, with
+ * its numbers in the order of the line form's line S.
+ *
+ * previous, current
+ *                the records of the two epochs
+ * dt .. rounds   as there; x, y, z are the receiver at the earlier epoch
+ * result         40 bytes, the least significant first: used and screened as
+ *                8 each, then dx, dy, dz; nothing behind them is written
+ *
+ * Refuses by 21 (one of the two lengths is no multiple of 59), 2 (more than 64
+ * records in one, or result_length below 40), 3, 4, 5, 15, 7, 8, 9 and 10, in
+ * this order.
+ */
+uint8_t zaqnuti_displacement_records(
+    const uint8_t *previous, size_t previous_length,
+    const uint8_t *current, size_t current_length,
+    double dt,
+    double x,
+    double y,
+    double z,
+    double screen,
+    double sigma_a,
+    double sigma_b,
+    double huber,
+    double mask,
+    uint32_t rounds,
+    uint8_t *result, size_t result_length);
 
 /* ---- the corrections */
 

@@ -26,6 +26,8 @@
 #ifndef ZAQNUTI_EASY_H
 #define ZAQNUTI_EASY_H
 
+#include <string.h>
+
 #include "zaqnuti.h"
 
 /*
@@ -69,6 +71,7 @@ static inline const char *zaqnuti_refusal_text(uint8_t number)
     case ZAQNUTI_ON_RECEIVER: return "the range of a satellite is zero or not finite";
     case ZAQNUTI_BAD_TRIP: return "a displacement not finite or longer than 1,000 m, a full trip, a pulse rate of 0, or a trip out of its limits";
     case ZAQNUTI_NO_DISTANCE: return "fuel per kilometre at zero carrier distance";
+    case ZAQNUTI_BROKEN_RECORDS: return "the bytes of carrier records are no multiple of 59";
     default: return "no such number";
     }
 }
@@ -356,6 +359,78 @@ static inline uint8_t zaqnuti_easy_trip_report(const zaqnuti_trip *trip, zaqnuti
         report->odometer = r[1];
         report->greatest = r[2];
         report->reached = r[3];
+    }
+    return number;
+}
+
+/* ---- carrier records as bytes */
+
+/* Bytes that are always enough for an epoch. */
+#define ZAQNUTI_EASY_EPOCH_BYTES (ZAQNUTI_RECORDS * ZAQNUTI_RECORD)
+
+/* Writes the epoch's carriers, ZAQNUTI_RECORD bytes each, to be kept or sent. */
+static inline uint8_t zaqnuti_easy_write_records(const zaqnuti_epoch *epoch, uint8_t *bytes, size_t bytes_length)
+{
+    return zaqnuti_write_records(
+        epoch->constellation, ZAQNUTI_RECORDS, epoch->svid, ZAQNUTI_RECORDS, epoch->band, ZAQNUTI_RECORDS,
+        epoch->state, ZAQNUTI_RECORDS, (const uint64_t *)(const void *)epoch->floats, 6 * ZAQNUTI_RECORDS, epoch->count,
+        bytes, bytes_length);
+}
+
+/* The epoch of carriers that were written so. */
+static inline uint8_t zaqnuti_easy_read_records(const uint8_t *bytes, size_t bytes_length, zaqnuti_epoch *epoch)
+{
+    return zaqnuti_read_records(
+        bytes, bytes_length,
+        epoch->constellation, ZAQNUTI_RECORDS, epoch->svid, ZAQNUTI_RECORDS, epoch->band, ZAQNUTI_RECORDS,
+        epoch->state, ZAQNUTI_RECORDS, (uint64_t *)(void *)epoch->floats, 6 * ZAQNUTI_RECORDS, &epoch->count);
+}
+
+/* The number of eight bytes, the least significant first. */
+static inline uint64_t zaqnuti_easy_word(const uint8_t *bytes)
+{
+    uint64_t word = 0;
+    size_t i;
+
+    for (i = 8; i > 0; i--) {
+        word = word << 8 | bytes[i - 1];
+    }
+    return word;
+}
+
+/* The float whose bits these are. */
+static inline double zaqnuti_easy_float(uint64_t bits)
+{
+    double x;
+
+    memcpy(&x, &bits, sizeof x);
+    return x;
+}
+
+/* How the receiver moved in `dt` seconds between two epochs that are held as bytes; `receiver` is where it was at the previous one. */
+static inline uint8_t zaqnuti_easy_displacement_records(
+    const uint8_t *previous, size_t previous_length,
+    const uint8_t *current, size_t current_length,
+    double dt,
+    zaqnuti_vector receiver,
+    const zaqnuti_displacement_settings *settings,
+    zaqnuti_moved *moved)
+{
+    uint8_t result[ZAQNUTI_RESULT] = {0};
+    /* Every count above 50 is refused alike. */
+    const uint32_t rounds = settings->rounds > 50 ? 51 : (uint32_t)settings->rounds;
+    uint8_t number = zaqnuti_displacement_records(
+        previous, previous_length, current, current_length,
+        dt, receiver.x, receiver.y, receiver.z,
+        settings->screen, settings->sigma_a, settings->sigma_b, settings->huber, settings->mask, rounds,
+        result, sizeof result);
+
+    if (number == 0) {
+        moved->used = (size_t)zaqnuti_easy_word(result);
+        moved->screened = (size_t)zaqnuti_easy_word(result + 8);
+        moved->delta.x = zaqnuti_easy_float(zaqnuti_easy_word(result + 16));
+        moved->delta.y = zaqnuti_easy_float(zaqnuti_easy_word(result + 24));
+        moved->delta.z = zaqnuti_easy_float(zaqnuti_easy_word(result + 32));
     }
     return number;
 }

@@ -254,6 +254,9 @@ static void trips(void)
         }
     }
 }
+/* ---- carrier records as bytes */
+
+#include "easy_records.h"
 
 /* ---- times */
 
@@ -691,7 +694,8 @@ static void alter_displacements(const struct text *t, size_t times)
             }
             a.count[1] = 65;
         }
-        displacement_both(a.carrier[0], a.count[0], a.carrier[1], a.count[1], a.dt, NULL, a.receiver, &a.settings, &moved);
+        number = displacement_both(a.carrier[0], a.count[0], a.carrier[1], a.count[1], a.dt, NULL, a.receiver, &a.settings, &moved);
+        records_both(a.carrier[0], a.count[0], a.carrier[1], a.count[1], a.dt, a.receiver, &a.settings, number, &moved);
         /* Between two times: the number and the bytes of the call with their interval. */
         times_of(time, a.dt);
         number = displacement_both(a.carrier[0], a.count[0], a.carrier[1], a.count[1], 0.0, time, a.receiver, &a.settings, &between);
@@ -980,6 +984,16 @@ static void texts(void)
             same(strcmp(zaqnuti_refusal_text((uint8_t)a), zaqnuti_refusal_text((uint8_t)b)) != 0, "texts of two numbers");
         }
     }
+    const char *none = zaqnuti_refusal_text(255);
+    for (a = 0; a <= 21; a++) {
+        for (b = 0; b < a; b++) {
+            const char *text = zaqnuti_refusal_text((uint8_t)a);
+            same(strcmp(text, none) == 0 || strcmp(text, zaqnuti_refusal_text((uint8_t)b)) != 0, "texts of two numbers");
+        }
+    }
+    for (a = 22; a < 256; a++) {
+        same(strcmp(zaqnuti_refusal_text((uint8_t)a), "no such number") == 0, "the text of no number");
+    }
 }
 
 /* The settings of the two headers are the same. */
@@ -1031,6 +1045,7 @@ int main(int count, char **word)
         same(met[k] != 0, "a number that was never met");
     }
     same(met[ZAQNUTI_BAD_TRIP] != 0 && met[ZAQNUTI_NO_DISTANCE] != 0, "a number of a trip that was never met");
+    same(met[ZAQNUTI_BROKEN_RECORDS] != 0, "21 was never met");
     printf("\n%lu compared, %lu differ\n", compared, different);
     return different == 0 ? 0 : 1;
 }

@@ -7,6 +7,7 @@ mod line;
 mod robust;
 mod times;
 mod trips;
+mod wire;
 
 pub use columns::Columns;
 pub use displacement::*;
@@ -15,6 +16,7 @@ pub use line::*;
 pub use robust::*;
 pub use times::*;
 pub use trips::*;
+pub use wire::*;
 pub use zaqnuti::math::{
     abs, before, elevation_sine, hypot, max, pattern, radians, sqrt, square, travel_cosine,
     travel_sine,

@@ -59,6 +59,9 @@ static const struct kind kinds[] = {
     {22, "between", same_between},
     {23, "widen", same_widen},
     {27, "trip", same_trip},
+    {40, "read", same_read},
+    {41, "write", same_write},
+    {42, "records", same_records},
 };
 
 #define KINDS (sizeof kinds / sizeof *kinds)

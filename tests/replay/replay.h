@@ -72,5 +72,8 @@ bool same_since(struct stored *s);
 bool same_between(struct stored *s);
 bool same_widen(struct stored *s);
 bool same_trip(struct stored *s);
+bool same_read(struct stored *s);
+bool same_write(struct stored *s);
+bool same_records(struct stored *s);
 
 #endif

@@ -6,6 +6,7 @@
 //! | [`tdcp`] | the displacement between two epochs of carrier phases |
 //! | [`time`] | epoch times in whole nanoseconds |
 //! | [`trip`] | odometer beside carrier distance: the totals of a trip |
+//! | [`wire`] | carrier records as bytes, and the displacement between two epochs of them |
 //! | [`line`](mod@line) | the displacement of a text in the line form |
 //! | [`differential`] | corrections from a base station |
 //! | [`smooth`](mod@smooth) | the track that fits anchors and links |
@@ -51,6 +52,7 @@ pub mod sys;
 pub mod tdcp;
 pub mod time;
 pub mod trip;
+pub mod wire;
 pub mod wls;
 
 pub use math::Vec3;

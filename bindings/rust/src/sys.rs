@@ -112,6 +112,57 @@ extern "C" {
         line: *mut u8,
         line_length: usize,
     ) -> usize;
+    /// Carrier records written as bytes.
+    pub fn zaqnuti_write_records(
+        constellation: *const u8,
+        constellation_length: usize,
+        svid: *const u16,
+        svid_length: usize,
+        band: *const u32,
+        band_length: usize,
+        state: *const i32,
+        state_length: usize,
+        floats: *const u64,
+        floats_length: usize,
+        count: usize,
+        bytes: *mut u8,
+        bytes_length: usize,
+    ) -> u8;
+    /// Carrier records read from bytes.
+    pub fn zaqnuti_read_records(
+        bytes: *const u8,
+        bytes_length: usize,
+        constellation: *mut u8,
+        constellation_length: usize,
+        svid: *mut u16,
+        svid_length: usize,
+        band: *mut u32,
+        band_length: usize,
+        state: *mut i32,
+        state_length: usize,
+        floats: *mut u64,
+        floats_length: usize,
+        count: *mut usize,
+    ) -> u8;
+    /// The displacement between two slices of carrier records.
+    pub fn zaqnuti_displacement_records(
+        previous: *const u8,
+        previous_length: usize,
+        current: *const u8,
+        current_length: usize,
+        dt: f64,
+        x: f64,
+        y: f64,
+        z: f64,
+        screen: f64,
+        sigma_a: f64,
+        sigma_b: f64,
+        huber: f64,
+        mask: f64,
+        rounds: u32,
+        result: *mut u8,
+        result_length: usize,
+    ) -> u8;
     /// One base epoch added to a table of corrections.
     pub fn zaqnuti_add_epoch(
         cs: *mut u8,

@@ -11,7 +11,7 @@ use zaqnuti::robust::{centre_scale, elevation_sigma, geometry, step, Clocks, Row
 use zaqnuti::smooth::{smooth, Anchor, Link};
 use zaqnuti::time::{GpsTime, NANOS_PER_WEEK};
 use zaqnuti::trip::{Report, Trip};
-use zaqnuti::{differential, line, smooth as track, tdcp, wls, Ecef, Refusal, Vec3, TEXT};
+use zaqnuti::{differential, line, smooth as track, tdcp, wire, wls, Ecef, Refusal, Vec3, TEXT};
 
 fn near(a: f64, b: f64, within: f64) -> bool {
     (a - b).abs() <= within
@@ -270,6 +270,58 @@ fn a_trip_refuses() {
         assert_eq!(trip.report(), Err(Refusal::BadTrip), "{words:?}");
         assert_eq!(trip.fuel(1), Err(Refusal::BadTrip), "{words:?}");
     }
+}
+
+fn carrier_records() {
+    let mut epoch = carriers(64, AT);
+    // NaNs of either sign, quiet and signalling, and the ends of each field.
+    epoch[0].adr = f64::from_bits(0x7FF0_0000_0000_0001);
+    epoch[1].satellite =
+        [0xFFF8_0000_0000_0002, 0xFFF0_0000_0000_0003, 1 << 63].map(f64::from_bits);
+    epoch[2].rate = f64::from_bits(u64::MAX);
+    (epoch[3].constellation, epoch[3].svid) = (u8::MAX, u16::MAX);
+    (epoch[4].band, epoch[4].state) = (u32::MAX, i32::MIN);
+    for n in 0..=64 {
+        let sent = wire::write(&epoch[..n]).unwrap();
+        assert_eq!(sent.len(), n * wire::RECORD);
+        let received = wire::read(&sent).unwrap();
+        assert_eq!(received.len(), n);
+        assert_eq!(wire::write(&received).unwrap(), sent);
+        let bits = |c: &tdcp::Carrier| [c.adr, c.satellite[0], c.rate].map(f64::to_bits);
+        assert!(received.iter().map(bits).eq(epoch[..n].iter().map(bits)));
+    }
+    let many = carriers(65, AT);
+    assert_eq!(wire::write(&many), Err(Refusal::TooMany));
+    assert_eq!(wire::read(&[0; 65 * 59]), Err(Refusal::TooMany));
+    assert_eq!(wire::read(&[0; 65 * 59 + 1]), Err(Refusal::BrokenRecords));
+    assert_eq!(wire::read(&[0; 58]), Err(Refusal::BrokenRecords));
+}
+
+#[test]
+fn a_displacement_of_records() {
+    let set = tdcp::Settings {
+        screen: 1e3,
+        ..tdcp::Settings::default()
+    };
+    let moved = Ecef::new(AT.x + 3.0, AT.y - 2.0, AT.z + 0.5);
+    let (p, c) = (carriers(20, AT), carriers(20, moved));
+    let [before, now] = [&p, &c].map(|e| wire::write(e).unwrap());
+    let of = |p: &[u8], c: &[u8], dt, set| wire::delta_position(p, c, dt, AT, set);
+    let d = of(&before, &now, 1.0, &set).unwrap();
+    assert_eq!(Ok(d), tdcp::delta_position(&p, &c, 1.0, AT, &set));
+    // 21 of either slice comes before 2, and 2 before 3.
+    let odd = tdcp::Settings {
+        iterations: usize::MAX,
+        ..set
+    };
+    let many = vec![0; 65 * wire::RECORD];
+    let why = |p: &[u8], c: &[u8], dt, set| of(p, c, dt, set).unwrap_err();
+    assert_eq!(why(&many, &now[1..], 0.0, &odd), Refusal::BrokenRecords);
+    assert_eq!(why(&before[1..], &many, 0.0, &odd), Refusal::BrokenRecords);
+    assert_eq!(why(&before, &many, 0.0, &odd), Refusal::TooMany);
+    assert_eq!(why(&before, &now, 0.0, &odd), Refusal::SettingOutOfRange);
+    assert_eq!(why(&before, &now, 0.0, &set), Refusal::BadInterval);
+    assert_eq!(why(&[], &now, 1.0, &set), Refusal::TooFewPairs);
 }
 
 /// The example of docs/SCOPE.md, without its LF.

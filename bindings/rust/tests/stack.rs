@@ -13,7 +13,7 @@ use std::collections::BTreeMap;
 use std::path::Path;
 use zaqnuti::sys;
 use zaqnuti::tdcp::{Carrier, Settings};
-use zaqnuti::{Ecef, LINE, TEXT};
+use zaqnuti::{wire, Ecef, LINE, TEXT};
 
 /// How far down the stack is filled, above what any call uses.
 const DEPTH: usize = 1 << 20;
@@ -220,6 +220,101 @@ fn displacement(count: usize, rounds: usize, screen: f64, times: Option<[u64; 2]
                 Some([before, now]) => call!(zaqnuti_displacement_between, before, now),
             }
         };
+        frame
+    })
+}
+
+/// A displacement of the bytes of both epochs, the first so many of each, with a result of so many bytes.
+fn records(previous: usize, current: usize, rounds: u32, screen: f64, room: usize) -> usize {
+    let (before, after) = epochs();
+    let [p, c] = [(&before, previous), (&after, current)].map(|(epoch, n)| {
+        let mut bytes = wire::write(epoch).unwrap();
+        bytes.resize(n, 0);
+        bytes
+    });
+    let mut result = vec![0; room];
+    measured(move || {
+        let frame = top();
+        // SAFETY: each slice has its length beside it, and the last is ours alone.
+        unsafe {
+            sys::zaqnuti_displacement_records(
+                p.as_ptr(),
+                p.len(),
+                c.as_ptr(),
+                c.len(),
+                1.0,
+                AT.x,
+                AT.y,
+                AT.z,
+                screen,
+                0.008,
+                0.002,
+                1e-3,
+                10.0,
+                rounds,
+                result.as_mut_ptr(),
+                room,
+            );
+        }
+        frame
+    })
+}
+
+/// Reading so many bytes into columns of 64 places.
+fn read_records(bytes: usize) -> usize {
+    let bytes = vec![0xA5; bytes];
+    let (mut constellation, mut svid) = ([0; 64], [0; 64]);
+    let (mut band, mut state, mut floats) = ([0; 64], [0; 64], [0; 384]);
+    let mut count = 0;
+    measured(move || {
+        let frame = top();
+        // SAFETY: each column has its length beside it, and all but the bytes are ours alone.
+        unsafe {
+            sys::zaqnuti_read_records(
+                bytes.as_ptr(),
+                bytes.len(),
+                constellation.as_mut_ptr(),
+                64,
+                svid.as_mut_ptr(),
+                64,
+                band.as_mut_ptr(),
+                64,
+                state.as_mut_ptr(),
+                64,
+                floats.as_mut_ptr(),
+                384,
+                &mut count,
+            );
+        }
+        frame
+    })
+}
+
+/// Writing so many records of 64 into so many bytes.
+fn write_records(count: usize, room: usize) -> usize {
+    let (constellation, svid, band) = ([1; 64], [2; 64], [1575; 64]);
+    let (state, floats) = ([-1; 64], [u64::MAX; 384]);
+    let mut bytes = vec![0; room];
+    measured(move || {
+        let frame = top();
+        // SAFETY: each column has its length beside it, and the last is ours alone.
+        unsafe {
+            sys::zaqnuti_write_records(
+                constellation.as_ptr(),
+                64,
+                svid.as_ptr(),
+                64,
+                band.as_ptr(),
+                64,
+                state.as_ptr(),
+                64,
+                floats.as_ptr(),
+                384,
+                count,
+                bytes.as_mut_ptr(),
+                room,
+            );
+        }
         frame
     })
 }
@@ -650,6 +745,33 @@ fn no_more_than_the_header_says() {
                 line(50, b"", LINE),
                 line(50, b"\nP,1\n", 0),
                 line(50, &[b'\n'; TEXT], LINE),
+            ]),
+        ),
+        (
+            "records",
+            most([
+                records(64 * 59, 64 * 59, 50, 1e9, 40),
+                records(64 * 59, 64 * 59, 50, 4.0, 41),
+                records(64 * 59, 64 * 59, 0, 1e9, 40),
+                records(65 * 59, 64 * 59, 4, 1e9, 40),
+                records(64 * 59, 65 * 59, 4, 1e9, 40),
+                records(64 * 59, 63 * 59 + 1, 4, 1e9, 40),
+                records(5 * 59, 64 * 59, 4, 1e9, 40),
+                records(64 * 59, 64 * 59, 4, 1e9, 39),
+                records(0, 0, 4, 1e9, 40),
+            ]),
+        ),
+        (
+            "read_records",
+            most([64 * 59, 65 * 59, 63 * 59 + 1, 59, 0].map(read_records)),
+        ),
+        (
+            "write_records",
+            most([
+                write_records(64, 64 * 59),
+                write_records(65, 65 * 59),
+                write_records(64, 64 * 59 - 1),
+                write_records(0, 0),
             ]),
         ),
         (

@@ -3,6 +3,7 @@ pub mod between;
 mod columns;
 pub mod corrections;
 pub mod estimates;
+pub mod firmware;
 pub mod line;
 pub mod matrix;
 pub mod numbers;

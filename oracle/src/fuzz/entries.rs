@@ -8,6 +8,7 @@ mod pieces;
 mod times;
 mod track;
 mod trips;
+mod wire;
 
 use super::Bytes;
 use crate::random::pattern;
@@ -22,6 +23,9 @@ pub const ENTRIES: &[Entry] = &[
     ("displacement", displacement::displacement),
     ("between", displacement::between),
     ("line", line::line),
+    ("read_records", wire::read_records),
+    ("write_records", wire::write_records),
+    ("records", wire::displacement_records),
     ("add_epoch", corrections::add_epoch),
     ("query", corrections::query),
     ("queries", corrections::queries),

@@ -22,6 +22,8 @@ pub mod time;
 mod top;
 pub mod track;
 pub mod trip;
+pub mod wire;
+pub mod wire_tdcp;
 
 use crate::random::Random;
 use crate::tally::Tally;
@@ -66,6 +68,9 @@ pub const KINDS: &[(u64, &str, Make)] = &[
     (22, "between", between::vectors),
     (23, "widen", corrections::stored::widen),
     (27, "trip", trip::vectors),
+    (40, "read", wire::read),
+    (41, "write", wire::write),
+    (42, "records", wire_tdcp::vectors),
 ];
 
 /// Every service, lowest first.
@@ -85,6 +90,8 @@ pub const SERVICES: &[Service] = &[
     time::SERVICE,
     between::SERVICE,
     trip::SERVICE,
+    wire::SERVICE,
+    wire_tdcp::SERVICE,
     fix::SERVICE,
     top::DISPLACEMENT,
     top::FIX,
