@@ -650,6 +650,8 @@ uint8_t zaqnuti_widen_bands(
  * Refuses by 2 (too many, or a column, result or work shorter than the counts
  * need), 3, 4, 6 and 10 (the first pass fails; a later one that fails ends the
  * work and keeps the last good track).
+ * How far a track may miss its equations, row by row, is stated in
+ * docs/SCOPE.md, "Track", and proved for every call.
  */
 uint8_t zaqnuti_smooth(
     size_t epochs,

@@ -6,6 +6,7 @@ mod centre;
 mod clocks;
 pub mod corrections;
 mod displacement;
+mod equations;
 mod estimator;
 pub mod factor;
 mod fix;
@@ -97,6 +98,7 @@ pub const SERVICES: &[Service] = &[
     top::FIX,
     soundness::SERVICE,
     track::SERVICE,
+    equations::SERVICE,
     corrections::SERVICE,
     line::SERVICE,
 ];
