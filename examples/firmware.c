@@ -1,7 +1,8 @@
 /*
  * One of each service as firmware would call it: a fix, times, a displacement,
- * the same of epochs that are kept and sent as bytes, a text in the line form,
- * a day's trip, two epochs of corrections with a query, and a track.
+ * its compass directions, the same of epochs that are kept and sent as bytes,
+ * a text in the line form, a day's trip, two epochs of corrections with a
+ * query, and a track.
  * The sky is made up, so the answers are known: the program prints them and
  * exits with 1 where one is not as expected.
  *
@@ -504,6 +505,23 @@ static void trip(void)
            (unsigned long)day[1], metres(report[0]), metres(report[1]), metres(report[2]), (unsigned long)report[3], (unsigned long)per_km);
 }
 
+/* A displacement by compass: on the equator at longitude 0 z is north, y is east and x is up. */
+static void directions(void)
+{
+    const double equator[3] = {6378137.0, 0.0, 0.0};
+    const double far[3] = {6378137.0, 0.0, 1000000001.0};
+    const double by[3] = {1.0, 2.0, 3.0};
+    double ned[3] = {0.0, 0.0, 0.0};
+
+    printf("directions\n");
+    expect_number("number", zaqnuti_north_east_down(equator, by, ned), 0);
+    expect("north, m", ned[0], 3.0, 0.0);
+    expect("east, m", ned[1], 2.0, 0.0);
+    expect("down, m", ned[2], -1.0, 0.0);
+    expect_number("beyond 1e9 m", zaqnuti_north_east_down(far, by, ned), ZAQNUTI_NOT_TURNED);
+    expect("result kept, m", ned[0], 3.0, 0.0);
+}
+
 int main(void)
 {
     fix();
@@ -511,6 +529,7 @@ int main(void)
     drive();
     displacement();
     records();
+    directions();
     line_form();
     trip();
     corrections();

@@ -17,7 +17,7 @@
  * and answers or refuses. It never aborts, unwinds or loops on.
  *
  * Answer. A function that gives uint8_t gives 0 where it answers, or the
- * number of its refusal, 1 to 17, of which the first that applies is given
+ * number of its refusal, 1 to 21, of which the first that applies is given
  * (ZAQNUTI_TOO_MANY and so on; docs/REFUSALS.md). A refusal is the number
  * alone: every result and every table keeps its bytes. The functions that
  * give another type, or nothing, never refuse.
@@ -67,6 +67,7 @@
  *     smooth             768
  *     times              256
  *     trip               256
+ *     north_east_down    256
  *     round            8,704
  *     centre             768
  *     geometry           256
@@ -107,7 +108,8 @@ extern "C" {
 
 /*
  * Why a call turns back, in checking order, but that 13 is tested between 4 and 5,
- * 15 before 7 and before 10, and 21 before 2.
+ * 15 before 7 and before 10, 19 in place of 4, and
+ * 21 before 2.
  */
 enum zaqnuti_refusal {
     ZAQNUTI_BROKEN_FORM = 1,           /* a text is too long or breaks the line form */
@@ -127,6 +129,7 @@ enum zaqnuti_refusal {
     ZAQNUTI_ON_RECEIVER = 15,          /* the range of a satellite is zero or not finite */
     ZAQNUTI_BAD_TRIP = 16,             /* a trip, its pulse rate or a displacement for it is out of its limits */
     ZAQNUTI_NO_DISTANCE = 17,          /* fuel per kilometre is wanted at zero carrier distance */
+    ZAQNUTI_NOT_TURNED = 19,           /* a vector cannot be turned to north, east and down */
     ZAQNUTI_BROKEN_RECORDS = 21        /* the bytes of carrier records are no multiple of 59 */
 };
 
@@ -490,6 +493,23 @@ uint8_t zaqnuti_displacement_records(
     double mask,
     uint32_t rounds,
     uint8_t *result, size_t result_length);
+/* ---- directions */
+
+/*
+ * A displacement along north, east and down at a place, as a compass has them.
+ *
+ * position       the place, earth-centred and earth-fixed (m)
+ * displacement   the displacement along x, y and z (m)
+ * ned            along the north, along the east, and straight down (m),
+ *                finite; a displacement south, west or up is below 0
+ *
+ * It is worked out without angles. Within 1e-9 m of the earth's axis the
+ * longitude is taken as 0.
+ * Refuses by 19 (a coordinate of either is not finite or above 1e9 in
+ * magnitude, or a component of the result is not finite, as 42,698 m from the
+ * earth's centre in the plane of the equator).
+ */
+uint8_t zaqnuti_north_east_down(const double position[3], const double displacement[3], double ned[3]);
 
 /* ---- the corrections */
 

@@ -72,6 +72,7 @@ static inline const char *zaqnuti_refusal_text(uint8_t number)
     case ZAQNUTI_BAD_TRIP: return "a displacement not finite or longer than 1,000 m, a full trip, a pulse rate of 0, or a trip out of its limits";
     case ZAQNUTI_NO_DISTANCE: return "fuel per kilometre at zero carrier distance";
     case ZAQNUTI_BROKEN_RECORDS: return "the bytes of carrier records are no multiple of 59";
+    case ZAQNUTI_NOT_TURNED: return "a coordinate is not finite or above 1e9, or there is no north, east and down at the place";
     default: return "no such number";
     }
 }
@@ -359,6 +360,31 @@ static inline uint8_t zaqnuti_easy_trip_report(const zaqnuti_trip *trip, zaqnuti
         report->odometer = r[1];
         report->greatest = r[2];
         report->reached = r[3];
+    }
+    return number;
+}
+
+/* ---- directions */
+
+/* A displacement by compass (m); south, west and up are below 0. */
+typedef struct zaqnuti_ned {
+    double north;
+    double east;
+    double down;
+} zaqnuti_ned;
+
+/* A displacement at a place, along north, east and down. */
+static inline uint8_t zaqnuti_easy_north_east_down(zaqnuti_vector place, zaqnuti_vector displacement, zaqnuti_ned *ned)
+{
+    const double at[3] = {place.x, place.y, place.z};
+    const double by[3] = {displacement.x, displacement.y, displacement.z};
+    double along[3] = {0.0, 0.0, 0.0};
+    uint8_t number = zaqnuti_north_east_down(at, by, along);
+
+    if (number == 0) {
+        ned->north = along[0];
+        ned->east = along[1];
+        ned->down = along[2];
     }
     return number;
 }

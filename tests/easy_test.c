@@ -304,6 +304,43 @@ static void times(void)
     }
 }
 
+/* ---- directions */
+
+/* The same of a displacement at a place. */
+static void directions(void)
+{
+    size_t k;
+
+    for (k = 0; k < 20000; k++) {
+        const double earth = chance(9) == 0 ? 1e-9 : 6378137.0;
+        zaqnuti_vector place;
+        zaqnuti_vector by;
+        zaqnuti_ned easy = {7.5, 7.5, 7.5};
+        double at[3];
+        double along[3];
+        double ned[3] = {7.5, 7.5, 7.5};
+        uint8_t number;
+        size_t i;
+        for (i = 0; i < 3; i++) {
+            at[i] = earth * (1e-3 * (double)chance(2001) - 1.0);
+            along[i] = 1e-3 * (double)chance(200001) - 100.0;
+            alter(&at[i], 30);
+            alter(&along[i], 30);
+        }
+        place.x = at[0];
+        place.y = at[1];
+        place.z = at[2];
+        by.x = along[0];
+        by.y = along[1];
+        by.z = along[2];
+        number = zaqnuti_north_east_down(at, along, ned);
+        met[number] += 1;
+        same(zaqnuti_easy_north_east_down(place, by, &easy) == number, "north, east, down, its number");
+        same(memcmp(&easy, ned, sizeof ned) == 0, "north, east, down");
+        same(number == 0 || (ned[0] == 7.5 && ned[1] == 7.5 && ned[2] == 7.5), "north, east, down, the result of a refusal");
+    }
+}
+
 /* ---- the corrections: a table of each side, to which the same epochs are added */
 
 static zaqnuti_table easy_table;
@@ -994,6 +1031,11 @@ static void texts(void)
     for (a = 22; a < 256; a++) {
         same(strcmp(zaqnuti_refusal_text((uint8_t)a), "no such number") == 0, "the text of no number");
     }
+
+    same(strcmp(zaqnuti_refusal_text(ZAQNUTI_NOT_TURNED), zaqnuti_refusal_text(0)) != 0, "the text of 19");
+    for (a = 15; a < 256; a++) {
+        same(a == ZAQNUTI_NOT_TURNED || strcmp(zaqnuti_refusal_text((uint8_t)a), "no such number") == 0, "the text of no number");
+    }
 }
 
 /* The settings of the two headers are the same. */
@@ -1031,6 +1073,7 @@ int main(int count, char **word)
     }
     times();
     trips();
+    directions();
     tracks();
     corrections();
     texts();
@@ -1046,6 +1089,7 @@ int main(int count, char **word)
     }
     same(met[ZAQNUTI_BAD_TRIP] != 0 && met[ZAQNUTI_NO_DISTANCE] != 0, "a number of a trip that was never met");
     same(met[ZAQNUTI_BROKEN_RECORDS] != 0, "21 was never met");
+    same(met[ZAQNUTI_NOT_TURNED] != 0, "19 that was never met");
     printf("\n%lu compared, %lu differ\n", compared, different);
     return different == 0 ? 0 : 1;
 }

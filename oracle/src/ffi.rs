@@ -1,6 +1,7 @@
 //! A safe function over each C entry point of the Rattle library, on columns of any length: the bindings' own fit theirs to the count.
 
 mod columns;
+mod directions;
 mod displacement;
 mod fix;
 mod line;
@@ -10,6 +11,7 @@ mod trips;
 mod wire;
 
 pub use columns::Columns;
+pub use directions::*;
 pub use displacement::*;
 pub use fix::*;
 pub use line::*;

@@ -62,6 +62,7 @@ static const struct kind kinds[] = {
     {40, "read", same_read},
     {41, "write", same_write},
     {42, "records", same_records},
+    {31, "directions", same_directions},
 };
 
 #define KINDS (sizeof kinds / sizeof *kinds)

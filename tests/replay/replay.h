@@ -75,5 +75,6 @@ bool same_trip(struct stored *s);
 bool same_read(struct stored *s);
 bool same_write(struct stored *s);
 bool same_records(struct stored *s);
+bool same_directions(struct stored *s);
 
 #endif

@@ -7,6 +7,7 @@
 //! | [`time`] | epoch times in whole nanoseconds |
 //! | [`trip`] | odometer beside carrier distance: the totals of a trip |
 //! | [`wire`] | carrier records as bytes, and the displacement between two epochs of them |
+//! | [`frames`] | displacements along north, east and down |
 //! | [`line`](mod@line) | the displacement of a text in the line form |
 //! | [`differential`] | corrections from a base station |
 //! | [`smooth`](mod@smooth) | the track that fits anchors and links |
@@ -43,6 +44,7 @@
 extern crate alloc;
 
 pub mod differential;
+pub mod frames;
 pub mod line;
 pub mod math;
 mod refusal;

@@ -17,6 +17,12 @@ extern "C" {
     pub fn zaqnuti_trip_report(trip: *const [u64; 6], report: *mut [u64; 4]) -> u8;
     /// The fuel of a trip for a kilometre.
     pub fn zaqnuti_trip_fuel(trip: *const [u64; 6], millilitres: u32, per_km: *mut u64) -> u8;
+    /// A displacement at a place along north, east and down.
+    pub fn zaqnuti_north_east_down(
+        position: *const [f64; 3],
+        displacement: *const [f64; 3],
+        ned: *mut [f64; 3],
+    ) -> u8;
     /// The receiver's position from one epoch, with what the fit says of itself.
     pub fn zaqnuti_fix(
         constellation: *const u8,

@@ -6,6 +6,7 @@ use common::{carriers, observations, text, AT};
 use zaqnuti::differential::{
     build, Base, BaseEpoch, BaseRange, Corrections, SatelliteState, Signal,
 };
+use zaqnuti::frames::north_east_down;
 use zaqnuti::math::{self, Cholesky};
 use zaqnuti::robust::{centre_scale, elevation_sigma, geometry, step, Clocks, Row};
 use zaqnuti::smooth::{smooth, Anchor, Link};
@@ -168,6 +169,29 @@ fn times() {
     let past = GpsTime::from_nanos(last.nanos() + 1);
     assert_eq!(past.nanos_since(last), Err(Refusal::BadTime));
     assert_eq!(last.seconds_since(past), Err(Refusal::BadTime));
+}
+
+#[test]
+fn directions() {
+    let along = |x, y, z| {
+        let ned = north_east_down(Ecef::new(x, y, z), Vec3::new(1.0, 2.0, 3.0))?;
+        Ok([ned.n, ned.e, ned.d])
+    };
+    let (a, b) = (6_378_137.0, 6_356_752.314_245_179);
+    assert_eq!(along(a, 0.0, 0.0), Ok([3.0, 2.0, -1.0]));
+    assert_eq!(along(0.0, a, 0.0), Ok([3.0, -1.0, -2.0]));
+    // On the axis the longitude is 0.
+    assert_eq!(along(0.0, 0.0, b), Ok([-1.0, 2.0, -3.0]));
+    assert_eq!(along(0.0, -9e-10, -b), Ok([1.0, 2.0, 3.0]));
+    // In Berlin as long as it was.
+    let [n, e, d] = along(3_782_970.0, 902_155.0, 5_038_376.0).unwrap();
+    assert!(near(n * n + e * e + d * d, 14.0, 1e-12));
+    let none = Err(Refusal::NotTurned);
+    assert_eq!(along(1e9f64.next_up(), 0.0, 0.0), none);
+    assert_eq!(along(f64::NAN, 0.0, 0.0), none);
+    assert_eq!(along(42_697.672_707_179_97, 0.0, 0.0), none);
+    let far = north_east_down(AT, Vec3::new(0.0, f64::INFINITY, 0.0));
+    assert_eq!(far.unwrap_err(), Refusal::NotTurned);
 }
 
 #[test]

@@ -350,6 +350,16 @@ fn trip(words: [u64; 6], x: f64) -> usize {
     })
 }
 
+fn directions(position: [f64; 3], displacement: [f64; 3]) -> usize {
+    let mut ned = [0.0; 3];
+    measured(move || {
+        let frame = top();
+        // SAFETY: the last is ours alone.
+        unsafe { sys::zaqnuti_north_east_down(&position, &displacement, &mut ned) };
+        frame
+    })
+}
+
 /// The text of both epochs, of which the last byte is replaced, and a buffer of so many bytes for the line.
 fn line(rounds: usize, last: &[u8], room: usize) -> usize {
     let (before, after) = epochs();
@@ -848,6 +858,12 @@ fn no_more_than_the_header_says() {
                 trip([1000, 65_535, 0, 8, 2000, 2], 3.0),
                 trip([0; 6], f64::NAN),
                 trip([u64::MAX; 6], 1e300),
+            "north_east_down",
+            most([
+                directions([3782970.0, 902155.0, 5038376.0], [10.0, -20.0, 30.0]),
+                directions([0.0, 0.0, -6356752.0], [10.0, -20.0, 30.0]),
+                directions([0.0, 0.0, 2e9], [10.0, -20.0, 30.0]),
+                directions([5e-324, 1e-9, 0.0], [f64::NAN, 0.0, 0.0]),
             ]),
         ),
         ("geometry", geometry()),

@@ -2,6 +2,7 @@
 pub mod between;
 mod columns;
 pub mod corrections;
+pub mod directions;
 pub mod estimates;
 pub mod firmware;
 pub mod line;

@@ -1,6 +1,7 @@
 //! One function for each entry point: decode, lend, call, compare.
 
 mod corrections;
+mod directions;
 mod displacement;
 mod fix;
 mod line;
@@ -33,6 +34,7 @@ pub const ENTRIES: &[Entry] = &[
     ("smooth", track::smooth),
     ("times", times::times),
     ("trip", trips::trip),
+    ("directions", directions::directions),
     ("round", pieces::a_round),
     ("centre", pieces::centre),
     ("geometry", pieces::geometry),

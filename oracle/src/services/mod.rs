@@ -5,6 +5,7 @@ pub mod between;
 mod centre;
 mod clocks;
 pub mod corrections;
+pub mod directions;
 mod displacement;
 mod equations;
 mod estimator;
@@ -72,6 +73,7 @@ pub const KINDS: &[(u64, &str, Make)] = &[
     (40, "read", wire::read),
     (41, "write", wire::write),
     (42, "records", wire_tdcp::vectors),
+    (31, "directions", directions::vectors),
 ];
 
 /// Every service, lowest first.
@@ -89,6 +91,7 @@ pub const SERVICES: &[Service] = &[
     round::SERVICE,
     displacement::SERVICE,
     time::SERVICE,
+    directions::SERVICE,
     between::SERVICE,
     trip::SERVICE,
     wire::SERVICE,
