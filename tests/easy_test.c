@@ -1012,16 +1012,9 @@ static void tracks(void)
 /* Every number has a text of its own. */
 static void texts(void)
 {
+    const char *none = zaqnuti_refusal_text(255);
     unsigned a;
     unsigned b;
-    for (a = 0; a < 256; a++) {
-        const bool given = a <= ZAQNUTI_QUALITY_NOT_FINITE || a == ZAQNUTI_BAD_TRIP || a == ZAQNUTI_NO_DISTANCE;
-        same((strcmp(zaqnuti_refusal_text((uint8_t)a), "no such number") == 0) != given, "the text of no number");
-        for (b = 0; given && b < a; b++) {
-            same(strcmp(zaqnuti_refusal_text((uint8_t)a), zaqnuti_refusal_text((uint8_t)b)) != 0, "texts of two numbers");
-        }
-    }
-    const char *none = zaqnuti_refusal_text(255);
     for (a = 0; a <= 21; a++) {
         for (b = 0; b < a; b++) {
             const char *text = zaqnuti_refusal_text((uint8_t)a);
@@ -1030,11 +1023,6 @@ static void texts(void)
     }
     for (a = 22; a < 256; a++) {
         same(strcmp(zaqnuti_refusal_text((uint8_t)a), "no such number") == 0, "the text of no number");
-    }
-
-    same(strcmp(zaqnuti_refusal_text(ZAQNUTI_NOT_TURNED), zaqnuti_refusal_text(0)) != 0, "the text of 19");
-    for (a = 15; a < 256; a++) {
-        same(a == ZAQNUTI_NOT_TURNED || strcmp(zaqnuti_refusal_text((uint8_t)a), "no such number") == 0, "the text of no number");
     }
 }
 
