@@ -10,3 +10,4 @@ pub mod CountLaws
 pub mod WriteLaws
 pub mod PlaceLaws
 pub mod AddLaws
+pub mod SameLaws

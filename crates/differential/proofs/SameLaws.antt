@@ -17,7 +17,7 @@ use Rattle.table.proofs.Places.{sorted-rises}
 use Rattle.directory.specs.Directory.{directoryOf}
 use Rattle.directory.proofs.DirectoryLaws.{flat-directory, narrow, sound-directory}
 use Rattle.addition.specs.Add.{addedIn, flatOutcome, refusedIn}
-use Rattle.addition.proofs.PlaceLaws.{entries-fewer}
+use Rattle.addition.proofs.SameLaws.{few-entries}
 use Rattle.differential.specs.Record.{statesCount}
 use Rattle.differential.specs.Sample.{epochSamples}
 use Rattle.differential.specs.AddEpoch.{addedOf, epochIn, recordsInRange, settingsInRange, tooMany}
@@ -34,17 +34,13 @@ many-same m n room e s h = go (ltb room m) refl
     go true q = rw (lt-ltb room n (omega (arith, ltb-true room m q)))
     go false q = refl
 
-few : {n : ℕ} (t : List Sample) → length t ≤ n → length ((directoryOf t) .entries) ≤ n
-unfolding directoryOf
-few t l = omega (arith, entries-fewer 0 t)
-
 -- t the n samples of a sorted table, with svids and bands of their columns' bits
 pub epoch-same : (t : List Sample) (n room : ℕ) (e : BaseEpoch) (s : States) (base rover : Vec3) (set : Settings) → every narrow t ≡ true → sorted t ≡ true → length t ≤ n
     → flatOutcome (epochIn (length ((directoryOf t) .entries)) n room (directoryOf t) e s base rover set) ≡ addedOf n room t e s base rover set
 unfolding epochIn addedOf
 epoch-same t n room e s base rover set w r l =
     let new = epochSamples base rover set e s in
-    rw (many-same (length ((directoryOf t) .entries)) n room e s (few t l), sound-directory t w (sym (sorted-rises t) ∙ r), flat-directory t)
+    rw (many-same (length ((directoryOf t) .entries)) n room e s (few-entries t l), sound-directory t w (sym (sorted-rises t) ∙ r), flat-directory t)
     (go (tooMany n room e s) (settingsInRange set) (recordsInRange e s base rover && sound t) (ltb room (n + length new)))
   where
     go : (a b x y : Bool)
