@@ -14,7 +14,7 @@ use Rattle.walk.specs.Walk.{every}
 use Rattle.table.specs.Table.{blank, lent, ranged, rows, signalOf, sorted, sound, tableOf}
 use Rattle.table.specs.Add.{insertAll}
 use Rattle.table.specs.declared.sample.Sample.{Sample}
-use Rattle.table.proofs.ColumnLaws.{rows-at}
+use Rattle.table.proofs.ColumnLaws.{rows-at, rows-length}
 use Rattle.table.proofs.TableLaws.{and-right}
 use Rattle.table.proofs.UnitLaws.{never}
 use Rattle.table.proofs.Places.{rises, sorted-rises}
@@ -193,3 +193,26 @@ module _ (cs vs bs : List ℕ) (i j : ℕ) where
 
   pub other-at : ((not (eqb (getD cs j 0) (getD cs i 0)) || not (eqb (getD vs j 0) (getD vs i 0))) || not (eqb (getD bs j 0) (getD bs i 0))) ≡ true → SameAt cs vs bs j i → ⊥
   other-at q s = never (rw (eq-eqb (getD cs j 0) (getD cs i 0) (s .0), eq-eqb (getD vs j 0) (getD vs i 0) (s .1 .0), eq-eqb (getD bs j 0) (getD bs i 0) (s .1 .1)) at q)
+
+-- the columns keep their lengths
+module _ {t : List Sample} {n : ℕ} {dc₀ dv₀ db₀ df₀ dn₀ dc dv db df dn : List ℕ} {m i : ℕ} (inv : FiledUp t n dc₀ dv₀ db₀ df₀ dn₀ dc dv db df dn m i) (e : length t ≡ n) where
+  no-more : length (entriesFrom 0 (take i t)) ≤ n
+  no-more = omega (arith, entries-fewer 0 (take i t), length-take-le i t (omega (arith, inv .within)), inv .within)
+
+  pub long-c : n ≤ length dc₀ → length dc ≡ length dc₀
+  long-c h = ap length (inv .in-c) ∙ column-length (λ (e : Entry). e .constellation) (entriesFrom 0 (take i t)) dc₀ (omega (arith, no-more))
+
+  pub long-v : n ≤ length dv₀ → length dv ≡ length dv₀
+  long-v h = ap length (inv .in-v) ∙ column-length (λ (e : Entry). e .svid) (entriesFrom 0 (take i t)) dv₀ (omega (arith, no-more))
+
+  pub long-b : n ≤ length db₀ → length db ≡ length db₀
+  long-b h = ap length (inv .in-b) ∙ column-length (λ (e : Entry). e .band) (entriesFrom 0 (take i t)) db₀ (omega (arith, no-more))
+
+  pub long-f : n ≤ length df₀ → length df ≡ length df₀
+  long-f h = ap length (inv .in-f) ∙ column-length (λ (e : Entry). e .start) (entriesFrom 0 (take i t)) df₀ (omega (arith, no-more))
+
+  pub long-n : n ≤ length dn₀ → length dn ≡ length dn₀
+  long-n h = ap length (inv .in-n) ∙ column-length (λ (e : Entry). e .count) (entriesFrom 0 (take i t)) dn₀ (omega (arith, no-more))
+
+pub rows-within-n : (cs vs bs : List ℕ) (ts xs : List Float) (n : ℕ) → n ≤ length (rows (lent cs vs bs ts xs)) → (n ≤ length cs) × ((n ≤ length vs) × (n ≤ length bs))
+rows-within-n cs vs bs ts xs n h = let z = rows-length (lent cs vs bs ts xs) in (omega arith, (omega arith, omega arith))
