@@ -1,10 +1,10 @@
 // A line for each trial: its name, and what came.
+use addition::add::Addition;
 use libc::STDOUT_FILENO;
 use numeric::order::pattern;
 use numeric::refusal::Refusal;
 use numeric::vec3::Vec3;
 use query::query::Correction;
-use addition::add::Addition;
 use tdcp::displacement::Displacement;
 use wls::fix::Fix;
 

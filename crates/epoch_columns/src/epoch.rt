@@ -180,5 +180,20 @@ pub fn add_from(
     }
     let epoch = epoch_from(time, k, rc, rv, rb, rp);
     let states = states_from(present, w, sc, sv, sb, sf);
-    add_epoch(dc, dv, db, df, dn, m, ts, xs, n, epoch, states, base, rover, settings)
+    add_epoch(
+        dc,
+        dv,
+        db,
+        df,
+        dn,
+        m,
+        ts,
+        xs,
+        n,
+        epoch,
+        states,
+        base,
+        rover,
+        settings,
+    )
 }

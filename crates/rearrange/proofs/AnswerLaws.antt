@@ -8,6 +8,7 @@ use lib.Dec.{ltb}
 use lib.ListN.{length}
 use borrow.Author.Tests.{ltb-false, lt-ltb, le-ltb, not-true, not-false}
 use Rattle.numeric.specs.declared.refusal.Refusal.the-variants.{TooMany, RecordOutOfRange}
+use Rattle.table.proofs.UnitLaws.{never}
 use Rattle.table.specs.Table.{Columns, capacity, rows, sound, tableOf}
 use Rattle.directory.specs.Directory.{Blocks, blockCapacity, directoryIn, directoryOf, entriesFrom, entriesIn, flat, readingsIn, soundDirectory}
 use Rattle.directory.specs.Rearrange.{entriesWith, filedColumns, filedOf, listedColumns, listedOf, signalsWith}
@@ -42,7 +43,7 @@ or-left true b e = e
 or-left false b e = refl
 
 or-right : (a b : Bool) → (a || b) ≡ false → b ≡ false
-or-right true b e = sym e ∙ e
+or-right true b e = never (sym e)
 or-right false b e = e
 
 module _ (m n long : ℕ) (d : Blocks) (t : Columns) (r : ℕ) (e : r ≡ min long (blockCapacity d)) where

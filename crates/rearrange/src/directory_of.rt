@@ -28,7 +28,10 @@ fn lesser(a: usize, b: usize) -> usize
 fn entry_room(dc: &[u8], dv: &[u16], db: &[u32], df: &[usize], dn: &[usize]) -> usize
     ensures { λ r. ⌜ r ≡ length (entryRows (now (dc .entry)) (now (dv .entry)) (now (db .entry)) (now (df .entry)) (now (dn .entry))) ⌝ }
 {
-    lesser(dc.len(), lesser(dv.len(), lesser(db.len(), lesser(df.len(), dn.len()))))
+    lesser(
+        dc.len(),
+        lesser(dv.len(), lesser(db.len(), lesser(df.len(), dn.len()))),
+    )
 }
 
 // Where the samples of the satellite at the place i end.
@@ -102,7 +105,10 @@ pub fn directory_of(
         let o = filedOf n (length (entryRows (now (dc .entry)) (now (dv .entry)) (now (db .entry)) (now (df .entry)) (now (dn .entry)))) (lent (now (cs .entry)) (now (vs .entry)) (now (bs .entry)) (now (ts .entry)) (now (xs .entry))) in
         (r ≡ filingOf o) × (lentBlocks (now (dc .exit)) (now (dv .exit)) (now (db .exit)) (now (df .exit)) (now (dn .exit)) (now (ts .entry)) (now (xs .entry)) ≡ filedColumns o l)) ⌝ }
 {
-    let room = lesser(entry_room(dc, dv, db, df, dn), capacity_of(cs, vs, bs, ts, xs));
+    let room = lesser(
+        entry_room(dc, dv, db, df, dn),
+        capacity_of(cs, vs, bs, ts, xs),
+    );
     if room < n {
         return Filing::Refused(Refusal::TooMany);
     }

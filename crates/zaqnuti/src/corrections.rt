@@ -71,7 +71,30 @@ pub extern "C" fn zaqnuti_add_epoch(
     let entries = *blocks;
     let samples = *n;
     let answer = add_from(
-        dc, dv, db, df, dn, entries, ts, xs, samples, time, k, rc, rv, rb, rp, present, j, sc, sv, sb, sf, from, to, settings,
+        dc,
+        dv,
+        db,
+        df,
+        dn,
+        entries,
+        ts,
+        xs,
+        samples,
+        time,
+        k,
+        rc,
+        rv,
+        rb,
+        rp,
+        present,
+        j,
+        sc,
+        sv,
+        sb,
+        sf,
+        from,
+        to,
+        settings,
     );
     match answer {
         Addition::Refused(why) => why.number(),

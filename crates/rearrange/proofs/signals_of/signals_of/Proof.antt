@@ -1,9 +1,11 @@
 -- `rearrange::signals_of::signals_of` meets its contract. Assumes nothing.
 use native.Mathlib.Omega.{arith}
-use mathlib.Core.Path.{sym, _∙_}
+use mathlib.Core.Path.{_≡_, sym, _∙_}
+use Prim.Native.Nat.{min}
+use lib.ListN.{length}
 use borrow.Author.Tests.{not-false}
 use Rattle.table.specs.Table.{lent}
-use Rattle.directory.specs.Directory.{lentBlocks}
+use Rattle.directory.specs.Directory.{blockCapacity, lentBlocks}
 use Rattle.rearrange.proofs.AnswerLaws.{list-done, list-fits, list-many, list-unsound}
 use borrow.Author.Needs.{needs}
 use Rattle.rearrange.proofs.signals_of.signals_of.Statement.{statement}
@@ -24,27 +26,27 @@ lesser-requires-3 c κs = search needs
 returns : tie.Need-returns
 returns c =
     let a = c .before .before .before .before .before .before .before .before .before .before .before .before .before .before .before .args in
-    let e = c .before .lesser3 .ensures ∙ rw (c .before .before .before .lesser2 .ensures, c .before .before .before .before .lesser .ensures, c .before .before .block-capacity .ensures) in
-    list-many (a .m) (a .n) _ (lentBlocks (a .dc .now) (a .dv .now) (a .db .now) (a .df .now) (a .dn .now) (a .ts .now) (a .xs .now)) (lent (a .cs .now) (a .vs .now) (a .bs .now) (a .ts .now) (a .xs .now)) _ e (c .if1 .taken)
+    let e : c .before .lesser3 .result ≡ min (min (length (a .cs .now)) (min (length (a .vs .now)) (length (a .bs .now)))) (blockCapacity (lentBlocks (a .dc .now) (a .dv .now) (a .db .now) (a .df .now) (a .dn .now) (a .ts .now) (a .xs .now))) = c .before .lesser3 .ensures ∙ rw (c .before .before .before .lesser2 .ensures, c .before .before .before .before .lesser .ensures, c .before .before .block-capacity .ensures) in
+    list-many (a .m) (a .n) (min (length (a .cs .now)) (min (length (a .vs .now)) (length (a .bs .now)))) (lentBlocks (a .dc .now) (a .dv .now) (a .db .now) (a .df .now) (a .dn .now) (a .ts .now) (a .xs .now)) (lent (a .cs .now) (a .vs .now) (a .bs .now) (a .ts .now) (a .xs .now)) _ e (c .if1 .taken)
 
 is-sound-directory-requires : tie.Need-is-sound-directory-requires
 is-sound-directory-requires c κs =
     let a = c .before .before .before .before .before .before .before .before .before .before .before .before .before .before .before .args in
-    let e = c .before .lesser3 .ensures ∙ rw (c .before .before .before .lesser2 .ensures, c .before .before .before .before .lesser .ensures, c .before .before .block-capacity .ensures) in
-    let f = list-fits (a .m) (a .n) _ (lentBlocks (a .dc .now) (a .dv .now) (a .db .now) (a .df .now) (a .dn .now) (a .ts .now) (a .xs .now)) (lent (a .cs .now) (a .vs .now) (a .bs .now) (a .ts .now) (a .xs .now)) _ e (c .if1 .left) in
+    let e : c .before .lesser3 .result ≡ min (min (length (a .cs .now)) (min (length (a .vs .now)) (length (a .bs .now)))) (blockCapacity (lentBlocks (a .dc .now) (a .dv .now) (a .db .now) (a .df .now) (a .dn .now) (a .ts .now) (a .xs .now))) = c .before .lesser3 .ensures ∙ rw (c .before .before .before .lesser2 .ensures, c .before .before .before .before .lesser .ensures, c .before .before .block-capacity .ensures) in
+    let f = list-fits (a .m) (a .n) (min (length (a .cs .now)) (min (length (a .vs .now)) (length (a .bs .now)))) (lentBlocks (a .dc .now) (a .dv .now) (a .db .now) (a .df .now) (a .dn .now) (a .ts .now) (a .xs .now)) (lent (a .cs .now) (a .vs .now) (a .bs .now) (a .ts .now) (a .xs .now)) _ e (c .if1 .left) in
     (f .0, f .1 .0)
 
 returns-2 : tie.Need-returns-2
 returns-2 c =
     let a = c .before .before .before .before .before .before .before .before .before .before .before .before .before .before .before .before .before .args in
-    let e = c .before .before .before .lesser3 .ensures ∙ rw (c .before .before .before .before .before .lesser2 .ensures, c .before .before .before .before .before .before .lesser .ensures, c .before .before .before .before .block-capacity .ensures) in
-    list-unsound (a .m) (a .n) _ (lentBlocks (a .dc .now) (a .dv .now) (a .db .now) (a .df .now) (a .dn .now) (a .ts .now) (a .xs .now)) (lent (a .cs .now) (a .vs .now) (a .bs .now) (a .ts .now) (a .xs .now)) _ e (c .before .before .if1 .left) (c .before .is-sound-directory .ensures) (c .if2 .taken)
+    let e : c .before .before .before .lesser3 .result ≡ min (min (length (a .cs .now)) (min (length (a .vs .now)) (length (a .bs .now)))) (blockCapacity (lentBlocks (a .dc .now) (a .dv .now) (a .db .now) (a .df .now) (a .dn .now) (a .ts .now) (a .xs .now))) = c .before .before .before .lesser3 .ensures ∙ rw (c .before .before .before .before .before .lesser2 .ensures, c .before .before .before .before .before .before .lesser .ensures, c .before .before .before .before .block-capacity .ensures) in
+    list-unsound (a .m) (a .n) (min (length (a .cs .now)) (min (length (a .vs .now)) (length (a .bs .now)))) (lentBlocks (a .dc .now) (a .dv .now) (a .db .now) (a .df .now) (a .dn .now) (a .ts .now) (a .xs .now)) (lent (a .cs .now) (a .vs .now) (a .bs .now) (a .ts .now) (a .xs .now)) _ e (c .before .before .if1 .left) (c .before .is-sound-directory .ensures) (c .if2 .taken)
 
 list-all-requires : tie.Need-list-all-requires
 list-all-requires c κs =
     let a = c .before .before .before .before .before .before .before .before .before .before .before .before .before .before .before .before .before .before .before .before .args in
-    let e = c .before .before .before .before .before .before .lesser3 .ensures ∙ rw (c .before .before .before .before .before .before .before .before .lesser2 .ensures, c .before .before .before .before .before .before .before .before .before .lesser .ensures, c .before .before .before .before .before .before .before .block-capacity .ensures) in
-    let f = list-fits (a .m) (a .n) _ (lentBlocks (a .dc .now) (a .dv .now) (a .db .now) (a .df .now) (a .dn .now) (a .ts .now) (a .xs .now)) (lent (a .cs .now) (a .vs .now) (a .bs .now) (a .ts .now) (a .xs .now)) _ e (c .before .before .before .before .before .if1 .left) in
+    let e : c .before .before .before .before .before .before .lesser3 .result ≡ min (min (length (a .cs .now)) (min (length (a .vs .now)) (length (a .bs .now)))) (blockCapacity (lentBlocks (a .dc .now) (a .dv .now) (a .db .now) (a .df .now) (a .dn .now) (a .ts .now) (a .xs .now))) = c .before .before .before .before .before .before .lesser3 .ensures ∙ rw (c .before .before .before .before .before .before .before .before .lesser2 .ensures, c .before .before .before .before .before .before .before .before .before .lesser .ensures, c .before .before .before .before .before .before .before .block-capacity .ensures) in
+    let f = list-fits (a .m) (a .n) (min (length (a .cs .now)) (min (length (a .vs .now)) (length (a .bs .now)))) (lentBlocks (a .dc .now) (a .dv .now) (a .db .now) (a .df .now) (a .dn .now) (a .ts .now) (a .xs .now)) (lent (a .cs .now) (a .vs .now) (a .bs .now) (a .ts .now) (a .xs .now)) _ e (c .before .before .before .before .before .if1 .left) in
     ((f .0, f .1 .0), ((omega (arith, f .1 .1), (omega (arith, f .1 .1), omega (arith, f .1 .1))), sym (c .before .before .before .before .is-sound-directory .ensures) ∙ not-false (c .before .before .before .before .is-sound-directory .result) (c .before .before .before .if2 .left)))
 
 same-length : tie.Need-same-length
@@ -59,8 +61,8 @@ same-length-3 c = search needs
 returns-3 : tie.Need-returns-3
 returns-3 c =
     let a = c .before .before .before .before .before .before .before .before .before .before .before .before .before .before .before .before .before .before .before .before .before .before .before .before .before .before .before .args in
-    let e = c .before .before .before .before .before .before .before .before .before .before .before .before .before .lesser3 .ensures ∙ rw (c .before .before .before .before .before .before .before .before .before .before .before .before .before .before .before .lesser2 .ensures, c .before .before .before .before .before .before .before .before .before .before .before .before .before .before .before .before .lesser .ensures, c .before .before .before .before .before .before .before .before .before .before .before .before .before .before .block-capacity .ensures) in
-    list-done (a .m) (a .n) _ (lentBlocks (a .dc .now) (a .dv .now) (a .db .now) (a .df .now) (a .dn .now) (a .ts .now) (a .xs .now)) (lent (a .cs .now) (a .vs .now) (a .bs .now) (a .ts .now) (a .xs .now)) _ e (c .before .before .before .before .before .before .before .before .before .before .before .before .if1 .left) (c .before .before .before .before .before .before .before .before .before .before .before .is-sound-directory .ensures) (c .before .before .before .before .before .before .before .before .before .before .if2 .left) _ (c .before .before .before .before .before .before .list-all .ensures)
+    let e : c .before .before .before .before .before .before .before .before .before .before .before .before .before .lesser3 .result ≡ min (min (length (a .cs .now)) (min (length (a .vs .now)) (length (a .bs .now)))) (blockCapacity (lentBlocks (a .dc .now) (a .dv .now) (a .db .now) (a .df .now) (a .dn .now) (a .ts .now) (a .xs .now))) = c .before .before .before .before .before .before .before .before .before .before .before .before .before .lesser3 .ensures ∙ rw (c .before .before .before .before .before .before .before .before .before .before .before .before .before .before .before .lesser2 .ensures, c .before .before .before .before .before .before .before .before .before .before .before .before .before .before .before .before .lesser .ensures, c .before .before .before .before .before .before .before .before .before .before .before .before .before .before .block-capacity .ensures) in
+    list-done (a .m) (a .n) (min (length (a .cs .now)) (min (length (a .vs .now)) (length (a .bs .now)))) (lentBlocks (a .dc .now) (a .dv .now) (a .db .now) (a .df .now) (a .dn .now) (a .ts .now) (a .xs .now)) (lent (a .cs .now) (a .vs .now) (a .bs .now) (a .ts .now) (a .xs .now)) _ e (c .before .before .before .before .before .before .before .before .before .before .before .before .if1 .left) (c .before .before .before .before .before .before .before .before .before .before .before .is-sound-directory .ensures) (c .before .before .before .before .before .before .before .before .before .before .if2 .left) _ (c .before .before .before .before .before .before .list-all .ensures)
 
 pub signals-of-spec : {M : Type 1} → statement M
 signals-of-spec =
