@@ -52,17 +52,17 @@
  * recurses. Each page is touched in order, so that a stack that is too small
  * ends at its guard page.
  *
- *     fix             26,112
- *     position        26,112
- *     displacement    16,640
- *     between         16,128
- *     line            40,704
- *     records         24,064
+ *     fix             25,088
+ *     position        25,088
+ *     displacement    21,760
+ *     between         21,248
+ *     line            45,824
+ *     records         29,184
  *     read_records       256
  *     write_records      256
- *     add_epoch       17,920
+ *     add_epoch       18,432
  *     query              512
- *     queries            512
+ *     queries            768
  *     widen_bands        256
  *     smooth             768
  *     times              256
