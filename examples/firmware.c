@@ -352,6 +352,9 @@ struct table {
     uint8_t constellation[ZAQNUTI_SAMPLES];
     uint16_t svid[ZAQNUTI_SAMPLES];
     uint32_t band[ZAQNUTI_SAMPLES];
+    size_t first[ZAQNUTI_SAMPLES];
+    size_t samples[ZAQNUTI_SAMPLES];
+    size_t blocks;
     double time[ZAQNUTI_SAMPLES];
     double metres[ZAQNUTI_SAMPLES];
     size_t count;
@@ -379,6 +382,7 @@ static uint8_t add(struct table *t, double time, double error)
     }
     return zaqnuti_add_epoch(
         t->constellation, ZAQNUTI_SAMPLES, t->svid, ZAQNUTI_SAMPLES, t->band, ZAQNUTI_SAMPLES,
+        t->first, ZAQNUTI_SAMPLES, t->samples, ZAQNUTI_SAMPLES, &t->blocks,
         t->time, ZAQNUTI_SAMPLES, t->metres, ZAQNUTI_SAMPLES, &t->count,
         time, SATELLITES, constellation, SATELLITES, svid, SATELLITES, band, SATELLITES, range, SATELLITES,
         true, SATELLITES, constellation, SATELLITES, svid, SATELLITES, band, SATELLITES, states, 8 * SATELLITES,
@@ -389,6 +393,7 @@ static uint8_t query(const struct table *t, double time, double *metres)
 {
     return zaqnuti_query(
         t->constellation, ZAQNUTI_SAMPLES, t->svid, ZAQNUTI_SAMPLES, t->band, ZAQNUTI_SAMPLES,
+        t->first, ZAQNUTI_SAMPLES, t->samples, ZAQNUTI_SAMPLES, t->blocks,
         t->time, ZAQNUTI_SAMPLES, t->metres, ZAQNUTI_SAMPLES, t->count,
         90.0, 1, 2, 1, time, metres);
 }
@@ -402,6 +407,7 @@ static uint8_t queries(const struct table *t, const double *times, size_t count,
 
     return zaqnuti_queries(
         t->constellation, ZAQNUTI_SAMPLES, t->svid, ZAQNUTI_SAMPLES, t->band, ZAQNUTI_SAMPLES,
+        t->first, ZAQNUTI_SAMPLES, t->samples, ZAQNUTI_SAMPLES, t->blocks,
         t->time, ZAQNUTI_SAMPLES, t->metres, ZAQNUTI_SAMPLES, t->count,
         90.0, constellation, 3, svid, 3, band, 3, times, count, count, numbers, count, metres, count);
 }

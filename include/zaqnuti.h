@@ -594,12 +594,18 @@ uint8_t zaqnuti_trip_displacement(
 /*
  * One epoch of a base station added to a table of corrections.
  *
- * table_..       the table: constellation, svid and band of each sample, its
- *                time (s of the week) and correction (m, to be subtracted
- *                from a rover's pseudorange), sorted by constellation, svid,
- *                band and time. Its capacity is the shortest of the five
- *                columns, at most 2,048.
+ * table_..       the table's samples: time (s of the week) and correction (m,
+ *                to be subtracted from a rover's pseudorange), one block after
+ *                the other, each in the order of time
  * table_count    how many samples the table has; 0 is an empty table
+ * block_..       its directory: constellation, svid and band of each block's
+ *                signal, the place of its first sample and how many it has,
+ *                sorted by constellation, svid and band
+ * blocks         how many blocks the directory has
+ *
+ * The table's capacity is the shortest of its seven columns, the directory's
+ * too, at most 2,048. A directory as long as the columns is always enough.
+ *
  * time           the epoch's time, s of the week
  * ranges         how many ranges, at most 64
  * range_..       constellation, svid and band of each range, and its
@@ -617,16 +623,22 @@ uint8_t zaqnuti_trip_displacement(
  * corrected      whether each constellation 0 to 7 is corrected; those from 8
  *                up yield nothing
  *
- * Where it answers, the columns and table_count hold the table with the
- * epoch's samples in their places; otherwise every byte of them is as it was.
- * Refuses by 2 (more than 64 ranges or states, a column shorter than its
- * count needs, table_count above the capacity), 3 (max_gap, max_correction),
- * 4 (also a table that is not sorted) and 11.
+ * Where it answers, the columns, blocks and table_count hold the table with
+ * the epoch's samples in their places; otherwise every byte of them is as it
+ * was. Refuses by 2 (more than 64 ranges or states, a column shorter than its
+ * count needs, table_count or blocks above the capacity), 3 (max_gap,
+ * max_correction), 4 (also a directory that is not sorted, names a signal
+ * twice, holds an empty block or does not lay its blocks one after the other
+ * from the first sample to the last, and times out of order in a block) and
+ * 11.
  */
 uint8_t zaqnuti_add_epoch(
-    uint8_t *table_constellation, size_t table_constellation_length,
-    uint16_t *table_svid, size_t table_svid_length,
-    uint32_t *table_band, size_t table_band_length,
+    uint8_t *block_constellation, size_t block_constellation_length,
+    uint16_t *block_svid, size_t block_svid_length,
+    uint32_t *block_band, size_t block_band_length,
+    size_t *block_first, size_t block_first_length,
+    size_t *block_samples, size_t block_samples_length,
+    size_t *blocks,
     double *table_time, size_t table_time_length,
     double *table_metres, size_t table_metres_length,
     size_t *table_count,
@@ -650,19 +662,22 @@ uint8_t zaqnuti_add_epoch(
 
 /*
  * The correction of a signal (constellation, svid, band) at a time (s of the
- * week) in metres, from the first table_count samples of a table as
- * zaqnuti_add_epoch leaves it. A sample less than 1e-6 s away is answered as
+ * week) in metres, from a table as zaqnuti_add_epoch leaves it. A sample less than 1e-6 s away is answered as
  * it stands, also just past the last one. A gap between two samples is bridged
  * where it is at most max_gap seconds.
  *
- * Refuses by 2 (table_count above the capacity), 3 (max_gap), 4 (a float of
- * the table, or the table not sorted; a finite time above 1e9) and 12 (no
- * sample, the time outside the samples or in too long a gap, or not finite).
+ * Refuses by 2 (table_count or blocks above the capacity), 3 (max_gap), 4 (a
+ * float of the table, or its directory, as above; a finite time above 1e9) and
+ * 12 (no sample, the time outside the samples or in too long a gap, or not
+ * finite).
  */
 uint8_t zaqnuti_query(
-    const uint8_t *table_constellation, size_t table_constellation_length,
-    const uint16_t *table_svid, size_t table_svid_length,
-    const uint32_t *table_band, size_t table_band_length,
+    const uint8_t *block_constellation, size_t block_constellation_length,
+    const uint16_t *block_svid, size_t block_svid_length,
+    const uint32_t *block_band, size_t block_band_length,
+    const size_t *block_first, size_t block_first_length,
+    const size_t *block_samples, size_t block_samples_length,
+    size_t blocks,
     const double *table_time, size_t table_time_length,
     const double *table_metres, size_t table_metres_length,
     size_t table_count,
@@ -683,14 +698,17 @@ uint8_t zaqnuti_query(
  * metres         for each place its correction; as it was where it is refused
  *
  * Each place has what zaqnuti_query would answer for it. The call itself
- * refuses by 2 (table_count above the capacity, or one of the last six columns
- * shorter than count), 3 (max_gap) and 4 (the table): then every place is as
- * it was.
+ * refuses by 2 (table_count or blocks above the capacity, or one of the last
+ * six columns shorter than count), 3 (max_gap) and 4 (the table): then every
+ * place is as it was.
  */
 uint8_t zaqnuti_queries(
-    const uint8_t *table_constellation, size_t table_constellation_length,
-    const uint16_t *table_svid, size_t table_svid_length,
-    const uint32_t *table_band, size_t table_band_length,
+    const uint8_t *block_constellation, size_t block_constellation_length,
+    const uint16_t *block_svid, size_t block_svid_length,
+    const uint32_t *block_band, size_t block_band_length,
+    const size_t *block_first, size_t block_first_length,
+    const size_t *block_samples, size_t block_samples_length,
+    size_t blocks,
     const double *table_time, size_t table_time_length,
     const double *table_metres, size_t table_metres_length,
     size_t table_count,
@@ -722,6 +740,62 @@ uint8_t zaqnuti_widen_bands(
     const uint8_t *narrow, size_t narrow_length,
     size_t count,
     uint32_t *wide, size_t wide_length);
+
+/*
+ * The directory of a table that was stored before 0.5.0, with a constellation,
+ * svid and band for each sample and no directory: the calls above take it with
+ * that directory. Times and corrections stay as they are, and so do the
+ * samples and their order.
+ *
+ * constellation, svid, band, table_time, table_metres
+ *                the old columns, sorted by constellation, svid, band and time
+ * table_count    how many samples the table has
+ * block_..       the directory's columns; past the entries written they stay
+ *                as they were
+ * blocks         how many entries there are now
+ *
+ * With a directory as long as the columns every query, every epoch added and
+ * every refusal is what the old form gave.
+ * Refuses by 2 (table_count above 2,048 or a column shorter than it) and 4 (a
+ * float of the table out of range, or samples out of order); then the
+ * directory and its count are as they were.
+ */
+uint8_t zaqnuti_directory_of(
+    const uint8_t *constellation, size_t constellation_length,
+    const uint16_t *svid, size_t svid_length,
+    const uint32_t *band, size_t band_length,
+    const double *table_time, size_t table_time_length,
+    const double *table_metres, size_t table_metres_length,
+    size_t table_count,
+    uint8_t *block_constellation, size_t block_constellation_length,
+    uint16_t *block_svid, size_t block_svid_length,
+    uint32_t *block_band, size_t block_band_length,
+    size_t *block_first, size_t block_first_length,
+    size_t *block_samples, size_t block_samples_length,
+    size_t *blocks);
+
+/*
+ * The way back: the constellation, svid and band of each sample of a table
+ * with a directory. What is past table_count in the three columns stays as it
+ * was.
+ *
+ * Refuses by 2 (table_count or blocks above the capacity, or one of the three
+ * columns shorter than either) and 4 (a float of the table, or its directory,
+ * as in zaqnuti_add_epoch); then the three columns are as they were.
+ */
+uint8_t zaqnuti_signals_of(
+    const uint8_t *block_constellation, size_t block_constellation_length,
+    const uint16_t *block_svid, size_t block_svid_length,
+    const uint32_t *block_band, size_t block_band_length,
+    const size_t *block_first, size_t block_first_length,
+    const size_t *block_samples, size_t block_samples_length,
+    size_t blocks,
+    const double *table_time, size_t table_time_length,
+    const double *table_metres, size_t table_metres_length,
+    size_t table_count,
+    uint8_t *constellation, size_t constellation_length,
+    uint16_t *svid, size_t svid_length,
+    uint32_t *band, size_t band_length);
 
 /* ---- the track */
 

@@ -592,18 +592,25 @@ typedef struct zaqnuti_correction_settings {
 /* GPS and Galileo; GLONASS has a bias of its own for each satellite and receiver. */
 #define ZAQNUTI_EASY_CORRECTIONS {ZAQNUTI_MAX_GAP, ZAQNUTI_MAX_CORRECTION, ZAQNUTI_CORRECTED}
 
-/* A table of corrections, for one base, one rover and one choice of settings. */
+/*
+ * A table of corrections, for one base, one rover and one choice of settings:
+ * a block of samples for each signal, and where it stands.
+ */
 typedef struct zaqnuti_table {
+    size_t blocks;
     size_t count;
     uint8_t constellation[ZAQNUTI_EASY_SAMPLES];
     uint16_t svid[ZAQNUTI_EASY_SAMPLES];
     uint32_t band[ZAQNUTI_EASY_SAMPLES];
+    size_t first[ZAQNUTI_EASY_SAMPLES];
+    size_t samples[ZAQNUTI_EASY_SAMPLES];
     double time[ZAQNUTI_EASY_SAMPLES];
     double metres[ZAQNUTI_EASY_SAMPLES];
 } zaqnuti_table;
 
 static inline void zaqnuti_table_clear(zaqnuti_table *table)
 {
+    table->blocks = 0;
     table->count = 0;
 }
 
@@ -679,8 +686,9 @@ static inline uint8_t zaqnuti_easy_add_epoch(
 
     return zaqnuti_add_epoch(
         table->constellation, ZAQNUTI_EASY_SAMPLES, table->svid, ZAQNUTI_EASY_SAMPLES,
-        table->band, ZAQNUTI_EASY_SAMPLES, table->time, ZAQNUTI_EASY_SAMPLES,
-        table->metres, ZAQNUTI_EASY_SAMPLES, &table->count,
+        table->band, ZAQNUTI_EASY_SAMPLES, table->first, ZAQNUTI_EASY_SAMPLES,
+        table->samples, ZAQNUTI_EASY_SAMPLES, &table->blocks,
+        table->time, ZAQNUTI_EASY_SAMPLES, table->metres, ZAQNUTI_EASY_SAMPLES, &table->count,
         epoch->time, epoch->ranges,
         epoch->range_constellation, ZAQNUTI_RECORDS, epoch->range_svid, ZAQNUTI_RECORDS,
         epoch->range_band, ZAQNUTI_RECORDS, epoch->range_pseudorange, ZAQNUTI_RECORDS,
@@ -700,8 +708,9 @@ static inline uint8_t zaqnuti_easy_query(
 {
     return zaqnuti_query(
         table->constellation, ZAQNUTI_EASY_SAMPLES, table->svid, ZAQNUTI_EASY_SAMPLES,
-        table->band, ZAQNUTI_EASY_SAMPLES, table->time, ZAQNUTI_EASY_SAMPLES,
-        table->metres, ZAQNUTI_EASY_SAMPLES, table->count,
+        table->band, ZAQNUTI_EASY_SAMPLES, table->first, ZAQNUTI_EASY_SAMPLES,
+        table->samples, ZAQNUTI_EASY_SAMPLES, table->blocks,
+        table->time, ZAQNUTI_EASY_SAMPLES, table->metres, ZAQNUTI_EASY_SAMPLES, table->count,
         settings->max_gap, signal.constellation, signal.svid, signal.band, time, metres);
 }
 
@@ -737,8 +746,10 @@ static inline uint8_t zaqnuti_easy_queries(
     }
     return zaqnuti_queries(
         table->constellation, ZAQNUTI_EASY_SAMPLES, table->svid, ZAQNUTI_EASY_SAMPLES,
-        table->band, ZAQNUTI_EASY_SAMPLES, table->time, ZAQNUTI_EASY_SAMPLES,
-        table->metres, ZAQNUTI_EASY_SAMPLES, table->count, settings->max_gap,
+        table->band, ZAQNUTI_EASY_SAMPLES, table->first, ZAQNUTI_EASY_SAMPLES,
+        table->samples, ZAQNUTI_EASY_SAMPLES, table->blocks,
+        table->time, ZAQNUTI_EASY_SAMPLES, table->metres, ZAQNUTI_EASY_SAMPLES, table->count,
+        settings->max_gap,
         constellation, count, svid, count, band, count, times, count, count,
         numbers, count, metres, count);
 }

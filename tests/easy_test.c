@@ -400,6 +400,9 @@ static struct {
     uint8_t constellation[ZAQNUTI_SAMPLES];
     uint16_t svid[ZAQNUTI_SAMPLES];
     uint32_t band[ZAQNUTI_SAMPLES];
+    size_t first[ZAQNUTI_SAMPLES];
+    size_t samples[ZAQNUTI_SAMPLES];
+    size_t blocks;
     double time[ZAQNUTI_SAMPLES];
     double metres[ZAQNUTI_SAMPLES];
 } plain_table;
@@ -407,6 +410,9 @@ static struct {
 static void tables_same(const char *what)
 {
     same(easy_table.count == plain_table.count, what);
+    same(easy_table.blocks == plain_table.blocks, what);
+    same(memcmp(easy_table.first, plain_table.first, sizeof plain_table.first) == 0, what);
+    same(memcmp(easy_table.samples, plain_table.samples, sizeof plain_table.samples) == 0, what);
     same(memcmp(easy_table.constellation, plain_table.constellation, sizeof plain_table.constellation) == 0, what);
     same(memcmp(easy_table.svid, plain_table.svid, sizeof plain_table.svid) == 0, what);
     same(memcmp(easy_table.band, plain_table.band, sizeof plain_table.band) == 0, what);
@@ -420,6 +426,7 @@ static void tables_clear(void)
     zaqnuti_table_clear(&easy_table);
     memset(&plain_table, 0xA5, sizeof plain_table);
     plain_table.count = 0;
+    plain_table.blocks = 0;
 }
 
 /* An epoch of the base as records. */
@@ -490,6 +497,7 @@ static uint8_t plain_add(const struct base_records *e, zaqnuti_vector base, zaqn
     }
     return zaqnuti_add_epoch(
         plain_table.constellation, ZAQNUTI_SAMPLES, plain_table.svid, ZAQNUTI_SAMPLES, plain_table.band, ZAQNUTI_SAMPLES,
+        plain_table.first, ZAQNUTI_SAMPLES, plain_table.samples, ZAQNUTI_SAMPLES, &plain_table.blocks,
         plain_table.time, ZAQNUTI_SAMPLES, plain_table.metres, ZAQNUTI_SAMPLES, &plain_table.count,
         e->time, e->ranges, rc, e->ranges, rv, e->ranges, rb, e->ranges, rp, e->ranges,
         e->present, e->states, sc, e->states, sv, e->states, sb, e->states, sf, 8 * e->states,
@@ -533,6 +541,7 @@ static void query_both(const zaqnuti_signal *signals, size_t count, double time,
         easy_one = one;
         number = zaqnuti_query(
             plain_table.constellation, ZAQNUTI_SAMPLES, plain_table.svid, ZAQNUTI_SAMPLES, plain_table.band, ZAQNUTI_SAMPLES,
+            plain_table.first, ZAQNUTI_SAMPLES, plain_table.samples, ZAQNUTI_SAMPLES, plain_table.blocks,
             plain_table.time, ZAQNUTI_SAMPLES, plain_table.metres, ZAQNUTI_SAMPLES, plain_table.count,
             set->max_gap, signals[i].constellation, signals[i].svid, signals[i].band, time, &one);
         met[number] += 1;

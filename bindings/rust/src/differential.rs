@@ -138,6 +138,9 @@ pub struct Corrections {
     constellation: Vec<u8>,
     svid: Vec<u16>,
     band: Vec<u32>,
+    first: Vec<usize>,
+    count: Vec<usize>,
+    blocks: usize,
     time: Vec<f64>,
     correction: Vec<f64>,
     samples: usize,
@@ -157,6 +160,9 @@ impl Corrections {
             constellation: vec![0; room],
             svid: vec![0; room],
             band: vec![0; room],
+            first: vec![0; room],
+            count: vec![0; room],
+            blocks: 0,
             time: vec![0.0; room],
             correction: vec![0.0; room],
             samples: 0,
@@ -192,6 +198,11 @@ impl Corrections {
                 self.svid.len(),
                 self.band.as_mut_ptr(),
                 self.band.len(),
+                self.first.as_mut_ptr(),
+                self.first.len(),
+                self.count.as_mut_ptr(),
+                self.count.len(),
+                &mut self.blocks,
                 self.time.as_mut_ptr(),
                 self.time.len(),
                 self.correction.as_mut_ptr(),
@@ -241,6 +252,11 @@ impl Corrections {
                 self.svid.len(),
                 self.band.as_ptr(),
                 self.band.len(),
+                self.first.as_ptr(),
+                self.first.len(),
+                self.count.as_ptr(),
+                self.count.len(),
+                self.blocks,
                 self.time.as_ptr(),
                 self.time.len(),
                 self.correction.as_ptr(),
@@ -279,6 +295,11 @@ impl Corrections {
                 self.svid.len(),
                 self.band.as_ptr(),
                 self.band.len(),
+                self.first.as_ptr(),
+                self.first.len(),
+                self.count.as_ptr(),
+                self.count.len(),
+                self.blocks,
                 self.time.as_ptr(),
                 self.time.len(),
                 self.correction.as_ptr(),
@@ -312,10 +333,7 @@ impl Corrections {
 
     /// How many satellite signals carry a correction.
     pub fn satellites(&self) -> usize {
-        let key = |i: usize| (self.constellation[i], self.svid[i], self.band[i]);
-        (0..self.samples)
-            .filter(|&i| i == 0 || key(i) != key(i - 1))
-            .count()
+        self.blocks
     }
 }
 

@@ -465,8 +465,10 @@ fn add_epoch(k: usize, room: usize, full: usize) -> usize {
         .collect();
     measured(move || {
         let (mut cs, mut vs, mut bs) = (vec![1u8; room], vec![0u16; room], vec![1u32; room]);
+        let (mut df, mut dn) = (vec![0usize; room], vec![full; room]);
         let (mut ts, mut xs) = (vec![0.0; room], vec![0.0; room]);
         let mut n = full;
+        let mut m = full.min(1);
         let place = AT.coordinates();
         let frame = top();
         // SAFETY: each column has its length beside it, and the table is ours alone.
@@ -478,6 +480,11 @@ fn add_epoch(k: usize, room: usize, full: usize) -> usize {
                 room,
                 bs.as_mut_ptr(),
                 room,
+                df.as_mut_ptr(),
+                room,
+                dn.as_mut_ptr(),
+                room,
+                &mut m,
                 ts.as_mut_ptr(),
                 room,
                 xs.as_mut_ptr(),
@@ -516,6 +523,7 @@ fn add_epoch(k: usize, room: usize, full: usize) -> usize {
 
 fn query(n: usize, time: f64) -> usize {
     let (cs, vs, bs) = (vec![1u8; 2048], vec![1u16; 2048], vec![1u32; 2048]);
+    let (df, dn) = (vec![0usize; 2048], vec![n; 2048]);
     let ts: Vec<f64> = (0..2048).map(f64::from).collect();
     let xs = vec![1.0; 2048];
     let mut metres = 0.0;
@@ -530,6 +538,11 @@ fn query(n: usize, time: f64) -> usize {
                 2048,
                 bs.as_ptr(),
                 2048,
+                df.as_ptr(),
+                2048,
+                dn.as_ptr(),
+                2048,
+                n.min(1),
                 ts.as_ptr(),
                 2048,
                 xs.as_ptr(),
@@ -549,6 +562,7 @@ fn query(n: usize, time: f64) -> usize {
 
 fn queries(n: usize, count: usize) -> usize {
     let (cs, vs, bs) = (vec![1u8; 2048], vec![1u16; 2048], vec![1u32; 2048]);
+    let (df, dn) = (vec![0usize; 2048], vec![n; 2048]);
     let ts: Vec<f64> = (0..2048).map(f64::from).collect();
     let xs = vec![1.0; 2048];
     let (c, v, b) = (vec![1u8; 64], vec![1u16; 64], vec![1u32; 64]);
@@ -565,6 +579,11 @@ fn queries(n: usize, count: usize) -> usize {
                 2048,
                 bs.as_ptr(),
                 2048,
+                df.as_ptr(),
+                2048,
+                dn.as_ptr(),
+                2048,
+                n.min(1),
                 ts.as_ptr(),
                 2048,
                 xs.as_ptr(),

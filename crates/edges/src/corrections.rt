@@ -69,15 +69,20 @@ fn five_metres(name: &[u8], maximum: f64) {
         max_correction: maximum,
         constellations: [true; 8],
     };
-    let mut cs = [0u8; 4];
-    let mut vs = [0u16; 4];
-    let mut bs = [0u32; 4];
+    let mut dc = [0u8; 4];
+    let mut dv = [0u16; 4];
+    let mut db = [0u32; 4];
+    let mut df = [0usize; 4];
+    let mut dn = [0usize; 4];
     let mut ts = [0.0; 4];
     let mut xs = [0.0; 4];
     let a = add_epoch(
-        &mut cs,
-        &mut vs,
-        &mut bs,
+        &mut dc,
+        &mut dv,
+        &mut db,
+        &mut df,
+        &mut dn,
+        0,
         &mut ts,
         &mut xs,
         0,
@@ -92,12 +97,15 @@ fn five_metres(name: &[u8], maximum: f64) {
 
 // Samples of 1 m at 10 s and 3 m at 20 s, asked for 15 s.
 fn half_way(name: &[u8], gap: f64) {
-    let cs = [1u8; 2];
-    let vs = [5u16; 2];
-    let bs = [1u32; 2];
+    let dc = [1u8; 2];
+    let dv = [5u16; 2];
+    let db = [1u32; 2];
+    let df = [0usize; 2];
+    let dn = [2usize; 2];
     let ts = [10.0, 20.0];
     let xs = [1.0, 3.0];
-    correction(name, query(&cs, &vs, &bs, &ts, &xs, 2, gap, 1, 5, 1, 15.0));
+    let a = query(&dc, &dv, &db, &df, &dn, 1, &ts, &xs, 2, gap, 1, 5, 1, 15.0);
+    correction(name, a);
 }
 
 pub fn run() {

@@ -20,7 +20,7 @@ use Rattle.exact.specs.Float.{_⊖_, _⊗_, _⊘_}
 use Rattle.numeric.specs.Real.{inRange}
 use Rattle.numeric.specs.declared.refusal.Refusal.the-variants.{NoCorrection}
 use Rattle.table.specs.Table.{blank, signal, signalOf, sound}
-use Rattle.query.specs.Query.{GivesFinite, Found, answerAt, answerIn, firstOf, lastOf, line, missing, near, nearOr, ruled, spanned, the}
+use Rattle.query.specs.Query.{GivesFinite, Found, answerAt, answerIn, firstOf, lastOf, line, missing, near, nearOr, ruled, spanned, the, through}
 use Rattle.table.specs.declared.sample.Sample.{Sample}
 use Rattle.query.specs.declared.query.Correction.{Correction}
 use Rattle.query.specs.declared.query.Correction.the-variants.{Refused, Metres}
@@ -176,7 +176,7 @@ pub record Good (s : Sample) : Type 0 where
   pub value : inRange (s .correction) ≡ true
 
 line-finite : (t : Float) (a b : Sample) → T (fits binary64 t) → Good a → Good b → lt (a .time) t ≡ true → lt (b .time) t ≡ false → finite (line t a b) ≡ true
-unfolding line
+unfolding through
 line-finite t a b f g h i j =
     let ta = range-small (a .time) (g .time) in
     let tb = range-small (b .time) (h .time) in

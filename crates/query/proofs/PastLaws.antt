@@ -1,19 +1,18 @@
 -- Just which answers request (vi) changed: those past a signal's last sample by less than 1e-6 s in the rounded difference. Assumes nothing.
 use mathlib.Core.Path.{_≡_, refl, sym, ap, _∙_}
 use mathlib.Core.List.{List, [], _∷_}
-use mathlib.Core.Bool.{Bool, true, false, cond, not, _&&_, _||_}
+use mathlib.Core.Bool.{Bool, true, false, cond, not, _&&_}
 use mathlib.Core.Logic.{_⊎_, inl, inr, ⊎-elim}
-use Prim.Native.Nat.{ℕ, zero, suc, _≤_, _<_}
+use Prim.Native.Nat.{ℕ, zero, suc, _+_, _*_, _^_, _≤_, _<_}
 use native.Mathlib.Omega.{arith}
 use lib.Dec.{T, eqb, ltb}
 use lib.ListN.{length, getD}
 use borrow.Author.Tests.{eqb-true, ltb-true, ltb-false}
 use lib.Ieee.{Float, lt, fits, binary64}
-use lib.Ieee.Scale.{finite}
-use Rattle.numeric.specs.Real.{inRange}
-use Rattle.numeric.specs.declared.refusal.Refusal.the-variants.{NoCorrection, RecordOutOfRange, SettingOutOfRange, TooMany}
+use Rattle.numeric.specs.declared.refusal.Refusal.the-variants.{NoCorrection}
 use Rattle.table.specs.Table.{blank, seriesOf, signal, signalOf, sound}
 use Rattle.table.specs.declared.sample.Sample.{Sample}
+use Rattle.table.proofs.Places.{placeOf, timeKey}
 use Rattle.table.proofs.TableLaws.{Sound, sound-at, and-right}
 use Rattle.table.proofs.UnitLaws.{earlier-of, never}
 use Rattle.query.specs.Query.{Found, missing, the, near, firstOf, lastOf, lastBefore, firstSince, nearOr, spanned, ruled, answerIn, answerAt, guarded, queryOf}
@@ -21,7 +20,7 @@ use Rattle.query.specs.Past.{bridged, between, answerBefore, queryBefore
 use Rattle.query.specs.declared.query.Correction.{Correction}
 use Rattle.query.specs.declared.query.Correction.the-variants.{Refused, Metres}
 use Rattle.query.proofs.FoundLaws.{earlier, later, earlier-series, later-series, first-none}
-use Rattle.query.proofs.QueryLaws.{Held, keys-le}
+use Rattle.query.proofs.QueryLaws.{Held}
 
 -- ---- the two rules, by what was found before the time and from it on
 module _ (gap t : Float) where
@@ -126,6 +125,13 @@ passed-last ss g t a p =
       close = p .close;
     }
 
+-- two samples of one signal, in the table's order, by their times
+keys-le : (a b : Sample) → placeOf a ≤ placeOf b → signalOf a ≡ signalOf b → timeKey (a .time) ≤ timeKey (b .time)
+keys-le a b h e = keys (signalOf a) (signalOf b) (timeKey (a .time)) (timeKey (b .time)) e h
+  where
+    keys : (g l j k : ℕ) → g ≡ l → g * 2 ^ 64 + j ≤ l * 2 ^ 64 + k → j ≤ k
+    keys g l j k e r = omega arith
+
 -- a table in order whose last sample of the signal is before t has none at or after t
 last-passed : (ss : List Sample) (g : ℕ) (t : Float) (a : Sample) → T (fits binary64 t) → Sound ss → Held ss → JustPast ss g t a → PastAll ss g t a
 unfolding Held
@@ -189,20 +195,20 @@ module _ (ss : List Sample) (gap : Float) (c v b : ℕ) (t : Float) where
   -- the call: where the time is not just past the signal's last sample, it answers as before
   pub query-kept : (n room : ℕ) → ((a : Sample) → JustPast ss (signal c v b) t a → ⊥) → queryOf n room ss gap c v b t ≡ queryBefore n room ss gap c v b t
   unfolding queryOf queryBefore
-  query-kept n room nay = ap (guarded n room ss gap t) (answer-kept nay)
+  query-kept n room nay = ap (guarded (ltb room n) (sound ss) gap t) (answer-kept nay)
 
   -- where it is, 12 became that sample's value; what 2 to 4 turn away is turned away as before
   pub query-changed : (n room : ℕ) → T (fits binary64 t) → Held ss → (a : Sample) → JustPast ss (signal c v b) t a
-      → (queryBefore n room ss gap c v b t ≡ guarded n room ss gap t (Refused NoCorrection)) × (queryOf n room ss gap c v b t ≡ guarded n room ss gap t (Metres (a .correction)))
+      → (queryBefore n room ss gap c v b t ≡ guarded (ltb room n) (sound ss) gap t (Refused NoCorrection)) × (queryOf n room ss gap c v b t ≡ guarded (ltb room n) (sound ss) gap t (Metres (a .correction)))
   unfolding queryOf queryBefore
   query-changed n room ft w a j = go (sound ss) refl
     where
       -- of a table that is not sound no answer is asked
-      unasked : (x y : Correction) → sound ss ≡ false → guarded n room ss gap t x ≡ guarded n room ss gap t y
+      unasked : (x y : Correction) → sound ss ≡ false → guarded (ltb room n) (sound ss) gap t x ≡ guarded (ltb room n) (sound ss) gap t y
       unasked x y e = unfold guarded in rw e
 
       go : (z : Bool) → sound ss ≡ z
-          → (guarded n room ss gap t (answerBefore ss gap c v b t) ≡ guarded n room ss gap t (Refused NoCorrection))
-          × (guarded n room ss gap t (answerAt ss gap c v b t) ≡ guarded n room ss gap t (Metres (a .correction)))
-      go true e = let k = answer-changed ft e w a j in (ap (guarded n room ss gap t) (k .0), ap (guarded n room ss gap t) (k .1))
+          → (guarded (ltb room n) (sound ss) gap t (answerBefore ss gap c v b t) ≡ guarded (ltb room n) (sound ss) gap t (Refused NoCorrection))
+          × (guarded (ltb room n) (sound ss) gap t (answerAt ss gap c v b t) ≡ guarded (ltb room n) (sound ss) gap t (Metres (a .correction)))
+      go true e = let k = answer-changed ft e w a j in (ap (guarded (ltb room n) (sound ss) gap t) (k .0), ap (guarded (ltb room n) (sound ss) gap t) (k .1))
       go false e = (unasked (answerBefore ss gap c v b t) (Refused NoCorrection) e, unasked (answerAt ss gap c v b t) (Metres (a .correction)) e)

@@ -7,11 +7,13 @@ use lib.Dec.{ltb}
 use lib.Ieee.{Float, lt}
 use lib.Ieee.Scale.{finite}
 use Rattle.exact.specs.Float.{_⊕_, _⊖_, _⊗_, _⊘_, bits}
+use Rattle.numeric.specs.Order.{patternOf}
 use Rattle.numeric.specs.Real.{abs, inRange}
 use Rattle.numeric.specs.Refusal.{numberOf}
 use Rattle.numeric.specs.declared.refusal.Refusal.the-variants.{TooMany, SettingOutOfRange, RecordOutOfRange, NoCorrection}
 use Rattle.table.specs.Table.{signal, seriesOf, sound}
 use Rattle.table.specs.declared.sample.Sample.{Sample}
+use Rattle.directory.specs.Directory.{Directory, flat, soundDirectory}
 use Rattle.query.specs.declared.query.Correction.{Correction}
 use Rattle.query.specs.declared.query.Correction.the-variants.{Refused, Metres}
 
@@ -53,9 +55,13 @@ lastBefore t l = lastOf (before t) missing l
 abbrev pub firstSince : Float → List Sample → Found
 firstSince t l = firstOf (since t) l
 
+-- the line through x at the time a and y at the time b, at t
+unfoldable pub through : Float → Float → Float → Float → Float → Float
+through t a x b y = x ⊕ (t ⊖ a) ⊘ (b ⊖ a) ⊗ (y ⊖ x)
+
 -- the line through two samples, at t
-unfoldable pub line : Float → Sample → Sample → Float
-line t a b = a .correction ⊕ (t ⊖ a .time) ⊘ (b .time ⊖ a .time) ⊗ (b .correction ⊖ a .correction)
+abbrev pub line : Float → Sample → Sample → Float
+line t a b = through t (a .time) (a .correction) (b .time) (b .correction)
 
 -- a found sample's value where it is less than 1e-6 s away, and otherwise what the rest of the rule gives
 unfoldable pub nearOr : Float → Found → Correction → Correction
@@ -80,17 +86,21 @@ answerIn l gap t = ruled gap t (lastBefore t l) (firstSince t l)
 unfoldable pub answerAt : List Sample → Float → ℕ → ℕ → ℕ → Float → Correction
 answerAt ss gap c v b t = answerIn (seriesOf (signal c v b) ss) gap t
 
--- numbers 2, 3 and 4 of a query of the first n samples of columns with that capacity, and then the answer; a time that is not finite passes 4
-unfoldable pub guarded : ℕ → ℕ → List Sample → Float → Float → Correction → Correction
-guarded n room ss gap t answer =
-    cond (ltb room n) (Refused TooMany)
+-- numbers 2, 3 and 4 of a query, and then the answer: whether the counts are above the capacity, whether the table is sound; a time that is not finite passes 4
+unfoldable pub guarded : Bool → Bool → Float → Float → Correction → Correction
+guarded many steady gap t answer =
+    cond many (Refused TooMany)
     (cond (not (inRange gap)) (Refused SettingOutOfRange)
-    (cond (not (sound ss && (inRange t || not (finite t)))) (Refused RecordOutOfRange)
+    (cond (not (steady && (inRange t || not (finite t)))) (Refused RecordOutOfRange)
     answer))
 
--- the query
+-- a query of n samples with that capacity
 unfoldable pub queryOf : ℕ → ℕ → List Sample → Float → ℕ → ℕ → ℕ → Float → Correction
-queryOf n room ss gap c v b t = guarded n room ss gap t (answerAt ss gap c v b t)
+queryOf n room ss gap c v b t = guarded (ltb room n) (sound ss) gap t (answerAt ss gap c v b t)
+
+-- request (ix): a query of a directory of m entries and n samples in columns with that capacity has its own 2 and 4, and the answer of the samples that the directory stands for
+unfoldable pub queryIn : ℕ → ℕ → ℕ → Directory → Float → ℕ → ℕ → ℕ → Float → Correction
+queryIn m n room d gap c v b t = guarded (ltb room m || ltb room n) (soundDirectory d) gap t (answerAt (flat d) gap c v b t)
 
 -- 0, or the number of the refusal
 abbrev pub queryNumber : Correction → ℕ
@@ -102,6 +112,11 @@ abbrev pub metresAfter : Correction → Float → Float
 metresAfter (Refused r) old = old
 metresAfter (Metres x) old = x
 
+-- the same of its pattern, to the last bit
+abbrev pub patternAfter : Correction → ℕ → ℕ
+patternAfter (Refused r) old = old
+patternAfter (Metres x) old = patternOf x
+
 -- every correction given is finite
 abbrev pub GivesFinite : Correction → Type 0
 GivesFinite (Refused n) = Unit {0}
@@ -109,8 +124,9 @@ GivesFinite (Metres x) = finite x ≡ true
 
 -- ---- what the contract of the answer says
 
--- rules 2 to 4 let the table and the gap pass
-pub record PassedTable (n room : ℕ) (ss : List Sample) (gap : Float) : Type 0 where
-  pub few : n ≤ room
+-- rules 2 to 4 let the directory and the gap pass
+pub record Passed (m n room : ℕ) (d : Directory) (gap : Float) : Type 0 where
+  pub few-entries : m ≤ room
+  pub few-samples : n ≤ room
   pub in-range : inRange gap ≡ true
-  pub steady : sound ss ≡ true
+  pub steady : soundDirectory d ≡ true

@@ -1,208 +1,117 @@
-// Where in a sound table a signal at a time stands.
+// Where a signal stands in a sound directory, and a time in its block: by halving. The last halvings are as many whatever is asked, and each chooses
+// one of two places, so that the compiler makes no branch that what is asked decides.
 ghost use mathlib.Core.Path.{_≡_};
-ghost use mathlib.Core.Bool.{true, cond};
-ghost use Prim.Native.Nat.{_+_, _^_, _≤_, _<_};
+ghost use mathlib.Core.Bool.{cond};
+ghost use Prim.Native.Nat.{_+_, _≤_, _<_};
 ghost use lib.ListN.{length};
-ghost use lib.Dec.{ltb};
-ghost use Rattle.table.specs.Table.{lent, rows, tableOf, signal, sound};
-ghost use Rattle.query.specs.Search.{ahead, Searching, Leading};
-use numeric::order::pattern;
-use table::sample::Sample;
-use table::sample::sample_at;
-use table::sample::signal_of;
+ghost use lib.Dec.{leb};
+ghost use lib.Ieee.{lt};
+ghost use Rattle.query.specs.Search.{Halving, Split, Falling, isUpTo, isBefore};
+use directory::entry::signal_at;
 
-// Whether the sample stands before the signal c, v, b at the time t. A column is read only where those before it are equal.
-fn is_ahead(a: Sample, c: u8, v: u16, b: u32, t: f64) -> bool
-    ensures { λ r. ⌜ r ≡ ahead (signal c v b) t a ⌝ }
+// The place mid where the signal s is not above g, and lo elsewhere.
+fn choose_up_to(s: u64, g: u64, mid: usize, lo: usize) -> usize
+    requires { ⌜ lo ≤ mid ⌝ }
+    ensures { λ r. ⌜ (r ≡ cond (leb s g) mid lo) × ((lo ≤ r) × (r ≤ mid)) ⌝ }
 {
-    if a.constellation != c {
-        return a.constellation < c;
-    }
-    if a.svid != v {
-        return a.svid < v;
-    }
-    if a.band != b {
-        return a.band < b;
-    }
-    a.time < t
+    if s <= g { mid } else { lo }
 }
 
-// 1 where the signal s is below g, and 0 elsewhere, without a branch.
-fn below(s: u64, g: u64) -> usize
-    requires { ⌜ (s < 2 ^ 56) × (g < 2 ^ 56) ⌝ }
-    ensures { λ r. ⌜ r ≡ cond (ltb s g) 1 0 ⌝ }
+// The place mid where the time x is before t, and lo elsewhere.
+fn choose_before(x: f64, t: f64, mid: usize, lo: usize) -> usize
+    requires { ⌜ lo ≤ mid ⌝ }
+    ensures { λ r. ⌜ (r ≡ cond (lt x t) mid lo) × ((lo ≤ r) × (r ≤ mid)) ⌝ }
 {
-    ((g + 0xFF_FFFF_FFFF_FFFF - s) / 0x100_0000_0000_0000) as usize
+    if x < t { mid } else { lo }
 }
 
-// The row of the time t, if the rows around m are as far apart in time as m and the next one. A guess: nothing is promised but that it is at most n.
-fn even_row(ts: &[f64], n: usize, m: usize, t: f64) -> usize
-    requires { ⌜ (n ≤ length (now ts)) × (n ≤ 2048) × (m + 1 < n) ⌝ }
-    ensures { λ r. ⌜ r ≤ n ⌝ }
-{
-    let here = ts[m];
-    let step = ts[m + 1] - here;
-    // 2^42 + 2048 + 1023/1024: rows, 2048 more and rounded up, stand above the tenth bit of the sum's pattern.
-    let p = pattern((t - here) / step + 4398046513152.9990234375);
-    if p < 0x4290_0000_0000_0000 {
-        return 0;
-    }
-    let rows = (p - 0x4290_0000_0000_0000) / 1024;
-    if 4096 < rows {
-        return 0;
-    }
-    let i = m + (rows as usize);
-    if i < 2048 {
-        return 0;
-    }
-    let j = i - 2048;
-    if n < j {
-        return n;
-    }
-    j
-}
-
-// From i up to the first row that is not before the time t, eight rows at most.
-fn climb(ts: &[f64], n: usize, i: usize, t: f64) -> usize
-    requires { ⌜ (n ≤ length (now ts)) × (i ≤ n) ⌝ }
-    ensures { λ r. ⌜ r ≤ n ⌝ }
-{
-    let mut j = i;
-    let mut left: usize = 8;
-    while 0 < left {
-        if j == n {
-            return j;
-        }
-        if !(ts[j] < t) {
-            return j;
-        }
-        j += 1;
-        left -= 1;
-    }
-    j
-}
-
-// From i down to a row after one that is before the time t, eight rows at most.
-fn descend(ts: &[f64], n: usize, i: usize, t: f64) -> usize
-    requires { ⌜ (n ≤ length (now ts)) × (i ≤ n) ⌝ }
-    ensures { λ r. ⌜ r ≤ n ⌝ }
-{
-    let mut j = i;
-    let mut left: usize = 8;
-    while 0 < left {
-        if j == 0 {
-            return j;
-        }
-        if ts[j - 1] < t {
-            return j;
-        }
-        j -= 1;
-        left -= 1;
-    }
-    j
-}
-
-// How many samples stand before the signal c, v, b at the time t, by halving what lies between start and end.
-fn first_within(
-    cs: &[u8],
-    vs: &[u16],
-    bs: &[u32],
-    ts: &[f64],
-    xs: &[f64],
-    n: usize,
-    c: u8,
-    v: u16,
-    b: u32,
-    t: f64,
-    start: usize,
-    end: usize,
+// The last of the m entries that does not stand after the signal g, or the first where all do; at most 32 entries from the place `from` on are left.
+fn entry_within(
+    dc: &[u8],
+    dv: &[u16],
+    db: &[u32],
+    m: usize,
+    g: u64,
+    from: usize,
+    size: usize,
 ) -> usize
-    requires { ⌜ n ≤ length (rows (lent (now cs) (now vs) (now bs) (now ts) (now xs))) ⌝ }
-    requires { ⌜ sound (tableOf n (lent (now cs) (now vs) (now bs) (now ts) (now xs))) ≡ true ⌝ }
-    requires { ⌜ Searching (signal c v b) t (tableOf n (lent (now cs) (now vs) (now bs) (now ts) (now xs))) n start end ⌝ }
-    ensures { λ r. ⌜ Leading (signal c v b) t (tableOf n (lent (now (cs .entry)) (now (vs .entry)) (now (bs .entry)) (now (ts .entry)) (now (xs .entry)))) r ⌝ }
+    requires { ⌜ (m ≤ length (now dc)) × ((m ≤ length (now dv)) × (m ≤ length (now db))) ⌝ }
+    requires { ⌜ Falling (isUpTo (now dc) (now dv) (now db) g) 1 m ⌝ }
+    requires { ⌜ Halving (isUpTo (now dc) (now dv) (now db) g) 1 m (from + 1) (from + size) ⌝ }
+    requires { ⌜ (0 < size) × (size ≤ 32) ⌝ }
+    ensures { λ r. ⌜ (r < m) × Split (isUpTo (now (dc .entry)) (now (dv .entry)) (now (db .entry)) g) 1 m (r + 1) ⌝ }
 {
-    let mut lo = start;
-    let mut hi = end;
-    while lo < hi {
-        let mid = lo + (hi - lo) / 2;
-        let a = sample_at(cs, vs, bs, ts, xs, mid);
-        if is_ahead(a, c, v, b, t) {
-            lo = mid + 1;
-        } else {
-            hi = mid;
-        }
+    let mut lo = from;
+    let mut len = size;
+    let mut left: usize = 5;
+    while 0 < left {
+        let half = len / 2;
+        let mid = lo + half;
+        let s = signal_at(dc, dv, db, mid);
+        lo = choose_up_to(s, g, mid, lo);
+        len -= half;
+        left -= 1;
     }
     lo
 }
 
-// The same, where the row m, of the signal, tells first how far the place may be: samples of a base come at even times.
-fn first_about(
-    cs: &[u8],
-    vs: &[u16],
-    bs: &[u32],
-    ts: &[f64],
-    xs: &[f64],
-    n: usize,
-    c: u8,
-    v: u16,
-    b: u32,
-    t: f64,
-    start: usize,
-    end: usize,
-    m: usize,
-) -> usize
-    requires { ⌜ n ≤ length (rows (lent (now cs) (now vs) (now bs) (now ts) (now xs))) ⌝ }
-    requires { ⌜ sound (tableOf n (lent (now cs) (now vs) (now bs) (now ts) (now xs))) ≡ true ⌝ }
-    requires { ⌜ Searching (signal c v b) t (tableOf n (lent (now cs) (now vs) (now bs) (now ts) (now xs))) n start end ⌝ }
-    requires { ⌜ m < n ⌝ }
-    ensures { λ r. ⌜ Leading (signal c v b) t (tableOf n (lent (now (cs .entry)) (now (vs .entry)) (now (bs .entry)) (now (ts .entry)) (now (xs .entry)))) r ⌝ }
+// The last of the m entries that does not stand after the signal g, or the first where all do.
+pub(crate) fn entry_of(dc: &[u8], dv: &[u16], db: &[u32], m: usize, g: u64) -> usize
+    requires { ⌜ (m ≤ length (now dc)) × ((m ≤ length (now dv)) × (m ≤ length (now db))) ⌝ }
+    requires { ⌜ 0 < m ⌝ }
+    requires { ⌜ Falling (isUpTo (now dc) (now dv) (now db) g) 1 m ⌝ }
+    ensures { λ r. ⌜ (r < m) × Split (isUpTo (now (dc .entry)) (now (dv .entry)) (now (db .entry)) g) 1 m (r + 1) ⌝ }
 {
-    if (n <= 2048) & (m + 1 < n) {
-        let guess = even_row(ts, n, m, t);
-        let up = climb(ts, n, guess, t);
-        let k = descend(ts, n, up, t);
-        if (start < k) & (k < end) {
-            let a = sample_at(cs, vs, bs, ts, xs, k - 1);
-            let z = sample_at(cs, vs, bs, ts, xs, k);
-            if is_ahead(a, c, v, b, t) & !is_ahead(z, c, v, b, t) {
-                return k;
-            }
-        }
-    }
-    first_within(cs, vs, bs, ts, xs, n, c, v, b, t, start, end)
-}
-
-// How many samples of a sound table stand before the signal c, v, b at the time t: by halving down to a row of the signal, and on from there.
-pub(crate) fn first_from(
-    cs: &[u8],
-    vs: &[u16],
-    bs: &[u32],
-    ts: &[f64],
-    xs: &[f64],
-    n: usize,
-    c: u8,
-    v: u16,
-    b: u32,
-    t: f64,
-) -> usize
-    requires { ⌜ n ≤ length (rows (lent (now cs) (now vs) (now bs) (now ts) (now xs))) ⌝ }
-    requires { ⌜ sound (tableOf n (lent (now cs) (now vs) (now bs) (now ts) (now xs))) ≡ true ⌝ }
-    ensures { λ r. ⌜ Leading (signal c v b) t (tableOf n (lent (now (cs .entry)) (now (vs .entry)) (now (bs .entry)) (now (ts .entry)) (now (xs .entry)))) r ⌝ }
-{
-    let g = signal_of(c, v, b);
     let mut lo: usize = 0;
-    let mut len = n;
-    while 1 < len {
+    let mut len = m;
+    while 32 < len {
         let half = len / 2;
         let mid = lo + half;
-        let a = sample_at(cs, vs, bs, ts, xs, mid);
-        let s = signal_of(a.constellation, a.svid, a.band);
-        if s == g {
-            return first_about(cs, vs, bs, ts, xs, n, c, v, b, t, lo, lo + len, mid);
-        }
-        lo += below(s, g) * half;
+        let s = signal_at(dc, dv, db, mid);
+        lo = choose_up_to(s, g, mid, lo);
         len -= half;
     }
-    first_within(cs, vs, bs, ts, xs, n, c, v, b, t, lo, lo + len)
+    entry_within(dc, dv, db, m, g, lo, len)
+}
+
+// The first place from start on, up to end, whose time is not before t; at most 64 places from the place `from` on are left.
+fn front_within(ts: &[f64], start: usize, end: usize, t: f64, from: usize, size: usize) -> usize
+    requires { ⌜ end ≤ length (now ts) ⌝ }
+    requires { ⌜ Falling (isBefore (now ts) t) start end ⌝ }
+    requires { ⌜ Halving (isBefore (now ts) t) start end from (from + size) ⌝ }
+    requires { ⌜ (0 < size) × (size ≤ 64) ⌝ }
+    ensures { λ r. ⌜ Split (isBefore (now (ts .entry)) t) start end r ⌝ }
+{
+    let mut lo = from;
+    let mut len = size;
+    let mut left: usize = 6;
+    while 0 < left {
+        let half = len / 2;
+        let mid = lo + half;
+        let x = ts[mid];
+        lo = choose_before(x, t, mid, lo);
+        len -= half;
+        left -= 1;
+    }
+    let x = ts[lo];
+    choose_before(x, t, lo + 1, lo)
+}
+
+// The first place from start on, up to end, whose time is not before t.
+pub(crate) fn front_of(ts: &[f64], start: usize, end: usize, t: f64) -> usize
+    requires { ⌜ end ≤ length (now ts) ⌝ }
+    requires { ⌜ start < end ⌝ }
+    requires { ⌜ Falling (isBefore (now ts) t) start end ⌝ }
+    ensures { λ r. ⌜ Split (isBefore (now (ts .entry)) t) start end r ⌝ }
+{
+    let mut lo = start;
+    let mut len = end - start;
+    while 64 < len {
+        let half = len / 2;
+        let mid = lo + half;
+        let x = ts[mid];
+        lo = choose_before(x, t, mid, lo);
+        len -= half;
+    }
+    front_within(ts, start, end, t, lo, len)
 }

@@ -16,7 +16,7 @@ use Rattle.median.specs.Centre.{centreOf, deviationOf, centreAndScaleOf, centre
 use Rattle.clocks.specs.Clocks.{has, appearing, slotFrom, clocksIn, clocksOf}
 use Rattle.records.specs.Record.{unsigned, bitSet, usable}
 use Rattle.table.specs.Table.{timeBefore, standsBefore, sortedFrom, sorted, ranged, sound}
-use Rattle.query.specs.Query.{near, firstOf, lastOf, line, nearOr, spanned, ruled, answerIn, answerAt, guarded, queryOf}
+use Rattle.query.specs.Query.{near, firstOf, lastOf, through, nearOr, spanned, ruled, answerIn, answerAt, guarded, queryOf}
 use Rattle.smooth.proofs.Trials.{one-point, not-held}
 use Rattle.cholesky.proofs.FactorLaws.{factorTo-zero, factorTo-next, refused-more}
 use Rattle.trials.specs.Marked.{All, marked, m1, m2, m3, m4, m5, m6, m7, m8, m9, m10, m11}
@@ -65,11 +65,11 @@ unfolding usable bitSet unsigned
 states c h = rw h
 
 pub half-way : m10
-unfolding queryOf guarded answerAt answerIn collect ruled nearOr spanned line near firstOf lastOf inRange abs sound ranged sorted sortedFrom standsBefore timeBefore totalOrder sign patternOf every lt le add sub mul div ofBits ofInt toBits isNan
+unfolding queryOf guarded answerAt answerIn collect ruled nearOr spanned through near firstOf lastOf inRange abs sound ranged sorted sortedFrom standsBefore timeBefore totalOrder sign patternOf every lt le add sub mul div ofBits ofInt toBits isNan
 half-way = refl
 
 pub gap-too-long : m11
-unfolding queryOf guarded answerAt answerIn collect ruled nearOr spanned line near firstOf lastOf inRange abs sound ranged sorted sortedFrom standsBefore timeBefore totalOrder sign patternOf every lt le add sub mul div ofBits ofInt toBits isNan
+unfolding queryOf guarded answerAt answerIn collect ruled nearOr spanned through near firstOf lastOf inRange abs sound ranged sorted sortedFrom standsBefore timeBefore totalOrder sign patternOf every lt le add sub mul div ofBits ofInt toBits isNan
 gap-too-long = refl
 
 -- THE FACT over the list

@@ -14,6 +14,7 @@ pub mod factor;
 mod fix;
 pub mod line;
 mod order;
+mod rearrange;
 mod root;
 pub mod round;
 mod sight;
@@ -107,5 +108,6 @@ pub const SERVICES: &[Service] = &[
     track::SERVICE,
     equations::SERVICE,
     corrections::SERVICE,
+    rearrange::SERVICE,
     line::SERVICE,
 ];

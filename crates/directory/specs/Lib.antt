@@ -1,0 +1,4 @@
+pub mod Directory
+pub mod Faults
+pub mod Rearrange
+pub mod Series
