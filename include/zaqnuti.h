@@ -64,7 +64,7 @@
  *     records         29,184
  *     read_records       256
  *     write_records      256
- *     add_epoch       18,432
+ *     add_epoch       18,688
  *     query              512
  *     queries            768
  *     widen_bands        256

@@ -25,11 +25,11 @@ fn epoch(from: Ecef, place: Ecef) -> Vec<Carrier> {
         constellation,
         svid,
         band: 1575,
-        adr: geometry(satellite, place).1,
+        adr: geometry(satellite, place).unwrap().1,
         state: 1,
         satellite,
         elevation,
-        rate: geometry(satellite, place).1 - geometry(satellite, from).1,
+        rate: geometry(satellite, place).unwrap().1 - geometry(satellite, from).unwrap().1,
     };
     SKY.iter().map(one).collect()
 }
