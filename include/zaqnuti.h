@@ -385,8 +385,9 @@ uint8_t zaqnuti_add_epoch(
 /*
  * The correction of a signal (constellation, svid, band) at a time (s of the
  * week) in metres, from the first table_count samples of a table as
- * zaqnuti_add_epoch leaves it. A gap between two samples is bridged where it
- * is at most max_gap seconds.
+ * zaqnuti_add_epoch leaves it. A sample less than 1e-6 s away is answered as
+ * it stands, also just past the last one. A gap between two samples is bridged
+ * where it is at most max_gap seconds.
  *
  * Refuses by 2 (table_count above the capacity), 3 (max_gap), 4 (a float of
  * the table, or the table not sorted; a finite time above 1e9) and 12 (no

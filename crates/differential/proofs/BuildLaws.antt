@@ -13,7 +13,7 @@ use Rattle.numeric.specs.Real.{inRange}
 use Rattle.numeric.specs.declared.vec3.Vec3.{Vec3}
 use Rattle.numeric.specs.declared.refusal.Refusal.{Refusal}
 use Rattle.numeric.specs.declared.refusal.Refusal.the-variants.{TooMany, SettingOutOfRange, RecordOutOfRange, TableFull}
-use Rattle.table.specs.Table.{Columns, capacity, tableOf, rows, ranged, rises, sound}
+use Rattle.table.specs.Table.{Columns, capacity, tableOf, rows, ranged, sorted, sound}
 use Rattle.table.specs.Add.{Outcome, refused, added, insertAll, Adds}
 use Rattle.table.specs.declared.sample.Sample.{Sample}
 use Rattle.table.proofs.TableLaws.{and-left, and-right}
@@ -120,7 +120,7 @@ module _ (base rover : Vec3) (set : Settings) where
           (ih t′ (a .1))
 
   nothing : (l : Columns) → Keeps (capacity l) (record { count = 0; columns = l }) []
-  unfolding sound every rises
+  unfolding sound every sorted
   nothing l = record { table = refl; whole = refl; steady = refl; same-room = refl }
 
   -- from an empty table in any columns, calls end in what `buildOf` gives on the accepted epochs

@@ -3,6 +3,6 @@ pub mod SortedValues
 pub mod SelectSplit
 pub mod SelectLoops
 pub mod SelectSeek
-pub mod MedianKeys
+pub mod MedianSigns
 pub mod CentreLaws
 pub mod CentreValues

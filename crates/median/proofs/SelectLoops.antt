@@ -3,11 +3,12 @@ use Prim.Native.Nat.{ℕ, suc, _+_, _≤_, _<_}
 use native.Mathlib.Omega.{arith}
 use native.Mathlib.Numerals.{add-one}
 use mathlib.Core.Path.{_≡_, refl, sym, ap, _∙_}
-use mathlib.Core.Bool.{Bool, true, false}
+use mathlib.Core.Bool.{Bool, true, false, Bool·beq}
 use mathlib.Core.List.{List, [], _∷_, _++_, append-nil, map}
 use lib.ListN.{getD, set, take, drop, length, length-append, length-set}
 use lib.Seq.{take-length, take-suc, take-suc-set, take-set-le, drop-cons, drop-set-lt}
-use Rattle.median.specs.Select.{keep, kept, Front}
+use Rattle.exact.specs.Pattern.{sign}
+use Rattle.median.specs.Select.{keep, kept, unsigned, ofSign, Front}
 
 kept-snoc : (test : ℕ → Bool) (l : List ℕ) (x : ℕ) → kept test (l ++ (x ∷ [])) ≡ kept test l ++ keep (test x) x []
 unfolding kept
@@ -76,6 +77,48 @@ module _ (test : ℕ → Bool) (a : List ℕ) (j w : ℕ) (b : List ℕ) (i : j 
 pub keeping-all : (test : ℕ → Bool) (a : List ℕ) (n w : ℕ) (b : List ℕ) → n ≤ 64 → length a ≡ 64 → Keeping test a n w b → Front (kept test (take n a)) w b
 keeping-all test a n w b r l h = record { long = h .long ∙ l; few = omega (arith, h .few); is = h .done }
 
+-- ---- collecting the patterns of one sign
+
+ofSign-snoc : (s : Bool) (l : List ℕ) (x : ℕ) → ofSign s (l ++ (x ∷ [])) ≡ ofSign s l ++ keep (Bool·beq (sign x) s) (unsigned x) []
+unfolding ofSign
+ofSign-snoc s [] x = refl
+ofSign-snoc s (y ∷ ys) x = rw (ofSign-snoc s ys x) (go (Bool·beq (sign y) s))
+  where
+    go : (b : Bool) → keep b (unsigned y) (ofSign s ys ++ keep (Bool·beq (sign x) s) (unsigned x) []) ≡ keep b (unsigned y) (ofSign s ys) ++ keep (Bool·beq (sign x) s) (unsigned x) []
+    go true = refl
+    go false = refl
+
+-- the first j of a are looked at, and those of them that have the sign s are, without it, the first w of b
+pub record Parting (s : Bool) (a : List ℕ) (j w : ℕ) (b : List ℕ) : Type 0 where
+  pub few : w ≤ j
+  pub long : length b ≡ 64
+  pub done : take w b ≡ ofSign s (take j a)
+
+pub parting-none : (s : Bool) (a b : List ℕ) → length b ≡ 64 → Parting s a 0 0 b
+unfolding ofSign
+parting-none s a b h = record { few = omega arith; long = h; done = refl }
+
+module _ (s : Bool) (a : List ℕ) (j w : ℕ) (b : List ℕ) (i : j < length a) (few : length a ≤ 64) (h : Parting s a j w b) where
+  next-part : ofSign s (take (j + 1) a) ≡ ofSign s (take j a) ++ keep (Bool·beq (sign (getD a j 0)) s) (unsigned (getD a j 0)) []
+  next-part = rw (add-one, take-suc a j 0 i, ofSign-snoc)
+
+  pub part-yes : Bool·beq (sign (getD a j 0)) s ≡ true → Parting s a (j + 1) (w + 1) (set b w (unsigned (getD a j 0)))
+  part-yes e = record {
+    few = omega (arith, h .few);
+    long = length-set b w (unsigned (getD a j 0)) ∙ h .long;
+    done = rw (next-part, e, ← (h .done), add-one w) (take-suc-set b w (unsigned (getD a j 0)) (omega (arith, h .few, h .long)));
+  }
+
+  pub part-no : Bool·beq (sign (getD a j 0)) s ≡ false → Parting s a (j + 1) w (set b w (unsigned (getD a j 0)))
+  part-no e = record {
+    few = omega (arith, h .few);
+    long = length-set b w (unsigned (getD a j 0)) ∙ h .long;
+    done = rw (next-part, e, ← (h .done), append-nil) (take-set-le w b w (unsigned (getD a j 0)) (omega arith));
+  }
+
+pub parting-all : (s : Bool) (a : List ℕ) (j w : ℕ) (b : List ℕ) → length a ≤ 64 → j ≡ length a → Parting s a j w b → Front (ofSign s a) w b
+parting-all s a j w b n e h = record { long = h .long; few = omega (arith, h .few); is = h .done ∙ ap (λ (i : ℕ). ofSign s (take i a)) e ∙ ap (ofSign s) (take-length a) }
+
 -- ---- one element of a list after another through f
 
 map-snoc : (f : ℕ → ℕ) (l : List ℕ) (x : ℕ) → map f (l ++ (x ∷ [])) ≡ map f l ++ (f x ∷ [])
@@ -88,7 +131,3 @@ map-next f i a k h g e = rw (add-one, take-suc-set k i (f (getD a i 0)) g, take-
 
 pub map-all : (f : ℕ → ℕ) (i : ℕ) (a k : List ℕ) → i ≡ length a → take i k ≡ map f (take i a) → take (length a) k ≡ map f a
 map-all f i a k e h = ap (λ (n : ℕ). take n k) (sym e) ∙ h ∙ ap (λ (n : ℕ). map f (take n a)) e ∙ ap (map f) (take-length a)
-
-pub map-twice : (f g : ℕ → ℕ) (xs : List ℕ) → map (λ x. f (g x)) xs ≡ map f (map g xs)
-map-twice f g [] = refl
-map-twice f g (x ∷ xs) = ap (λ ys. f (g x) ∷ ys) (map-twice f g xs)

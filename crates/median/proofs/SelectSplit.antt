@@ -13,7 +13,7 @@ use lib.Seq.{getD-append-add, getD-take, length-take-le}
 use lib.Dec.{leb, ltb, eqb}
 use borrow.Author.Tests.{le-leb, lt-leb, ltb-true, ltb-false, eq-eqb, ne-eqb}
 use Rattle.median.specs.Sorted.{insertBy, sortedBy, Each, count}
-use Rattle.median.proofs.SortedLaws.{sorted-length, sorted-each, each-weaker}
+use Rattle.median.proofs.SortedLaws.{sorted-length, sorted-each, each-weaker, each-at}
 use Rattle.median.specs.Select.{placed, keep, kept, lows, highs}
 
 -- ---- where an insertion ends
@@ -198,3 +198,25 @@ module _ (p m : ℕ) (l : List ℕ) where
   -- a place above
   pub placed-high : length (lows p l) + count p l ≤ m → placed m l ≡ placed (m - (length (lows p l) + count p l)) (highs p l)
   placed-high h = placed-at (m - (length (lows p l) + count p l)) (omega (arith, sorted-length leb (lows p l), length-replicate (count p l) p))
+
+-- what stands at a place: so many are below it, and it stands so often
+pub placed-counts : (v m : ℕ) (l : List ℕ) → m < length l → placed m l ≡ v → (length (lows v l) ≤ m) × (m < length (lows v l) + count v l)
+placed-counts v m l h e = go (ltb m (length (lows v l))) (ltb m (length (lows v l) + count v l)) refl refl
+  where
+    go : (s t : Bool) → ltb m (length (lows v l)) ≡ s → ltb m (length (lows v l) + count v l) ≡ t → (length (lows v l) ≤ m) × (m < length (lows v l) + count v l)
+    go true t p q =
+        let i : m < length (lows v l) = ltb-true _ _ p in
+        let below : placed m (lows v l) < v =
+        each-at (λ (y : ℕ). y < v) (sortedBy leb (lows v l)) (sorted-each leb (λ (y : ℕ). y < v) (lows v l) (lows-below v l)) m (omega (arith, sorted-length leb (lows v l))) in
+        absurd (omega (arith, placed-low v m l i))
+    go false true p q = (ltb-false _ _ p, ltb-true _ _ q)
+    go false false p q =
+        let i : length (lows v l) + count v l ≤ m = ltb-false _ _ q in
+        let n : ℕ = m - (length (lows v l) + count v l) in
+        let above : v < placed n (highs v l) =
+        each-at (λ (y : ℕ). v < y) (sortedBy leb (highs v l)) (sorted-each leb (λ (y : ℕ). v < y) (highs v l) (highs-above v l)) n (omega (arith, sorted-length leb (highs v l), parts v l)) in
+        absurd (omega (arith, placed-high v m l i))
+
+-- what stands at a place of a list has the property that each has
+pub placed-each : (P : ℕ → Type 0) (m : ℕ) (l : List ℕ) → m < length l → Each P l → P (placed m l)
+placed-each P m l h e = each-at P (sortedBy leb l) (sorted-each leb P l e) m (omega (arith, sorted-length leb l))

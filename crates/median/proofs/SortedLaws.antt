@@ -8,9 +8,9 @@ use mathlib.Core.List.{List, [], _∷_, map}
 use lib.ListN.{getD, length, List·getD-map, length-map}
 use lib.Dec.{leb, eqb}
 use borrow.Author.Tests.{le-leb, leb-true, leb-false}
-use Rattle.numeric.specs.Order.{totalOrder, keyOf}
-use Rattle.numeric.proofs.OrderLaws.{totalOrder-key}
-use Rattle.median.specs.Sorted.{insertBy, sortedBy, sorted, medianOf, Each, Patterns, count}
+use Rattle.numeric.specs.Order.{totalOrder}
+use Rattle.numeric.proofs.OrderLaws.{keyOf, key-positive, sign-plus, leb-same, totalOrder-key}
+use Rattle.median.specs.Sorted.{insertBy, sortedBy, sorted, medianOf, Each, Patterns, Unsigned, count}
 
 -- ---- by any order
 
@@ -79,6 +79,18 @@ module _ (before : ℕ → ℕ → Bool) where
       sorted-map [] h = refl
       sorted-map (x ∷ xs) h = insert-map x (sortedBy before xs) (h .0) (sorted-each xs (h .1)) ∙ ap (insertBy after (f x)) (sorted-map xs (h .1))
 
+-- two orders that agree on the elements sort alike
+module _ (before after : ℕ → ℕ → Bool) (P : ℕ → Type 0) (by : (x y : ℕ) → P x → P y → before x y ≡ after x y) where
+  insert-same : (x : ℕ) (l : List ℕ) → P x → Each P l → insertBy before x l ≡ insertBy after x l
+  unfolding insertBy Each
+  insert-same x [] p h = refl
+  insert-same x (y ∷ ys) p h = rw (by x y p (h .0), insert-same x ys p (h .1))
+
+  pub sorted-same : (l : List ℕ) → Each P l → sortedBy before l ≡ sortedBy after l
+  unfolding sortedBy Each
+  sorted-same [] h = refl
+  sorted-same (x ∷ xs) h = rw (sorted-same xs (h .1)) (insert-same x (sortedBy after xs) (h .0) (sorted-each after P xs (h .1)))
+
 -- ---- each element
 
 pub each-weaker : (P Q : ℕ → Type 0) → ((x : ℕ) → P x → Q x) → (l : List ℕ) → Each P l → Each Q l
@@ -130,6 +142,15 @@ ascending-at (x ∷ xs) o (suc i) (suc j) h b = ascending-at xs (o .1) i j (le-o
 
 -- ---- patterns by totalOrder
 
+-- patterns whose signs are clear are in totalOrder as they are as numbers: the exponent field stands above the digits
+pub unsigned-order : (x y : ℕ) → x < 2 ^ 63 → y < 2 ^ 63 → totalOrder x y ≡ leb x y
+unsigned-order x y h k =
+    totalOrder-key x y
+    ∙ rw (key-positive x (sign-plus x h) .1, key-positive y (sign-plus y k) .1) (leb-same (x + 2 ^ 63) (y + 2 ^ 63) x y (omega arith) (omega arith))
+
+pub unsigned-sorted : (l : List ℕ) → Unsigned l → sorted l ≡ sortedBy leb l
+unsigned-sorted l h = sorted-same totalOrder leb (λ (x : ℕ). x < 2 ^ 63) unsigned-order l h
+
 -- inside a list the default does not count
 getD-any : (l : List ℕ) (i d e : ℕ) → i < length l → getD l i d ≡ getD l i e
 getD-any [] i d e h = absurd (not-suc-le-zero h)
@@ -138,7 +159,7 @@ getD-any (x ∷ xs) (suc i) d e h = getD-any xs i d e (le-of-suc-le-suc h)
 
 -- the keys of the sorted patterns are the sorted keys
 pub sorted-keys : (xs : List ℕ) → Patterns xs → map keyOf (sorted xs) ≡ sortedBy leb (map keyOf xs)
-sorted-keys xs h = sorted-map totalOrder (λ (x : ℕ). x < 2 ^ 64) leb keyOf totalOrder-key xs h
+sorted-keys xs h = sorted-map totalOrder (λ (x : ℕ). x < 2 ^ 64) leb keyOf (λ x y p q. totalOrder-key x y) xs h
 
 -- the key of the pattern at a place is at that place of the sorted keys
 key-at : (xs : List ℕ) (i : ℕ) → Patterns xs → i < length xs → keyOf (getD (sorted xs) i 0) ≡ getD (sortedBy leb (map keyOf xs)) i 0
@@ -149,12 +170,8 @@ key-at xs i h b =
 -- at two places of the sorted list the earlier pattern comes before the later one, or is equal to it
 pub sorted-ordered : (xs : List ℕ) → Patterns xs → (i j : ℕ) → i ≤ j → j < length xs → totalOrder (getD (sorted xs) i 0) (getD (sorted xs) j 0) ≡ true
 sorted-ordered xs h i j o b =
-    let s : Patterns (sorted xs) = sorted-each totalOrder (λ (x : ℕ). x < 2 ^ 64) xs h in
-    let m : length (sorted xs) ≡ length xs = sorted-length totalOrder xs in
     let k : length (sortedBy leb (map keyOf xs)) ≡ length xs = sorted-length leb (map keyOf xs) ∙ length-map xs keyOf in
-    let p : getD (sorted xs) i 0 < 2 ^ 64 = each-at (λ (x : ℕ). x < 2 ^ 64) (sorted xs) s i (omega arith) in
-    let q : getD (sorted xs) j 0 < 2 ^ 64 = each-at (λ (x : ℕ). x < 2 ^ 64) (sorted xs) s j (omega arith) in
-    rw (totalOrder-key (getD (sorted xs) i 0) (getD (sorted xs) j 0) p q, key-at xs i h (omega arith), key-at xs j h b)
+    rw (totalOrder-key (getD (sorted xs) i 0) (getD (sorted xs) j 0), key-at xs i h (omega arith), key-at xs j h b)
     (le-leb _ _ (ascending-at (sortedBy leb (map keyOf xs)) (sort-ascending (map keyOf xs)) i j o (omega arith)))
 
 -- the key of the median is at place len/2 of the sorted keys

@@ -36,6 +36,10 @@ Each P (x ∷ xs) = P x × Each P xs
 abbrev pub Patterns : List ℕ → Type 0
 Patterns xs = Each (λ (x : ℕ). x < 2 ^ 64) xs
 
+-- each is a pattern whose sign is clear
+abbrev pub Unsigned : List ℕ → Type 0
+Unsigned xs = Each (λ (x : ℕ). x < 2 ^ 63) xs
+
 -- how often x stands in a list
 unfoldable pub count : ℕ → List ℕ → ℕ
 count x [] = 0

@@ -1,15 +1,12 @@
 // The centre of residuals and their scale.
 ghost use mathlib.Core.Path.{_≡_};
-ghost use mathlib.Core.List.{map};
 ghost use Prim.Native.Nat.{_≤_};
 ghost use lib.ListN.{length};
-ghost use Rattle.numeric.specs.Order.{keyOf};
 ghost use Rattle.median.specs.Select.{Front};
 ghost use Rattle.median.specs.Centre.{deviationsOf, centreScaleOf, centreNumber};
-use crate::median::keys;
 use crate::median::middle;
+use crate::median::of_like_sign;
 use numeric::order::float;
-use numeric::order::key;
 use numeric::order::pattern;
 use numeric::real::abs;
 use numeric::refusal::Refusal;
@@ -38,16 +35,16 @@ impl Centre {
     }
 }
 
-// Puts the keys of the absolute deviations of the residuals from the centre into the front of k.
+// Puts the absolute deviations of the residuals from the centre into the front of k. They have no sign.
 fn deviations(residuals: &[u64], centre: f64, k: &mut [u64; 64])
     requires { ⌜ (length (now residuals) ≤ 64) × (length (now k) ≡ 64) ⌝ }
-    ensures { λ r. ⌜ Front (map keyOf (deviationsOf centre (now (residuals .entry)))) (length (now (residuals .entry))) (now (k .exit)) ⌝ }
+    ensures { λ r. ⌜ Front (deviationsOf centre (now (residuals .entry))) (length (now (residuals .entry))) (now (k .exit)) ⌝ }
 {
     let n = residuals.len();
     for i in 0..n {
         let b = residuals[i];
         let x = float(b);
-        k[i] = key(pattern(abs(x - centre)));
+        k[i] = pattern(abs(x - centre));
     }
 }
 
@@ -66,10 +63,9 @@ pub fn centre_scale(residuals: &[u64]) -> Centre
         });
     }
     let mut k = [0u64; 64];
-    keys(residuals, &mut k);
-    let centre = float(middle(&mut k, n));
+    let centre = float(middle(residuals, &mut k));
     deviations(residuals, centre, &mut k);
-    let deviation = float(middle(&mut k, n));
+    let deviation = float(of_like_sign(&mut k, n, n / 2));
     Centre::Of(CentreScale {
         centre: centre,
         scale: 1.4826 * deviation + 1e-6,

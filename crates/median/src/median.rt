@@ -1,14 +1,12 @@
-// The element at place len/2 of patterns sorted by totalOrder. It is found without sorting: a number of the list parts the keys into those
-// below it, it, and those above it, and only the part with the place goes on. At 64 patterns this takes less than half as long as a sort.
+// The element at place len/2 of patterns sorted by totalOrder. It is found without sorting: the patterns are parted by the cases of the clause, and only
+// the part with the place goes on. First by sign, then into numbers, infinities and NaNs, and what is left of one sign and kind by a pattern of the list:
+// those below it, it, and those above it.
 ghost use mathlib.Core.Path.{_≡_};
-ghost use mathlib.Core.List.{map};
-ghost use Prim.Native.Nat.{_/_, _≤_, _<_, min, max};
+ghost use mathlib.Core.List.{[], _∷_};
+ghost use Prim.Native.Nat.{_≤_, _<_, min, max};
 ghost use lib.ListN.{take, length};
-ghost use Rattle.numeric.specs.Order.{keyOf, patternAt};
-ghost use Rattle.median.specs.Sorted.{medianOf, count};
-ghost use Rattle.median.specs.Select.{placed, lows, highs, Front};
-use numeric::order::key;
-use numeric::order::pattern_at;
+ghost use Rattle.median.specs.Sorted.{medianOf, Unsigned, count};
+ghost use Rattle.median.specs.Select.{inOrder, placed, lows, highs, ofSign, Front};
 
 // The lesser of a and b.
 fn lesser(a: u64, b: u64) -> u64
@@ -83,7 +81,25 @@ fn keep_high(k: &mut [u64; 64], n: usize, p: u64) -> usize
     w
 }
 
+// The number at place m of three in ascending order.
+fn of_three(a: u64, b: u64, c: u64, m: usize) -> u64
+    requires { ⌜ m < 3 ⌝ }
+    ensures { λ r. ⌜ r ≡ placed m (a ∷ (b ∷ (c ∷ []))) ⌝ }
+{
+    let low = lesser(a, b);
+    let high = greater(a, b);
+    if m == 0 {
+        return lesser(low, c);
+    }
+    if m == 1 {
+        return greater(low, lesser(high, c));
+    }
+    greater(high, c)
+}
+
 // The number at place m of the first n numbers of k in ascending order. k is left with other contents.
+// Of patterns whose signs are clear this is the order of magnitudes, since the exponent field stands above the digits; and of NaNs the order of digits, of
+// which the first tells signaling from quiet, and the others are the payload.
 fn select(k: &mut [u64; 64], n: usize, m: usize) -> u64
     requires { ⌜ (m < n) × (n ≤ 64) × (length (now k) ≡ 64) ⌝ }
     ensures { λ r. ⌜ (r ≡ placed m (take n (now (k .entry)))) × (length (now (k .exit)) ≡ 64) ⌝ }
@@ -98,6 +114,12 @@ fn select(k: &mut [u64; 64], n: usize, m: usize) -> u64
                 return lesser(a, b);
             }
             return greater(a, b);
+        }
+        if len == 3 {
+            let a = k[0];
+            let b = k[1];
+            let c = k[2];
+            return of_three(a, b, c, at);
         }
         let p = pivot(k, len);
         let less = count_low(k, len, p);
@@ -115,24 +137,66 @@ fn select(k: &mut [u64; 64], n: usize, m: usize) -> u64
     }
 }
 
-// Puts the keys of the patterns into the front of k.
-pub(crate) fn keys(patterns: &[u64], k: &mut [u64; 64])
+// Puts the patterns of one sign, without it, into the front of k, and says how many they are.
+fn part(patterns: &[u64], negative: bool, k: &mut [u64; 64]) -> usize
     requires { ⌜ (length (now patterns) ≤ 64) × (length (now k) ≡ 64) ⌝ }
-    ensures { λ _. ⌜ Front (map keyOf (now (patterns .entry))) (length (now (patterns .entry))) (now (k .exit)) ⌝ }
+    ensures { λ r. ⌜ Front (ofSign negative (now (patterns .entry))) r (now (k .exit)) ⌝ }
 {
     let n = patterns.len();
-    for i in 0..n {
-        let b = patterns[i];
-        k[i] = key(b);
+    let mut w = 0usize;
+    for j in 0..n {
+        let x = patterns[j];
+        k[w] = x % 0x8000_0000_0000_0000;
+        let s = 0x8000_0000_0000_0000 <= x;
+        if s == negative {
+            w += 1;
+        }
     }
+    w
 }
 
-// The pattern at place n/2 of n patterns whose keys stand in the front of k, which is left with other contents.
-pub(crate) fn middle(k: &mut [u64; 64], n: usize) -> u64
-    requires { ⌜ (0 < n) × (n ≤ 64) × (length (now k) ≡ 64) ⌝ }
-    ensures { λ r. ⌜ (r ≡ patternAt (placed (n / 2) (take n (now (k .entry))))) × (length (now (k .exit)) ≡ 64) ⌝ }
+// The pattern at place m, in totalOrder, of the first n patterns of k, whose signs are clear. k is left with other contents.
+pub(crate) fn of_like_sign(k: &mut [u64; 64], n: usize, m: usize) -> u64
+    requires { ⌜ (m < n) × (n ≤ 64) × (length (now k) ≡ 64) × Unsigned (take n (now k)) ⌝ }
+    ensures { λ r. ⌜ (r ≡ inOrder m (take n (now (k .entry)))) × (length (now (k .exit)) ≡ 64) ⌝ }
 {
-    pattern_at(select(k, n, n / 2))
+    let numbers = count_low(k, n, 0x7FF0_0000_0000_0000);
+    // numbers alone, zeros among them: by magnitude (a, b, c 3)
+    if numbers == n {
+        return select(k, n, m);
+    }
+    // numbers come before infinities (a) and before NaNs (d 2)
+    if m < numbers {
+        let count = keep_low(k, n, 0x7FF0_0000_0000_0000);
+        return select(k, count, m);
+    }
+    // infinities are one datum (c 3), and come before NaNs (d 2)
+    let nans = keep_high(k, n, 0x7FF0_0000_0000_0000);
+    let upto = n - nans;
+    if m < upto {
+        return 0x7FF0_0000_0000_0000;
+    }
+    // NaNs: signaling before quiet (d 3 ii), then by payload (d 3 iii)
+    select(k, nans, m - upto)
+}
+
+// The median of one to 64 patterns. k is left with other contents.
+pub(crate) fn middle(patterns: &[u64], k: &mut [u64; 64]) -> u64
+    requires { ⌜ (0 < length (now patterns)) × (length (now patterns) ≤ 64) × (length (now k) ≡ 64) ⌝ }
+    ensures { λ r. ⌜ (r ≡ medianOf (now (patterns .entry))) × (length (now (k .exit)) ≡ 64) ⌝ }
+{
+    let n = patterns.len();
+    let at = n / 2;
+    // unlike signs: every negative pattern comes before every other (a, c 1, d 1, d 2, d 3 i)
+    let positive = part(patterns, false, k);
+    let negative = n - positive;
+    if negative <= at {
+        return of_like_sign(k, positive, at - negative);
+    }
+    // negative patterns come in the reverse of the order without the sign
+    let count = part(patterns, true, k);
+    let found = of_like_sign(k, count, count - 1 - at);
+    0x8000_0000_0000_0000 + found
 }
 
 // The median of one to 64 patterns.
@@ -140,10 +204,8 @@ fn median_of(patterns: &[u64]) -> u64
     requires { ⌜ (0 < length (now patterns)) × (length (now patterns) ≤ 64) ⌝ }
     ensures { λ r. ⌜ r ≡ medianOf (now (patterns .entry)) ⌝ }
 {
-    let n = patterns.len();
     let mut k = [0u64; 64];
-    keys(patterns, &mut k);
-    middle(&mut k, n)
+    middle(patterns, &mut k)
 }
 
 // The median of the patterns. Of more than 64 only the first 64 count; the callers here have no more.

@@ -20,8 +20,9 @@ use Rattle.exact.specs.Float.{_⊖_, _⊗_, _⊘_}
 use Rattle.numeric.specs.Real.{inRange}
 use Rattle.numeric.specs.declared.refusal.Refusal.the-variants.{NoCorrection}
 use Rattle.table.specs.Table.{blank, signal, signalOf, sound}
-use Rattle.query.specs.Query.{GivesFinite, bridged, Found, answerAt, answerIn, between, firstOf, lastOf, line, missing, near, the}
+use Rattle.query.specs.Query.{GivesFinite, Found, answerAt, answerIn, firstOf, lastOf, line, missing, near, nearOr, ruled, spanned, the, through}
 use Rattle.table.specs.declared.sample.Sample.{Sample}
+use Rattle.query.specs.declared.query.Correction.{Correction}
 use Rattle.query.specs.declared.query.Correction.the-variants.{Refused, Metres}
 use Rattle.numeric.proofs.RealLaws.{in-range-finite}
 use Rattle.table.proofs.UnitLaws.{units, lt-is, units-exact, down-le, cross, never}
@@ -175,7 +176,7 @@ pub record Good (s : Sample) : Type 0 where
   pub value : inRange (s .correction) ≡ true
 
 line-finite : (t : Float) (a b : Sample) → T (fits binary64 t) → Good a → Good b → lt (a .time) t ≡ true → lt (b .time) t ≡ false → finite (line t a b) ≡ true
-unfolding line
+unfolding through
 line-finite t a b f g h i j =
     let ta = range-small (a .time) (g .time) in
     let tb = range-small (b .time) (h .time) in
@@ -212,24 +213,29 @@ last-all q f (a ∷ l) h g = last-all q (cond (q a) (the a) f) l (go (q a) refl)
     go true e = (g 0 (omega arith), e)
     go false e = h
 
-bridged-finite : (g : ℕ) (gap t : Float) (a : Found) (b : Sample) → T (fits binary64 t) → All (Passing (earlier g t)) a → Passing (later g t) b → GivesFinite (bridged gap t a b)
-unfolding bridged
-bridged-finite g gap t missing b f i j = tt
-bridged-finite g gap t (the a) b f i j = go (near (a .time) t) (lt gap (b .time ⊖ a .time))
+near-finite : (q : Sample → Bool) (t : Float) (f : Found) (rest : Correction) → All (Passing q) f → GivesFinite rest → GivesFinite (nearOr t f rest)
+unfolding nearOr
+near-finite q t missing rest i r = r
+near-finite q t (the a) rest i r = go (near (a .time) t)
   where
-    go : (x y : Bool) → GivesFinite (cond x (Metres (a .correction)) (cond y (Refused NoCorrection) (Metres (line t a b))))
-    go true y = in-range-finite (a .correction) (i .0 .value)
-    go false true = tt
-    go false false = line-finite t a b f (i .0) (j .0) (and-right (eqb (signalOf a) g) _ (i .1)) (not-true _ (and-right (eqb (signalOf b) g) _ (j .1)))
+    go : (x : Bool) → GivesFinite (cond x (Metres (a .correction)) rest)
+    go true = in-range-finite (a .correction) (i .0 .value)
+    go false = r
 
-between-finite : (g : ℕ) (gap t : Float) (a b : Found) → T (fits binary64 t) → All (Passing (earlier g t)) a → All (Passing (later g t)) b → GivesFinite (between gap t a b)
-unfolding between
-between-finite g gap t a missing f i j = tt
-between-finite g gap t a (the b) f i j = go (near (b .time) t)
+spanned-finite : (g : ℕ) (gap t : Float) (a b : Found) → T (fits binary64 t) → All (Passing (earlier g t)) a → All (Passing (later g t)) b → GivesFinite (spanned gap t a b)
+unfolding spanned
+spanned-finite g gap t missing b f i j = tt
+spanned-finite g gap t (the a) missing f i j = tt
+spanned-finite g gap t (the a) (the b) f i j = go (lt gap (b .time ⊖ a .time))
   where
-    go : (x : Bool) → GivesFinite (cond x (Metres (b .correction)) (bridged gap t a b))
-    go true = in-range-finite (b .correction) (j .0 .value)
-    go false = bridged-finite g gap t a b f i j
+    go : (y : Bool) → GivesFinite (cond y (Refused NoCorrection) (Metres (line t a b)))
+    go true = tt
+    go false = line-finite t a b f (i .0) (j .0) (and-right (eqb (signalOf a) g) _ (i .1)) (not-true _ (and-right (eqb (signalOf b) g) _ (j .1)))
+
+ruled-finite : (g : ℕ) (gap t : Float) (a b : Found) → T (fits binary64 t) → All (Passing (earlier g t)) a → All (Passing (later g t)) b → GivesFinite (ruled gap t a b)
+unfolding ruled
+ruled-finite g gap t a b f i j =
+    near-finite (later g t) t b (nearOr t a (spanned gap t a b)) j (near-finite (earlier g t) t a (spanned gap t a b) i (spanned-finite g gap t a b f i j))
 
 pub answer-finite : (l : List Sample) (gap : Float) (c v b : ℕ) (t : Float) → sound l ≡ true → Held l → T (fits binary64 t) → GivesFinite (answerAt l gap c v b t)
 unfolding answerAt answerIn Held
@@ -237,5 +243,5 @@ answer-finite l gap c v b t s h f =
     let r = sound-at l s in
     let good : (j : ℕ) → j < length l → Good (getD l j blank) = λ j k. record { holds = h j k; time = r .times j k; value = r .values j k } in
     rw (earlier-series (signal c v b) t l, later-series (signal c v b) t l)
-    (between-finite (signal c v b) gap t (lastOf (earlier (signal c v b) t) missing l) (firstOf (later (signal c v b) t) l) f
+    (ruled-finite (signal c v b) gap t (lastOf (earlier (signal c v b) t) missing l) (firstOf (later (signal c v b) t) l) f
     (last-all (earlier (signal c v b) t) missing l tt good) (first-all (later (signal c v b) t) l good))

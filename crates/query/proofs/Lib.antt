@@ -1,6 +1,10 @@
 -- What the proofs of more than one function use, and the theorems.
 pub mod FoundLaws
 pub mod QueryLaws
+pub mod HalvingLaws
+pub mod PlaceLaws
+pub mod BlockLaws
+pub mod PastLaws
 pub mod FiniteLaws
 pub mod QueriesLaws
 pub mod Values

@@ -7,7 +7,7 @@ use native.Mathlib.Numerals.{add-one}
 use native.Mathlib.Omega.{arith}
 use lib.ListN.{length, getD, set}
 use lib.Dec.{ltb}
-use borrow.Author.Tests.{ltb-false, lt-ltb, le-ltb, not-true, not-false}
+use borrow.Author.Tests.{ltb-false, not-true, not-false}
 use lib.Ieee.{Float, nan}
 use lib.Ieee.Scale.{finite}
 use Rattle.walk.specs.Walk.{places}
@@ -15,13 +15,12 @@ use Rattle.walk.proofs.Walk.{places-length, places-at, or-no}
 use Rattle.numeric.specs.Real.{inRange}
 use Rattle.numeric.specs.declared.refusal.Refusal.{Refusal}
 use Rattle.numeric.specs.declared.refusal.Refusal.the-variants.{TooMany, SettingOutOfRange, RecordOutOfRange}
-use Rattle.table.specs.Table.{sound}
-use Rattle.query.specs.Query.{answerAt, queryOf, queryNumber, metresAfter, GivesFinite, PassedTable}
-use Rattle.table.specs.declared.sample.Sample.{Sample}
+use Rattle.directory.specs.Directory.{Directory, flat, soundDirectory}
+use Rattle.query.specs.Query.{answerAt, guarded, queryIn, queryNumber, metresAfter, GivesFinite, Passed}
 use Rattle.query.specs.declared.query.Correction.{Correction}
 use Rattle.query.specs.declared.query.Correction.the-variants as Correction
 use Rattle.query.specs.declared.queries.Asking.the-variants.{Refused, Answered}
-use Rattle.query.specs.Queries.{Reply, refusal, answers, placesShort, queryAt, queriesOf, askingOf, askingNumber, written, numberAfter, EachFinite, Replies}
+use Rattle.query.specs.Queries.{Reply, refusal, answers, placesShort, queryAt, queriesIn, askingOf, askingNumber, written, numberAfter, EachFinite, Replies}
 
 -- ---- a column with answers written to it
 module _ {A : Type 0} (f : Correction → A → A) where
@@ -137,47 +136,51 @@ pub answered-reply : {o : Reply} {l : List Correction} {numbers : List ℕ} {met
     → (Answered ≡ askingOf o) × Replies o (askingNumber Answered) numbers metres numbers′ metres′
 answered-reply e h = rw e (refl, h)
 
-module _ (n room r : ℕ) (e : r ≡ room) (l : List Sample) (gap : Float) (c v b : List ℕ) (t : List Float) (count : ℕ) (numbers : List ℕ) (metres : List Float) where
-  pub many : r < n → queriesOf n room l gap c v b t count numbers metres ≡ refusal TooMany
-  unfolding queriesOf
-  many h = rw (lt-ltb room n (omega arith))
+module _ (m n room : ℕ) (d : Directory) (gap : Float) (c v b : List ℕ) (t : List Float) (count : ℕ) (numbers : List ℕ) (metres : List Float) where
+  pub many : (ltb room m || ltb room n) ≡ true → queriesIn m n room d gap c v b t count numbers metres ≡ refusal TooMany
+  unfolding queriesIn
+  many h = rw h
 
-  module _ (h : n ≤ r) {s : Bool} (es : s ≡ placesShort count c v b t numbers metres) where
-    few : ltb room n ≡ false
-    few = le-ltb room n (omega arith)
-
-    pub short-lent : s ≡ true → queriesOf n room l gap c v b t count numbers metres ≡ refusal TooMany
-    unfolding queriesOf
-    short-lent w = rw (few, sym es ∙ w)
+  module _ (h : (ltb room m || ltb room n) ≡ false) {s : Bool} (es : s ≡ placesShort count c v b t numbers metres) where
+    pub short-lent : s ≡ true → queriesIn m n room d gap c v b t count numbers metres ≡ refusal TooMany
+    unfolding queriesIn
+    short-lent w = rw (h, sym es ∙ w)
 
     module _ (w : s ≡ false) {q : Bool} (eq : q ≡ inRange gap) where
-      pub gap-out : not q ≡ true → queriesOf n room l gap c v b t count numbers metres ≡ refusal SettingOutOfRange
-      unfolding queriesOf
-      gap-out u = rw (few, sym es ∙ w, sym eq ∙ not-true q u)
+      pub gap-out : not q ≡ true → queriesIn m n room d gap c v b t count numbers metres ≡ refusal SettingOutOfRange
+      unfolding queriesIn
+      gap-out u = rw (h, sym es ∙ w, sym eq ∙ not-true q u)
 
-      module _ (u : not q ≡ false) {y : Bool} (ey : y ≡ sound l) where
-        pub not-sound : not y ≡ true → queriesOf n room l gap c v b t count numbers metres ≡ refusal RecordOutOfRange
-        unfolding queriesOf
-        not-sound z = rw (few, sym es ∙ w, sym eq ∙ not-false q u, sym ey ∙ not-true y z)
+      module _ (u : not q ≡ false) {y : Bool} (ey : y ≡ soundDirectory d) where
+        pub not-sound : not y ≡ true → queriesIn m n room d gap c v b t count numbers metres ≡ refusal RecordOutOfRange
+        unfolding queriesIn
+        not-sound z = rw (h, sym es ∙ w, sym eq ∙ not-false q u, sym ey ∙ not-true y z)
 
         module _ (z : not y ≡ false) where
-          pub passes : PassedTable n room l gap
-          passes = record { few = omega arith; in-range = sym eq ∙ not-false q u; steady = sym ey ∙ not-false y z }
+          pub passes : Passed m n room d gap
+          passes =
+              let k = or-no (ltb room m) (ltb room n) h in
+              record {
+                few-entries = ltb-false room m (k .0);
+                few-samples = ltb-false room n (k .1);
+                in-range = sym eq ∙ not-false q u;
+                steady = sym ey ∙ not-false y z;
+              }
 
-          pub all-answered : queriesOf n room l gap c v b t count numbers metres ≡ answers (places (queryAt n room l gap c v b t) count)
-          unfolding queriesOf
-          all-answered = rw (few, sym es ∙ w, sym eq ∙ not-false q u, sym ey ∙ not-false y z)
+          pub all-answered : queriesIn m n room d gap c v b t count numbers metres ≡ answers (places (queryAt m n room d gap c v b t) count)
+          unfolding queriesIn
+          all-answered = rw (h, sym es ∙ w, sym eq ∙ not-false q u, sym ey ∙ not-false y z)
 
 -- ---- one call gives what as many single queries give
-module _ (n room : ℕ) (l : List Sample) (gap : Float) (c v b : List ℕ) (t : List Float) (count : ℕ) (numbers : List ℕ) (metres : List Float) where
+module _ (m n room : ℕ) (d : Directory) (gap : Float) (c v b : List ℕ) (t : List Float) (count : ℕ) (numbers : List ℕ) (metres : List Float) where
   -- where the call answers, its columns are long enough and its reply has the query at each place
-  answering : askingOf (queriesOf n room l gap c v b t count numbers metres) ≡ Answered
-      → (placesShort count c v b t numbers metres ≡ false) × (queriesOf n room l gap c v b t count numbers metres ≡ answers (places (queryAt n room l gap c v b t) count))
-  unfolding queriesOf
-  answering = go (ltb room n) (placesShort count c v b t numbers metres) (not (inRange gap)) (not (sound l))
+  answering : askingOf (queriesIn m n room d gap c v b t count numbers metres) ≡ Answered
+      → (placesShort count c v b t numbers metres ≡ false) × (queriesIn m n room d gap c v b t count numbers metres ≡ answers (places (queryAt m n room d gap c v b t) count))
+  unfolding queriesIn
+  answering = go (ltb room m || ltb room n) (placesShort count c v b t numbers metres) (not (inRange gap)) (not (soundDirectory d))
     where
       all : Reply
-      all = answers (places (queryAt n room l gap c v b t) count)
+      all = answers (places (queryAt m n room d gap c v b t) count)
 
       go : (w x y z : Bool) → askingOf (cond (w || x) (refusal TooMany) (cond y (refusal SettingOutOfRange) (cond z (refusal RecordOutOfRange) all))) ≡ Answered
           → (x ≡ false) × (cond (w || x) (refusal TooMany) (cond y (refusal SettingOutOfRange) (cond z (refusal RecordOutOfRange) all)) ≡ all)
@@ -187,45 +190,45 @@ module _ (n room : ℕ) (l : List Sample) (gap : Float) (c v b : List ℕ) (t : 
       go false false false true e = absurd (let q : _≡_ {A = ℕ} 0 1 = cc in omega arith)
       go false false false false e = (refl, refl)
 
-  module _ (numbers′ : List ℕ) (metres′ : List Float) (e : Answered ≡ askingOf (queriesOf n room l gap c v b t count numbers metres)) (h : Replies (queriesOf n room l gap c v b t count numbers metres) 0 numbers metres numbers′ metres′) (i : ℕ) (k : i < count) where
-    is : Replies (answers (places (queryAt n room l gap c v b t) count)) 0 numbers metres numbers′ metres′
+  module _ (numbers′ : List ℕ) (metres′ : List Float) (e : Answered ≡ askingOf (queriesIn m n room d gap c v b t count numbers metres)) (h : Replies (queriesIn m n room d gap c v b t count numbers metres) 0 numbers metres numbers′ metres′) (i : ℕ) (k : i < count) where
+    is : Replies (answers (places (queryAt m n room d gap c v b t) count)) 0 numbers metres numbers′ metres′
     is = same-reply (sym (answering (sym e) .1)) h
 
     long : Long count c v b t numbers metres
     long = not-short count c v b t numbers metres (answering (sym e) .0)
 
-    answer : (d : Correction) → getD (places (queryAt n room l gap c v b t) count) i d ≡ queryAt n room l gap c v b t i
-    answer d = places-at (queryAt n room l gap c v b t) count i d k
+    answer : (x : Correction) → getD (places (queryAt m n room d gap c v b t) count) i x ≡ queryAt m n room d gap c v b t i
+    answer x = places-at (queryAt m n room d gap c v b t) count i x k
 
     nothing : Correction
     nothing = Correction.Refused TooMany
 
-    inside : i < length (places (queryAt n room l gap c v b t) count)
-    inside = omega (arith, places-length (queryAt n room l gap c v b t) count)
+    inside : i < length (places (queryAt m n room d gap c v b t) count)
+    inside = omega (arith, places-length (queryAt m n room d gap c v b t) count)
 
     -- the number of each place is that of the query there
-    pub number-at : getD numbers′ i 0 ≡ queryNumber (queryAt n room l gap c v b t i)
+    pub number-at : getD numbers′ i 0 ≡ queryNumber (queryAt m n room d gap c v b t i)
     number-at =
-        ap (λ (x : List ℕ). getD x i 0) (is .numbers-after) ∙ written-at numberAfter (places (queryAt n room l gap c v b t) count) numbers i nothing 0 inside (omega (arith, long .in-numbers)) ∙ ap queryNumber (answer nothing)
+        ap (λ (x : List ℕ). getD x i 0) (is .numbers-after) ∙ written-at numberAfter (places (queryAt m n room d gap c v b t) count) numbers i nothing 0 inside (omega (arith, long .in-numbers)) ∙ ap queryNumber (answer nothing)
 
     -- its metres are those of the query there, and as they were where that is refused
-    pub metres-at : getD metres′ i nan ≡ metresAfter (queryAt n room l gap c v b t i) (getD metres i nan)
+    pub metres-at : getD metres′ i nan ≡ metresAfter (queryAt m n room d gap c v b t i) (getD metres i nan)
     metres-at =
-        ap (λ (x : List Float). getD x i nan) (is .metres-after) ∙ written-at metresAfter (places (queryAt n room l gap c v b t) count) metres i nothing nan inside (omega (arith, long .in-metres))
+        ap (λ (x : List Float). getD x i nan) (is .metres-after) ∙ written-at metresAfter (places (queryAt m n room d gap c v b t) count) metres i nothing nan inside (omega (arith, long .in-metres))
         ∙ ap (λ (a : Correction). metresAfter a (getD metres i nan)) (answer nothing)
 
     -- and every correction given is finite
-    pub finite-there : GivesFinite (queryAt n room l gap c v b t i)
-    finite-there = subst GivesFinite (answer nothing) (finite-at (places (queryAt n room l gap c v b t) count) i nothing inside (is .all-finite))
+    pub finite-there : GivesFinite (queryAt m n room d gap c v b t i)
+    finite-there = subst GivesFinite (answer nothing) (finite-at (places (queryAt m n room d gap c v b t) count) i nothing inside (is .all-finite))
 
   -- where the samples are too many or the lent columns are long enough, and the call is refused, every query of the table is refused by the same number
-  pub each-refused : (ltb room n || not (placesShort count c v b t numbers metres)) ≡ true → (r : Refusal) → queriesOf n room l gap c v b t count numbers metres ≡ refusal r
-      → (c′ v′ b′ : ℕ) (t′ : Float) → queryOf n room l gap c′ v′ b′ t′ ≡ Correction.Refused r
-  unfolding queriesOf queryOf
-  each-refused h r e c′ v′ b′ t′ = go (ltb room n) (placesShort count c v b t numbers metres) (not (inRange gap)) (sound l) h e
+  pub each-refused : ((ltb room m || ltb room n) || not (placesShort count c v b t numbers metres)) ≡ true → (r : Refusal) → queriesIn m n room d gap c v b t count numbers metres ≡ refusal r
+      → (c′ v′ b′ : ℕ) (t′ : Float) → queryIn m n room d gap c′ v′ b′ t′ ≡ Correction.Refused r
+  unfolding queriesIn queryIn guarded
+  each-refused h r e c′ v′ b′ t′ = go (ltb room m || ltb room n) (placesShort count c v b t numbers metres) (not (inRange gap)) (soundDirectory d) h e
     where
-      go : (w x y z : Bool) → (w || not x) ≡ true → cond (w || x) (refusal TooMany) (cond y (refusal SettingOutOfRange) (cond (not z) (refusal RecordOutOfRange) (answers (places (queryAt n room l gap c v b t) count)))) ≡ refusal r
-          → cond w (Correction.Refused TooMany) (cond y (Correction.Refused SettingOutOfRange) (cond (not (z && (inRange t′ || not (finite t′)))) (Correction.Refused RecordOutOfRange) (answerAt l gap c′ v′ b′ t′))) ≡ Correction.Refused r
+      go : (w x y z : Bool) → (w || not x) ≡ true → cond (w || x) (refusal TooMany) (cond y (refusal SettingOutOfRange) (cond (not z) (refusal RecordOutOfRange) (answers (places (queryAt m n room d gap c v b t) count)))) ≡ refusal r
+          → cond w (Correction.Refused TooMany) (cond y (Correction.Refused SettingOutOfRange) (cond (not (z && (inRange t′ || not (finite t′)))) (Correction.Refused RecordOutOfRange) (answerAt (flat d) gap c′ v′ b′ t′))) ≡ Correction.Refused r
       go true x y z p q = let k : TooMany ≡ r = cc in ap Correction.Refused k
       go false true y z p q = absurd (let k : _≡_ {A = ℕ} 0 1 = cc in omega arith)
       go false false true z p q = let k : SettingOutOfRange ≡ r = cc in ap Correction.Refused k

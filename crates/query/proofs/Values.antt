@@ -4,13 +4,14 @@ use mathlib.Core.Bool.{false}
 use mathlib.Core.List.{List, [], _∷_}
 use lib.Ieee.{Float, nan, inf, lt, le, eq, add, sub, mul, div, ofBits, ofInt, toBits, isNan}
 use Rattle.exact.specs.Float.{whole, bits, +0}
-use Rattle.walk.specs.Walk.{every, collect, places}
-use Rattle.numeric.specs.Order.{keyOf, patternOf}
+use Rattle.walk.specs.Walk.{every, collect}
+use Rattle.exact.specs.Pattern.{sign}
+use Rattle.numeric.specs.Order.{totalOrder, patternOf}
 use Rattle.numeric.specs.Real.{abs, inRange}
-use Rattle.numeric.specs.declared.refusal.Refusal.the-variants.{TooMany, NoCorrection, RecordOutOfRange}
-use Rattle.table.specs.Table.{timeKey, rises, ranged, sound}
-use Rattle.query.specs.Query.{near, firstOf, lastOf, line, bridged, between, answerIn, answerAt, queryOf, metresAfter}
-use Rattle.query.specs.Queries.{Reply, refusal, placesShort, queriesOf, written, placesAfter, numberAfter}
+use Rattle.numeric.specs.declared.refusal.Refusal.the-variants.{NoCorrection, RecordOutOfRange}
+use Rattle.table.specs.Table.{timeBefore, standsBefore, sortedFrom, sorted, ranged, sound}
+use Rattle.query.specs.Query.{near, firstOf, lastOf, through, nearOr, spanned, ruled, answerIn, answerAt, guarded, queryOf}
+use Rattle.query.specs.Past.{bridged, between, answerBefore, queryBefore}
 use Rattle.table.specs.declared.sample.Sample.{Sample}
 use Rattle.query.specs.declared.query.Correction.{Correction}
 use Rattle.query.specs.declared.query.Correction.the-variants.{Refused, Metres}
@@ -28,59 +29,55 @@ asked gap t = queryOf 2 2048 two gap 1 5 1 t
 
 -- (m10) gap limit 90: 15 s gives 2 m
 pub m10 : asked (whole 90) (whole 15) ≡ Metres (whole 2)
-unfolding queryOf answerAt answerIn collect between bridged line near firstOf lastOf inRange abs sound ranged rises timeKey keyOf patternOf every lt le eq add sub mul div ofBits ofInt toBits isNan
+unfolding queryOf guarded answerAt answerIn collect ruled nearOr spanned through near firstOf lastOf inRange abs sound ranged sorted sortedFrom standsBefore timeBefore totalOrder sign patternOf every lt le eq add sub mul div ofBits ofInt toBits isNan
 m10 = refl
 
 -- (m11) gap limit 5: 12
 pub m11 : asked (whole 5) (whole 15) ≡ Refused NoCorrection
-unfolding queryOf answerAt answerIn collect between bridged line near firstOf lastOf inRange abs sound ranged rises timeKey keyOf patternOf every lt le eq add sub mul div ofBits ofInt toBits isNan
+unfolding queryOf guarded answerAt answerIn collect ruled nearOr spanned through near firstOf lastOf inRange abs sound ranged sorted sortedFrom standsBefore timeBefore totalOrder sign patternOf every lt le eq add sub mul div ofBits ofInt toBits isNan
 m11 = refl
 
 -- a gap equal to the limit is bridged
 pub gap-at-limit : asked (whole 10) (whole 15) ≡ Metres (whole 2)
-unfolding queryOf answerAt answerIn collect between bridged line near firstOf lastOf inRange abs sound ranged rises timeKey keyOf patternOf every lt le eq add sub mul div ofBits ofInt toBits isNan
+unfolding queryOf guarded answerAt answerIn collect ruled nearOr spanned through near firstOf lastOf inRange abs sound ranged sorted sortedFrom standsBefore timeBefore totalOrder sign patternOf every lt le eq add sub mul div ofBits ofInt toBits isNan
 gap-at-limit = refl
 
 -- a sample is answered whatever the gaps beside it are, and past the last one there is no correction
 pub on-sample : asked (whole 5) (whole 20) ≡ Metres (whole 3)
-unfolding queryOf answerAt answerIn collect between bridged line near firstOf lastOf inRange abs sound ranged rises timeKey keyOf patternOf every lt le eq add sub mul div ofBits ofInt toBits isNan
+unfolding queryOf guarded answerAt answerIn collect ruled nearOr spanned through near firstOf lastOf inRange abs sound ranged sorted sortedFrom standsBefore timeBefore totalOrder sign patternOf every lt le eq add sub mul div ofBits ofInt toBits isNan
 on-sample = refl
 
 pub past-end : asked (whole 90) (whole 21) ≡ Refused NoCorrection
-unfolding queryOf answerAt answerIn collect between bridged line near firstOf lastOf inRange abs sound ranged rises timeKey keyOf patternOf every lt le eq add sub mul div ofBits ofInt toBits isNan
+unfolding queryOf guarded answerAt answerIn collect ruled nearOr spanned through near firstOf lastOf inRange abs sound ranged sorted sortedFrom standsBefore timeBefore totalOrder sign patternOf every lt le eq add sub mul div ofBits ofInt toBits isNan
 past-end = refl
+
+-- request (vi): 2^-21 s past the last one that sample is answered, where it was 12; 2^-19 s past it nothing is
+pub just-past : asked (whole 90) (bits 0x4034_0000_0800_0000) ≡ Metres (whole 3)
+unfolding queryOf guarded answerAt answerIn collect ruled nearOr spanned through near firstOf lastOf inRange abs sound ranged sorted sortedFrom standsBefore timeBefore totalOrder sign patternOf every lt le eq add sub mul div ofBits ofInt toBits isNan
+just-past = refl
+
+pub just-past-before : queryBefore 2 2048 two (whole 90) 1 5 1 (bits 0x4034_0000_0800_0000) ≡ Refused NoCorrection
+unfolding queryBefore guarded answerBefore collect between bridged through near firstOf lastOf inRange abs sound ranged sorted sortedFrom standsBefore timeBefore totalOrder sign patternOf every lt le eq add sub mul div ofBits ofInt toBits isNan
+just-past-before = refl
+
+pub further-past : asked (whole 90) (bits 0x4034_0000_2000_0000) ≡ Refused NoCorrection
+unfolding queryOf guarded answerAt answerIn collect ruled nearOr spanned through near firstOf lastOf inRange abs sound ranged sorted sortedFrom standsBefore timeBefore totalOrder sign patternOf every lt le eq add sub mul div ofBits ofInt toBits isNan
+further-past = refl
 
 -- a time that is not finite is 12, and one above 1e9 is 4
 pub at-nan : asked (whole 90) nan ≡ Refused NoCorrection
-unfolding queryOf answerAt answerIn collect between bridged line near firstOf lastOf inRange abs sound ranged rises timeKey keyOf patternOf every lt le eq add sub mul div ofBits ofInt toBits isNan
+unfolding queryOf guarded answerAt answerIn collect ruled nearOr spanned through near firstOf lastOf inRange abs sound ranged sorted sortedFrom standsBefore timeBefore totalOrder sign patternOf every lt le eq add sub mul div ofBits ofInt toBits isNan
 at-nan = refl
 
 pub at-infinity : asked (whole 90) (inf false) ≡ Refused NoCorrection
-unfolding queryOf answerAt answerIn collect between bridged line near firstOf lastOf inRange abs sound ranged rises timeKey keyOf patternOf every lt le eq add sub mul div ofBits ofInt toBits isNan
+unfolding queryOf guarded answerAt answerIn collect ruled nearOr spanned through near firstOf lastOf inRange abs sound ranged sorted sortedFrom standsBefore timeBefore totalOrder sign patternOf every lt le eq add sub mul div ofBits ofInt toBits isNan
 at-infinity = refl
 
 pub far-time : asked (whole 90) (whole 2000000000) ≡ Refused RecordOutOfRange
-unfolding queryOf answerAt answerIn collect between bridged line near firstOf lastOf inRange abs sound ranged rises timeKey keyOf patternOf every lt le eq add sub mul div ofBits ofInt toBits isNan
+unfolding queryOf guarded answerAt answerIn collect ruled nearOr spanned through near firstOf lastOf inRange abs sound ranged sorted sortedFrom standsBefore timeBefore totalOrder sign patternOf every lt le eq add sub mul div ofBits ofInt toBits isNan
 far-time = refl
 
 -- the time +0 followed by −0 is not sorted
 pub zeros-unsorted : queryOf 2 2048 (sample +0 (whole 1) ∷ sample (bits 0x8000_0000_0000_0000) (whole 1) ∷ []) (whole 90) 1 5 1 +0 ≡ Refused RecordOutOfRange
-unfolding queryOf answerAt answerIn collect between bridged line near firstOf lastOf inRange abs sound ranged rises timeKey keyOf patternOf every lt le eq add sub mul div ofBits ofInt toBits isNan
+unfolding queryOf guarded answerAt answerIn collect ruled nearOr spanned through near firstOf lastOf inRange abs sound ranged sorted sortedFrom standsBefore timeBefore totalOrder sign patternOf every lt le eq add sub mul div ofBits ofInt toBits isNan
 zeros-unsorted = refl
-
--- three queries in one call, at 15 s, past the end and above 1e9: each place has its number, and metres only where there are some
-abbrev three : Reply
-three = queriesOf 2 2048 two (whole 90) (1 ∷ 1 ∷ 1 ∷ []) (5 ∷ 5 ∷ 5 ∷ []) (1 ∷ 1 ∷ 1 ∷ []) (whole 15 ∷ whole 21 ∷ whole 2000000000 ∷ []) 3 (7 ∷ 7 ∷ 7 ∷ 7 ∷ []) (whole 8 ∷ whole 8 ∷ whole 8 ∷ [])
-
-pub three-numbers : placesAfter numberAfter three (7 ∷ 7 ∷ 7 ∷ 7 ∷ []) ≡ 0 ∷ 12 ∷ 4 ∷ 7 ∷ []
-unfolding queriesOf placesShort places written queryOf answerAt answerIn collect between bridged line near firstOf lastOf inRange abs sound ranged rises timeKey keyOf patternOf every lt le eq add sub mul div ofBits ofInt toBits isNan
-three-numbers = refl
-
-pub three-metres : placesAfter metresAfter three (whole 8 ∷ whole 8 ∷ whole 8 ∷ []) ≡ whole 2 ∷ whole 8 ∷ whole 8 ∷ []
-unfolding queriesOf placesShort places written queryOf answerAt answerIn collect between bridged line near firstOf lastOf inRange abs sound ranged rises timeKey keyOf patternOf every lt le eq add sub mul div ofBits ofInt toBits isNan
-three-metres = refl
-
--- a lent column that is too short is 2
-pub short-column : queriesOf 2 2048 two (whole 90) (1 ∷ []) (5 ∷ []) (1 ∷ []) (whole 15 ∷ []) 1 [] (whole 8 ∷ []) ≡ refusal TooMany
-unfolding queriesOf placesShort
-short-column = refl

@@ -1,4 +1,4 @@
--- Many queries of one table, which is tested once; each of the answers is that of one query (docs/SCOPE.md, "Corrections"). Definitions only.
+-- Many queries of one directory, which is tested once; each of the answers is that of one query (docs/SCOPE.md, "Corrections"). Definitions only.
 use Prim.Native.Nat.{ℕ}
 use mathlib.Core.Path.{_≡_}
 use mathlib.Core.Bool.{Bool, cond, not, _||_}
@@ -11,9 +11,8 @@ use Rattle.numeric.specs.Real.{inRange}
 use Rattle.numeric.specs.Refusal.{numberOf}
 use Rattle.numeric.specs.declared.refusal.Refusal.{Refusal}
 use Rattle.numeric.specs.declared.refusal.Refusal.the-variants.{TooMany, SettingOutOfRange, RecordOutOfRange}
-use Rattle.table.specs.Table.{sound}
-use Rattle.query.specs.Query.{queryOf, queryNumber, metresAfter, GivesFinite}
-use Rattle.table.specs.declared.sample.Sample.{Sample}
+use Rattle.directory.specs.Directory.{Directory, soundDirectory}
+use Rattle.query.specs.Query.{queryIn, queryNumber, metresAfter, GivesFinite}
 use Rattle.query.specs.declared.query.Correction.{Correction}
 use Rattle.query.specs.declared.queries.Asking.{Asking}
 use Rattle.query.specs.declared.queries.Asking.the-variants.{Refused, Answered}
@@ -31,16 +30,16 @@ placesShort count c v b t numbers metres =
     ltb (length c) count || ltb (length v) count || ltb (length b) count || ltb (length t) count || ltb (length numbers) count || ltb (length metres) count
 
 -- the query at the place i of columns of constellations, svids, bands and times
-abbrev pub queryAt : ℕ → ℕ → List Sample → Float → List ℕ → List ℕ → List ℕ → List Float → ℕ → Correction
-queryAt n room ss gap c v b t i = queryOf n room ss gap (getD c i 0) (getD v i 0) (getD b i 0) (getD t i nan)
+abbrev pub queryAt : ℕ → ℕ → ℕ → Directory → Float → List ℕ → List ℕ → List ℕ → List Float → ℕ → Correction
+queryAt m n room d gap c v b t i = queryIn m n room d gap (getD c i 0) (getD v i 0) (getD b i 0) (getD t i nan)
 
--- queries of the first n samples of columns with that capacity: numbers 2, 3 and 4 for the whole call, and then the query at each of the first count places
-unfoldable pub queriesOf : ℕ → ℕ → List Sample → Float → List ℕ → List ℕ → List ℕ → List Float → ℕ → List ℕ → List Float → Reply
-queriesOf n room ss gap c v b t count numbers metres =
-    cond (ltb room n || placesShort count c v b t numbers metres) (refusal TooMany)
+-- queries of m entries and n samples in columns with that capacity: numbers 2, 3 and 4 for the whole call, and then the query at each of the first count places
+unfoldable pub queriesIn : ℕ → ℕ → ℕ → Directory → Float → List ℕ → List ℕ → List ℕ → List Float → ℕ → List ℕ → List Float → Reply
+queriesIn m n room d gap c v b t count numbers metres =
+    cond ((ltb room m || ltb room n) || placesShort count c v b t numbers metres) (refusal TooMany)
     (cond (not (inRange gap)) (refusal SettingOutOfRange)
-    (cond (not (sound ss)) (refusal RecordOutOfRange)
-    (answers (places (queryAt n room ss gap c v b t) count))))
+    (cond (not (soundDirectory d)) (refusal RecordOutOfRange)
+    (answers (places (queryAt m n room d gap c v b t) count))))
 
 -- ---- what a call leaves
 

@@ -12,6 +12,7 @@ use Rattle.numeric.specs.Refusal.{numberOf}
 use Rattle.numeric.specs.declared.refusal.Refusal.the-variants.{TooMany, SettingOutOfRange, RecordOutOfRange, NoCorrection}
 use Rattle.table.specs.Table.{signal, seriesOf, sound}
 use Rattle.table.specs.declared.sample.Sample.{Sample}
+use Rattle.directory.specs.Directory.{Directory, flat, soundDirectory}
 use Rattle.query.specs.declared.query.Correction.{Correction}
 use Rattle.query.specs.declared.query.Correction.the-variants.{Refused, Metres}
 
@@ -53,38 +54,52 @@ lastBefore t l = lastOf (before t) missing l
 abbrev pub firstSince : Float → List Sample → Found
 firstSince t l = firstOf (since t) l
 
+-- the line through x at the time a and y at the time b, at t
+unfoldable pub through : Float → Float → Float → Float → Float → Float
+through t a x b y = x ⊕ (t ⊖ a) ⊘ (b ⊖ a) ⊗ (y ⊖ x)
+
 -- the line through two samples, at t
-unfoldable pub line : Float → Sample → Sample → Float
-line t a b = a .correction ⊕ (t ⊖ a .time) ⊘ (b .time ⊖ a .time) ⊗ (b .correction ⊖ a .correction)
+abbrev pub line : Float → Sample → Sample → Float
+line t a b = through t (a .time) (a .correction) (b .time) (b .correction)
 
--- What the last sample before t, if there is one, and the first one at or after it, b, give, b not being near: where there is none, the end refuses;
--- then a sample less than 1e-6 s away comes first, and then the gap is tested.
-unfoldable pub bridged : Float → Float → Found → Sample → Correction
-bridged gap t missing b = Refused NoCorrection
-bridged gap t (the a) b =
-    cond (near (a .time) t) (Metres (a .correction))
-    (cond (lt gap (b .time ⊖ a .time)) (Refused NoCorrection) (Metres (line t a b)))
+-- a found sample's value where it is less than 1e-6 s away, and otherwise what the rest of the rule gives
+unfoldable pub nearOr : Float → Found → Correction → Correction
+nearOr t missing rest = rest
+nearOr t (the s) rest = cond (near (s .time) t) (Metres (s .correction)) rest
 
--- What they give, where there may be none at or after t: the end refuses; a sample less than 1e-6 s away comes first.
-unfoldable pub between : Float → Float → Found → Found → Correction
-between gap t f missing = Refused NoCorrection
-between gap t f (the b) = cond (near (b .time) t) (Metres (b .correction)) (bridged gap t f b)
+-- the ends, and then the gap: what the last sample before t and the first one at or after it give, neither being near
+unfoldable pub spanned : Float → Float → Found → Found → Correction
+spanned gap t missing h = Refused NoCorrection
+spanned gap t (the a) missing = Refused NoCorrection
+spanned gap t (the a) (the b) = cond (lt gap (b .time ⊖ a .time)) (Refused NoCorrection) (Metres (line t a b))
+
+-- request (vi): what the last sample f before t and the first one h at or after it give, a near h first, then a near f, then the ends, then the gap
+unfoldable pub ruled : Float → Float → Found → Found → Correction
+ruled gap t f h = nearOr t h (nearOr t f (spanned gap t f h))
 
 -- the correction at the time t from one satellite's series, by the last sample before t and the first one at or after it
 unfoldable pub answerIn : List Sample → Float → Float → Correction
-answerIn l gap t = between gap t (lastBefore t l) (firstSince t l)
+answerIn l gap t = ruled gap t (lastBefore t l) (firstSince t l)
 
 -- the correction of the signal c, v, b at the time t: that of its series
 unfoldable pub answerAt : List Sample → Float → ℕ → ℕ → ℕ → Float → Correction
 answerAt ss gap c v b t = answerIn (seriesOf (signal c v b) ss) gap t
 
--- a query of the first n samples of columns with that capacity: numbers 2, 3 and 4, and then the answer; a time that is not finite passes 4
-unfoldable pub queryOf : ℕ → ℕ → List Sample → Float → ℕ → ℕ → ℕ → Float → Correction
-queryOf n room ss gap c v b t =
-    cond (ltb room n) (Refused TooMany)
+-- numbers 2, 3 and 4 of a query, and then the answer: whether the counts are above the capacity, whether the table is sound; a time that is not finite passes 4
+unfoldable pub guarded : Bool → Bool → Float → Float → Correction → Correction
+guarded many steady gap t answer =
+    cond many (Refused TooMany)
     (cond (not (inRange gap)) (Refused SettingOutOfRange)
-    (cond (not (sound ss && (inRange t || not (finite t)))) (Refused RecordOutOfRange)
-    (answerAt ss gap c v b t)))
+    (cond (not (steady && (inRange t || not (finite t)))) (Refused RecordOutOfRange)
+    answer))
+
+-- a query of n samples with that capacity
+unfoldable pub queryOf : ℕ → ℕ → List Sample → Float → ℕ → ℕ → ℕ → Float → Correction
+queryOf n room ss gap c v b t = guarded (ltb room n) (sound ss) gap t (answerAt ss gap c v b t)
+
+-- request (ix): a query of a directory of m entries and n samples in columns with that capacity has its own 2 and 4, and the answer of the samples that the directory stands for
+unfoldable pub queryIn : ℕ → ℕ → ℕ → Directory → Float → ℕ → ℕ → ℕ → Float → Correction
+queryIn m n room d gap c v b t = guarded (ltb room m || ltb room n) (soundDirectory d) gap t (answerAt (flat d) gap c v b t)
 
 -- 0, or the number of the refusal
 abbrev pub queryNumber : Correction → ℕ
@@ -103,8 +118,9 @@ GivesFinite (Metres x) = finite x ≡ true
 
 -- ---- what the contract of the answer says
 
--- rules 2 to 4 let the table and the gap pass
-pub record PassedTable (n room : ℕ) (ss : List Sample) (gap : Float) : Type 0 where
-  pub few : n ≤ room
+-- rules 2 to 4 let the directory and the gap pass
+pub record Passed (m n room : ℕ) (d : Directory) (gap : Float) : Type 0 where
+  pub few-entries : m ≤ room
+  pub few-samples : n ≤ room
   pub in-range : inRange gap ≡ true
-  pub steady : sound ss ≡ true
+  pub steady : soundDirectory d ≡ true

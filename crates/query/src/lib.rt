@@ -1,5 +1,6 @@
-// The correction of a signal at a time from the table of crate `table`, and many at once.
-// In every call cs, vs, bs, ts and xs are the table's columns of constellations, svids, bands, times and corrections, and n counts the samples.
+// The correction of a signal at a time from a table of one block per satellite, and many at once.
+// In every call dc, dv, db, df and dn are the directory's columns of constellations, svids, bands, first samples and counts, of which m entries count;
+// ts and xs are the columns of times and corrections, of which n samples count.
 pub mod queries;
 pub mod query;
 mod search;

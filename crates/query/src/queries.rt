@@ -1,16 +1,16 @@
-// Many queries of one table, which is tested once.
+// Many queries of one directory, which is tested once.
 ghost use mathlib.Core.Path.{_≡_};
 ghost use mathlib.Core.Bool.{false};
 ghost use Rattle.walk.specs.Walk.{places};
-ghost use Rattle.table.specs.Table.{lent, capacity, tableOf};
-ghost use Rattle.query.specs.Query.{queryNumber, metresAfter, PassedTable};
-ghost use Rattle.query.specs.Queries.{placesShort, queryAt, queriesOf, answers, askingOf, askingNumber, Replies};
+ghost use Rattle.directory.specs.Directory.{lentBlocks, blockCapacity, directoryIn};
+ghost use Rattle.query.specs.Query.{queryNumber, metresAfter, Passed};
+ghost use Rattle.query.specs.Queries.{placesShort, queryAt, queriesIn, answers, askingOf, askingNumber, Replies};
 use crate::query::Correction;
 use crate::query::answer_of;
+use directory::entry::block_capacity;
+use directory::sound::is_sound_directory;
 use numeric::real::in_range;
 use numeric::refusal::Refusal;
-use table::sample::capacity_of;
-use table::sample::is_sound;
 
 // What a call of many queries says: why it answers none, or that each place has its answer.
 pub enum Asking {
@@ -58,11 +58,14 @@ fn is_short(
         | (metres.len() < count)
 }
 
-// The answer of each of the first count places, where the table and the gap have passed their tests.
+// The answer of each of the first count places, where the directory and the gap have passed their tests.
 fn fill(
-    cs: &[u8],
-    vs: &[u16],
-    bs: &[u32],
+    dc: &[u8],
+    dv: &[u16],
+    db: &[u32],
+    df: &[usize],
+    dn: &[usize],
+    m: usize,
     ts: &[f64],
     xs: &[f64],
     n: usize,
@@ -75,15 +78,30 @@ fn fill(
     numbers: &mut [u8],
     metres: &mut [f64],
 )
-    requires { ⌜ (let l = lent (now cs) (now vs) (now bs) (now ts) (now xs) in PassedTable n (capacity l) (tableOf n l) gap) ⌝ }
+    requires { ⌜ (let l = lentBlocks (now dc) (now dv) (now db) (now df) (now dn) (now ts) (now xs) in Passed m n (blockCapacity l) (directoryIn m n l) gap) ⌝ }
     requires { ⌜ placesShort count (now c) (now v) (now b) (now t) (now numbers) (now metres) ≡ false ⌝ }
-    ensures { λ _. ⌜ (let l = lent (now (cs .entry)) (now (vs .entry)) (now (bs .entry)) (now (ts .entry)) (now (xs .entry)) in
-        Replies (answers (places (queryAt n (capacity l) (tableOf n l) gap (now (c .entry)) (now (v .entry)) (now (b .entry)) (now (t .entry))) count)) 0
+    ensures { λ _. ⌜ (let l = lentBlocks (now (dc .entry)) (now (dv .entry)) (now (db .entry)) (now (df .entry)) (now (dn .entry)) (now (ts .entry)) (now (xs .entry)) in
+        Replies (answers (places (queryAt m n (blockCapacity l) (directoryIn m n l) gap (now (c .entry)) (now (v .entry)) (now (b .entry)) (now (t .entry))) count)) 0
         (now (numbers .entry)) (now (metres .entry)) (now (numbers .exit)) (now (metres .exit))) ⌝ }
 {
     let mut i: usize = 0;
     while i < count {
-        let answer = answer_of(cs, vs, bs, ts, xs, n, gap, c[i], v[i], b[i], t[i]);
+        let answer = answer_of(
+            dc,
+            dv,
+            db,
+            df,
+            dn,
+            m,
+            ts,
+            xs,
+            n,
+            gap,
+            c[i],
+            v[i],
+            b[i],
+            t[i],
+        );
         numbers[i] = number_of(answer);
         metres[i] = metres_of(answer, metres[i]);
         i += 1;
@@ -91,11 +109,14 @@ fn fill(
 }
 
 // The answers of the first count places of c, v, b and t, each its number and, where it is given, its correction; or the refusal, which leaves numbers and
-// metres as they were. The table is tested once.
+// metres as they were. The directory is tested once.
 pub fn queries(
-    cs: &[u8],
-    vs: &[u16],
-    bs: &[u32],
+    dc: &[u8],
+    dv: &[u16],
+    db: &[u32],
+    df: &[usize],
+    dn: &[usize],
+    m: usize,
     ts: &[f64],
     xs: &[f64],
     n: usize,
@@ -108,11 +129,12 @@ pub fn queries(
     numbers: &mut [u8],
     metres: &mut [f64],
 ) -> Asking
-    ensures { λ r. ⌜ (let l = lent (now (cs .entry)) (now (vs .entry)) (now (bs .entry)) (now (ts .entry)) (now (xs .entry)) in
-        let o = queriesOf n (capacity l) (tableOf n l) gap (now (c .entry)) (now (v .entry)) (now (b .entry)) (now (t .entry)) count (now (numbers .entry)) (now (metres .entry)) in
+    ensures { λ r. ⌜ (let l = lentBlocks (now (dc .entry)) (now (dv .entry)) (now (db .entry)) (now (df .entry)) (now (dn .entry)) (now (ts .entry)) (now (xs .entry)) in
+        let o = queriesIn m n (blockCapacity l) (directoryIn m n l) gap (now (c .entry)) (now (v .entry)) (now (b .entry)) (now (t .entry)) count (now (numbers .entry)) (now (metres .entry)) in
         (r ≡ askingOf o) × Replies o (askingNumber r) (now (numbers .entry)) (now (metres .entry)) (now (numbers .exit)) (now (metres .exit))) ⌝ }
 {
-    if n > capacity_of(cs, vs, bs, ts, xs) {
+    let room = block_capacity(dc, dv, db, df, dn, ts, xs);
+    if (room < m) | (room < n) {
         return Asking::Refused(Refusal::TooMany);
     }
     if is_short(count, c, v, b, t, numbers, metres) {
@@ -121,13 +143,16 @@ pub fn queries(
     if !in_range(gap) {
         return Asking::Refused(Refusal::SettingOutOfRange);
     }
-    if !is_sound(cs, vs, bs, ts, xs, n) {
+    if !is_sound_directory(dc, dv, db, df, dn, m, ts, xs, n) {
         return Asking::Refused(Refusal::RecordOutOfRange);
     }
     fill(
-        cs,
-        vs,
-        bs,
+        dc,
+        dv,
+        db,
+        df,
+        dn,
+        m,
         ts,
         xs,
         n,

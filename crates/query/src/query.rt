@@ -1,20 +1,22 @@
-// The correction of a signal at a time: `Corrections::at` of differential.rs.
+// The correction of a signal at a time: `Corrections::at` of differential.rs, with a near sample before the ends.
 ghost use mathlib.Core.Path.{_≡_};
-ghost use mathlib.Core.Bool.{true};
-ghost use Prim.Native.Nat.{_≤_};
-ghost use lib.ListN.{length};
-ghost use lib.Dec.{eqb};
-ghost use Rattle.table.specs.Table.{lent, rows, capacity, tableOf, signal, signalOf, sound};
-ghost use Rattle.query.specs.Query.{near, line, answerAt, queryOf, GivesFinite, PassedTable};
-use crate::search::first_from;
+ghost use mathlib.Core.Bool.{true, _&&_};
+ghost use Prim.Native.Nat.{_+_, _-_, _≤_, _<_};
+ghost use lib.ListN.{length, getD, take};
+ghost use lib.Dec.{ltb};
+ghost use lib.Ieee.{nan};
+ghost use Rattle.directory.specs.Directory.{lentBlocks, entriesIn, readingsIn, noEntry, blockCapacity, directoryIn, block, flat, soundDirectory};
+ghost use Rattle.query.specs.Query.{near, through, answerIn, answerAt, queryIn, GivesFinite, Passed};
+use crate::search::entry_of;
+use crate::search::front_of;
+use directory::entry::block_capacity;
+use directory::entry::signal_at;
+use directory::sound::is_sound_directory;
 use numeric::real::abs;
 use numeric::real::in_range;
 use numeric::real::is_finite;
 use numeric::refusal::Refusal;
-use table::sample::Sample;
-use table::sample::capacity_of;
-use table::sample::is_sound;
-use table::sample::sample_at;
+use table::sample::signal_of;
 
 // The answer to a query: why there is none, or the correction in metres.
 pub enum Correction {
@@ -29,31 +31,86 @@ fn is_near(x: f64, t: f64) -> bool
     abs(x - t) < 1e-6
 }
 
-// The line through the samples a and b, at t.
-fn line_of(t: f64, a: Sample, b: Sample) -> f64
-    ensures { λ r. ⌜ r ≡ line t a b ⌝ }
+// Whether there is a place r in a block of count samples from start on, and its time is near t.
+fn near_since(ts: &[f64], start: usize, count: usize, r: usize, t: f64) -> bool
+    requires { ⌜ start + count ≤ length (now ts) ⌝ }
+    ensures { λ y. ⌜ y ≡ (ltb r count && near (getD (now (ts .entry)) (start + r) nan) t) ⌝ }
 {
-    a.correction + (t - a.time) / (b.time - a.time) * (b.correction - a.correction)
+    if r < count {
+        return is_near(ts[start + r], t);
+    }
+    false
 }
 
-// Whether the sample is of the signal c, v, b.
-fn is_of(a: Sample, c: u8, v: u16, b: u32) -> bool
-    ensures { λ r. ⌜ r ≡ eqb (signalOf a) (signal c v b) ⌝ }
+// Whether there is a place before r in a block from start on, and its time is near t.
+fn near_before(ts: &[f64], start: usize, r: usize, t: f64) -> bool
+    requires { ⌜ start + r ≤ length (now ts) ⌝ }
+    ensures { λ y. ⌜ y ≡ (ltb 0 r && near (getD (now (ts .entry)) (start + (r - 1)) nan) t) ⌝ }
 {
-    if a.constellation != c {
-        return false;
+    if 0 < r {
+        return is_near(ts[start + (r - 1)], t);
     }
-    if a.svid != v {
-        return false;
-    }
-    a.band == b
+    false
 }
 
-// The correction that a sound table gives.
+// The line through x at the time a and y at the time b, at t.
+fn line_of(t: f64, a: f64, x: f64, b: f64, y: f64) -> f64
+    ensures { λ r. ⌜ r ≡ through t a x b y ⌝ }
+{
+    x + (t - a) / (b - a) * (y - x)
+}
+
+// The correction that the block of the entry e of a sound directory gives.
+fn answer_in(
+    dc: &[u8],
+    dv: &[u16],
+    db: &[u32],
+    df: &[usize],
+    dn: &[usize],
+    m: usize,
+    ts: &[f64],
+    xs: &[f64],
+    n: usize,
+    e: usize,
+    gap: f64,
+    t: f64,
+) -> Correction
+    requires { ⌜ (let l = lentBlocks (now dc) (now dv) (now db) (now df) (now dn) (now ts) (now xs) in (m ≤ length (entriesIn l)) × (n ≤ length (readingsIn l))) ⌝ }
+    requires { ⌜ soundDirectory (directoryIn m n (lentBlocks (now dc) (now dv) (now db) (now df) (now dn) (now ts) (now xs))) ≡ true ⌝ }
+    requires { ⌜ e < m ⌝ }
+    ensures { λ r. ⌜ (let l = lentBlocks (now (dc .entry)) (now (dv .entry)) (now (db .entry)) (now (df .entry)) (now (dn .entry)) (now (ts .entry)) (now (xs .entry)) in
+        r ≡ answerIn (block (take n (readingsIn l)) (getD (entriesIn l) e noEntry)) gap t) ⌝ }
+{
+    let start = df[e];
+    let count = dn[e];
+    let r = front_of(ts, start, count, t);
+    if near_since(ts, start, count, r, t) {
+        return Correction::Metres(xs[start + r]);
+    }
+    if near_before(ts, start, r, t) {
+        return Correction::Metres(xs[start + (r - 1)]);
+    }
+    if !((r < count) & (0 < r)) {
+        return Correction::Refused(Refusal::NoCorrection);
+    }
+    let a = ts[start + (r - 1)];
+    let b = ts[start + r];
+    if b - a > gap {
+        return Correction::Refused(Refusal::NoCorrection);
+    }
+    let x = xs[start + (r - 1)];
+    let y = xs[start + r];
+    Correction::Metres(line_of(t, a, x, b, y))
+}
+
+// The correction that a sound directory gives.
 fn look_up(
-    cs: &[u8],
-    vs: &[u16],
-    bs: &[u32],
+    dc: &[u8],
+    dv: &[u16],
+    db: &[u32],
+    df: &[usize],
+    dn: &[usize],
+    m: usize,
     ts: &[f64],
     xs: &[f64],
     n: usize,
@@ -63,42 +120,33 @@ fn look_up(
     b: u32,
     t: f64,
 ) -> Correction
-    requires { ⌜ n ≤ length (rows (lent (now cs) (now vs) (now bs) (now ts) (now xs))) ⌝ }
-    requires { ⌜ sound (tableOf n (lent (now cs) (now vs) (now bs) (now ts) (now xs))) ≡ true ⌝ }
-    ensures { λ r. ⌜ r ≡ answerAt (tableOf n (lent (now (cs .entry)) (now (vs .entry)) (now (bs .entry)) (now (ts .entry)) (now (xs .entry)))) gap c v b t ⌝ }
+    requires { ⌜ (let l = lentBlocks (now dc) (now dv) (now db) (now df) (now dn) (now ts) (now xs) in (m ≤ length (entriesIn l)) × (n ≤ length (readingsIn l))) ⌝ }
+    requires { ⌜ soundDirectory (directoryIn m n (lentBlocks (now dc) (now dv) (now db) (now df) (now dn) (now ts) (now xs))) ≡ true ⌝ }
+    ensures { λ r. ⌜ r ≡ answerAt (flat (directoryIn m n (lentBlocks (now (dc .entry)) (now (dv .entry)) (now (db .entry)) (now (df .entry)) (now (dn .entry)) (now (ts .entry)) (now (xs .entry))))) gap c v b t ⌝ }
 {
-    let i = first_from(cs, vs, bs, ts, xs, n, c, v, b, t);
-    if i == n {
+    if m == 0 {
         return Correction::Refused(Refusal::NoCorrection);
     }
-    let p = sample_at(cs, vs, bs, ts, xs, i);
-    if !is_of(p, c, v, b) {
+    let g = signal_of(c, v, b);
+    let e = entry_of(dc, dv, db, m, g);
+    if e == m {
         return Correction::Refused(Refusal::NoCorrection);
     }
-    if is_near(p.time, t) {
-        return Correction::Metres(p.correction);
-    }
-    if i == 0 {
+    let s = signal_at(dc, dv, db, e);
+    if s != g {
         return Correction::Refused(Refusal::NoCorrection);
     }
-    let q = sample_at(cs, vs, bs, ts, xs, i - 1);
-    if !is_of(q, c, v, b) {
-        return Correction::Refused(Refusal::NoCorrection);
-    }
-    if is_near(q.time, t) {
-        return Correction::Metres(q.correction);
-    }
-    if p.time - q.time > gap {
-        return Correction::Refused(Refusal::NoCorrection);
-    }
-    Correction::Metres(line_of(t, q, p))
+    answer_in(dc, dv, db, df, dn, m, ts, xs, n, e, gap, t)
 }
 
-// The answer of one query, where the table and the gap have passed their tests.
+// The answer of one query, where the directory and the gap have passed their tests.
 pub(crate) fn answer_of(
-    cs: &[u8],
-    vs: &[u16],
-    bs: &[u32],
+    dc: &[u8],
+    dv: &[u16],
+    db: &[u32],
+    df: &[usize],
+    dn: &[usize],
+    m: usize,
     ts: &[f64],
     xs: &[f64],
     n: usize,
@@ -108,21 +156,24 @@ pub(crate) fn answer_of(
     b: u32,
     t: f64,
 ) -> Correction
-    requires { ⌜ (let l = lent (now cs) (now vs) (now bs) (now ts) (now xs) in PassedTable n (capacity l) (tableOf n l) gap) ⌝ }
-    ensures { λ r. ⌜ (let l = lent (now (cs .entry)) (now (vs .entry)) (now (bs .entry)) (now (ts .entry)) (now (xs .entry)) in
-        (r ≡ queryOf n (capacity l) (tableOf n l) gap c v b t) × GivesFinite r) ⌝ }
+    requires { ⌜ (let l = lentBlocks (now dc) (now dv) (now db) (now df) (now dn) (now ts) (now xs) in Passed m n (blockCapacity l) (directoryIn m n l) gap) ⌝ }
+    ensures { λ r. ⌜ (let l = lentBlocks (now (dc .entry)) (now (dv .entry)) (now (db .entry)) (now (df .entry)) (now (dn .entry)) (now (ts .entry)) (now (xs .entry)) in
+        (r ≡ queryIn m n (blockCapacity l) (directoryIn m n l) gap c v b t) × GivesFinite r) ⌝ }
 {
     if !(in_range(t) | !is_finite(t)) {
         return Correction::Refused(Refusal::RecordOutOfRange);
     }
-    look_up(cs, vs, bs, ts, xs, n, gap, c, v, b, t)
+    look_up(dc, dv, db, df, dn, m, ts, xs, n, gap, c, v, b, t)
 }
 
 // The correction of the signal c, v, b at the time t, or the refusal. Every correction given is finite.
 pub fn query(
-    cs: &[u8],
-    vs: &[u16],
-    bs: &[u32],
+    dc: &[u8],
+    dv: &[u16],
+    db: &[u32],
+    df: &[usize],
+    dn: &[usize],
+    m: usize,
     ts: &[f64],
     xs: &[f64],
     n: usize,
@@ -132,17 +183,18 @@ pub fn query(
     b: u32,
     t: f64,
 ) -> Correction
-    ensures { λ r. ⌜ (let l = lent (now (cs .entry)) (now (vs .entry)) (now (bs .entry)) (now (ts .entry)) (now (xs .entry)) in
-        (r ≡ queryOf n (capacity l) (tableOf n l) gap c v b t) × GivesFinite r) ⌝ }
+    ensures { λ r. ⌜ (let l = lentBlocks (now (dc .entry)) (now (dv .entry)) (now (db .entry)) (now (df .entry)) (now (dn .entry)) (now (ts .entry)) (now (xs .entry)) in
+        (r ≡ queryIn m n (blockCapacity l) (directoryIn m n l) gap c v b t) × GivesFinite r) ⌝ }
 {
-    if n > capacity_of(cs, vs, bs, ts, xs) {
+    let room = block_capacity(dc, dv, db, df, dn, ts, xs);
+    if (room < m) | (room < n) {
         return Correction::Refused(Refusal::TooMany);
     }
     if !in_range(gap) {
         return Correction::Refused(Refusal::SettingOutOfRange);
     }
-    if !is_sound(cs, vs, bs, ts, xs, n) {
+    if !is_sound_directory(dc, dv, db, df, dn, m, ts, xs, n) {
         return Correction::Refused(Refusal::RecordOutOfRange);
     }
-    answer_of(cs, vs, bs, ts, xs, n, gap, c, v, b, t)
+    answer_of(dc, dv, db, df, dn, m, ts, xs, n, gap, c, v, b, t)
 }

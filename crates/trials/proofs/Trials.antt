@@ -8,15 +8,15 @@ use Rattle.exact.specs.Products.{lessProducts}
 use Rattle.root.specs.Root.{rootOf}
 use Rattle.cholesky.specs.Factor.{isPivot, withElement, below, pivotOf, rowOf, Refused, next, factorTo, factorOf}
 use Rattle.exact.specs.Pattern.{sign}
-use Rattle.numeric.specs.Order.{totalOrder, keyOf, patternOf}
+use Rattle.numeric.specs.Order.{totalOrder, patternOf}
 use Rattle.numeric.specs.Real.{abs, inRange}
 use Rattle.walk.specs.Walk.{every, collect}
 use Rattle.median.specs.Sorted.{insertBy, sortedBy, medianOf}
 use Rattle.median.specs.Centre.{centreOf, deviationOf, centreAndScaleOf, centreScaleOf}
 use Rattle.clocks.specs.Clocks.{has, appearing, slotFrom, clocksIn, clocksOf}
 use Rattle.records.specs.Record.{unsigned, bitSet, usable}
-use Rattle.table.specs.Table.{timeKey, rises, ranged, sound}
-use Rattle.query.specs.Query.{near, firstOf, lastOf, line, bridged, between, answerIn, answerAt, queryOf}
+use Rattle.table.specs.Table.{timeBefore, standsBefore, sortedFrom, sorted, ranged, sound}
+use Rattle.query.specs.Query.{near, firstOf, lastOf, through, nearOr, spanned, ruled, answerIn, answerAt, guarded, queryOf}
 use Rattle.smooth.proofs.Trials.{one-point, not-held}
 use Rattle.cholesky.proofs.FactorLaws.{factorTo-zero, factorTo-next, refused-more}
 use Rattle.trials.specs.Marked.{All, marked, m1, m2, m3, m4, m5, m6, m7, m8, m9, m10, m11}
@@ -65,11 +65,11 @@ unfolding usable bitSet unsigned
 states c h = rw h
 
 pub half-way : m10
-unfolding queryOf answerAt answerIn collect between bridged line near firstOf lastOf inRange abs sound ranged rises timeKey keyOf patternOf every lt le add sub mul div ofBits ofInt toBits isNan
+unfolding queryOf guarded answerAt answerIn collect ruled nearOr spanned through near firstOf lastOf inRange abs sound ranged sorted sortedFrom standsBefore timeBefore totalOrder sign patternOf every lt le add sub mul div ofBits ofInt toBits isNan
 half-way = refl
 
 pub gap-too-long : m11
-unfolding queryOf answerAt answerIn collect between bridged line near firstOf lastOf inRange abs sound ranged rises timeKey keyOf patternOf every lt le add sub mul div ofBits ofInt toBits isNan
+unfolding queryOf guarded answerAt answerIn collect ruled nearOr spanned through near firstOf lastOf inRange abs sound ranged sorted sortedFrom standsBefore timeBefore totalOrder sign patternOf every lt le add sub mul div ofBits ofInt toBits isNan
 gap-too-long = refl
 
 -- THE FACT over the list

@@ -3,10 +3,12 @@
 
 pub mod lent;
 pub mod naming;
+pub mod past;
 pub mod stored;
 
 use self::lent::{floats, in_range, widen, widened, Asked, Columns, Epoch, Out, Table};
 use self::naming::Naming;
+use self::past::{answer, just_past, times_past};
 use super::Service;
 use crate::bench;
 use crate::random::Random;
@@ -185,12 +187,13 @@ fn settings(random: &mut Random) -> Settings {
     set
 }
 
-/// What was compared: calls and places, their numbers, and corrections found.
+/// What was compared: calls and places, their numbers, corrections found, and those of them just past a last sample.
 #[derive(Default)]
 struct Seen {
     done: u64,
     numbers: [u64; 13],
     found: u64,
+    past: u64,
 }
 
 impl Seen {
@@ -306,9 +309,10 @@ fn compare(tally: &mut Tally, random: &mut Random, count: u64) {
         old_bands(tally, random, &table, &mut seen);
     }
     tally.note(format!(
-        "{accepted} epochs accepted, {} calls and places, {} corrections found, by number {:?}",
+        "{accepted} epochs accepted, {} calls and places, {} corrections found, {} of them just past a last sample, by number {:?}",
         seen.done,
         seen.found,
+        seen.past,
         &seen.numbers[2..]
     ));
 }
@@ -330,9 +334,10 @@ fn question(random: &mut Random, whole: &Table) -> ((u8, u16, u32), f64, f64) {
     };
     let at = if whole.n > 0 { whole.ts[i] } else { 30.0 };
     let other = if whole.n > 0 { whole.ts[j] } else { 60.0 };
-    let time = match random.below(8) {
+    let time = match random.below(10) {
         0 => at,
         1 => at + random.pick(&[5e-7, -5e-7, 1e-6, -1e-6, 2e-6, -2e-6]),
+        8 | 9 => times_past(random, whole, i),
         2 => random.pick(&[
             f64::NAN,
             f64::INFINITY,
@@ -383,7 +388,7 @@ fn queries(
             ..c.clone()
         };
         let code = naming.code(key.2);
-        let theirs = code.and_then(|b| known.at(key.0, key.1, b, time));
+        let theirs = code.and_then(|b| answer(&known, (key.0, key.1, b), time));
         let sound = table.n == n && table.sound();
         let damaged = table.bits() != whole.bits();
         let number = match theirs {
@@ -402,6 +407,8 @@ fn queries(
                 _ => metres == -1.5e300,
             };
         seen.found += u64::from(number == 0);
+        let past = code.and_then(|b| just_past(&known, (key.0, key.1, b), time));
+        seen.past += u64::from(number == 0 && past.is_some());
         tally.judge(same, || format!("{key:?} at {time} with the gap {gap}: our number {ours}, {metres}; expected {number}, {theirs:?}"));
     }
 }
@@ -493,7 +500,9 @@ fn many(
             ..c.clone()
         };
         for (i, &((k, v, b), t)) in each.iter().enumerate() {
-            let theirs = naming.code(b).and_then(|b| c.at(k, v, b, t));
+            let theirs = naming.code(b).and_then(|b| answer(&c, (k, v, b), t));
+            let past = naming.code(b).and_then(|b| just_past(&c, (k, v, b), t));
+            seen.past += u64::from(past.is_some() && in_range(t));
             expected.numbers[i] = match theirs {
                 _ if t.is_finite() && !in_range(t) => 4,
                 None => 12,

@@ -38,12 +38,41 @@ fn reference(a: u64, b: u64) -> bool {
     f64::from_bits(a).total_cmp(&f64::from_bits(b)).is_le()
 }
 
-/// The pair of a place: first every pair of special patterns.
+/// A pattern of one of the classes that 5.10 tells apart, in either sign: a zero, a subnormal, a normal number, an infinity, a signaling NaN, a quiet NaN.
+fn of_class(random: &mut Random, class: u64) -> u64 {
+    const INFINITY: u64 = 0x7FF0_0000_0000_0000;
+    const QUIET: u64 = 0x0008_0000_0000_0000;
+    let payload = random.bits() >> random.between(13, 63);
+    let unsigned = match class {
+        0 => 0,
+        1 => random.subnormal().max(1),
+        2 => (1 + random.below(0x7FE)) << 52 | random.bits() >> 12,
+        3 => INFINITY,
+        4 => INFINITY | payload.max(1),
+        _ => INFINITY | QUIET | payload,
+    };
+    unsigned | (random.bits() & SIGN)
+}
+
+/// Two patterns of any two classes; where the classes are one, half of the pairs are neighbours or differ in one digit.
+fn classed(random: &mut Random) -> (u64, u64) {
+    let (x, y) = (random.below(6), random.below(6));
+    let a = of_class(random, x);
+    match random.below(4) {
+        0 if x == y => (a, a.wrapping_add_signed(i64::from(random.between(-1, 1)))),
+        1 if x == y => (a, a ^ (1 << random.below(52)) ^ (random.bits() & SIGN)),
+        _ => (a, of_class(random, y)),
+    }
+}
+
+/// The pair of a place: first every pair of special patterns, then by classes and at random in turn.
 fn at(random: &mut Random, place: u64) -> (u64, u64) {
     let n = SPECIAL.len();
     let place = usize::try_from(place).unwrap_or(usize::MAX);
     if place < n * n {
         (SPECIAL[place / n], SPECIAL[place % n])
+    } else if place % 2 == 0 {
+        classed(random)
     } else {
         pair(random)
     }

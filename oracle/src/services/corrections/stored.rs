@@ -2,6 +2,7 @@
 
 use super::lent::{floats, in_range, widened, Epoch, Table};
 use super::naming::Naming;
+use super::past::answer;
 use super::{epoch, odd, question, reference, refusal, settings};
 use crate::random::{pattern, Random};
 use crate::vectors::{of_each, raw, turned, Case, Vectors};
@@ -185,7 +186,7 @@ impl Asked {
             series: self.corrections.series.clone(),
         };
         let code = self.naming.code(b);
-        match code.and_then(|b| theirs.at(c, v, b, time)) {
+        match code.and_then(|b| answer(&theirs, (c, v, b), time)) {
             _ if time.is_finite() && !in_range(time) => (4, 0.0),
             None => (12, 0.0),
             Some(x) => (0, x),

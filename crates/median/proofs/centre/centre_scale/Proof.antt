@@ -1,11 +1,11 @@
 -- `median::centre::centre_scale` meets its contract. Assumes nothing.
 use native.Mathlib.Omega.{arith}
-use mathlib.Core.Path.{refl, sym, ap, _∙_}
+use mathlib.Core.Path.{sym, ap, _∙_}
 use lib.ListN.{length-map}
 use Rattle.exact.specs.Float.{bits}
 use Rattle.median.specs.Centre.{deviationOf, deviationsOf}
 use Rattle.median.proofs.CentreLaws.{centre-refused, centre-none, centre-some}
-use Rattle.median.proofs.MedianKeys.{median-front, slice-patterns, deviation-patterns}
+use Rattle.median.proofs.MedianSigns.{front-median, deviation-patterns}
 use borrow.Author.Needs.{needs}
 use Rattle.median.proofs.centre.centre_scale.Statement.{statement}
 use Rattle.median.proofs.centre.centre_scale.Tie as tie
@@ -16,9 +16,6 @@ returns c = centre-refused (c .before .before .args .residuals .now) (c .if1 .ta
 returns-2 : tie.Need-returns-2
 returns-2 c = centre-none (c .before .before .before .args .residuals .now) (c .if2 .taken)
 
-keys-requires : tie.Need-keys-requires
-keys-requires c κs = search needs
-
 middle-requires : tie.Need-middle-requires
 middle-requires c κs = search needs
 
@@ -26,25 +23,30 @@ float-requires : tie.Need-float-requires
 float-requires c κs = search needs
 
 deviations-requires : tie.Need-deviations-requires
-deviations-requires c κs = (c .before .before .before .before .before .before .before .if1 .left, c .before .before .middle .ensures .1)
+deviations-requires c κs = search needs
 
-middle-requires-2 : tie.Need-middle-requires-2
-middle-requires-2 c κs = search needs
+of-like-sign-requires : tie.Need-of-like-sign-requires
+of-like-sign-requires c κs =
+    let d = c .before in
+    let f = d .before .before in
+    let e = f .before .before .before .before in
+    let xs = e .before .before .args .residuals .now in
+    (omega arith, d .deviations .ensures .few, d .deviations .ensures .long, rw (d .deviations .ensures .is) (deviation-patterns (f .float .result) xs))
 
 float-requires-2 : tie.Need-float-requires-2
 float-requires-2 c κs = search needs
 
 returns-3 : tie.Need-returns-3
 returns-3 c =
-    let f = c .before .before .before .before .before in
-    let k = f .before .before .before in
-    let g = k .before .before .before .before .shared-slice-known .given in
-    let xs = k .before .before .before .before .before .args .residuals .now in
+    let d = c .before .before .before in
+    let f = d .before .before in
+    let e = f .before .before .before .before in
+    let xs = e .before .before .args .residuals .now in
     let devs = deviationsOf (f .float .result) xs in
-    centre-some xs (f .float .result) (c .float2 .result) (omega arith) (k .before .before .before .if1 .left)
-    (f .float .ensures ∙ ap bits (f .before .middle .ensures .0 ∙ median-front xs _ _ refl (omega arith) (slice-patterns xs (λ i. g i .fits)) (k .keys .ensures)))
+    centre-some xs (f .float .result) (c .float2 .result) (omega arith) (e .if1 .left)
+    (f .float .ensures ∙ ap bits (f .before .middle .ensures .0))
     (c .float2 .ensures
-    ∙ ap bits (c .before .middle2 .ensures .0 ∙ median-front devs _ _ (sym (length-map xs (deviationOf (f .float .result)))) (omega arith) (deviation-patterns (f .float .result) xs) (c .before .before .before .deviations .ensures)))
+    ∙ ap bits (c .before .of-like-sign .ensures .0 ∙ front-median devs _ _ (sym (length-map xs (deviationOf (f .float .result)))) (d .deviations .ensures)))
 
 pub centre-scale-spec : {M : Type 1} → statement M
 centre-scale-spec =
@@ -52,10 +54,9 @@ centre-scale-spec =
     (tie.spec
     returns
     returns-2
-    keys-requires
     middle-requires
     float-requires
     deviations-requires
-    middle-requires-2
+    of-like-sign-requires
     float-requires-2
     returns-3)

@@ -5,14 +5,13 @@ use mathlib.Core.Path.{_≡_, refl, _∙_}
 use lib.ListN.{take, length, length-set}
 use borrow.Author.Needs.{needs}
 use mathlib.Core.List.{map}
-use Rattle.numeric.specs.Order.{keyOf}
 use Rattle.median.specs.Centre.{deviationOf}
-use Rattle.median.proofs.SelectLoops.{map-next, map-all, map-twice}
+use Rattle.median.proofs.SelectLoops.{map-next, map-all}
 use Rattle.median.proofs.centre.deviations.Statement.{statement}
 use Rattle.median.proofs.centre.deviations.Tie as tie
 
 abbrev Inv-loop : tie.InvT-loop
-Inv-loop residuals centre k₀ n i₀ k i = (i ≤ length residuals) × (length k ≡ 64) × (take i k ≡ map (λ x. keyOf (deviationOf centre x)) (take i residuals))
+Inv-loop residuals centre k₀ n i₀ k i = (i ≤ length residuals) × (length k ≡ 64) × (take i k ≡ map (deviationOf centre) (take i residuals))
 
 abbrev μ-loop : tie.MeasureT-loop
 μ-loop residuals centre k₀ n i₀ k i = length residuals - i
@@ -35,9 +34,6 @@ abs-requires c κs = search needs
 pattern-requires : tie.Need-pattern-requires Inv-loop μ-loop
 pattern-requires c κs = search needs
 
-key-requires : tie.Need-key-requires Inv-loop μ-loop
-key-requires c κs = search needs
-
 mul-k : tie.Need-mul-k Inv-loop μ-loop
 mul-k c = omega arith
 
@@ -53,18 +49,17 @@ loop-less c = omega arith
 loop-again : tie.Need-loop-again Inv-loop μ-loop
 unfolding deviationOf
 loop-again c =
-    let t = c .before .before .before .before .before .before in
+    let t = c .before .before .before .before .before in
     let s = t .before .before .args in
     let b : t .loop .i < length (s .residuals .now) = omega arith in
     let g : t .loop .i < length (t .loop .k) = omega arith in
-    (omega arith, length-set (t .loop .k) (t .loop .i) (c .key .result) ∙ t .loop .inv .1, rw (c .key .ensures, c .before .pattern .ensures, c .before .before .abs .ensures, c .before .before .before .float .ensures) (map-next (λ x. keyOf (deviationOf (s .centre) x)) (t .loop .i) (s .residuals .now) (t .loop .k) b g (t .loop .inv .2)))
+    (omega arith, length-set (t .loop .k) (t .loop .i) (c .pattern .result) ∙ t .loop .inv .1, rw (c .pattern .ensures, c .before .abs .ensures, c .before .before .float .ensures) (map-next (deviationOf (s .centre)) (t .loop .i) (s .residuals .now) (t .loop .k) b g (t .loop .inv .2)))
 
 returns : tie.Need-returns Inv-loop μ-loop
 returns c =
     let t = c .before in
     let s = t .before .before in
-    let all = map-all (λ x. keyOf (deviationOf (s .args .centre) x)) (t .loop .i) (s .args .residuals .now) (t .loop .k) (omega arith) (t .loop .inv .2) in
-    record { long = t .loop .inv .1; few = s .pre .0; is = all ∙ map-twice keyOf (deviationOf (s .args .centre)) (s .args .residuals .now) }
+    record { long = t .loop .inv .1; few = s .pre .0; is = map-all (deviationOf (s .args .centre)) (t .loop .i) (s .args .residuals .now) (t .loop .k) (omega arith) (t .loop .inv .2) }
 
 pub deviations-spec : {M : Type 1} → statement M
 deviations-spec =
@@ -78,7 +73,6 @@ deviations-spec =
     float-requires
     abs-requires
     pattern-requires
-    key-requires
     mul-k
     element-write-k
     add-i

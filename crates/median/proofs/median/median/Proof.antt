@@ -2,7 +2,7 @@
 use native.Mathlib.Omega.{arith}
 use mathlib.Core.Path.{sym, _∙_}
 use lib.Seq.{length-take-le}
-use Rattle.median.proofs.MedianKeys.{median-none, median-few}
+use Rattle.median.proofs.MedianSigns.{median-none, median-few}
 use borrow.Author.Needs.{needs}
 use Rattle.median.proofs.median.median.Statement.{statement}
 use Rattle.median.proofs.median.median.Tie as tie

@@ -1,11 +1,11 @@
 -- `query::query::line_of` meets its contract. Assumes nothing.
 use mathlib.Core.Path.{refl}
-use Rattle.query.specs.Query.{line}
+use Rattle.query.specs.Query.{through}
 use Rattle.query.proofs.query.line_of.Statement.{statement}
 use Rattle.query.proofs.query.line_of.Tie as tie
 
 returns : tie.Need-returns
-unfolding line
+unfolding through
 returns c = refl
 
 pub line-of-spec : {M : Type 1} → statement M

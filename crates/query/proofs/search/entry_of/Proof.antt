@@ -1,0 +1,67 @@
+-- `query::search::entry_of` meets its contract. Assumes nothing.
+use Prim.Native.Nat.{_+_, _<_}
+use mathlib.Core.Path.{refl}
+use native.Mathlib.Omega.{arith}
+use borrow.Author.Needs.{needs}
+use Rattle.query.specs.Search.{Halving, isBelow}
+use Rattle.query.proofs.HalvingLaws.{halving-start, halving-half}
+use Rattle.query.proofs.search.entry_of.Statement.{statement}
+use Rattle.query.proofs.search.entry_of.Tie as tie
+
+abbrev Inv-loop : tie.InvT-loop
+Inv-loop dc dv db m g lo₀ len₀ lo len = Halving (isBelow dc dv db g) m lo (lo + len) × (0 < len)
+
+abbrev μ-loop : tie.MeasureT-loop
+μ-loop dc dv db m g lo₀ len₀ lo len = len
+
+loop-holds : tie.Need-loop-holds Inv-loop μ-loop
+loop-holds c = (halving-start _ _ (c .before .before .before .pre .1 .1) _ refl, c .before .before .before .pre .1 .0)
+
+add-signal-at : tie.Need-add-signal-at Inv-loop μ-loop
+add-signal-at c = omega arith
+
+signal-at-requires : tie.Need-signal-at-requires Inv-loop μ-loop
+signal-at-requires c κs = (omega arith, (omega arith, omega arith))
+
+step-below-requires : tie.Need-step-below-requires Inv-loop μ-loop
+step-below-requires c κs = search needs
+
+add-lo : tie.Need-add-lo Inv-loop μ-loop
+add-lo c = omega arith
+
+sub-len : tie.Need-sub-len Inv-loop μ-loop
+sub-len c = omega arith
+
+loop-less : tie.Need-loop-less Inv-loop μ-loop
+loop-less c = omega arith
+
+loop-again : tie.Need-loop-again Inv-loop μ-loop
+loop-again c =
+    let h = c .before .before .before .loop in
+    (halving-half _ _ (c .before .before .before .before .before .before .before .pre .1 .1) (h .lo) (h .len) (h .inv .0) _ (omega arith) (rw (c .before .signal-at .ensures .0) at (c .step-below .ensures .0)), omega arith)
+
+entry-within-requires : tie.Need-entry-within-requires Inv-loop μ-loop
+entry-within-requires c κs =
+    let s = c .before .before .before .before .before in
+    let h = c .before .loop in
+    (s .pre .0, (s .pre .1 .1, (h .inv .0, (h .inv .1, c .loop-test .left))))
+
+returns : tie.Need-returns Inv-loop μ-loop
+returns c = c .entry-within .ensures
+
+pub entry-of-spec : {M : Type 1} → statement M
+entry-of-spec =
+    tie.close
+    (tie.spec
+    Inv-loop
+    μ-loop
+    loop-holds
+    add-signal-at
+    signal-at-requires
+    step-below-requires
+    add-lo
+    sub-len
+    loop-less
+    loop-again
+    entry-within-requires
+    returns)

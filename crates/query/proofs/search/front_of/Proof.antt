@@ -1,0 +1,75 @@
+-- `query::search::front_of` meets its contract. Assumes nothing.
+use Prim.Native.Nat.{_+_, _<_}
+use mathlib.Core.Path.{refl}
+use native.Mathlib.Omega.{arith}
+use borrow.Author.Needs.{needs}
+use Rattle.query.specs.Search.{Halving, isBefore}
+use Rattle.query.proofs.HalvingLaws.{halving-start, halving-half}
+use Rattle.query.proofs.search.front_of.Statement.{statement}
+use Rattle.query.proofs.search.front_of.Tie as tie
+
+abbrev Inv-loop : tie.InvT-loop
+Inv-loop ts start count t lo₀ len₀ lo len = Halving (isBefore ts start t) count lo (lo + len) × (0 < len)
+
+abbrev μ-loop : tie.MeasureT-loop
+μ-loop ts start count t lo₀ len₀ lo len = len
+
+loop-holds : tie.Need-loop-holds Inv-loop μ-loop
+loop-holds c = (halving-start _ _ (c .before .pre .1 .1) _ refl, c .before .pre .1 .0)
+
+add-mid : tie.Need-add-mid Inv-loop μ-loop
+add-mid c = omega arith
+
+add-x : tie.Need-add-x Inv-loop μ-loop
+add-x c = omega arith
+
+mul-x : tie.Need-mul-x Inv-loop μ-loop
+mul-x c = omega arith
+
+shared-slice-read-x : tie.Need-shared-slice-read-x Inv-loop μ-loop
+shared-slice-read-x c = omega arith
+
+step-before-requires : tie.Need-step-before-requires Inv-loop μ-loop
+step-before-requires c κs = search needs
+
+add-lo : tie.Need-add-lo Inv-loop μ-loop
+add-lo c = omega arith
+
+sub-len : tie.Need-sub-len Inv-loop μ-loop
+sub-len c = omega arith
+
+loop-less : tie.Need-loop-less Inv-loop μ-loop
+loop-less c = omega arith
+
+loop-again : tie.Need-loop-again Inv-loop μ-loop
+loop-again c =
+    let h = c .before .before .before .loop in
+    (halving-half _ _ (c .before .before .before .before .before .pre .1 .1) (h .lo) (h .len) (h .inv .0) _ (omega arith) (c .step-before .ensures .0), omega arith)
+
+front-within-requires : tie.Need-front-within-requires Inv-loop μ-loop
+front-within-requires c κs =
+    let s = c .before .before .before in
+    let h = c .before .loop in
+    (s .pre .0, (s .pre .1 .1, (h .inv .0, (h .inv .1, c .loop-test .left))))
+
+returns : tie.Need-returns Inv-loop μ-loop
+returns c = c .front-within .ensures
+
+pub front-of-spec : {M : Type 1} → statement M
+front-of-spec =
+    tie.close
+    (tie.spec
+    Inv-loop
+    μ-loop
+    loop-holds
+    add-mid
+    add-x
+    mul-x
+    shared-slice-read-x
+    step-before-requires
+    add-lo
+    sub-len
+    loop-less
+    loop-again
+    front-within-requires
+    returns)

@@ -1,0 +1,93 @@
+-- `query::search::front_within` meets its contract. Assumes nothing.
+use Prim.Native.Nat.{_+_, _^_, _<_, _≤_}
+use native.Mathlib.Omega.{arith}
+use borrow.Author.Needs.{needs}
+use Rattle.query.specs.Search.{Halving, isBefore}
+use Rattle.query.proofs.HalvingLaws.{halving-half, halving-end, halves, short}
+use Rattle.query.proofs.search.front_within.Statement.{statement}
+use Rattle.query.proofs.search.front_within.Tie as tie
+
+abbrev Inv-loop : tie.InvT-loop
+Inv-loop ts start count t from size lo₀ len₀ left₀ lo len left = Halving (isBefore ts start t) count lo (lo + len) × ((0 < len) × (len ≤ 2 ^ left))
+
+abbrev μ-loop : tie.MeasureT-loop
+μ-loop ts start count t from size lo₀ len₀ left₀ lo len left = left
+
+loop-holds : tie.Need-loop-holds Inv-loop μ-loop
+loop-holds c = let s = c .before .pre .1 .1 in (s .0, (s .1 .0, s .1 .1))
+
+add-mid : tie.Need-add-mid Inv-loop μ-loop
+add-mid c = omega arith
+
+add-x : tie.Need-add-x Inv-loop μ-loop
+add-x c = omega arith
+
+mul-x : tie.Need-mul-x Inv-loop μ-loop
+mul-x c = omega arith
+
+shared-slice-read-x : tie.Need-shared-slice-read-x Inv-loop μ-loop
+shared-slice-read-x c = omega arith
+
+step-before-requires : tie.Need-step-before-requires Inv-loop μ-loop
+step-before-requires c κs = search needs
+
+add-lo : tie.Need-add-lo Inv-loop μ-loop
+add-lo c = omega arith
+
+sub-len : tie.Need-sub-len Inv-loop μ-loop
+sub-len c = omega arith
+
+sub-left : tie.Need-sub-left Inv-loop μ-loop
+sub-left c = omega arith
+
+loop-less : tie.Need-loop-less Inv-loop μ-loop
+loop-less c = omega arith
+
+loop-again : tie.Need-loop-again Inv-loop μ-loop
+loop-again c =
+    let h = c .before .before .before .loop in
+    (halving-half _ _ (c .before .before .before .before .before .pre .1 .0) (h .lo) (h .len) (h .inv .0) _ (omega arith) (c .step-before .ensures .0), (omega arith, halves (h .len) (h .left) (c .before .before .loop-test .taken) (h .inv .1 .1)))
+
+add-x-2 : tie.Need-add-x-2 Inv-loop μ-loop
+add-x-2 c = omega arith
+
+mul-x-2 : tie.Need-mul-x-2 Inv-loop μ-loop
+mul-x-2 c = omega arith
+
+shared-slice-read-x-2 : tie.Need-shared-slice-read-x-2 Inv-loop μ-loop
+shared-slice-read-x-2 c = omega arith
+
+step-before-requires-2 : tie.Need-step-before-requires-2 Inv-loop μ-loop
+step-before-requires-2 c κs = search needs
+
+add-result : tie.Need-add-result Inv-loop μ-loop
+add-result c = omega arith
+
+returns : tie.Need-returns Inv-loop μ-loop
+returns c =
+    let h = c .before .before .before .loop in
+    halving-end _ _ (c .before .before .before .before .before .pre .1 .0) (h .lo) (h .len) (h .inv .0) _ (h .inv .1 .0) (short (h .len) (h .left) (c .before .before .loop-test .left) (h .inv .1 .1)) (c .step-before2 .ensures .0)
+
+pub front-within-spec : {M : Type 1} → statement M
+front-within-spec =
+    tie.close
+    (tie.spec
+    Inv-loop
+    μ-loop
+    loop-holds
+    add-mid
+    add-x
+    mul-x
+    shared-slice-read-x
+    step-before-requires
+    add-lo
+    sub-len
+    sub-left
+    loop-less
+    loop-again
+    add-x-2
+    mul-x-2
+    shared-slice-read-x-2
+    step-before-requires-2
+    add-result
+    returns)
