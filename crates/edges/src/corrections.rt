@@ -92,12 +92,15 @@ fn five_metres(name: &[u8], maximum: f64) {
 
 // Samples of 1 m at 10 s and 3 m at 20 s, asked for 15 s.
 fn half_way(name: &[u8], gap: f64) {
-    let cs = [1u8; 2];
-    let vs = [5u16; 2];
-    let bs = [1u32; 2];
+    let dc = [1u8; 2];
+    let dv = [5u16; 2];
+    let db = [1u32; 2];
+    let df = [0usize; 2];
+    let dn = [2usize; 2];
     let ts = [10.0, 20.0];
     let xs = [1.0, 3.0];
-    correction(name, query(&cs, &vs, &bs, &ts, &xs, 2, gap, 1, 5, 1, 15.0));
+    let a = query(&dc, &dv, &db, &df, &dn, 1, &ts, &xs, 2, gap, 1, 5, 1, 15.0);
+    correction(name, a);
 }
 
 pub fn run() {

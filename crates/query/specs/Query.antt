@@ -7,6 +7,7 @@ use lib.Dec.{ltb}
 use lib.Ieee.{Float, lt}
 use lib.Ieee.Scale.{finite}
 use Rattle.exact.specs.Float.{_⊕_, _⊖_, _⊗_, _⊘_, bits}
+use Rattle.numeric.specs.Order.{patternOf}
 use Rattle.numeric.specs.Real.{abs, inRange}
 use Rattle.numeric.specs.Refusal.{numberOf}
 use Rattle.numeric.specs.declared.refusal.Refusal.the-variants.{TooMany, SettingOutOfRange, RecordOutOfRange, NoCorrection}
@@ -110,6 +111,11 @@ queryNumber (Metres x) = 0
 abbrev pub metresAfter : Correction → Float → Float
 metresAfter (Refused r) old = old
 metresAfter (Metres x) old = x
+
+-- the same of its pattern, to the last bit
+abbrev pub patternAfter : Correction → ℕ → ℕ
+patternAfter (Refused r) old = old
+patternAfter (Metres x) old = patternOf x
 
 -- every correction given is finite
 abbrev pub GivesFinite : Correction → Type 0

@@ -11,12 +11,14 @@ use query::query::query;
 fn half_way(gap: f64) -> Correction
     ensures { λ r. ⌜ r ≡ queryOf 2 2 twoSamples gap 1 5 1 (whole 15) ⌝ }
 {
-    let cs = [1u8; 2];
-    let vs = [5u16; 2];
-    let bs = [1u32; 2];
+    let dc = [1u8; 2];
+    let dv = [5u16; 2];
+    let db = [1u32; 2];
+    let df = [0usize; 2];
+    let dn = [2usize; 2];
     let ts = [10.0, 20.0];
     let xs = [1.0, 3.0];
-    query(&cs, &vs, &bs, &ts, &xs, 2, gap, 1, 5, 1, 15.0)
+    query(&dc, &dv, &db, &df, &dn, 1, &ts, &xs, 2, gap, 1, 5, 1, 15.0)
 }
 
 // Gap limit 90: 2 m.

@@ -9,24 +9,15 @@ use lib.ListN.{length, take, set}
 use lib.Ieee.{Float}
 use Rattle.walk.specs.Walk.{places}
 use Rattle.walk.proofs.Walk.{places-all, or-no}
-use Rattle.numeric.specs.Order.{patternOf}
-use Rattle.numeric.specs.Refusal.{numberOf}
 use Rattle.numeric.specs.declared.vec3.Vec3.{Vec3}
-use Rattle.numeric.specs.declared.refusal.Refusal.{Refusal}
 use Rattle.numeric.specs.declared.refusal.Refusal.the-variants.{TooMany}
 use Rattle.table.specs.Table.{Columns, capacity, tableOf}
 use Rattle.table.specs.Add.{Outcome, refused, addingOf, addingNumber, countAfter, Adds}
 use Rattle.table.specs.Widen.{wideningNumber, bandsAfter}
 use Rattle.table.specs.declared.widen.Widening.{Widening}
-use Rattle.query.specs.Query.{queryNumber, GivesFinite}
-use Rattle.query.specs.Queries.{Reply, askingOf, askingNumber, Replies}
 use Rattle.table.specs.declared.sample.Sample.{Sample}
 use Rattle.table.specs.declared.add.Adding.{Adding}
 use Rattle.table.specs.declared.add.Adding.the-variants as Adding
-use Rattle.query.specs.declared.queries.Asking.{Asking}
-use Rattle.query.specs.declared.queries.Asking.the-variants as Asking
-use Rattle.query.specs.declared.query.Correction.{Correction}
-use Rattle.query.specs.declared.query.Correction.the-variants as Correction
 use Rattle.differential.specs.Record.{statesCount}
 use Rattle.differential.specs.Build.{Owned, callOf}
 use Rattle.differential.specs.AddEpoch.{tooMany, addedOf}
@@ -34,7 +25,7 @@ use Rattle.differential.specs.declared.record.BaseEpoch.{BaseEpoch}
 use Rattle.differential.specs.declared.record.States.{States}
 use Rattle.differential.specs.declared.record.Settings.{Settings}
 use Rattle.differential.proofs.EpochLaws.{added-same}
-use Rattle.zaqnuti.specs.Corrections.{rangeAt, epochOf, stateAt, statesIn, recordsShort, entryOf, EpochRead, StatesRead, patternAfter}
+use Rattle.zaqnuti.specs.Corrections.{rangeAt, epochOf, stateAt, statesIn, recordsShort, entryOf, EpochRead, StatesRead}
 
 -- ---- columns that are long enough
 pub few : (k w : ℕ) → (ltb 64 k || ltb 64 w) ≡ false → (k ≤ 64) × (w ≤ 64)
@@ -127,17 +118,6 @@ entry-call h time k rc rv rb rp present m sc sv sb sf base rover set e = rw e
 pub adds-number : {o : Outcome} {x : Adding} {n : ℕ} {l l′ : Columns} (y : Adding) (number : ℕ) → x ≡ y → number ≡ addingNumber y
     → (x ≡ addingOf o) × Adds o (addingNumber x) n (countAfter x n) l l′ → Adds o number n (countAfter y n) l l′
 adds-number {o = o} {n = n} {l = l} {l′ = l′} y number e k a = rw k (subst (λ (z : Adding). Adds o (addingNumber z) n (countAfter z n) l l′) e (a .1))
-
-pub replies-number : {o : Reply} {x : Asking} {numbers : List ℕ} {metres : List Float} {numbers′ : List ℕ} {metres′ : List Float} (y : Asking) (number : ℕ) → x ≡ y → number ≡ askingNumber y
-    → (x ≡ askingOf o) × Replies o (askingNumber x) numbers metres numbers′ metres′ → Replies o number numbers metres numbers′ metres′
-replies-number {o = o} {numbers = numbers} {metres = metres} {numbers′ = numbers′} {metres′ = metres′} y number e k a =
-    rw k (subst (λ (z : Asking). Replies o (askingNumber z) numbers metres numbers′ metres′) e (a .1))
-
-pub query-refused : (q : Correction) (r : Refusal) (x : ℕ) {a : ℕ} → a ≡ numberOf r → Correction.Refused r ≡ q → GivesFinite (Correction.Refused r) → (a ≡ queryNumber q) × (x ≡ patternAfter q x) × GivesFinite q
-query-refused q r x e h f = rw (← h) (e, refl, f)
-
-pub query-metres : (q : Correction) (y : Float) (x : ℕ) {b : ℕ} → b ≡ patternOf y → Correction.Metres y ≡ q → GivesFinite (Correction.Metres y) → (0 ≡ queryNumber q) × (b ≡ patternAfter q x) × GivesFinite q
-query-metres q y x e h f = rw (← h) (refl, e, f)
 
 -- ---- the bands of an old table
 module _ (n : ℕ) (narrow wide wide′ : List ℕ) (o : Widening) {r : Widening} (e : r ≡ o) (h : wide′ ≡ bandsAfter r n narrow wide) where

@@ -7,13 +7,10 @@ use mathlib.Core.Path.{_≡_}
 use lib.ListN.{length, getD, take}
 use lib.Ieee.{Float, nan}
 use Rattle.walk.specs.Walk.{places}
-use Rattle.numeric.specs.Order.{patternOf}
 use Rattle.numeric.specs.declared.vec3.Vec3.{Vec3}
 use Rattle.numeric.specs.declared.refusal.Refusal.the-variants.{TooMany}
 use Rattle.table.specs.Add.{Outcome, refused}
 use Rattle.table.specs.declared.sample.Sample.{Sample}
-use Rattle.query.specs.declared.query.Correction.{Correction}
-use Rattle.query.specs.declared.query.Correction.the-variants as Correction
 use Rattle.differential.specs.AddEpoch.{addedOf}
 use Rattle.differential.specs.declared.record.Range.{Range}
 use Rattle.differential.specs.declared.record.BaseEpoch.{BaseEpoch}
@@ -77,10 +74,3 @@ pub record StatesRead (present : Bool) (m : ℕ) (l : List State) (s : States) :
   pub mark : s .present ≡ present
   pub count : s .count ≡ m
   pub states-are : take m (s .states) ≡ l
-
--- ---- a query
-
--- the pattern of the correction in metres; a refusal leaves what was lent, to the last bit
-abbrev pub patternAfter : Correction → ℕ → ℕ
-patternAfter (Correction.Refused r) before = before
-patternAfter (Correction.Metres x) before = patternOf x

@@ -1,106 +1,24 @@
-// Entry points of the corrections: one base epoch added to a table, one query, many, and the bands of an old table.
+// Entry points of the corrections: one base epoch added to a table, and the bands of an old table.
 ghost use mathlib.Core.Path.{_≡_};
 ghost use mathlib.Core.Bool.{cond};
 ghost use Prim.Native.Nat.{_*_, _≤_};
 ghost use lib.ListN.{length, take};
 ghost use Rattle.walk.specs.Walk.{places};
 ghost use Rattle.table.specs.Table.{lent, capacity, tableOf};
-ghost use Rattle.query.specs.Query.{queryOf, queryNumber, GivesFinite};
-ghost use Rattle.query.specs.Queries.{queriesOf, Replies};
 ghost use Rattle.table.specs.Widen.{widenOf, wideningNumber, bandsAfter};
 ghost use Rattle.table.specs.Add.{addingOf, addingNumber, countAfter, Adds};
-ghost use Rattle.zaqnuti.specs.Corrections.{rangeAt, stateAt, pointOf, settingsOf, recordsShort, entryOf, EpochRead, StatesRead, patternAfter};
+ghost use Rattle.zaqnuti.specs.Corrections.{rangeAt, stateAt, pointOf, settingsOf, recordsShort, entryOf, EpochRead, StatesRead};
 use differential::add_epoch::add_epoch;
 use differential::record::BaseEpoch;
 use differential::record::Range;
 use differential::record::Settings;
 use differential::record::State;
 use differential::record::States;
-use numeric::order::pattern;
 use numeric::refusal::Refusal;
 use numeric::vec3::Vec3;
-use query::queries::Asking;
-use query::queries::queries;
-use query::query::Correction;
-use query::query::query;
 use table::add::Adding;
 use table::widen::Widening;
 use table::widen::widen_bands;
-
-// The correction of the signal c, v, b at the time t in metres and 0, or the number of the refusal, which leaves metres as it was.
-#[no_mangle]
-pub extern "C" fn zaqnuti_query(
-    cs: &[u8],
-    vs: &[u16],
-    bs: &[u32],
-    ts: &[f64],
-    xs: &[f64],
-    n: usize,
-    gap: f64,
-    c: u8,
-    v: u16,
-    b: u32,
-    t: f64,
-    metres: &mut u64,
-) -> u8
-    ensures { λ r. ⌜ (let l = lent (now (cs .entry)) (now (vs .entry)) (now (bs .entry)) (now (ts .entry)) (now (xs .entry)) in
-        let q = queryOf n (capacity l) (tableOf n l) gap c v b t in
-        (r ≡ queryNumber q) × (now (metres .exit) ≡ patternAfter q (now (metres .entry))) × GivesFinite q) ⌝ }
-{
-    let answer = query(cs, vs, bs, ts, xs, n, gap, c, v, b, t);
-    match answer {
-        Correction::Refused(r) => r.number(),
-        Correction::Metres(x) => {
-            *metres = pattern(x);
-            0
-        }
-    }
-}
-
-// The queries at the first count places of c, v, b and t, of a table that is tested once: 0, and at each place its number and, where it is given, its
-// correction in metres; or the number of the refusal of the whole call, which leaves numbers and metres as they were.
-#[no_mangle]
-pub extern "C" fn zaqnuti_queries(
-    cs: &[u8],
-    vs: &[u16],
-    bs: &[u32],
-    ts: &[f64],
-    xs: &[f64],
-    n: usize,
-    gap: f64,
-    c: &[u8],
-    v: &[u16],
-    b: &[u32],
-    t: &[f64],
-    count: usize,
-    numbers: &mut [u8],
-    metres: &mut [f64],
-) -> u8
-    ensures { λ r. ⌜ (let l = lent (now (cs .entry)) (now (vs .entry)) (now (bs .entry)) (now (ts .entry)) (now (xs .entry)) in
-        Replies (queriesOf n (capacity l) (tableOf n l) gap (now (c .entry)) (now (v .entry)) (now (b .entry)) (now (t .entry)) count (now (numbers .entry)) (now (metres .entry))) r
-        (now (numbers .entry)) (now (metres .entry)) (now (numbers .exit)) (now (metres .exit))) ⌝ }
-{
-    let answer = queries(
-        cs,
-        vs,
-        bs,
-        ts,
-        xs,
-        n,
-        gap,
-        c,
-        v,
-        b,
-        t,
-        count,
-        numbers,
-        metres,
-    );
-    match answer {
-        Asking::Refused(r) => r.number(),
-        Asking::Answered => 0,
-    }
-}
 
 // The epoch of the first k ranges.
 fn epoch_from(time: f64, k: usize, rc: &[u8], rv: &[u16], rb: &[u32], rp: &[f64]) -> BaseEpoch

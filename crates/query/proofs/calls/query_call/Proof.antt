@@ -1,10 +1,10 @@
--- `zaqnuti::corrections::zaqnuti_query` meets its contract. Assumes nothing.
+-- `query::calls::query_call` meets its contract. Assumes nothing.
 use mathlib.Core.Path.{sym, _∙_, subst}
 use Rattle.query.specs.Query.{GivesFinite}
-use Rattle.zaqnuti.proofs.CorrectionLaws.{query-refused, query-metres}
+use Rattle.query.proofs.CallLaws.{query-refused, query-metres}
 use borrow.Author.Needs.{needs}
-use Rattle.zaqnuti.proofs.corrections.zaqnuti_query.Statement.{statement}
-use Rattle.zaqnuti.proofs.corrections.zaqnuti_query.Tie as tie
+use Rattle.query.proofs.calls.query_call.Statement.{statement}
+use Rattle.query.proofs.calls.query_call.Tie as tie
 
 query-requires : tie.Need-query-requires
 query-requires c κs = search needs
@@ -31,5 +31,5 @@ returns-2 c =
     let e = sym (c .before .before .answer2 .given .1) in
     query-metres _ _ _ (c .pattern .ensures) (e ∙ c .before .before .before .before .query .ensures .0) (subst GivesFinite (sym e) (c .before .before .before .before .query .ensures .1))
 
-pub zaqnuti-query-spec : {M : Type 1} → statement M
-zaqnuti-query-spec = tie.close (tie.spec query-requires enum-known-answer number-requires enum-known-answer-2 pattern-requires returns returns-2)
+pub query-call-spec : {M : Type 1} → statement M
+query-call-spec = tie.close (tie.spec query-requires enum-known-answer number-requires enum-known-answer-2 pattern-requires returns returns-2)

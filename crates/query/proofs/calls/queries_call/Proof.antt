@@ -1,9 +1,9 @@
--- `zaqnuti::corrections::zaqnuti_queries` meets its contract. Assumes nothing.
-use Rattle.zaqnuti.proofs.CorrectionLaws.{replies-number}
+-- `query::calls::queries_call` meets its contract. Assumes nothing.
+use Rattle.query.proofs.CallLaws.{replies-number}
 use mathlib.Core.Path.{refl}
 use borrow.Author.Needs.{needs}
-use Rattle.zaqnuti.proofs.corrections.zaqnuti_queries.Statement.{statement}
-use Rattle.zaqnuti.proofs.corrections.zaqnuti_queries.Tie as tie
+use Rattle.query.proofs.calls.queries_call.Statement.{statement}
+use Rattle.query.proofs.calls.queries_call.Tie as tie
 
 queries-requires : tie.Need-queries-requires
 queries-requires c κs = search needs
@@ -35,5 +35,5 @@ same-length-4 c = search needs
 returns-2 : tie.Need-returns-2
 returns-2 c = replies-number _ _ (c .enum-told .given .1) refl (c .before .before .before .before .before .before .queries .ensures)
 
-pub zaqnuti-queries-spec : {M : Type 1} → statement M
-zaqnuti-queries-spec = tie.close (tie.spec queries-requires enum-known-answer number-requires enum-told same-length same-length-2 returns same-length-3 same-length-4 returns-2)
+pub queries-call-spec : {M : Type 1} → statement M
+queries-call-spec = tie.close (tie.spec queries-requires enum-known-answer number-requires enum-told same-length same-length-2 returns same-length-3 same-length-4 returns-2)
