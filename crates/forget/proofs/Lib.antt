@@ -1,0 +1,6 @@
+-- What the proofs of more than one function use, and the theorems.
+pub mod TimeLaws
+pub mod ForgetLaws
+pub mod HistoryLaws
+pub mod BlockLaws
+pub mod LayoutLaws
