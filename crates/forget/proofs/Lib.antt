@@ -4,3 +4,5 @@ pub mod ForgetLaws
 pub mod HistoryLaws
 pub mod BlockLaws
 pub mod LayoutLaws
+pub mod MoveLaws
+pub mod TrimLaws
