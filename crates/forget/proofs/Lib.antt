@@ -6,3 +6,4 @@ pub mod BlockLaws
 pub mod LayoutLaws
 pub mod MoveLaws
 pub mod TrimLaws
+pub mod CallLaws

@@ -229,9 +229,9 @@ module _ (time : Float) (m n : ℕ) (l₀ : Blocks) (fm : m ≤ length (entriesI
             ap length (part-is-now z) ∙ length-drop g (take (getD dn i 0) x)
             ∙ ap (λ (y : ℕ). y - g) (length-take-le (getD dn i 0) x (omega (arith, length-drop (getD df i 0) (take n (readingsIn l₀)), readings, here .inside)))
 
-        pub trimming-turn : {g : ℕ} → g ≡ k - 1
+        turned : {g : ℕ} → g ≡ k - 1
             → Trimming time m n l₀ (set df i place) (set dn i (getD dn i 0 - g)) (movedDown place (getD df i 0 + g) (getD dn i 0 - g) ts) (movedDown place (getD df i 0 + g) (getD dn i 0 - g) xs) (i + 1) (place + (getD dn i 0 - g))
-        trimming-turn {g} z =
+        turned {g} z =
             let w = here in
             let len = part-long z in
             let r = readings-of n (l₀ .times) (l₀ .corrections) fn in
@@ -255,6 +255,10 @@ module _ (time : Float) (m n : ℕ) (l₀ : Blocks) (fm : m ≤ length (entriesI
               corrections = going-many (inv .corrections) (getD df i 0 + g) (getD dn i 0 - g) (map (λ (r : Reading). r .correction) (collect part rest)) (omega (arith, w .low)) (omega (arith, w .inside, w .in-corrections, inv .corrections .long))
                   (ap (λ (x : List Entry). map (λ (r : Reading). r .correction) (collect part x)) left ∙ collect-field part (λ (r : Reading). r .correction) e rest ∙ ap (λ (x : List Float). x ++ map (λ (r : Reading). r .correction) (collect part rest)) px);
             }
+
+        pub trimming-turn : {g : ℕ} → g ≡ k - 1 → {ts′ xs′ : List Float} → ts′ ≡ movedDown place (getD df i 0 + g) (getD dn i 0 - g) ts → xs′ ≡ movedDown place (getD df i 0 + g) (getD dn i 0 - g) xs
+            → Trimming time m n l₀ (set df i place) (set dn i (getD dn i 0 - g)) ts′ xs′ (i + 1) (place + (getD dn i 0 - g))
+        trimming-turn z p q = rw (p, q) (turned z)
 
     module _ (h : m ≤ i) where
       none : drop i (take m (entriesIn l₀)) ≡ []

@@ -12,6 +12,8 @@ use Rattle.numeric.specs.declared.refusal.Refusal.{Refusal}
 use Rattle.numeric.specs.declared.refusal.Refusal.the-variants.{TooMany, RecordOutOfRange, BadDropTime}
 use Rattle.table.specs.Table.{signalOf}
 use Rattle.table.specs.declared.sample.Sample.{Sample}
+use Rattle.table.specs.declared.add.Test.{Test}
+use Rattle.table.specs.declared.add.Test.the-variants as Test
 use Rattle.directory.specs.Directory.{Directory, Blocks, blocksWith, directoryOf, flat, soundDirectory}
 use Rattle.query.specs.Query.{before}
 use Rattle.forget.specs.declared.forget.Forgetting.{Forgetting}
@@ -35,19 +37,27 @@ forget time (s ∷ ss) = cond (before time s && some (earlier (signalOf s) time)
 
 -- ---- the call
 
+-- what is tested before a drop from m entries and n samples in columns with that capacity: number 2, number 4, which does not look at the time, and number 18
+unfoldable pub testIn : ℕ → ℕ → ℕ → Directory → Float → Test
+testIn m n room d time =
+    cond (ltb room m || ltb room n) (Test.Refused TooMany)
+    (cond (not (soundDirectory d)) (Test.Refused RecordOutOfRange)
+    (cond (not (finite time)) (Test.Refused BadDropTime)
+    Test.Passed))
+
 -- a refusal, or the directory afterwards
 pub data Outcome : Type 0 where
   refused : Refusal → Outcome
   leaves : Directory → Outcome
 
--- A drop from m entries and n samples in columns with that capacity: number 2, number 4, which does not look at the time, and number 18,
--- or the directory of what is retained of the samples that d stands for.
+-- what comes of a test, where the directory d is left if it is passed
+abbrev pub outcomeOf : Test → Directory → Outcome
+outcomeOf (Test.Refused r) d = refused r
+outcomeOf Test.Passed d = leaves d
+
+-- a drop: the refusal, or the directory of what is retained of the samples that d stands for
 unfoldable pub forgetIn : ℕ → ℕ → ℕ → Directory → Float → Outcome
-forgetIn m n room d time =
-    cond (ltb room m || ltb room n) (refused TooMany)
-    (cond (not (soundDirectory d)) (refused RecordOutOfRange)
-    (cond (not (finite time)) (refused BadDropTime)
-    (leaves (directoryOf (forget time (flat d))))))
+forgetIn m n room d time = outcomeOf (testIn m n room d time) (directoryOf (forget time (flat d)))
 
 -- the answer: the refusal, or how many samples there are now
 abbrev pub forgettingOf : Outcome → Forgetting
