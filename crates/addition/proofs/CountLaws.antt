@@ -106,10 +106,10 @@ module _ {dc dv db df dn : List ℕ} {m n : ℕ} (t : Tiled dc dv db df dn m n) 
             tail = f .tail;
             few = omega (arith, inv .few, f .fewer);
             made = λ rs u h o.
-            let w = last-for f e rs u k (lies-fewer i (inv .old) (lies rs h)) o (inv .new) (inv .made rs u h o .0) in
-            let l : length (entriesUpTo rs (take m (entryRows dc dv db df dn)) u i j) ≡ length (entriesUpTo rs (take m (entryRows dc dv db df dn)) u (r .entries) (r .samples)) + 1 =
-            ap length (w .entries-are) ∙ length-append (entriesUpTo rs (take m (entryRows dc dv db df dn)) u (r .entries) (r .samples)) (lastEntry r ∷ []) in
-            (w .first-is, omega (arith, inv .made rs u h o .1));
+                let w = last-for f e rs u k (lies-fewer i (inv .old) (lies rs h)) o (inv .new) (inv .made rs u h o .0) in
+                let l : length (entriesUpTo rs (take m (entryRows dc dv db df dn)) u i j) ≡ length (entriesUpTo rs (take m (entryRows dc dv db df dn)) u (r .entries) (r .samples)) + 1 =
+                ap length (w .entries-are) ∙ length-append (entriesUpTo rs (take m (entryRows dc dv db df dn)) u (r .entries) (r .samples)) (lastEntry r ∷ []) in
+                (w .first-is, omega (arith, inv .made rs u h o .1));
           }
 
       pub counting-end : j ≤ 0 → (rs : List Reading) (u : List Sample) → length rs ≡ n → OfSignals cs vs bs k u → count + i ≡ length (entriesUpTo rs (take m (entryRows dc dv db df dn)) u m k)

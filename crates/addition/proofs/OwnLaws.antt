@@ -167,13 +167,13 @@ module _ (es : List Entry) (ae : ascends 0 es ≡ true) (cs vs bs : List ℕ) (i
         fewer = omega (arith, n .entries-is, some);
         tail = let z : r .first ≡ end - (j - r .samples) = ap (λ (f : Entry). f .start) (n .entry-is) in omega (arith, some);
         last = λ rs u k l o h q.
-        let e : Entry = record { constellation = getD cs (j - 1) 0; svid = getD vs (j - 1) 0; band = getD bs (j - 1) 0; start = 0; count = 0 } in
-        let w = new-is o rs es ae e i (r .samples) j hi hj h (sym (signal-of o (j - 1) (omega arith))) own high (n .svids-fit (j - 1), n .bands-fit (j - 1)) (n .svids-fit) (n .bands-fit) in
-        let z : length (blocksUpTo rs es i) + r .samples ≡ end - (j - r .samples) = omega (arith, q, some) in
-        record {
-          entries-are = rw (n .entry-is, n .entries-is) (w .1 ∙ ap (λ (m : ℕ). entriesUpTo rs es u i (r .samples) ++ (entryAt e m (j - r .samples) ∷ [])) z);
-          first-is = rw (n .entries-is) (z ∙ sym (ap (λ (f : Entry). f .start) (n .entry-is)));
-        };
+            let e : Entry = record { constellation = getD cs (j - 1) 0; svid = getD vs (j - 1) 0; band = getD bs (j - 1) 0; start = 0; count = 0 } in
+            let w = new-is o rs es ae e i (r .samples) j hi hj h (sym (signal-of o (j - 1) (omega arith))) own high (n .svids-fit (j - 1), n .bands-fit (j - 1)) (n .svids-fit) (n .bands-fit) in
+            let z : length (blocksUpTo rs es i) + r .samples ≡ end - (j - r .samples) = omega (arith, q, some) in
+            record {
+              entries-are = rw (n .entry-is, n .entries-is) (w .1 ∙ ap (λ (m : ℕ). entriesUpTo rs es u i (r .samples) ++ (entryAt e m (j - r .samples) ∷ [])) z);
+              first-is = rw (n .entries-is) (z ∙ sym (ap (λ (f : Entry). f .start) (n .entry-is)));
+            };
       }
     where
       fewer : (b : Bool) → eqb (r .samples) j ≡ b → r .samples < j
@@ -194,11 +194,11 @@ module _ (es : List Entry) (ae : ascends 0 es ≡ true) (cs vs bs : List ℕ) (i
         fewer = omega (arith, ne, own .within);
         tail = let z : r .first ≡ f + r .samples = ap (λ (f : Entry). f .start) el in omega arith;
         last = λ rs u k l o h q.
-        let z : suc (i - 1) ≡ i = omega arith in
-        let e : signal c v b ≡ signalIn (getD es (i - 1) noEntry) = rw (← at) in
-        let w = old-is o rs es ae (i - 1) (r .samples) j (rw z l) h (rw (← e) own) (λ p. rw (signal-of o (j - 1) (omega arith), ← e) top) (rw (← at) nar) fv fb in
-        record {
-          entries-are = rw (el, ne) (ap (λ (n : ℕ). entriesUpTo rs es u n j) (sym z) ∙ w ∙ rw (← at));
-          first-is = rw ne (ap (λ (n : ℕ). n + r .samples) (l .starts (i - 1) (omega arith)) ∙ (rw (← at) (sym (ap (λ (f : Entry). f .start) el))));
-        };
+            let z : suc (i - 1) ≡ i = omega arith in
+            let e : signal c v b ≡ signalIn (getD es (i - 1) noEntry) = rw (← at) in
+            let w = old-is o rs es ae (i - 1) (r .samples) j (rw z l) h (rw (← e) own) (λ p. rw (signal-of o (j - 1) (omega arith), ← e) top) (rw (← at) nar) fv fb in
+            record {
+              entries-are = rw (el, ne) (ap (λ (n : ℕ). entriesUpTo rs es u n j) (sym z) ∙ w ∙ rw (← at));
+              first-is = rw ne (ap (λ (n : ℕ). n + r .samples) (l .starts (i - 1) (omega arith)) ∙ (rw (← at) (sym (ap (λ (f : Entry). f .start) el))));
+            };
       }

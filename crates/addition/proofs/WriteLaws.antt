@@ -36,16 +36,17 @@ module _ {cs vs bs dc₀ dv₀ db₀ df₀ dn₀ : List ℕ} {m n : ℕ} (t : Ti
         tail = omega arith;
         high = omega arith;
         made = λ rs u h o.
-        let all = entriesUpTo rs (take m (entryRows dc₀ dv₀ db₀ df₀ dn₀)) u m k in
-        let e = q rs u h o in
-        (ap (λ (x : ℕ). x + k) (blocks-all t rs h),
-        record {
-          in-c = column-start (λ (e : Entry). e .constellation) dc₀ all m count e;
-          in-v = column-start (λ (e : Entry). e .svid) dv₀ all m count e;
-          in-b = column-start (λ (e : Entry). e .band) db₀ all m count e;
-          in-f = column-start (λ (e : Entry). e .start) df₀ all m count e;
-          in-n = column-start (λ (e : Entry). e .count) dn₀ all m count e;
-        });
+            let all = entriesUpTo rs (take m (entryRows dc₀ dv₀ db₀ df₀ dn₀)) u m k in
+            let e = q rs u h o in (
+              ap (λ (x : ℕ). x + k) (blocks-all t rs h),
+              record {
+                in-c = column-start (λ (e : Entry). e .constellation) dc₀ all m count e;
+                in-v = column-start (λ (e : Entry). e .svid) dv₀ all m count e;
+                in-b = column-start (λ (e : Entry). e .band) db₀ all m count e;
+                in-f = column-start (λ (e : Entry). e .start) df₀ all m count e;
+                in-n = column-start (λ (e : Entry). e .count) dn₀ all m count e;
+              },
+            );
       }
 
   module _ {dc dv db df dn : List ℕ} {i j end w : ℕ} (inv : Placing cs vs bs m n k count dc₀ dv₀ db₀ df₀ dn₀ dc dv db df dn i j end w) where
@@ -109,22 +110,23 @@ module _ {cs vs bs dc₀ dv₀ db₀ df₀ dn₀ : List ℕ} {m n : ℕ} (t : Ti
             tail = f .tail;
             high = omega (arith, inv .high);
             made = λ rs u h o.
-            let es = take m (entryRows dc₀ dv₀ db₀ df₀ dn₀) in
-            let all = entriesUpTo rs es u m k in
-            let less = entriesUpTo rs es u (r .entries) (r .samples) in
-            let q = found rs u h o in
-            let room = room-of count dc₀ dv₀ db₀ df₀ dn₀ hc in
-            let w = inv .made rs u h o .1 in
-            let lo : r .entries ≤ length less = enough o rs es (t .ascending) fv fb (λ x l. narrow-es x (omega (arith, long t))) (r .entries + r .samples) (r .entries) (r .samples) (omega arith) (lies-fewer (r .entries) (omega (arith, inv .old, f .fewer-entries)) (lies t rs h)) (omega (arith, inv .new, f .fewer-samples)) in
-            let y = one-less rs u h o in
-            (q .first-is,
-            record {
-              in-c = column-turn (λ (e : Entry). e .constellation) dc₀ all (w .in-c) (lastEntry r) less (r .entries) (q .entries-are) (f .fewer-entries) (omega (arith, lo, y)) (omega (arith, inv .high, room .in-dc));
-              in-v = column-turn (λ (e : Entry). e .svid) dv₀ all (w .in-v) (lastEntry r) less (r .entries) (q .entries-are) (f .fewer-entries) (omega (arith, lo, y)) (omega (arith, inv .high, room .in-dv));
-              in-b = column-turn (λ (e : Entry). e .band) db₀ all (w .in-b) (lastEntry r) less (r .entries) (q .entries-are) (f .fewer-entries) (omega (arith, lo, y)) (omega (arith, inv .high, room .in-db));
-              in-f = column-turn (λ (e : Entry). e .start) df₀ all (w .in-f) (lastEntry r) less (r .entries) (q .entries-are) (f .fewer-entries) (omega (arith, lo, y)) (omega (arith, inv .high, room .in-df));
-              in-n = column-turn (λ (e : Entry). e .count) dn₀ all (w .in-n) (lastEntry r) less (r .entries) (q .entries-are) (f .fewer-entries) (omega (arith, lo, y)) (omega (arith, inv .high, room .in-dn));
-            });
+                let es = take m (entryRows dc₀ dv₀ db₀ df₀ dn₀) in
+                let all = entriesUpTo rs es u m k in
+                let less = entriesUpTo rs es u (r .entries) (r .samples) in
+                let q = found rs u h o in
+                let room = room-of count dc₀ dv₀ db₀ df₀ dn₀ hc in
+                let w = inv .made rs u h o .1 in
+                let lo : r .entries ≤ length less = enough o rs es (t .ascending) fv fb (λ x l. narrow-es x (omega (arith, long t))) (r .entries + r .samples) (r .entries) (r .samples) (omega arith) (lies-fewer (r .entries) (omega (arith, inv .old, f .fewer-entries)) (lies t rs h)) (omega (arith, inv .new, f .fewer-samples)) in
+                let y = one-less rs u h o in (
+                  q .first-is,
+                  record {
+                    in-c = column-turn (λ (e : Entry). e .constellation) dc₀ all (w .in-c) (lastEntry r) less (r .entries) (q .entries-are) (f .fewer-entries) (omega (arith, lo, y)) (omega (arith, inv .high, room .in-dc));
+                    in-v = column-turn (λ (e : Entry). e .svid) dv₀ all (w .in-v) (lastEntry r) less (r .entries) (q .entries-are) (f .fewer-entries) (omega (arith, lo, y)) (omega (arith, inv .high, room .in-dv));
+                    in-b = column-turn (λ (e : Entry). e .band) db₀ all (w .in-b) (lastEntry r) less (r .entries) (q .entries-are) (f .fewer-entries) (omega (arith, lo, y)) (omega (arith, inv .high, room .in-db));
+                    in-f = column-turn (λ (e : Entry). e .start) df₀ all (w .in-f) (lastEntry r) less (r .entries) (q .entries-are) (f .fewer-entries) (omega (arith, lo, y)) (omega (arith, inv .high, room .in-df));
+                    in-n = column-turn (λ (e : Entry). e .count) dn₀ all (w .in-n) (lastEntry r) less (r .entries) (q .entries-are) (f .fewer-entries) (omega (arith, lo, y)) (omega (arith, inv .high, room .in-dn));
+                  },
+                );
           }
         where
           narrow-es : (x : ℕ) → x < m → Narrow (getD (take m (entryRows dc₀ dv₀ db₀ df₀ dn₀)) x noEntry .svid) (getD (take m (entryRows dc₀ dv₀ db₀ df₀ dn₀)) x noEntry .band)

@@ -140,4 +140,3 @@ module _ (time : Float) (ft : T (fits binary64 time)) where
           let n : some (before time) l ≡ false =
           none-after (s .time) l (and-left (fits binary64 (s .time)) (every (λ s. fits binary64 (s .time)) l) w) (ranged-time s (and-left (ranged s) (every ranged l) r)) q tl rl fl in
           ap (λ (m : List Sample). s ∷ m) (none-goes l n)
-

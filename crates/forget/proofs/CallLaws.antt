@@ -92,8 +92,7 @@ module _ (m n : ℕ) (l : Blocks) (time : Float) where
       let d = directoryIn m n l in
       let q : directoryOf (forget time (flat d)) ≡ trimmed time d = forget-trimmed time d ft (f .steady) (held-flat m n l (f .few-entries) (f .few-samples) (f .steady) held) in
       let o : forgetIn m n (blockCapacity l) d time ≡ leaves (trimmed time d) = outcome q in
-      rw o
-      (
+      rw o (
         ap Forgetting.Count ek,
         record { number-is = refl; entries-stay = entries (f .few-entries); count = ek; columns = el },
       )

@@ -28,10 +28,13 @@ last-of-requires c κs =
     let h = c .before .loop in
     let t = s .pre .0 in
     let f = h .inv .old in
-    let p : take (h .i) (take (a .m) (entryRows (a .dc .now) (a .dv .now) (a .db .now) (a .df .now) (a .dn .now))) ≡ take (h .i) (entryRows (a .dc .now) (a .dv .now) (a .db .now) (a .df .now) (a .dn .now)) = take-take (h .i) (a .m) (entryRows (a .dc .now) (a .dv .now) (a .db .now) (a .df .now) (a .dn .now)) f in
-    ((omega (arith, f, t .few), rw p at (ascends-take 0 (take (a .m) (entryRows (a .dc .now) (a .dv .now) (a .db .now) (a .df .now) (a .dn .now))) (h .i) (t .ascending))),
-    ((c .loop-test .taken, (h .inv .tail, (omega (arith, h .inv .new), (omega (arith, h .inv .new), omega (arith, h .inv .new))))),
-    λ q. last-fits t (h .i) (h .j) (a .k) f (h .inv .new) (omega (arith, s .pre .1 .0)) q))
+    let p : take (h .i) (take (a .m) (entryRows (a .dc .now) (a .dv .now) (a .db .now) (a .df .now) (a .dn .now))) ≡ take (h .i) (entryRows (a .dc .now) (a .dv .now) (a .db .now) (a .df .now) (a .dn .now)) = take-take (h .i) (a .m) (entryRows (a .dc .now) (a .dv .now) (a .db .now) (a .df .now) (a .dn .now)) f in (
+      (omega (arith, f, t .few), rw p at (ascends-take 0 (take (a .m) (entryRows (a .dc .now) (a .dv .now) (a .db .now) (a .df .now) (a .dn .now))) (h .i) (t .ascending))),
+      (
+        (c .loop-test .taken, (h .inv .tail, (omega (arith, h .inv .new), (omega (arith, h .inv .new), omega (arith, h .inv .new))))),
+        λ q. last-fits t (h .i) (h .j) (a .k) f (h .inv .new) (omega (arith, s .pre .1 .0)) q,
+      ),
+    )
 
 add-count : tie.Need-add-count Inv-loop μ-loop
 add-count c = omega (arith, c .before .before .loop .inv .few, c .before .loop-test .taken, c .before .before .before .before .before .before .before .before .before .before .before .pre .1 .0)

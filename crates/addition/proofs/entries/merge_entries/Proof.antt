@@ -30,10 +30,13 @@ last-of-requires c κs =
     let some = s .pre .1 .1 .0 in
     let f = h .inv .old in
     let e = fronts t (a .k) (a .count) (h .inv) some in
-    let l = same-rows t (a .k) (a .count) (h .inv) some in
-    ((omega (arith, f, t .few, l), rw e (ascends-take 0 (take (a .m) (entryRows (a .dc .now) (a .dv .now) (a .db .now) (a .df .now) (a .dn .now))) (h .i) (t .ascending))),
-    ((c .before .before .before .before .before .loop-test .taken, (h .inv .tail, (omega (arith, h .inv .new), (omega (arith, h .inv .new), omega (arith, h .inv .new))))),
-    λ q. rw (same-f t (a .k) (a .count) (h .inv) some q, same-n t (a .k) (a .count) (h .inv) some q) (last-fits t (h .i) (h .j) (a .k) f (h .inv .new) (s .pre .1 .0 .0) q)))
+    let l = same-rows t (a .k) (a .count) (h .inv) some in (
+      (omega (arith, f, t .few, l), rw e (ascends-take 0 (take (a .m) (entryRows (a .dc .now) (a .dv .now) (a .db .now) (a .df .now) (a .dn .now))) (h .i) (t .ascending))),
+      (
+        (c .before .before .before .before .before .loop-test .taken, (h .inv .tail, (omega (arith, h .inv .new), (omega (arith, h .inv .new), omega (arith, h .inv .new))))),
+        λ q. rw (same-f t (a .k) (a .count) (h .inv) some q, same-n t (a .k) (a .count) (h .inv) some q) (last-fits t (h .i) (h .j) (a .k) f (h .inv .new) (s .pre .1 .0 .0) q),
+      ),
+    )
 
 sub-w : tie.Need-sub-w Inv-loop μ-loop
 sub-w c =

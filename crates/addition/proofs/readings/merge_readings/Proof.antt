@@ -54,10 +54,13 @@ comes-last-requires c κs =
     let l : length (take (a .m) (entryRows (a .dc .now) (a .dv .now) (a .db .now) (a .df .now) (a .dn .now))) ≡ a .m = length-take-le (a .m) _ (s .pre .0 .0) in
     let t = readings-length (a .ts .now) (a .xs .now) in
     let f = h .inv .cursor .few in
-    let hj = c .before .loop-test .taken in
-    ((omega (arith, f, l, z), (omega (arith, f, l, z), omega (arith, f, l, z))),
-    ((omega (arith, h .inv .old, h .inv .times .long, s .pre .0 .1, t), λ p. cursor-some _ (h .e) (h .i) (h .inv .cursor) p),
-    (hj, (omega (arith, h .inv .new, z), (omega (arith, h .inv .new, z), (omega (arith, h .inv .new, z), omega (arith, h .inv .new, z)))))))
+    let hj = c .before .loop-test .taken in (
+      (omega (arith, f, l, z), (omega (arith, f, l, z), omega (arith, f, l, z))),
+      (
+        (omega (arith, h .inv .old, h .inv .times .long, s .pre .0 .1, t), λ p. cursor-some _ (h .e) (h .i) (h .inv .cursor) p),
+        (hj, (omega (arith, h .inv .new, z), (omega (arith, h .inv .new, z), (omega (arith, h .inv .new, z), omega (arith, h .inv .new, z))))),
+      ),
+    )
 
 sub-i : tie.Need-sub-i Inv-loop μ-loop
 sub-i c = omega (arith, some-old (c .before .comes-last .ensures) (c .if1 .taken))

@@ -185,8 +185,7 @@ returns c =
     let s = c .before .before .before .before .before .before .before .before .before in
     let a = s .args in
     let h = c .before .loop in
-    let l = lentBlocks (a .dc .now) (a .dv .now) (a .db .now) (a .df .now) (a .dn .now) (a .ts .now) (a .xs .now) in
-    (
+    let l = lentBlocks (a .dc .now) (a .dv .now) (a .db .now) (a .df .now) (a .dn .now) (a .ts .now) (a .xs .now) in (
       trimming-count (a .time) (a .m) (a .n) l (s .pre .0 .0) (s .pre .0 .1) (s .pre .1) (h .inv) (c .loop-test .left),
       trimming-end (a .time) (a .m) (a .n) l (s .pre .0 .0) (s .pre .0 .1) (s .pre .1) (h .inv) (c .loop-test .left),
     )
