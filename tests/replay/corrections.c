@@ -13,26 +13,37 @@
 /* The most bands of a case of widening. */
 #define BANDS 8
 
-/* A table, filled past its samples. */
+/* A table, filled past its blocks and samples. */
 struct table {
-    uint8_t cs[TABLE + BEYOND];
-    uint16_t vs[TABLE + BEYOND];
-    uint32_t bs[TABLE + BEYOND];
+    uint8_t dc[TABLE + BEYOND];
+    uint16_t dv[TABLE + BEYOND];
+    uint32_t db[TABLE + BEYOND];
+    size_t df[TABLE + BEYOND];
+    size_t dn[TABLE + BEYOND];
+    size_t m;
     double ts[TABLE + BEYOND];
     double xs[TABLE + BEYOND];
     size_t n;
     uint8_t margin[MARGIN];
 };
 
-/* How many samples; of each, of 32 at most, constellation, svid, band, time, correction. */
+/*
+ * How many blocks; of each, of 32 at most, constellation, svid, band, first sample, how many; how many samples; of each, of 32 at most, time,
+ * correction.
+ */
 static void next_samples(struct stored *s, struct table *t)
 {
     size_t i;
+    t->m = next_size(s);
+    for (i = 0; i < least(t->m, TABLE); i++) {
+        t->dc[i] = next_byte(s);
+        t->dv[i] = next_short(s);
+        t->db[i] = next_word(s);
+        t->df[i] = next_size(s);
+        t->dn[i] = next_size(s);
+    }
     t->n = next_size(s);
     for (i = 0; i < least(t->n, TABLE); i++) {
-        t->cs[i] = next_byte(s);
-        t->vs[i] = next_short(s);
-        t->bs[i] = next_word(s);
         t->ts[i] = next_float(s);
         t->xs[i] = next_float(s);
     }
@@ -132,7 +143,7 @@ bool same_epoch(struct stored *s)
     k = least(w.ranges, ROOM);
     m = least(w.states, ROOM);
     number = zaqnuti_add_epoch(
-        t.cs, TABLE, t.vs, TABLE, t.bs, TABLE, t.ts, TABLE, t.xs, TABLE, &t.n, w.time,
+        t.dc, TABLE, t.dv, TABLE, t.db, TABLE, t.df, TABLE, t.dn, TABLE, &t.m, t.ts, TABLE, t.xs, TABLE, &t.n, w.time,
         w.ranges, e.rc, k, e.rv, k, e.rb, k, e.rp, k,
         w.present, w.states, e.sc, m, e.sv, m, e.sb, m, e.sf, 8 * m,
         w.base, w.rover, w.gap, w.max, w.on);
@@ -159,7 +170,8 @@ bool same_query(struct stored *s)
     at = next_float(s);
     lend(metres, sizeof *metres);
     number = zaqnuti_query(
-        t.cs, TABLE, t.vs, TABLE, t.bs, TABLE, t.ts, TABLE, t.xs, TABLE, t.n, gap, c, v, b, at, metres);
+        t.dc, TABLE, t.dv, TABLE, t.db, TABLE, t.df, TABLE, t.dn, TABLE, t.m, t.ts, TABLE, t.xs, TABLE, t.n,
+        gap, c, v, b, at, metres);
     return given(number, metres, sizeof *metres) && is_number(s, number) && is_float(s, metres[0]);
 }
 
@@ -218,7 +230,7 @@ bool same_queries(struct stored *s)
     count = least(next_size(s), QUERIES);
     next_queries(s, &q, count);
     number = zaqnuti_queries(
-        t.cs, TABLE, t.vs, TABLE, t.bs, TABLE, t.ts, TABLE, t.xs, TABLE, t.n, gap,
+        t.dc, TABLE, t.dv, TABLE, t.db, TABLE, t.df, TABLE, t.dn, TABLE, t.m, t.ts, TABLE, t.xs, TABLE, t.n, gap,
         q.c, count, q.v, count, q.b, count, q.t, count, count, q.numbers, count, q.metres, count);
     if (!given(number, q.numbers, count)) {
         return false;

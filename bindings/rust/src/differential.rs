@@ -116,11 +116,12 @@ pub struct Signal {
 /// });
 /// // What the base measures where the path to satellite 8 is so much too long.
 /// let epoch = |tow, error| {
+///     let metres = |position| robust::geometry(position, base).map_or(0.0, |sight| sight.1);
 ///     let range = |(svid, position)| BaseRange {
 ///         constellation: 1,
 ///         svid,
 ///         band: 1,
-///         pseudorange: robust::geometry(position, base).1 + if svid == 8 { error } else { 0.0 },
+///         pseudorange: metres(position) + if svid == 8 { error } else { 0.0 },
 ///     };
 ///     BaseEpoch { tow, ranges: sky.map(range).to_vec() }
 /// };
@@ -137,6 +138,9 @@ pub struct Corrections {
     constellation: Vec<u8>,
     svid: Vec<u16>,
     band: Vec<u32>,
+    first: Vec<usize>,
+    count: Vec<usize>,
+    blocks: usize,
     time: Vec<f64>,
     correction: Vec<f64>,
     samples: usize,
@@ -156,6 +160,9 @@ impl Corrections {
             constellation: vec![0; room],
             svid: vec![0; room],
             band: vec![0; room],
+            first: vec![0; room],
+            count: vec![0; room],
+            blocks: 0,
             time: vec![0.0; room],
             correction: vec![0.0; room],
             samples: 0,
@@ -191,6 +198,11 @@ impl Corrections {
                 self.svid.len(),
                 self.band.as_mut_ptr(),
                 self.band.len(),
+                self.first.as_mut_ptr(),
+                self.first.len(),
+                self.count.as_mut_ptr(),
+                self.count.len(),
+                &mut self.blocks,
                 self.time.as_mut_ptr(),
                 self.time.len(),
                 self.correction.as_mut_ptr(),
@@ -240,6 +252,11 @@ impl Corrections {
                 self.svid.len(),
                 self.band.as_ptr(),
                 self.band.len(),
+                self.first.as_ptr(),
+                self.first.len(),
+                self.count.as_ptr(),
+                self.count.len(),
+                self.blocks,
                 self.time.as_ptr(),
                 self.time.len(),
                 self.correction.as_ptr(),
@@ -278,6 +295,11 @@ impl Corrections {
                 self.svid.len(),
                 self.band.as_ptr(),
                 self.band.len(),
+                self.first.as_ptr(),
+                self.first.len(),
+                self.count.as_ptr(),
+                self.count.len(),
+                self.blocks,
                 self.time.as_ptr(),
                 self.time.len(),
                 self.correction.as_ptr(),
@@ -311,10 +333,7 @@ impl Corrections {
 
     /// How many satellite signals carry a correction.
     pub fn satellites(&self) -> usize {
-        let key = |i: usize| (self.constellation[i], self.svid[i], self.band[i]);
-        (0..self.samples)
-            .filter(|&i| i == 0 || key(i) != key(i - 1))
-            .count()
+        self.blocks
     }
 }
 

@@ -8,3 +8,6 @@ pub mod MergeLaws
 pub mod OwnLaws
 pub mod CountLaws
 pub mod WriteLaws
+pub mod PlaceLaws
+pub mod AddLaws
+pub mod SameLaws

@@ -7,64 +7,109 @@ use native.Mathlib.Omega.{arith}
 use Rattle.table.proofs.UnitLaws.{never}
 use Rattle.query.specs.Search.{Halving, Split, Falling}
 
-module _ (test : ℕ → Bool) (n : ℕ) (f : Falling test n) where
-  up : (i j : ℕ) → i ≤ j → j < n → test i ≡ false → test j ≡ false
-  up i j h k e = go (test j) refl
+module _ (test : ℕ → Bool) (from to : ℕ) (f : Falling test from to) where
+  up : (i j : ℕ) → from ≤ i → i ≤ j → j < to → test i ≡ false → test j ≡ false
+  up i j g h k e = go (test j) refl
     where
       go : (x : Bool) → test j ≡ x → x ≡ false
-      go true q = never (sym e ∙ f .down i j h k q)
+      go true q = never (sym e ∙ f .down i j g h k q)
       go false q = refl
 
   -- at first nothing is known
-  pub halving-start : (len : ℕ) → len ≡ n → Halving test n 0 (0 + len)
-  halving-start len e =
+  pub halving-start : (hi : ℕ) → from ≤ hi → hi ≡ to → Halving test from to from hi
+  halving-start hi h e =
       record {
-        ordered = omega arith;
+        above = omega arith;
+        ordered = h;
         within = omega arith;
-        front = λ j h. absurd (omega arith);
-        back = λ j h k. absurd (omega arith);
+        front = λ j g k. absurd (omega arith);
+        back = λ j g k. absurd (omega arith);
       }
 
-  module _ (lo len : ℕ) (i : Halving test n lo (lo + len)) where
+  module _ (lo len r : ℕ) (some : 0 < len) (is : r ≡ cond (test (lo + len / 2)) (lo + len / 2) lo) where
     -- the place at the middle says which half is left
-    pub halving-half : (r : ℕ) → 0 < len → r ≡ cond (test (lo + len / 2)) (len / 2) 0 → Halving test n (lo + r) (lo + r + (len - len / 2))
-    halving-half r some is = go (test (lo + len / 2)) refl is
+    pub halving-half : Halving test from to lo (lo + len) → Halving test from to r (r + (len - len / 2))
+    halving-half i = go (test (lo + len / 2)) refl is
       where
-        go : (x : Bool) → test (lo + len / 2) ≡ x → r ≡ cond x (len / 2) 0 → Halving test n (lo + r) (lo + r + (len - len / 2))
+        go : (x : Bool) → test (lo + len / 2) ≡ x → r ≡ cond x (lo + len / 2) lo → Halving test from to r (r + (len - len / 2))
         go true e q =
             record {
+              above = omega (arith, i .above);
               ordered = omega arith;
               within = omega (arith, i .within);
-              front = λ j h. f .down j (lo + len / 2) (omega arith) (omega (arith, i .within)) e;
+              front = λ j g h. f .down j (lo + len / 2) g (omega arith) (omega (arith, i .within)) e;
               back = λ j h k. i .back j (omega arith) k;
             }
         go false e q =
             record {
+              above = omega (arith, i .above);
               ordered = omega arith;
               within = omega (arith, i .within);
-              front = λ j h. i .front j (omega arith);
-              back = λ j h k. up (lo + len / 2) j (omega arith) k e;
+              front = λ j g h. i .front j g (omega arith);
+              back = λ j h k. up (lo + len / 2) j (omega (arith, i .above)) (omega arith) k e;
             }
 
-    -- the one that is left says the rest
-    pub halving-end : (r : ℕ) → 0 < len → len ≤ 1 → r ≡ cond (test lo) 1 0 → Split test n (lo + r)
-    halving-end r some one is = go (test lo) refl is
+    -- the same where the place lo itself may pass or not, and those after it are asked for
+    pub halving-next : Halving test from to (lo + 1) (lo + len) → Halving test from to (r + 1) (r + (len - len / 2))
+    halving-next i = go (test (lo + len / 2)) refl is (len / 2) refl
       where
-        go : (x : Bool) → test lo ≡ x → r ≡ cond x 1 0 → Split test n (lo + r)
-        go true e q =
+        go : (x : Bool) → test (lo + len / 2) ≡ x → r ≡ cond x (lo + len / 2) lo → (h : ℕ) → len / 2 ≡ h → Halving test from to (r + 1) (r + (len - len / 2))
+        go x e q zero z =
+            let one : r ≡ lo = same x q in
             record {
-              ordered = omega arith;
-              within = omega (arith, i .within);
-              front = λ j h. f .down j lo (omega arith) (omega (arith, i .within)) e;
-              back = λ j h k. i .back j (omega arith) k;
+              above = omega (arith, i .above, one);
+              ordered = omega (arith, i .ordered, one);
+              within = omega (arith, i .within, one);
+              front = λ j g h. i .front j g (omega (arith, one));
+              back = λ j h k. i .back j (omega (arith, one)) k;
             }
-        go false e q =
+          where
+            same : (y : Bool) → r ≡ cond y (lo + len / 2) lo → r ≡ lo
+            same true p = omega arith
+            same false p = p
+        go true e q (suc h) z =
             record {
-              ordered = omega arith;
+              above = omega (arith, i .above);
+              ordered = omega (arith, i .ordered);
               within = omega (arith, i .within);
-              front = λ j h. i .front j (omega arith);
-              back = λ j h k. up lo j (omega arith) k e;
+              front = λ j g k. f .down j (lo + len / 2) g (omega arith) (omega (arith, i .within)) e;
+              back = λ j k w. i .back j (omega arith) w;
             }
+        go false e q (suc h) z =
+            record {
+              above = omega (arith, i .above);
+              ordered = omega (arith, i .ordered);
+              within = omega (arith, i .within);
+              front = λ j g k. i .front j g (omega arith);
+              back = λ j k w. up (lo + len / 2) j (omega (arith, i .above)) (omega arith) w e;
+            }
+
+  -- the one that is left says the rest
+  pub halving-end : (lo len r : ℕ) → Halving test from to lo (lo + len) → 0 < len → len ≤ 1 → r ≡ cond (test lo) (lo + 1) lo → Split test from to r
+  halving-end lo len r i some one is = go (test lo) refl is
+    where
+      go : (x : Bool) → test lo ≡ x → r ≡ cond x (lo + 1) lo → Split test from to r
+      go true e q =
+          record {
+            above = omega (arith, i .above);
+            ordered = omega arith;
+            within = omega (arith, i .within);
+            front = λ j g h. f .down j lo g (omega arith) (omega (arith, i .within)) e;
+            back = λ j h k. i .back j (omega arith) k;
+          }
+      go false e q =
+          record {
+            above = omega (arith, i .above);
+            ordered = omega arith;
+            within = omega (arith, i .within);
+            front = λ j g h. i .front j g (omega arith);
+            back = λ j h k. up lo j (i .above) (omega arith) k e;
+          }
+
+-- what is chosen of two places, lo ≤ mid, lies between them
+pub chosen-le : (x : Bool) (lo mid r : ℕ) → lo ≤ mid → r ≡ cond x mid lo → (lo ≤ r) × (r ≤ mid)
+chosen-le true lo mid r h e = (omega arith, omega arith)
+chosen-le false lo mid r h e = (omega arith, omega arith)
 
 -- so many halvings leave one of so many places
 pub halves : (len left : ℕ) → 0 < left → len ≤ 2 ^ left → len - len / 2 ≤ 2 ^ (left - 1)

@@ -2,13 +2,13 @@
 use mathlib.Core.Path.{_≡_, refl, sym, ap, _∙_, subst}
 use mathlib.Core.List.{List, [], _∷_}
 use mathlib.Core.Bool.{Bool, true, false}
-use Prim.Native.Nat.{ℕ, zero, suc, _+_, _≤_, _<_}
+use Prim.Native.Nat.{ℕ, zero, suc, _+_, _-_, _≤_, _<_}
 use native.Mathlib.Nat.{not-suc-le-zero, le-of-suc-le-suc, le-trans, le-refl}
 use native.Mathlib.Omega.{arith}
 use lib.Dec.{T, eqb, ltb, leb}
 use lib.ListN.{length, getD, take, length-map, List·getD-map}
 use lib.Seq.{getD-take, length-take-le}
-use borrow.Author.Tests.{ltb-true, ltb-false, leb-true, lt-ltb, eq-eqb, ne-eqb}
+use borrow.Author.Tests.{ltb-true, ltb-false, leb-true, leb-false, le-leb, eq-eqb, ne-eqb}
 use lib.Ieee.{Float, nan, fits, binary64}
 use Rattle.walk.specs.Walk.{every, first}
 use Rattle.numeric.specs.Real.{inRange}
@@ -22,7 +22,7 @@ use Rattle.directory.proofs.DirectoryLaws.{sound-parts, flat-readings, keyed, b
 use Rattle.directory.proofs.SoundLaws.{tiles-at}
 use Rattle.directory.proofs.EntryLaws.{ascends-at, block-length, block-at}
 use Rattle.directory.proofs.ColumnLaws.{entry-at, reading-at}
-use Rattle.query.specs.Search.{Split, Falling, isBelow, isBefore}
+use Rattle.query.specs.Search.{Split, Falling, isUpTo, isBefore}
 use Rattle.query.proofs.QueryLaws.{Held}
 
 -- ---- lists by their places
@@ -101,19 +101,19 @@ module _ (m n : ℕ) (l : Blocks) (fm : m ≤ length (entriesIn l)) (fn : n ≤ 
   rising : (i j : ℕ) → i < j → j < m → signalIn (getD (take m (entriesIn l)) i noEntry) < signalIn (getD (take m (entriesIn l)) j noEntry)
   rising i j h k = ascends-at 0 (take m (entriesIn l)) i j (sound-parts (directoryIn m n l) s .ascending) h (omega (arith, entries))
 
-  -- the signals rise, so those below one are the first
-  pub falling-signals : (g : ℕ) → Falling (isBelow (l .constellations) (l .svids) (l .bands) g) m
-  falling-signals g = record { down = λ i j h k e. go i j h k e (ltb i j) refl }
+  -- the signals rise, so those up to one are the first
+  pub falling-signals : (g : ℕ) → Falling (isUpTo (l .constellations) (l .svids) (l .bands) g) 1 m
+  falling-signals g = record { down = λ i j f h k e. go i j h k e (ltb i j) refl }
     where
-      go : (i j : ℕ) → i ≤ j → j < m → isBelow (l .constellations) (l .svids) (l .bands) g j ≡ true → (x : Bool) → ltb i j ≡ x → isBelow (l .constellations) (l .svids) (l .bands) g i ≡ true
+      go : (i j : ℕ) → i ≤ j → j < m → isUpTo (l .constellations) (l .svids) (l .bands) g j ≡ true → (x : Bool) → ltb i j ≡ x → isUpTo (l .constellations) (l .svids) (l .bands) g i ≡ true
       go i j h k e true q =
           let low = rising i j (ltb-true i j q) k in
-          let top = ltb-true (signal (getD (l .constellations) j 0) (getD (l .svids) j 0) (getD (l .bands) j 0)) g e in
-          lt-ltb (signal (getD (l .constellations) i 0) (getD (l .svids) i 0) (getD (l .bands) i 0)) g (between (signal-is i (omega arith)) (signal-is j k) low top)
+          let top = leb-true (signal (getD (l .constellations) j 0) (getD (l .svids) j 0) (getD (l .bands) j 0)) g e in
+          le-leb (signal (getD (l .constellations) i 0) (getD (l .svids) i 0) (getD (l .bands) i 0)) g (between (signal-is i (omega arith)) (signal-is j k) low top)
         where
-          between : {a b a′ b′ : ℕ} → a ≡ a′ → b ≡ b′ → a′ < b′ → b < g → a < g
+          between : {a b a′ b′ : ℕ} → a ≡ a′ → b ≡ b′ → a′ < b′ → b ≤ g → a ≤ g
           between p q r t = omega arith
-      go i j h k e false q = let z : j ≡ i = omega (arith, ltb-false i j q) in subst (λ x. isBelow (l .constellations) (l .svids) (l .bands) g x ≡ true) z e
+      go i j h k e false q = let z : j ≡ i = omega (arith, ltb-false i j q) in subst (λ x. isUpTo (l .constellations) (l .svids) (l .bands) g x ≡ true) z e
 
   module _ (i : ℕ) (im : i < m) where
     tiled : (getD (l .firsts) i 0 + getD (l .counts) i 0 ≤ n) × (0 < getD (l .counts) i 0)
@@ -146,18 +146,21 @@ module _ (m n : ℕ) (l : Blocks) (fm : m ≤ length (entriesIn l)) (fn : n ≤ 
         ∙ every-at (λ e. timely (blockTimes (take n (readingsIn l)) e)) noEntry (take m (entriesIn l)) i (sound-parts (directoryIn m n l) s .ordered) (omega (arith, entries))
 
     -- the times of a block rise, so those before a time are the first
-    pub falling-times : ((j : ℕ) → T (fits binary64 (getD (l .times) j nan))) → (t : Float) → T (fits binary64 t) → Falling (isBefore (l .times) (getD (l .firsts) i 0) t) (getD (l .counts) i 0)
+    pub falling-times : ((j : ℕ) → T (fits binary64 (getD (l .times) j nan))) → (t : Float) → T (fits binary64 t) → Falling (isBefore (l .times) t) (getD (l .firsts) i 0) (getD (l .firsts) i 0 + getD (l .counts) i 0)
     falling-times held t ft = record { down = go }
       where
-        go : (j k : ℕ) → j ≤ k → k < getD (l .counts) i 0 → isBefore (l .times) (getD (l .firsts) i 0) t k ≡ true → isBefore (l .times) (getD (l .firsts) i 0) t j ≡ true
-        go j k h b e =
-            let a : getD (l .firsts) i 0 + j < n = omega (arith, inside) in
-            let c : getD (l .firsts) i 0 + k < n = omega (arith, inside) in
-            let keys = keyed-at 0 (block (take n (readingsIn l)) (getD (entriesIn l) i noEntry)) j k ordered h (omega (arith, lies .long)) in
-            let p = ap timeKey (lies .time j (omega arith)) in
-            let q = ap timeKey (lies .time k b) in
-            earlier-of (getD (l .times) (getD (l .firsts) i 0 + j) nan) (getD (l .times) (getD (l .firsts) i 0 + k) nan) t (held (getD (l .firsts) i 0 + j)) (held (getD (l .firsts) i 0 + k)) ft
-            (in-range (getD (l .firsts) i 0 + j) a) (in-range (getD (l .firsts) i 0 + k) c) (omega (arith, keys, p, q)) e
+        key : (j : ℕ) → getD (l .firsts) i 0 ≤ j → j < getD (l .firsts) i 0 + getD (l .counts) i 0
+            → timeKey (getD (block (take n (readingsIn l)) (getD (entriesIn l) i noEntry)) (j - getD (l .firsts) i 0) blank .time) ≡ timeKey (getD (l .times) j nan)
+        key j f k =
+            let e : getD (l .firsts) i 0 + (j - getD (l .firsts) i 0) ≡ j = omega arith in
+            ap timeKey (lies .time (j - getD (l .firsts) i 0) (omega arith) ∙ ap (λ (x : ℕ). getD (l .times) x nan) e)
+
+        go : (j k : ℕ) → getD (l .firsts) i 0 ≤ j → j ≤ k → k < getD (l .firsts) i 0 + getD (l .counts) i 0 → isBefore (l .times) t k ≡ true → isBefore (l .times) t j ≡ true
+        go j k f h b e =
+            let keys = keyed-at 0 (block (take n (readingsIn l)) (getD (entriesIn l) i noEntry)) (j - getD (l .firsts) i 0) (k - getD (l .firsts) i 0) ordered (omega arith) (omega (arith, lies .long)) in
+            let p = key j f (omega arith) in
+            let q = key k (omega arith) b in
+            earlier-of (getD (l .times) j nan) (getD (l .times) k nan) t (held j) (held k) ft (in-range j (omega (arith, inside))) (in-range k (omega (arith, inside))) (omega (arith, keys, p, q)) e
 
   -- ---- the block of a signal, found or not
   module _ (g : ℕ) where
@@ -170,32 +173,29 @@ module _ (m n : ℕ) (l : Blocks) (fm : m ≤ length (entriesIn l)) (fn : n ≤ 
         first-none (λ e. eqb (signalIn e) g) (block (take n (readingsIn l))) [] (take m (entriesIn l))
         (λ j h. let k : j < m = omega (arith, entries) in ne-eqb (signalIn (getD (take m (entriesIn l)) j noEntry)) g (λ q. nay j k (signal-is j k ∙ q)))
 
-    module _ (e : ℕ) (split : Split (isBelow (l .constellations) (l .svids) (l .bands) g) m e) where
-      low : (j : ℕ) → j < e → signal (getD (l .constellations) j 0) (getD (l .svids) j 0) (getD (l .bands) j 0) < g
-      low j h = ltb-true (signal (getD (l .constellations) j 0) (getD (l .svids) j 0) (getD (l .bands) j 0)) g (split .front j h)
-
-      -- all entries stand before the signal
-      pub block-past : m ≤ e → blockOf (directoryIn m n l) g ≡ []
-      block-past h = no-block (λ j k q. let w = low j (omega arith) in omega (arith, w, q))
-
-      -- the first that does not is of another one
-      pub block-other : e < m → (signal (getD (l .constellations) e 0) (getD (l .svids) e 0) (getD (l .bands) e 0) ≡ g → ⊥) → blockOf (directoryIn m n l) g ≡ []
-      block-other em ne = no-block (λ j k q. go j k q (ltb j e) (ltb e j) refl refl)
+    module _ (e : ℕ) (em : e < m) (split : Split (isUpTo (l .constellations) (l .svids) (l .bands) g) 1 m (e + 1)) where
+      -- the last entry up to the signal is of another one
+      pub block-other : (signal (getD (l .constellations) e 0) (getD (l .svids) e 0) (getD (l .bands) e 0) ≡ g → ⊥) → blockOf (directoryIn m n l) g ≡ []
+      block-other ne = no-block (λ j k q. go j k q (ltb j e) (ltb e j) refl refl)
         where
           go : (j : ℕ) → j < m → signal (getD (l .constellations) j 0) (getD (l .svids) j 0) (getD (l .bands) j 0) ≡ g → (x y : Bool) → ltb j e ≡ x → ltb e j ≡ y → ⊥
-          go j k q true y u v = let w = low j (ltb-true j e u) in omega (arith, w, q)
+          go j k q true y u v =
+              let b : j < e = ltb-true j e u in
+              let upto = leb-true (signal (getD (l .constellations) e 0) (getD (l .svids) e 0) (getD (l .bands) e 0)) g (split .front e (omega arith) (omega arith)) in
+              let more = rising j e b em in
+              omega (arith, upto, more, signal-is e em, signal-is j k, q)
           go j k q false true u v =
-              let from = ltb-false (signal (getD (l .constellations) e 0) (getD (l .svids) e 0) (getD (l .bands) e 0)) g (split .back e (le-refl e) em) in
-              let more = rising e j (ltb-true e j v) k in
-              omega (arith, from, more, signal-is e em, signal-is j k, q)
+              let b : e < j = ltb-true e j v in
+              let above = leb-false (signal (getD (l .constellations) j 0) (getD (l .svids) j 0) (getD (l .bands) j 0)) g (split .back j (omega arith) k) in
+              omega (arith, above, q)
           go j k q false false u v = let z : j ≡ e = omega (arith, ltb-false j e u, ltb-false e j v) in ne (subst mine z q)
 
       -- or it is the signal's
-      pub block-found : e < m → signal (getD (l .constellations) e 0) (getD (l .svids) e 0) (getD (l .bands) e 0) ≡ g → blockOf (directoryIn m n l) g ≡ block (take n (readingsIn l)) (getD (entriesIn l) e noEntry)
+      pub block-found : signal (getD (l .constellations) e 0) (getD (l .svids) e 0) (getD (l .bands) e 0) ≡ g → blockOf (directoryIn m n l) g ≡ block (take n (readingsIn l)) (getD (entriesIn l) e noEntry)
       unfolding blockOf
-      block-found em q =
+      block-found q =
           first-at (λ e. eqb (signalIn e) g) (block (take n (readingsIn l))) [] (take m (entriesIn l)) e (omega (arith, entries))
-          (λ j h. let w = low j h in ne-eqb (signalIn (getD (take m (entriesIn l)) j noEntry)) g (λ u. let z : ⊥ = omega (arith, w, signal-is j (omega arith), u) in z))
+          (λ j h. let more = rising j e h em in ne-eqb (signalIn (getD (take m (entriesIn l)) j noEntry)) g (λ u. let z : ⊥ = omega (arith, more, signal-is e em, q, u) in z))
           (eq-eqb (signalIn (getD (take m (entriesIn l)) e noEntry)) g (sym (signal-is e em) ∙ q))
           ∙ ap (block (take n (readingsIn l))) (taken e em)
 

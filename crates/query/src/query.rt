@@ -31,24 +31,24 @@ fn is_near(x: f64, t: f64) -> bool
     abs(x - t) < 1e-6
 }
 
-// Whether there is a place r in a block of count samples from start on, and its time is near t.
-fn near_since(ts: &[f64], start: usize, count: usize, r: usize, t: f64) -> bool
-    requires { ⌜ start + count ≤ length (now ts) ⌝ }
-    ensures { λ y. ⌜ y ≡ (ltb r count && near (getD (now (ts .entry)) (start + r) nan) t) ⌝ }
+// Whether the place r lies before the end of a block, and its time is near t.
+fn near_since(ts: &[f64], r: usize, end: usize, t: f64) -> bool
+    requires { ⌜ end ≤ length (now ts) ⌝ }
+    ensures { λ y. ⌜ y ≡ (ltb r end && near (getD (now (ts .entry)) r nan) t) ⌝ }
 {
-    if r < count {
-        return is_near(ts[start + r], t);
+    if r < end {
+        return is_near(ts[r], t);
     }
     false
 }
 
-// Whether there is a place before r in a block from start on, and its time is near t.
+// Whether the place before r lies in a block from start on, and its time is near t.
 fn near_before(ts: &[f64], start: usize, r: usize, t: f64) -> bool
-    requires { ⌜ start + r ≤ length (now ts) ⌝ }
-    ensures { λ y. ⌜ y ≡ (ltb 0 r && near (getD (now (ts .entry)) (start + (r - 1)) nan) t) ⌝ }
+    requires { ⌜ r ≤ length (now ts) ⌝ }
+    ensures { λ y. ⌜ y ≡ (ltb start r && near (getD (now (ts .entry)) (r - 1) nan) t) ⌝ }
 {
-    if 0 < r {
-        return is_near(ts[start + (r - 1)], t);
+    if start < r {
+        return is_near(ts[r - 1], t);
     }
     false
 }
@@ -83,23 +83,24 @@ fn answer_in(
 {
     let start = df[e];
     let count = dn[e];
-    let r = front_of(ts, start, count, t);
-    if near_since(ts, start, count, r, t) {
-        return Correction::Metres(xs[start + r]);
+    let end = start + count;
+    let r = front_of(ts, start, end, t);
+    if near_since(ts, r, end, t) {
+        return Correction::Metres(xs[r]);
     }
     if near_before(ts, start, r, t) {
-        return Correction::Metres(xs[start + (r - 1)]);
+        return Correction::Metres(xs[r - 1]);
     }
-    if !((r < count) & (0 < r)) {
+    if !((r < end) & (start < r)) {
         return Correction::Refused(Refusal::NoCorrection);
     }
-    let a = ts[start + (r - 1)];
-    let b = ts[start + r];
+    let a = ts[r - 1];
+    let b = ts[r];
     if b - a > gap {
         return Correction::Refused(Refusal::NoCorrection);
     }
-    let x = xs[start + (r - 1)];
-    let y = xs[start + r];
+    let x = xs[r - 1];
+    let y = xs[r];
     Correction::Metres(line_of(t, a, x, b, y))
 }
 
@@ -129,9 +130,6 @@ fn look_up(
     }
     let g = signal_of(c, v, b);
     let e = entry_of(dc, dv, db, m, g);
-    if e == m {
-        return Correction::Refused(Refusal::NoCorrection);
-    }
     let s = signal_at(dc, dv, db, e);
     if s != g {
         return Correction::Refused(Refusal::NoCorrection);

@@ -1,11 +1,13 @@
 //! Corrections: sessions of base epochs and queries against the published `build` and `at`, the whole table after each epoch. The Rust has bands up
 //! to 255; in half of the sessions they stand for bands past it.
 
+pub mod damaged;
 pub mod lent;
 pub mod naming;
 pub mod past;
 pub mod stored;
 
+use self::damaged::damage;
 use self::lent::{floats, in_range, widen, widened, Asked, Columns, Epoch, Out, Table};
 use self::naming::Naming;
 use self::past::{answer, just_past, times_past};
@@ -45,7 +47,7 @@ pub fn reference(epochs: &[Epoch], base: [f64; 3], rover: [f64; 3], set: &Settin
 /// Numbers 2 to 4 of an epoch and the table, 0 where none applies.
 pub fn refusal(t: &Table, e: &Epoch, base: &[f64; 3], rover: &[f64; 3], set: &Settings) -> u8 {
     let states: &[SatelliteState] = if e.present { &e.states } else { &[] };
-    if t.n > t.capacity() || e.ranges.len() > 64 || states.len() > 64 {
+    if t.crowded() || e.ranges.len() > 64 || states.len() > 64 {
         return 2;
     }
     if !(in_range(set.max_gap) && in_range(set.max_correction)) {
@@ -246,20 +248,15 @@ fn compare(tally: &mut Tally, random: &mut Random, count: u64) {
                     s.clock = f64::NAN;
                 }
             }
-            // A damaged table: two rows exchanged or a float out of range, mended afterwards.
+            // A damaged table, mended afterwards.
             let whole = table.clone();
-            if table.n > 1 && random.below(10) == 0 {
-                let i = random.place(table.n);
-                match random.below(4) {
-                    0 => table.ts[i] = odd(random),
-                    1 => table.xs[i] = odd(random),
-                    2 => table.ts.swap(i, 0),
-                    _ => table.vs.swap(i, 0),
-                }
+            if random.below(8) == 0 {
+                damage(random, &mut table);
             }
-            let over = random.below(50) == 0;
-            if over {
-                table.n = table.capacity() + 1;
+            match random.below(100) {
+                0 => table.n = table.capacity() + 1,
+                1 => table.m = table.capacity() + 1,
+                _ => {}
             }
             let before = table.clone();
             let mut number = refusal(&table, &e, &b, &r, &s);
@@ -324,7 +321,8 @@ fn question(random: &mut Random, whole: &Table) -> ((u8, u16, u32), f64, f64) {
     let key = if whole.n > 0 && random.below(10) > 0 {
         // At times another band, which differs in one bit.
         let turned = u32::from(random.below(20) == 0) << random.below(32);
-        (whole.cs[i], whole.vs[i], whole.bs[i] ^ turned)
+        let (c, v, b) = whole.name(whole.holding(i));
+        (c, v, b ^ turned)
     } else {
         (
             random.below(9) as u8,
@@ -369,37 +367,31 @@ fn queries(
 ) {
     for _ in 0..20 {
         let mut table = whole.clone();
-        if table.n > 0 && random.below(40) == 0 {
-            let i = random.place(table.n);
-            match random.below(3) {
-                0 => table.ts[i] = random.pick(&[f64::NAN, 2e9]),
-                1 => table.xs[i] = random.pick(&[f64::NAN, -2e9]),
-                _ => table.cs.swap(i, 0),
-            }
+        if random.below(10) == 0 {
+            damage(random, &mut table);
         }
         let (key, time, gap) = question(random, whole);
-        let n = if random.below(60) == 0 {
-            table.capacity() + 1
-        } else {
-            table.n
-        };
+        match random.below(120) {
+            0 => table.n = table.capacity() + 1,
+            1 => table.m = table.capacity() + 1,
+            _ => {}
+        }
         let known = Corrections {
             max_gap: gap,
             ..c.clone()
         };
         let code = naming.code(key.2);
         let theirs = code.and_then(|b| answer(&known, (key.0, key.1, b), time));
-        let sound = table.n == n && table.sound();
         let damaged = table.bits() != whole.bits();
         let number = match theirs {
-            _ if n > table.capacity() => 2,
+            _ if table.crowded() => 2,
             _ if !in_range(gap) => 3,
-            _ if !sound || (time.is_finite() && !in_range(time)) => 4,
+            _ if !table.sound() || (time.is_finite() && !in_range(time)) => 4,
             _ if damaged => continue,
             None => 12,
             Some(_) => 0,
         };
-        let (ours, metres) = table.query(n, gap, key, time);
+        let (ours, metres) = table.query(gap, key, time);
         seen.number(number);
         let same = ours == number
             && match theirs {
@@ -441,7 +433,7 @@ fn long(random: &mut Random, naming: Naming) -> (Table, Corrections) {
         series,
         max_gap: 90.0,
     };
-    (Table::lent([2048; 5]).with(&c.series, naming), c)
+    (Table::lent([2048; 7]).with(&c.series, naming), c)
 }
 
 /// Many queries of one call, each place against `at`, and what no place is for against what was there.
@@ -453,13 +445,8 @@ fn many(
     seen: &mut Seen,
 ) {
     let mut table = whole.clone();
-    if table.n > 0 && random.below(20) == 0 {
-        let i = random.place(table.n);
-        match random.below(3) {
-            0 => table.ts[i] = random.pick(&[f64::NAN, 2e9]),
-            1 => table.xs[i] = random.pick(&[f64::NAN, -2e9]),
-            _ => table.cs.swap(i, 0),
-        }
+    if random.below(8) == 0 {
+        damage(random, &mut table);
     }
     let (_, _, gap) = question(random, whole);
     let each: Vec<_> = (0..random.place(40))
@@ -480,14 +467,14 @@ fn many(
             _ => out.metres.truncate(count - 1),
         }
     }
-    let n = if random.below(40) == 0 {
-        table.capacity() + 1
-    } else {
-        table.n
-    };
+    match random.below(80) {
+        0 => table.n = table.capacity() + 1,
+        1 => table.m = table.capacity() + 1,
+        _ => {}
+    }
     let damaged = table.bits() != whole.bits();
     let number = match () {
-        () if n > table.capacity() || short => 2,
+        () if table.crowded() || short => 2,
         () if !in_range(gap) => 3,
         () if !table.sound() => 4,
         () if damaged => return,
@@ -515,16 +502,16 @@ fn many(
             seen.number(expected.numbers[i]);
         }
     }
-    let ours = table.queries(n, gap, &asked, count, &mut out);
+    let ours = table.queries(gap, &asked, count, &mut out);
     seen.number(number);
     tally.judge(ours == number && out.bits() == expected.bits(), || {
-        format!("{count} queries of {n} samples with the gap {gap}: our number {ours}, expected {number}; {:?}", out.numbers)
+        format!("{count} queries of {} samples with the gap {gap}: our number {ours}, expected {number}; {:?}", table.n, out.numbers)
     });
 }
 
 /// The bands of a table that was written with 8 bits for each, in columns that may be too short.
 fn old_bands(tally: &mut Tally, random: &mut Random, table: &Table, seen: &mut Seen) {
-    let mut narrow: Vec<u8> = table.bs.iter().map(|&b| b as u8).collect();
+    let mut narrow: Vec<u8> = (0..table.n).map(|i| table.db[table.holding(i)] as u8).collect();
     narrow.truncate(table.n + random.place(3));
     let n = match random.below(8) {
         0 => table.n + random.place(5),
@@ -601,13 +588,13 @@ fn time(random: &mut Random) {
         }],
     };
     let states = &epochs[0].states;
-    let mut table = Table::lent([2048; 5]);
+    let mut table = Table::lent([2048; 7]);
     bench::row(
         "add an epoch",
         32,
         1,
         || {
-            table.n = 0;
+            (table.m, table.n) = (0, 0);
             black_box(first.add(black_box(&mut table), &base, &rover, &set));
         },
         || {
@@ -619,7 +606,7 @@ fn time(random: &mut Random) {
             ));
         },
     );
-    let mut full = Table::lent([2048; 5]);
+    let mut full = Table::lent([2048; 7]);
     for e in &epochs {
         Columns::of(e, Naming::PLAIN).add(&mut full, &base, &rover, &set);
     }
@@ -641,7 +628,7 @@ fn time(random: &mut Random) {
         single.len(),
         || {
             for (key, t) in single {
-                black_box(full.query(full.n, 90.0, *key, *t));
+                black_box(full.query(90.0, *key, *t));
             }
         },
         || {
@@ -659,7 +646,7 @@ fn time(random: &mut Random) {
             count,
             count,
             || {
-                black_box(full.queries(full.n, 90.0, &asked, count, &mut out));
+                black_box(full.queries(90.0, &asked, count, &mut out));
             },
             || {
                 for (key, t) in each {

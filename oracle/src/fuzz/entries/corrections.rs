@@ -4,7 +4,7 @@ use super::{column, count, floats, signal, sys};
 use crate::fuzz::lent::{Lender, Lent};
 use crate::fuzz::Bytes;
 use crate::services::corrections::naming::Naming;
-use crate::services::corrections::{self, lent as base};
+use crate::services::corrections::{self, lent as base, past};
 use drifters_gnss::differential::{self, Corrections, SatelliteState};
 use drifters_gnss::rinex::BaseRange;
 
@@ -51,29 +51,57 @@ fn table(b: &mut Bytes, naming: Naming) -> base::Table {
     }
     let room = n + b.below(80);
     let mut t = base::Table::lent(std::array::from_fn(|_| room + b.below(3)));
-    for (i, s) in samples.iter().enumerate() {
-        (t.cs[i], t.vs[i], t.bs[i], t.ts[i], t.xs[i]) = *s;
+    lay(&mut t, &samples);
+    // A fault of the directory, or none.
+    let j = b.below(t.m.max(1));
+    match b.byte() {
+        255 if t.m > 0 => t.df[j] = b.u64() as usize,
+        254 if t.m > 0 => t.dn[j] = b.u64() as usize,
+        252..=253 if t.m > 0 => t.df[j] = b.below(n + 2),
+        250..=251 if t.m > 0 => t.dn[j] = b.below(n + 2),
+        248..=249 if t.m > 0 => t.dv[j] ^= 1 << b.below(3),
+        _ => {}
     }
+    t.m = match b.byte() {
+        255 => b.u64() as usize,
+        254 => t.capacity() + 1,
+        252..=253 => b.below(n + 1),
+        _ => t.m,
+    };
     t.n = match b.byte() {
         255 => b.u64() as usize,
         254 => t.capacity() + 1,
-        250..=253 => b.below(n + 1),
+        252..=253 => b.below(n + 1),
         _ => n,
     };
     t
 }
 
+/// The samples laid in the table's columns, a block for each run of one signal.
+fn lay(t: &mut base::Table, samples: &[Sample]) {
+    (t.m, t.n) = (0, 0);
+    for run in samples.chunk_by(|a, b| (a.0, a.1, a.2) == (b.0, b.1, b.2)) {
+        let readings: Vec<(f64, f64)> = run.iter().map(|s| (s.3, s.4)).collect();
+        t.block((run[0].0, run[0].1, run[0].2), &readings);
+    }
+}
+
+/// The samples of a sound table.
 fn samples(t: &base::Table) -> Vec<Sample> {
-    (0..t.n)
-        .map(|i| (t.cs[i], t.vs[i], t.bs[i], t.ts[i], t.xs[i]))
-        .collect()
+    let row = |i: usize| {
+        let (c, v, b) = t.name(t.holding(i));
+        (c, v, b, t.ts[i], t.xs[i])
+    };
+    (0..t.n).map(row).collect()
 }
 
 /// The table's columns, lent.
 struct Columns {
-    cs: Lent<u8>,
-    vs: Lent<u16>,
-    bs: Lent<u32>,
+    dc: Lent<u8>,
+    dv: Lent<u16>,
+    db: Lent<u32>,
+    df: Lent<usize>,
+    dn: Lent<usize>,
     ts: Lent<f64>,
     xs: Lent<f64>,
 }
@@ -81,9 +109,11 @@ struct Columns {
 impl Columns {
     fn lend(lender: &mut Lender, t: &base::Table) -> Self {
         Self {
-            cs: lender.lend(&t.cs),
-            vs: lender.lend(&t.vs),
-            bs: lender.lend(&t.bs),
+            dc: lender.lend(&t.dc),
+            dv: lender.lend(&t.dv),
+            db: lender.lend(&t.db),
+            df: lender.lend(&t.df),
+            dn: lender.lend(&t.dn),
             ts: lender.lend(&t.ts),
             xs: lender.lend(&t.xs),
         }
@@ -91,9 +121,11 @@ impl Columns {
 
     /// They must hold what the table has, to the last bit.
     fn hold(&self, t: &base::Table) {
-        self.cs.holds(&t.cs);
-        self.vs.holds(&t.vs);
-        self.bs.holds(&t.bs);
+        self.dc.holds(&t.dc);
+        self.dv.holds(&t.dv);
+        self.db.holds(&t.db);
+        self.df.holds(&t.df);
+        self.dn.holds(&t.dn);
         self.ts.holds(&t.ts);
         self.xs.holds(&t.xs);
     }
@@ -198,21 +230,12 @@ pub fn add_epoch(b: &mut Bytes) {
         if all.len() > t.capacity() {
             number = 11;
         } else {
-            for (i, s) in all.iter().enumerate() {
-                (
-                    after.cs[i],
-                    after.vs[i],
-                    after.bs[i],
-                    after.ts[i],
-                    after.xs[i],
-                ) = *s;
-            }
-            after.n = all.len();
+            lay(&mut after, &all);
         }
     }
     let mut lender = Lender::new();
     let cols = Columns::lend(&mut lender, &t);
-    let n = lender.lend(&[t.n]);
+    let (blocks, n) = (lender.lend(&[t.m]), lender.lend(&[t.n]));
     let (rc, rv, rb, rp) = (
         lender.lend(&rc),
         lender.lend(&rv),
@@ -230,12 +253,17 @@ pub fn add_epoch(b: &mut Bytes) {
     // SAFETY: each pointer leads to what its length or its type says.
     let ours = unsafe {
         sys::zaqnuti_add_epoch(
-            cols.cs.at(),
-            cols.cs.len(),
-            cols.vs.at(),
-            cols.vs.len(),
-            cols.bs.at(),
-            cols.bs.len(),
+            cols.dc.at(),
+            cols.dc.len(),
+            cols.dv.at(),
+            cols.dv.len(),
+            cols.db.at(),
+            cols.db.len(),
+            cols.df.at(),
+            cols.df.len(),
+            cols.dn.at(),
+            cols.dn.len(),
+            blocks.at(),
             cols.ts.at(),
             cols.ts.len(),
             cols.xs.at(),
@@ -270,6 +298,7 @@ pub fn add_epoch(b: &mut Bytes) {
     };
     assert_eq!(ours, number);
     cols.hold(&after);
+    blocks.holds(&[after.m]);
     n.holds(&[after.n]);
     rc.kept();
     rv.kept();
@@ -286,14 +315,14 @@ pub fn add_epoch(b: &mut Bytes) {
 
 /// A signal and a time that may be asked of the table.
 fn question(b: &mut Bytes, t: &base::Table) -> (u8, u16, u32, f64) {
-    let known = t.cs.len().min(t.n);
+    let known = t.capacity().min(t.m);
     let picked = (known > 0 && b.byte() < 230).then(|| b.below(known));
     let (c, v, band) = match picked {
-        Some(i) if i < t.capacity() => {
+        Some(j) => {
             // At times another band, which differs in one bit.
             let turned = b.byte();
-            let band = t.bs[i] ^ (u32::from(turned > 240) << (turned % 32));
-            (t.cs[i], t.vs[i], band)
+            let (c, v, band) = t.name(j);
+            (c, v, band ^ (u32::from(turned > 240) << (turned % 32)))
         }
         _ => (b.byte(), b.u16(), b.u32()),
     };
@@ -336,7 +365,9 @@ fn answer(
     if time.is_finite() && !base::in_range(time) {
         return (4, None);
     }
-    let metres = naming.code(band).and_then(|code| c.at(k, v, code, time));
+    let metres = naming
+        .code(band)
+        .and_then(|code| past::answer(c, (k, v, code), time));
     // A query's time that is not finite meets 12.
     assert!(time.is_finite() || metres.is_none());
     assert!(metres.is_none_or(f64::is_finite));
@@ -348,7 +379,7 @@ pub fn query(b: &mut Bytes) {
     let t = table(b, naming);
     let asked = question(b, &t);
     let gap = gap_limit(b);
-    let (number, metres) = if t.n > t.capacity() {
+    let (number, metres) = if t.crowded() {
         (2, None)
     } else if !base::in_range(gap) {
         (3, None)
@@ -364,12 +395,17 @@ pub fn query(b: &mut Bytes) {
     // SAFETY: each pointer leads to what its length or its type says.
     let ours = unsafe {
         sys::zaqnuti_query(
-            cols.cs.at(),
-            cols.cs.len(),
-            cols.vs.at(),
-            cols.vs.len(),
-            cols.bs.at(),
-            cols.bs.len(),
+            cols.dc.at(),
+            cols.dc.len(),
+            cols.dv.at(),
+            cols.dv.len(),
+            cols.db.at(),
+            cols.db.len(),
+            cols.df.at(),
+            cols.df.len(),
+            cols.dn.at(),
+            cols.dn.len(),
+            t.m,
             cols.ts.at(),
             cols.ts.len(),
             cols.xs.at(),
@@ -408,7 +444,7 @@ pub fn queries(b: &mut Bytes) {
     let (lc, lv) = (lender.lend(&c), lender.lend(&v));
     let (lb, lt) = (lender.lend(&band), lender.lend(&time));
     let (ln, lm) = (lender.lend(&numbers), lender.lend(&metres));
-    let number = if t.n > t.capacity() || count > room {
+    let number = if t.crowded() || count > room {
         2
     } else if !base::in_range(gap) {
         3
@@ -426,12 +462,17 @@ pub fn queries(b: &mut Bytes) {
     // SAFETY: each pointer leads to what its length says.
     let ours = unsafe {
         sys::zaqnuti_queries(
-            cols.cs.at(),
-            cols.cs.len(),
-            cols.vs.at(),
-            cols.vs.len(),
-            cols.bs.at(),
-            cols.bs.len(),
+            cols.dc.at(),
+            cols.dc.len(),
+            cols.dv.at(),
+            cols.dv.len(),
+            cols.db.at(),
+            cols.db.len(),
+            cols.df.at(),
+            cols.df.len(),
+            cols.dn.at(),
+            cols.dn.len(),
+            t.m,
             cols.ts.at(),
             cols.ts.len(),
             cols.xs.at(),

@@ -6,16 +6,27 @@ use drifters_gnss::rinex::BaseRange;
 use std::collections::BTreeMap;
 use zaqnuti::sys::{zaqnuti_add_epoch, zaqnuti_queries, zaqnuti_query, zaqnuti_widen_bands};
 
-/// The lent columns and the count.
+/// The lent columns: the directory's five with its count of blocks, and those of times and corrections with the count of samples.
 #[derive(Clone)]
 pub struct Table {
-    pub cs: Vec<u8>,
-    pub vs: Vec<u16>,
-    pub bs: Vec<u32>,
+    pub dc: Vec<u8>,
+    pub dv: Vec<u16>,
+    pub db: Vec<u32>,
+    pub df: Vec<usize>,
+    pub dn: Vec<usize>,
+    pub m: usize,
     pub ts: Vec<f64>,
     pub xs: Vec<f64>,
     pub n: usize,
 }
+
+/// Every bit of a table: names, places and counts of the blocks, times and corrections, and the two counts.
+pub type Bits = (
+    (Vec<u8>, Vec<u16>, Vec<u32>),
+    (Vec<usize>, Vec<usize>),
+    (Vec<u64>, Vec<u64>),
+    (usize, usize),
+);
 
 /// One base epoch as it is handed over.
 #[derive(Clone)]
@@ -28,83 +39,132 @@ pub struct Epoch {
 
 impl Table {
     /// Columns of these lengths, full of bytes that no sample has.
-    pub fn lent(lengths: [usize; 5]) -> Self {
+    pub fn lent(lengths: [usize; 7]) -> Self {
         Self {
-            cs: vec![0xA5; lengths[0]],
-            vs: vec![0xA5A5; lengths[1]],
-            bs: vec![0x5A5A_5A5A; lengths[2]],
-            ts: vec![-7.25e200; lengths[3]],
-            xs: vec![f64::from_bits(0x7FF8_0000_0000_1234); lengths[4]],
+            dc: vec![0xA5; lengths[0]],
+            dv: vec![0xA5A5; lengths[1]],
+            db: vec![0x5A5A_5A5A; lengths[2]],
+            df: vec![0xA5A5_A5A5; lengths[3]],
+            dn: vec![0x5A5A_5A5A; lengths[4]],
+            m: 0,
+            ts: vec![-7.25e200; lengths[5]],
+            xs: vec![f64::from_bits(0x7FF8_0000_0000_1234); lengths[6]],
             n: 0,
         }
     }
 
     pub fn capacity(&self) -> usize {
         let lengths = [
-            self.cs.len(),
-            self.vs.len(),
-            self.bs.len(),
+            self.dc.len(),
+            self.dv.len(),
+            self.db.len(),
+            self.df.len(),
+            self.dn.len(),
             self.ts.len(),
             self.xs.len(),
         ];
         lengths.into_iter().min().unwrap().min(2048)
     }
 
-    /// Every bit of the columns, and the count.
-    pub fn bits(&self) -> (Vec<u8>, Vec<u16>, Vec<u32>, Vec<u64>, Vec<u64>, usize) {
+    /// Number 2: more blocks or samples than there is room for.
+    pub fn crowded(&self) -> bool {
+        self.m > self.capacity() || self.n > self.capacity()
+    }
+
+    /// Every bit of the columns, and the counts.
+    pub fn bits(&self) -> Bits {
         let raw = |v: &[f64]| v.iter().map(|x| x.to_bits()).collect();
         (
-            self.cs.clone(),
-            self.vs.clone(),
-            self.bs.clone(),
-            raw(&self.ts),
-            raw(&self.xs),
-            self.n,
+            (self.dc.clone(), self.dv.clone(), self.db.clone()),
+            (self.df.clone(), self.dn.clone()),
+            (raw(&self.ts), raw(&self.xs)),
+            (self.m, self.n),
         )
     }
 
-    /// The table with these series in front, and past them as it was.
+    /// The table with these series in front, a block for each, and past them as it was.
     pub fn with(&self, series: &BTreeMap<(u8, u16, u8), Vec<(f64, f64)>>, naming: Naming) -> Self {
         let mut t = self.clone();
-        t.n = 0;
+        (t.m, t.n) = (0, 0);
         for ((c, v, b), samples) in series {
-            for (time, x) in samples {
-                let i = t.n;
-                (t.cs[i], t.vs[i], t.bs[i], t.ts[i], t.xs[i]) =
-                    (*c, *v, naming.band(*b), *time, *x);
-                t.n += 1;
-            }
+            t.block((*c, *v, naming.band(*b)), samples);
         }
         t
     }
 
-    /// Whether number 4 lets the table pass.
-    pub fn sound(&self) -> bool {
-        let key = |i: usize| (self.cs[i], self.vs[i], self.bs[i]);
-        (0..self.n).all(|i| in_range(self.ts[i]) && in_range(self.xs[i]))
-            && (1..self.n).all(|i| match key(i - 1).cmp(&key(i)) {
-                std::cmp::Ordering::Less => true,
-                std::cmp::Ordering::Equal => self.ts[i - 1].total_cmp(&self.ts[i]).is_le(),
-                std::cmp::Ordering::Greater => false,
-            })
+    /// One block more, past the others.
+    pub fn block(&mut self, (c, v, b): (u8, u16, u32), samples: &[(f64, f64)]) {
+        if samples.is_empty() {
+            return;
+        }
+        let j = self.m;
+        (self.dc[j], self.dv[j], self.db[j]) = (c, v, b);
+        (self.df[j], self.dn[j]) = (self.n, samples.len());
+        self.m += 1;
+        for (time, x) in samples {
+            (self.ts[self.n], self.xs[self.n]) = (*time, *x);
+            self.n += 1;
+        }
     }
 
-    pub fn query(&self, n: usize, gap: f64, (c, v, b): (u8, u16, u32), t: f64) -> (u8, f64) {
+    /// The name of a block.
+    pub fn name(&self, j: usize) -> (u8, u16, u32) {
+        (self.dc[j], self.dv[j], self.db[j])
+    }
+
+    /// The block that holds the sample `i` of a sound table.
+    pub fn holding(&self, i: usize) -> usize {
+        (0..self.m)
+            .find(|&j| self.df[j] <= i && i - self.df[j] < self.dn[j])
+            .expect("each sample lies in a block")
+    }
+
+    /// Whether number 4 lets the table pass: fault by fault, as request (ix) lists them.
+    pub fn sound(&self) -> bool {
+        let floats = (0..self.n).all(|i| in_range(self.ts[i]) && in_range(self.xs[i]));
+        let sorted = (1..self.m).all(|j| self.name(j - 1) <= self.name(j));
+        let once = (1..self.m).all(|j| self.name(j - 1) != self.name(j));
+        let filled = (0..self.m).all(|j| self.dn[j] > 0);
+        let in_turn = (1..self.m).all(|j| self.df[j - 1] <= self.df[j]);
+        let inside = (0..self.m).all(|j| self.df[j] as u128 + self.dn[j] as u128 <= self.n as u128);
+        if !(floats && sorted && once && filled && in_turn && inside) {
+            return false;
+        }
+        // No place lies in two blocks, and none in no block.
+        let mut held = vec![0; self.n];
+        for j in 0..self.m {
+            for place in &mut held[self.df[j]..self.df[j] + self.dn[j]] {
+                *place += 1;
+            }
+        }
+        let ordered = (0..self.m).all(|j| {
+            let times = &self.ts[self.df[j]..self.df[j] + self.dn[j]];
+            times.windows(2).all(|t| t[0].total_cmp(&t[1]).is_le())
+        });
+        held.iter().all(|&h| h == 1) && ordered
+    }
+
+    pub fn query(&self, gap: f64, (c, v, b): (u8, u16, u32), t: f64) -> (u8, f64) {
         let mut metres = -1.5e300;
         // SAFETY: each pointer comes with its length, and the last is ours alone.
         let number = unsafe {
             zaqnuti_query(
-                self.cs.as_ptr(),
-                self.cs.len(),
-                self.vs.as_ptr(),
-                self.vs.len(),
-                self.bs.as_ptr(),
-                self.bs.len(),
+                self.dc.as_ptr(),
+                self.dc.len(),
+                self.dv.as_ptr(),
+                self.dv.len(),
+                self.db.as_ptr(),
+                self.db.len(),
+                self.df.as_ptr(),
+                self.df.len(),
+                self.dn.as_ptr(),
+                self.dn.len(),
+                self.m,
                 self.ts.as_ptr(),
                 self.ts.len(),
                 self.xs.as_ptr(),
                 self.xs.len(),
-                n,
+                self.n,
                 gap,
                 c,
                 v,
@@ -117,21 +177,26 @@ impl Table {
     }
 
     /// Many queries by one call, whose answers go to the columns of `out`.
-    pub fn queries(&self, n: usize, gap: f64, asked: &Asked, count: usize, out: &mut Out) -> u8 {
+    pub fn queries(&self, gap: f64, asked: &Asked, count: usize, out: &mut Out) -> u8 {
         // SAFETY: each pointer comes with its length, and the last two are ours alone.
         unsafe {
             zaqnuti_queries(
-                self.cs.as_ptr(),
-                self.cs.len(),
-                self.vs.as_ptr(),
-                self.vs.len(),
-                self.bs.as_ptr(),
-                self.bs.len(),
+                self.dc.as_ptr(),
+                self.dc.len(),
+                self.dv.as_ptr(),
+                self.dv.len(),
+                self.db.as_ptr(),
+                self.db.len(),
+                self.df.as_ptr(),
+                self.df.len(),
+                self.dn.as_ptr(),
+                self.dn.len(),
+                self.m,
                 self.ts.as_ptr(),
                 self.ts.len(),
                 self.xs.as_ptr(),
                 self.xs.len(),
-                n,
+                self.n,
                 gap,
                 asked.c.as_ptr(),
                 asked.c.len(),
@@ -232,12 +297,17 @@ impl Columns {
         // SAFETY: each pointer comes with its length or has that of its type, and those that are written are ours alone.
         unsafe {
             zaqnuti_add_epoch(
-                t.cs.as_mut_ptr(),
-                t.cs.len(),
-                t.vs.as_mut_ptr(),
-                t.vs.len(),
-                t.bs.as_mut_ptr(),
-                t.bs.len(),
+                t.dc.as_mut_ptr(),
+                t.dc.len(),
+                t.dv.as_mut_ptr(),
+                t.dv.len(),
+                t.db.as_mut_ptr(),
+                t.db.len(),
+                t.df.as_mut_ptr(),
+                t.df.len(),
+                t.dn.as_mut_ptr(),
+                t.dn.len(),
+                &mut t.m,
                 t.ts.as_mut_ptr(),
                 t.ts.len(),
                 t.xs.as_mut_ptr(),

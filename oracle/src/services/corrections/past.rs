@@ -17,12 +17,10 @@ pub fn answer(c: &Corrections, key: (u8, u16, u8), time: f64) -> Option<f64> {
 
 /// A time at or about 1e-6 s after the last sample of the signal at row `i`, or after the row itself.
 pub fn times_past(random: &mut Random, table: &Table, i: usize) -> f64 {
-    let key = |i: usize| (table.cs[i], table.vs[i], table.bs[i]);
     let mut last = i;
-    if random.below(8) > 0 {
-        while last + 1 < table.n && key(last + 1) == key(i) {
-            last += 1;
-        }
+    if table.n > 0 && random.below(8) > 0 {
+        let j = table.holding(i);
+        last = table.df[j] + table.dn[j] - 1;
     }
     let at = if table.n > 0 { table.ts[last] } else { 0.0 };
     let time = at + random.pick(&[0.0, 1e-7, 5e-7, 1e-6, 1e-6, 1e-6, 2e-6, 1e-3]);

@@ -1,5 +1,6 @@
 //! The stored cases of the corrections: an epoch added to a table, a query, queries of one call, and the bands of an old table.
 
+use super::damaged::damage;
 use super::lent::{floats, in_range, widened, Epoch, Table};
 use super::naming::Naming;
 use super::past::answer;
@@ -8,16 +9,23 @@ use crate::random::{pattern, Random};
 use crate::vectors::{of_each, raw, turned, Case, Vectors};
 use drifters_gnss::differential::{Corrections, Settings};
 
-/// How many samples a lent table of a case has room for.
+/// How many blocks and samples a lent table of a case has room for.
 const ROOM: usize = 32;
 
-/// The rows of a table: constellation, svid, band, time, correction.
-fn rows(t: &Table) -> Vec<u64> {
-    (0..t.n.min(ROOM))
-        .flat_map(|i| {
-            let [c, v, b] = signal(t.cs[i], t.vs[i], t.bs[i]);
-            [c, v, b, t.ts[i].to_bits(), t.xs[i].to_bits()]
+/// The blocks of a table: constellation, svid, band, first sample, how many.
+fn blocks(t: &Table) -> Vec<u64> {
+    (0..t.m.min(ROOM))
+        .flat_map(|j| {
+            let [c, v, b] = signal(t.dc[j], t.dv[j], t.db[j]);
+            [c, v, b, t.df[j] as u64, t.dn[j] as u64]
         })
+        .collect()
+}
+
+/// The samples of a table: time, correction.
+fn readings(t: &Table) -> Vec<u64> {
+    (0..t.n.min(ROOM))
+        .flat_map(|i| [t.ts[i].to_bits(), t.xs[i].to_bits()])
         .collect()
 }
 
@@ -30,9 +38,12 @@ fn session(random: &mut Random) -> Option<Session> {
     let set = settings(random);
     let naming = Naming::of(random);
     let empty = Table {
-        cs: vec![0; ROOM],
-        vs: vec![0; ROOM],
-        bs: vec![0; ROOM],
+        dc: vec![0; ROOM],
+        dv: vec![0; ROOM],
+        db: vec![0; ROOM],
+        df: vec![0; ROOM],
+        dn: vec![0; ROOM],
+        m: 0,
         ts: vec![0.0; ROOM],
         xs: vec![0.0; ROOM],
         n: 0,
@@ -50,20 +61,22 @@ fn session(random: &mut Random) -> Option<Session> {
     (c.samples() <= ROOM).then(|| (base, rover, set, naming, epochs, table()))
 }
 
-/// One float or row of a table that is spoilt, or one sample more than there is room for.
+/// A fault of the table, or one block or sample more than there is room for.
 fn spoil(random: &mut Random, t: &mut Table) {
     match random.below(4) {
         0 => t.n = ROOM + 1,
-        1 if t.n > 0 => t.ts[random.place(t.n)] = odd(random),
-        2 if t.n > 0 => t.xs[random.place(t.n)] = odd(random),
-        _ if t.n > 1 => t.vs.swap(0, random.place(t.n)),
-        _ => {}
+        1 => t.m = ROOM + 1,
+        _ => damage(random, t),
     }
 }
 
-/// How many samples, and the rows.
+/// How many blocks, and each of them; how many samples, and each of them.
 fn samples(t: &Table) -> Vec<u64> {
-    [t.n as u64].into_iter().chain(rows(t)).collect()
+    let mut out = vec![t.m as u64];
+    out.extend(blocks(t));
+    out.push(t.n as u64);
+    out.extend(readings(t));
+    out
 }
 
 /// The numbers of a signal.
@@ -98,7 +111,7 @@ fn handed(
     given
 }
 
-/// Samples, rows 5 each (32 at most), what is handed over beside them; number, samples and rows afterwards.
+/// Blocks 5 each and samples 2 each (32 at most), what is handed over beside them; number, blocks and samples afterwards.
 fn epoch_case(random: &mut Random) -> Option<(u8, Case)> {
     let (mut base, rover, mut set, naming, mut epochs, whole) = session(random)?;
     let e = epoch(random, base, false);
@@ -136,7 +149,7 @@ fn epoch_case(random: &mut Random) -> Option<(u8, Case)> {
     Some((number, (given, answer)))
 }
 
-/// Epochs; the altered ones are copies of the last that leaves two samples or three.
+/// Epochs; the altered ones are copies of the last that leaves two blocks or three.
 pub fn epochs(random: &mut Random) -> Vectors {
     let wanted = [(0, 18), (2, 3), (3, 2), (4, 5), (11, 3)];
     let cases = of_each(&wanted, || epoch_case(random));
@@ -172,7 +185,7 @@ impl Asked {
     /// The number of a call, for whatever signal and time; none where the Rust has no such table.
     fn call(&self, gap: f64) -> Option<u8> {
         match &self.table {
-            t if t.n > ROOM => Some(2),
+            t if t.crowded() => Some(2),
             _ if !in_range(gap) => Some(3),
             t if !t.sound() => Some(4),
             t => (t.bits() == self.whole.bits()).then_some(0),
@@ -194,7 +207,7 @@ impl Asked {
     }
 }
 
-/// Samples, rows 5 each (32 at most), gap, constellation, svid, band, time; number, metres (0 where refused).
+/// Blocks 5 each, samples 2 each (32 at most), gap, constellation, svid, band, time; number, metres (0 where refused).
 fn query_case(random: &mut Random) -> Option<(u8, Case)> {
     let asked = asked(random)?;
     let (key, time, gap) = question(random, &asked.whole);
@@ -217,7 +230,7 @@ pub fn query(random: &mut Random) -> Vectors {
 /// How many queries a call has.
 const QUERIES: usize = 5;
 
-/// Samples, rows 5 each (32 at most), gap, how many queries, of each constellation, svid, band, time; number, of each query its number and
+/// Blocks 5 each, samples 2 each (32 at most), gap, how many queries, of each constellation, svid, band, time; number, of each query its number and
 /// metres (zeros where it or the call is refused).
 fn queries_case(random: &mut Random) -> Option<(u8, Case)> {
     let asked = asked(random)?;

@@ -53,14 +53,14 @@ lying c =
 
 -- what the tests say of the place
 
-since : (c : tie.Then1) → c .before .before .front-of .result < getD (c .before .before .before .before .before .before .before .before .before .before .before .before .args .dn .now) (c .before .before .before .before .before .before .before .before .before .before .before .before .args .e) 0
-since c = ltb-true _ _ (and-both (ltb (c .before .before .front-of .result) (getD (c .before .before .before .before .before .before .before .before .before .before .before .before .args .dn .now) (c .before .before .before .before .before .before .before .before .before .before .before .before .args .e) 0)) (near (getD (c .before .before .before .before .before .before .before .before .before .before .before .before .args .ts .now) (getD (c .before .before .before .before .before .before .before .before .before .before .before .before .args .df .now) (c .before .before .before .before .before .before .before .before .before .before .before .before .args .e) 0 + c .before .before .front-of .result) nan) (c .before .before .before .before .before .before .before .before .before .before .before .before .args .t)) (sym (c .before .near-since .ensures) ∙ c .if1 .taken) .0)
+since : (c : tie.Then1) → c .before .before .front-of .result < getD (c .before .before .before .before .before .before .before .before .before .before .before .before .args .df .now) (c .before .before .before .before .before .before .before .before .before .before .before .before .args .e) 0 + getD (c .before .before .before .before .before .before .before .before .before .before .before .before .args .dn .now) (c .before .before .before .before .before .before .before .before .before .before .before .before .args .e) 0
+since c = ltb-true _ _ (and-both (ltb (c .before .before .front-of .result) (getD (c .before .before .before .before .before .before .before .before .before .before .before .before .args .df .now) (c .before .before .before .before .before .before .before .before .before .before .before .before .args .e) 0 + getD (c .before .before .before .before .before .before .before .before .before .before .before .before .args .dn .now) (c .before .before .before .before .before .before .before .before .before .before .before .before .args .e) 0)) (near (getD (c .before .before .before .before .before .before .before .before .before .before .before .before .args .ts .now) (c .before .before .front-of .result) nan) (c .before .before .before .before .before .before .before .before .before .before .before .before .args .t)) (sym (c .before .near-since .ensures) ∙ c .if1 .taken) .0)
 
-ahead : (c : tie.Then2) → 0 < c .before .before .before .before .front-of .result
-ahead c = ltb-true _ _ (and-both (ltb 0 (c .before .before .before .before .front-of .result)) (near (getD (c .before .before .before .before .before .before .before .before .before .before .before .before .before .before .args .ts .now) (getD (c .before .before .before .before .before .before .before .before .before .before .before .before .before .before .args .df .now) (c .before .before .before .before .before .before .before .before .before .before .before .before .before .before .args .e) 0 + (c .before .before .before .before .front-of .result - 1)) nan) (c .before .before .before .before .before .before .before .before .before .before .before .before .before .before .args .t)) (sym (c .before .near-before .ensures) ∙ c .if2 .taken) .0)
+ahead : (c : tie.Then2) → getD (c .before .before .before .before .before .before .before .before .before .before .before .before .before .before .args .df .now) (c .before .before .before .before .before .before .before .before .before .before .before .before .before .before .args .e) 0 < c .before .before .before .before .front-of .result
+ahead c = ltb-true _ _ (and-both (ltb (getD (c .before .before .before .before .before .before .before .before .before .before .before .before .before .before .args .df .now) (c .before .before .before .before .before .before .before .before .before .before .before .before .before .before .args .e) 0) (c .before .before .before .before .front-of .result)) (near (getD (c .before .before .before .before .before .before .before .before .before .before .before .before .before .before .args .ts .now) (c .before .before .before .before .front-of .result - 1) nan) (c .before .before .before .before .before .before .before .before .before .before .before .before .before .before .args .t)) (sym (c .before .near-before .ensures) ∙ c .if2 .taken) .0)
 
-between : (c : tie.Else3) → (c .before .before .before .before .before .front-of .result < getD (c .before .before .before .before .before .before .before .before .before .before .before .before .before .before .before .args .dn .now) (c .before .before .before .before .before .before .before .before .before .before .before .before .before .before .before .args .e) 0) × (0 < c .before .before .before .before .before .front-of .result)
-between c = let b = and-both (ltb (c .before .before .before .before .before .front-of .result) (getD (c .before .before .before .before .before .before .before .before .before .before .before .before .before .before .before .args .dn .now) (c .before .before .before .before .before .before .before .before .before .before .before .before .before .before .before .args .e) 0)) (ltb 0 (c .before .before .before .before .before .front-of .result)) (not-false _ (c .if3 .left)) in (ltb-true _ _ (b .0), ltb-true _ _ (b .1))
+between : (c : tie.Else3) → (c .before .before .before .before .before .front-of .result < getD (c .before .before .before .before .before .before .before .before .before .before .before .before .before .before .before .args .df .now) (c .before .before .before .before .before .before .before .before .before .before .before .before .before .before .before .args .e) 0 + getD (c .before .before .before .before .before .before .before .before .before .before .before .before .before .before .before .args .dn .now) (c .before .before .before .before .before .before .before .before .before .before .before .before .before .before .before .args .e) 0) × (getD (c .before .before .before .before .before .before .before .before .before .before .before .before .before .before .before .args .df .now) (c .before .before .before .before .before .before .before .before .before .before .before .before .before .before .before .args .e) 0 < c .before .before .before .before .before .front-of .result)
+between c = let b = and-both (ltb (c .before .before .before .before .before .front-of .result) (getD (c .before .before .before .before .before .before .before .before .before .before .before .before .before .before .before .args .df .now) (c .before .before .before .before .before .before .before .before .before .before .before .before .before .before .before .args .e) 0 + getD (c .before .before .before .before .before .before .before .before .before .before .before .before .before .before .before .args .dn .now) (c .before .before .before .before .before .before .before .before .before .before .before .before .before .before .before .args .e) 0)) (ltb (getD (c .before .before .before .before .before .before .before .before .before .before .before .before .before .before .before .args .df .now) (c .before .before .before .before .before .before .before .before .before .before .before .before .before .before .before .args .e) 0) (c .before .before .before .before .before .front-of .result)) (not-false _ (c .if3 .left)) in (ltb-true _ _ (b .0), ltb-true _ _ (b .1))
 
 mul-start : tie.Need-mul-start
 mul-start c = let w = entry (c) in omega (arith, w)
@@ -74,23 +74,24 @@ mul-count c = let w = entry (c .before) in omega (arith, w)
 shared-slice-read-count : tie.Need-shared-slice-read-count
 shared-slice-read-count c = let w = entry (c .before .before) in omega (arith, w)
 
+add-end : tie.Need-add-end
+add-end c = let w = whole (c) in omega (arith, w)
+
 front-of-requires : tie.Need-front-of-requires
 front-of-requires c κs =
     let s = c .before .before .before .before .before .before .before .before .before in
     let a = s .args in
-    let l = lentBlocks (a .dc .now) (a .dv .now) (a .db .now) (a .df .now) (a .dn .now) (a .ts .now) (a .xs .now) in (
+    let l = lentBlocks (a .dc .now) (a .dv .now) (a .db .now) (a .df .now) (a .dn .now) (a .ts .now) (a .xs .now) in
+    let some = filled (a .m) (a .n) l (s .pre .0 .0) (s .pre .0 .1) (s .pre .1 .0) (a .e) (s .pre .1 .1) in (
       whole c .0,
       (
-        filled (a .m) (a .n) l (s .pre .0 .0) (s .pre .0 .1) (s .pre .1 .0) (a .e) (s .pre .1 .1),
+        omega (arith, some),
         falling-times (a .m) (a .n) l (s .pre .0 .0) (s .pre .0 .1) (s .pre .1 .0) (a .e) (s .pre .1 .1) (λ j. c .before .before .before .shared-slice-known6 .given j) (a .t) (subst T (sym (s .good .1 .1 .1 .1 .1 .1 .1 .1 .1 .1 .1 .0 .1)) tt),
       ),
     )
 
 near-since-requires : tie.Need-near-since-requires
 near-since-requires c κs = whole (c .before) .0
-
-add-t25 : tie.Need-add-t25
-add-t25 c = let w = whole (c .before .before .before) in let r = c .before .before .front-of .ensures .within in let b = since (c) in omega (arith, w, r, b)
 
 mul-t26 : tie.Need-mul-t26
 mul-t26 c = let w = whole (c .before .before .before) in let r = c .before .before .front-of .ensures .within in let b = since (c) in omega (arith, w, r, b)
@@ -107,14 +108,11 @@ near-before-requires c κs = let w = whole (c .before .before .before) in let r 
 sub-t30 : tie.Need-sub-t30
 sub-t30 c = let w = whole (c .before .before .before .before .before) in let r = c .before .before .before .before .front-of .ensures .within in let b = ahead (c) in omega (arith, w, r, b)
 
-add-t31 : tie.Need-add-t31
-add-t31 c = let w = whole (c .before .before .before .before .before) in let r = c .before .before .before .before .front-of .ensures .within in let b = ahead (c) in omega (arith, w, r, b)
+mul-t31 : tie.Need-mul-t31
+mul-t31 c = let w = whole (c .before .before .before .before .before) in let r = c .before .before .before .before .front-of .ensures .within in let b = ahead (c) in omega (arith, w, r, b)
 
-mul-t32 : tie.Need-mul-t32
-mul-t32 c = let w = whole (c .before .before .before .before .before) in let r = c .before .before .before .before .front-of .ensures .within in let b = ahead (c) in omega (arith, w, r, b)
-
-shared-slice-read-t34 : tie.Need-shared-slice-read-t34
-shared-slice-read-t34 c = let w = whole (c .before .before .before .before .before .before) in let r = c .before .before .before .before .before .front-of .ensures .within in let b = ahead (c .before) in omega (arith, w, r, b)
+shared-slice-read-t33 : tie.Need-shared-slice-read-t33
+shared-slice-read-t33 c = let w = whole (c .before .before .before .before .before .before) in let r = c .before .before .before .before .before .front-of .ensures .within in let b = ahead (c .before) in omega (arith, w, r, b)
 
 returns-2 : tie.Need-returns-2
 returns-2 c = answer-before _ _ _ _ _ (lying (c .before .before .before .before .before .before)) (c .before .before .before .before .before .before .before .before .before .before .before .before .before .before .before .args .gap) (c .before .before .before .before .before .before .before .before .before .before .before .before .before .before .before .args .t) (c .before .before .before .before .before .front-of .result) (c .before .before .before .before .before .front-of .ensures) (c .before .before .before .before .near-since .ensures) (c .before .before .before .if1 .left) (c .before .before .near-before .ensures) (c .before .if2 .taken)
@@ -125,17 +123,11 @@ returns-3 c = answer-ends _ _ _ _ _ (lying (c .before .before .before .before .b
 sub-a : tie.Need-sub-a
 sub-a c = let w = whole (c .before .before .before .before .before .before) in let r = c .before .before .before .before .before .front-of .ensures .within in let b = between (c) in omega (arith, w, r, b)
 
-add-a : tie.Need-add-a
-add-a c = let w = whole (c .before .before .before .before .before .before) in let r = c .before .before .before .before .before .front-of .ensures .within in let b = between (c) in omega (arith, w, r, b)
-
 mul-a : tie.Need-mul-a
 mul-a c = let w = whole (c .before .before .before .before .before .before) in let r = c .before .before .before .before .before .front-of .ensures .within in let b = between (c) in omega (arith, w, r, b)
 
 shared-slice-read-a : tie.Need-shared-slice-read-a
 shared-slice-read-a c = let w = whole (c .before .before .before .before .before .before .before) in let r = c .before .before .before .before .before .before .front-of .ensures .within in let b = between (c .before) in omega (arith, w, r, b)
-
-add-b : tie.Need-add-b
-add-b c = let w = whole (c .before .before .before .before .before .before .before) in let r = c .before .before .before .before .before .before .front-of .ensures .within in let b = between (c .before) in omega (arith, w, r, b)
 
 mul-b : tie.Need-mul-b
 mul-b c = let w = whole (c .before .before .before .before .before .before .before) in let r = c .before .before .before .before .before .before .front-of .ensures .within in let b = between (c .before) in omega (arith, w, r, b)
@@ -149,17 +141,11 @@ returns-4 c = answer-gap _ _ _ _ _ (lying (c .before .before .before .before .be
 sub-x : tie.Need-sub-x
 sub-x c = let w = whole (c .before .before .before .before .before .before .before .before .before) in let r = c .before .before .before .before .before .before .before .before .front-of .ensures .within in let b = between (c .before .before .before) in omega (arith, w, r, b)
 
-add-x : tie.Need-add-x
-add-x c = let w = whole (c .before .before .before .before .before .before .before .before .before) in let r = c .before .before .before .before .before .before .before .before .front-of .ensures .within in let b = between (c .before .before .before) in omega (arith, w, r, b)
-
 mul-x : tie.Need-mul-x
 mul-x c = let w = whole (c .before .before .before .before .before .before .before .before .before) in let r = c .before .before .before .before .before .before .before .before .front-of .ensures .within in let b = between (c .before .before .before) in omega (arith, w, r, b)
 
 shared-slice-read-x : tie.Need-shared-slice-read-x
 shared-slice-read-x c = let w = whole (c .before .before .before .before .before .before .before .before .before .before) in let r = c .before .before .before .before .before .before .before .before .before .front-of .ensures .within in let b = between (c .before .before .before .before) in omega (arith, w, r, b)
-
-add-y : tie.Need-add-y
-add-y c = let w = whole (c .before .before .before .before .before .before .before .before .before .before) in let r = c .before .before .before .before .before .before .before .before .before .front-of .ensures .within in let b = between (c .before .before .before .before) in omega (arith, w, r, b)
 
 mul-y : tie.Need-mul-y
 mul-y c = let w = whole (c .before .before .before .before .before .before .before .before .before .before) in let r = c .before .before .before .before .before .before .before .before .before .front-of .ensures .within in let b = between (c .before .before .before .before) in omega (arith, w, r, b)
@@ -181,32 +167,27 @@ answer-in-spec =
     shared-slice-read-start
     mul-count
     shared-slice-read-count
+    add-end
     front-of-requires
     near-since-requires
-    add-t25
     mul-t26
     shared-slice-read-t28
     returns
     near-before-requires
     sub-t30
-    add-t31
-    mul-t32
-    shared-slice-read-t34
+    mul-t31
+    shared-slice-read-t33
     returns-2
     returns-3
     sub-a
-    add-a
     mul-a
     shared-slice-read-a
-    add-b
     mul-b
     shared-slice-read-b
     returns-4
     sub-x
-    add-x
     mul-x
     shared-slice-read-x
-    add-y
     mul-y
     shared-slice-read-y
     line-of-requires

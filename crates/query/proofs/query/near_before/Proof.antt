@@ -7,9 +7,6 @@ use Rattle.query.proofs.query.near_before.Tie as tie
 sub-is-near : tie.Need-sub-is-near
 sub-is-near c = search needs
 
-add-is-near : tie.Need-add-is-near
-add-is-near c = search needs
-
 mul-is-near : tie.Need-mul-is-near
 mul-is-near c = search needs
 
@@ -26,4 +23,12 @@ returns-2 : tie.Need-returns-2
 returns-2 c = rw (le-ltb _ _ (c .if1 .left))
 
 pub near-before-spec : {M : Type 1} → statement M
-near-before-spec = tie.close (tie.spec sub-is-near add-is-near mul-is-near shared-slice-read-is-near is-near-requires returns returns-2)
+near-before-spec =
+    tie.close
+    (tie.spec
+    sub-is-near
+    mul-is-near
+    shared-slice-read-is-near
+    is-near-requires
+    returns
+    returns-2)

@@ -4,9 +4,6 @@ use borrow.Author.Tests.{lt-ltb, le-ltb}
 use Rattle.query.proofs.query.near_since.Statement.{statement}
 use Rattle.query.proofs.query.near_since.Tie as tie
 
-add-is-near : tie.Need-add-is-near
-add-is-near c = search needs
-
 mul-is-near : tie.Need-mul-is-near
 mul-is-near c = search needs
 
@@ -23,4 +20,11 @@ returns-2 : tie.Need-returns-2
 returns-2 c = rw (le-ltb _ _ (c .if1 .left))
 
 pub near-since-spec : {M : Type 1} → statement M
-near-since-spec = tie.close (tie.spec add-is-near mul-is-near shared-slice-read-is-near is-near-requires returns returns-2)
+near-since-spec =
+    tie.close
+    (tie.spec
+    mul-is-near
+    shared-slice-read-is-near
+    is-near-requires
+    returns
+    returns-2)

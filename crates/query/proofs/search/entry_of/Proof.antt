@@ -1,33 +1,33 @@
 -- `query::search::entry_of` meets its contract. Assumes nothing.
-use Prim.Native.Nat.{_+_, _<_}
-use mathlib.Core.Path.{refl}
+use Prim.Native.Nat.{_+_, _^_, _<_, _≤_}
+use mathlib.Core.Path.{_≡_, subst}
 use native.Mathlib.Omega.{arith}
 use borrow.Author.Needs.{needs}
-use Rattle.query.specs.Search.{Halving, isBelow}
-use Rattle.query.proofs.HalvingLaws.{halving-start, halving-half}
+use Rattle.query.specs.Search.{Halving, isUpTo}
+use Rattle.query.proofs.HalvingLaws.{halving-start, halving-next}
 use Rattle.query.proofs.search.entry_of.Statement.{statement}
 use Rattle.query.proofs.search.entry_of.Tie as tie
 
 abbrev Inv-loop : tie.InvT-loop
-Inv-loop dc dv db m g lo₀ len₀ lo len = Halving (isBelow dc dv db g) m lo (lo + len) × (0 < len)
+Inv-loop dc dv db m g lo₀ len₀ lo len = Halving (isUpTo dc dv db g) 1 m (lo + 1) (lo + len) × (0 < len)
 
 abbrev μ-loop : tie.MeasureT-loop
 μ-loop dc dv db m g lo₀ len₀ lo len = len
 
 loop-holds : tie.Need-loop-holds Inv-loop μ-loop
-loop-holds c = (halving-start _ _ (c .before .before .before .pre .1 .1) _ refl, c .before .before .before .pre .1 .0)
+loop-holds c =
+    let s = c .before .before .before in
+    let some = s .pre .1 .0 in
+    (halving-start _ _ _ (s .pre .1 .1) (0 + s .args .m) (omega (arith, some)) (omega arith), some)
 
-add-signal-at : tie.Need-add-signal-at Inv-loop μ-loop
-add-signal-at c = omega arith
+add-mid : tie.Need-add-mid Inv-loop μ-loop
+add-mid c = omega arith
 
 signal-at-requires : tie.Need-signal-at-requires Inv-loop μ-loop
 signal-at-requires c κs = (omega arith, (omega arith, omega arith))
 
-step-below-requires : tie.Need-step-below-requires Inv-loop μ-loop
-step-below-requires c κs = search needs
-
-add-lo : tie.Need-add-lo Inv-loop μ-loop
-add-lo c = omega arith
+choose-up-to-requires : tie.Need-choose-up-to-requires Inv-loop μ-loop
+choose-up-to-requires c κs = omega arith
 
 sub-len : tie.Need-sub-len Inv-loop μ-loop
 sub-len c = omega arith
@@ -38,7 +38,7 @@ loop-less c = omega arith
 loop-again : tie.Need-loop-again Inv-loop μ-loop
 loop-again c =
     let h = c .before .before .before .loop in
-    (halving-half _ _ (c .before .before .before .before .before .before .before .pre .1 .1) (h .lo) (h .len) (h .inv .0) _ (omega arith) (rw (c .before .signal-at .ensures .0) at (c .step-below .ensures .0)), omega arith)
+    (halving-next _ _ _ (c .before .before .before .before .before .before .before .pre .1 .1) (h .lo) (h .len) _ (h .inv .1) (rw (c .before .signal-at .ensures .0) at (c .choose-up-to .ensures .0)) (h .inv .0), omega arith)
 
 entry-within-requires : tie.Need-entry-within-requires Inv-loop μ-loop
 entry-within-requires c κs =
@@ -56,10 +56,9 @@ entry-of-spec =
     Inv-loop
     μ-loop
     loop-holds
-    add-signal-at
+    add-mid
     signal-at-requires
-    step-below-requires
-    add-lo
+    choose-up-to-requires
     sub-len
     loop-less
     loop-again

@@ -1,14 +1,15 @@
 -- `query::search::entry_within` meets its contract. Assumes nothing.
 use Prim.Native.Nat.{_+_, _^_, _<_, _≤_}
+use mathlib.Core.Path.{_≡_, subst}
 use native.Mathlib.Omega.{arith}
 use borrow.Author.Needs.{needs}
-use Rattle.query.specs.Search.{Halving, isBelow}
-use Rattle.query.proofs.HalvingLaws.{halving-half, halving-end, halves, short}
+use Rattle.query.specs.Search.{Halving, isUpTo}
+use Rattle.query.proofs.HalvingLaws.{halving-next, halves, short}
 use Rattle.query.proofs.search.entry_within.Statement.{statement}
 use Rattle.query.proofs.search.entry_within.Tie as tie
 
 abbrev Inv-loop : tie.InvT-loop
-Inv-loop dc dv db m g from size lo₀ len₀ left₀ lo len left = Halving (isBelow dc dv db g) m lo (lo + len) × ((0 < len) × (len ≤ 2 ^ left))
+Inv-loop dc dv db m g from size lo₀ len₀ left₀ lo len left = Halving (isUpTo dc dv db g) 1 m (lo + 1) (lo + len) × ((0 < len) × (len ≤ 2 ^ left))
 
 abbrev μ-loop : tie.MeasureT-loop
 μ-loop dc dv db m g from size lo₀ len₀ left₀ lo len left = left
@@ -16,17 +17,14 @@ abbrev μ-loop : tie.MeasureT-loop
 loop-holds : tie.Need-loop-holds Inv-loop μ-loop
 loop-holds c = let s = c .before .before .before .pre .1 .1 in (s .0, (s .1 .0, s .1 .1))
 
-add-signal-at : tie.Need-add-signal-at Inv-loop μ-loop
-add-signal-at c = omega arith
+add-mid : tie.Need-add-mid Inv-loop μ-loop
+add-mid c = omega arith
 
 signal-at-requires : tie.Need-signal-at-requires Inv-loop μ-loop
 signal-at-requires c κs = (omega arith, (omega arith, omega arith))
 
-step-below-requires : tie.Need-step-below-requires Inv-loop μ-loop
-step-below-requires c κs = search needs
-
-add-lo : tie.Need-add-lo Inv-loop μ-loop
-add-lo c = omega arith
+choose-up-to-requires : tie.Need-choose-up-to-requires Inv-loop μ-loop
+choose-up-to-requires c κs = omega arith
 
 sub-len : tie.Need-sub-len Inv-loop μ-loop
 sub-len c = omega arith
@@ -40,21 +38,17 @@ loop-less c = omega arith
 loop-again : tie.Need-loop-again Inv-loop μ-loop
 loop-again c =
     let h = c .before .before .before .loop in
-    (halving-half _ _ (c .before .before .before .before .before .before .before .pre .1 .0) (h .lo) (h .len) (h .inv .0) _ (omega arith) (rw (c .before .signal-at .ensures .0) at (c .step-below .ensures .0)), (omega arith, halves (h .len) (h .left) (c .before .before .loop-test .taken) (h .inv .1 .1)))
-
-signal-at-requires-2 : tie.Need-signal-at-requires-2 Inv-loop μ-loop
-signal-at-requires-2 c κs = (omega arith, (omega arith, omega arith))
-
-step-below-requires-2 : tie.Need-step-below-requires-2 Inv-loop μ-loop
-step-below-requires-2 c κs = search needs
-
-add-result : tie.Need-add-result Inv-loop μ-loop
-add-result c = omega arith
+    (halving-next _ _ _ (c .before .before .before .before .before .before .before .pre .1 .0) (h .lo) (h .len) _ (h .inv .1 .0) (rw (c .before .signal-at .ensures .0) at (c .choose-up-to .ensures .0)) (h .inv .0), (omega arith, halves (h .len) (h .left) (c .before .before .loop-test .taken) (h .inv .1 .1)))
 
 returns : tie.Need-returns Inv-loop μ-loop
 returns c =
-    let h = c .before .before .before .loop in
-    halving-end _ _ (c .before .before .before .before .before .before .before .pre .1 .0) (h .lo) (h .len) (h .inv .0) _ (h .inv .1 .0) (short (h .len) (h .left) (c .before .before .loop-test .left) (h .inv .1 .1)) (rw (c .before .signal-at2 .ensures .0) at (c .step-below2 .ensures .0))
+    let h = c .before .loop in
+    let a = c .before .before .before .before .before .args in
+    let one = short (h .len) (h .left) (c .loop-test .left) (h .inv .1 .1) in
+    let some = h .inv .1 .0 in
+    let w = h .inv .0 .within in
+    let e : h .lo + h .len ≡ h .lo + 1 = omega (arith, one, some) in
+    (omega (arith, some, w), subst (Halving (isUpTo (a .dc .now) (a .dv .now) (a .db .now) (a .g)) 1 (a .m) (h .lo + 1)) e (h .inv .0))
 
 pub entry-within-spec : {M : Type 1} → statement M
 entry-within-spec =
@@ -63,15 +57,11 @@ entry-within-spec =
     Inv-loop
     μ-loop
     loop-holds
-    add-signal-at
+    add-mid
     signal-at-requires
-    step-below-requires
-    add-lo
+    choose-up-to-requires
     sub-len
     sub-left
     loop-less
     loop-again
-    signal-at-requires-2
-    step-below-requires-2
-    add-result
     returns)

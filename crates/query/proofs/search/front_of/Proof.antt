@@ -1,27 +1,31 @@
 -- `query::search::front_of` meets its contract. Assumes nothing.
-use Prim.Native.Nat.{_+_, _<_}
-use mathlib.Core.Path.{refl}
+use Prim.Native.Nat.{_+_, _^_, _<_, _≤_}
+use mathlib.Core.Path.{_≡_, subst}
 use native.Mathlib.Omega.{arith}
 use borrow.Author.Needs.{needs}
+use Prim.Native.Nat.{_-_}
 use Rattle.query.specs.Search.{Halving, isBefore}
 use Rattle.query.proofs.HalvingLaws.{halving-start, halving-half}
 use Rattle.query.proofs.search.front_of.Statement.{statement}
 use Rattle.query.proofs.search.front_of.Tie as tie
 
 abbrev Inv-loop : tie.InvT-loop
-Inv-loop ts start count t lo₀ len₀ lo len = Halving (isBefore ts start t) count lo (lo + len) × (0 < len)
+Inv-loop ts start end t lo₀ len₀ lo len = Halving (isBefore ts t) start end lo (lo + len) × (0 < len)
 
 abbrev μ-loop : tie.MeasureT-loop
-μ-loop ts start count t lo₀ len₀ lo len = len
+μ-loop ts start end t lo₀ len₀ lo len = len
+
+sub-len : tie.Need-sub-len Inv-loop μ-loop
+sub-len c = omega arith
 
 loop-holds : tie.Need-loop-holds Inv-loop μ-loop
-loop-holds c = (halving-start _ _ (c .before .pre .1 .1) _ refl, c .before .pre .1 .0)
+loop-holds c =
+    let s = c .before in
+    let some = s .pre .1 .0 in
+    (halving-start _ _ _ (s .pre .1 .1) (s .args .start + (s .args .end - s .args .start)) (omega arith) (omega (arith, some)), omega (arith, some))
 
 add-mid : tie.Need-add-mid Inv-loop μ-loop
 add-mid c = omega arith
-
-add-x : tie.Need-add-x Inv-loop μ-loop
-add-x c = omega arith
 
 mul-x : tie.Need-mul-x Inv-loop μ-loop
 mul-x c = omega arith
@@ -29,14 +33,11 @@ mul-x c = omega arith
 shared-slice-read-x : tie.Need-shared-slice-read-x Inv-loop μ-loop
 shared-slice-read-x c = omega arith
 
-step-before-requires : tie.Need-step-before-requires Inv-loop μ-loop
-step-before-requires c κs = search needs
+choose-before-requires : tie.Need-choose-before-requires Inv-loop μ-loop
+choose-before-requires c κs = omega arith
 
-add-lo : tie.Need-add-lo Inv-loop μ-loop
-add-lo c = omega arith
-
-sub-len : tie.Need-sub-len Inv-loop μ-loop
-sub-len c = omega arith
+sub-len-2 : tie.Need-sub-len-2 Inv-loop μ-loop
+sub-len-2 c = omega arith
 
 loop-less : tie.Need-loop-less Inv-loop μ-loop
 loop-less c = omega arith
@@ -44,7 +45,7 @@ loop-less c = omega arith
 loop-again : tie.Need-loop-again Inv-loop μ-loop
 loop-again c =
     let h = c .before .before .before .loop in
-    (halving-half _ _ (c .before .before .before .before .before .pre .1 .1) (h .lo) (h .len) (h .inv .0) _ (omega arith) (c .step-before .ensures .0), omega arith)
+    (halving-half _ _ _ (c .before .before .before .before .before .pre .1 .1) (h .lo) (h .len) _ (h .inv .1) (c .choose-before .ensures .0) (h .inv .0), omega arith)
 
 front-within-requires : tie.Need-front-within-requires Inv-loop μ-loop
 front-within-requires c κs =
@@ -61,14 +62,13 @@ front-of-spec =
     (tie.spec
     Inv-loop
     μ-loop
+    sub-len
     loop-holds
     add-mid
-    add-x
     mul-x
     shared-slice-read-x
-    step-before-requires
-    add-lo
-    sub-len
+    choose-before-requires
+    sub-len-2
     loop-less
     loop-again
     front-within-requires

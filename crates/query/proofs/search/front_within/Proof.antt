@@ -1,5 +1,6 @@
 -- `query::search::front_within` meets its contract. Assumes nothing.
 use Prim.Native.Nat.{_+_, _^_, _<_, _≤_}
+use mathlib.Core.Path.{_≡_, subst}
 use native.Mathlib.Omega.{arith}
 use borrow.Author.Needs.{needs}
 use Rattle.query.specs.Search.{Halving, isBefore}
@@ -8,10 +9,10 @@ use Rattle.query.proofs.search.front_within.Statement.{statement}
 use Rattle.query.proofs.search.front_within.Tie as tie
 
 abbrev Inv-loop : tie.InvT-loop
-Inv-loop ts start count t from size lo₀ len₀ left₀ lo len left = Halving (isBefore ts start t) count lo (lo + len) × ((0 < len) × (len ≤ 2 ^ left))
+Inv-loop ts start end t from size lo₀ len₀ left₀ lo len left = Halving (isBefore ts t) start end lo (lo + len) × ((0 < len) × (len ≤ 2 ^ left))
 
 abbrev μ-loop : tie.MeasureT-loop
-μ-loop ts start count t from size lo₀ len₀ left₀ lo len left = left
+μ-loop ts start end t from size lo₀ len₀ left₀ lo len left = left
 
 loop-holds : tie.Need-loop-holds Inv-loop μ-loop
 loop-holds c = let s = c .before .pre .1 .1 in (s .0, (s .1 .0, s .1 .1))
@@ -19,20 +20,14 @@ loop-holds c = let s = c .before .pre .1 .1 in (s .0, (s .1 .0, s .1 .1))
 add-mid : tie.Need-add-mid Inv-loop μ-loop
 add-mid c = omega arith
 
-add-x : tie.Need-add-x Inv-loop μ-loop
-add-x c = omega arith
-
 mul-x : tie.Need-mul-x Inv-loop μ-loop
 mul-x c = omega arith
 
 shared-slice-read-x : tie.Need-shared-slice-read-x Inv-loop μ-loop
 shared-slice-read-x c = omega arith
 
-step-before-requires : tie.Need-step-before-requires Inv-loop μ-loop
-step-before-requires c κs = search needs
-
-add-lo : tie.Need-add-lo Inv-loop μ-loop
-add-lo c = omega arith
+choose-before-requires : tie.Need-choose-before-requires Inv-loop μ-loop
+choose-before-requires c κs = omega arith
 
 sub-len : tie.Need-sub-len Inv-loop μ-loop
 sub-len c = omega arith
@@ -46,10 +41,7 @@ loop-less c = omega arith
 loop-again : tie.Need-loop-again Inv-loop μ-loop
 loop-again c =
     let h = c .before .before .before .loop in
-    (halving-half _ _ (c .before .before .before .before .before .pre .1 .0) (h .lo) (h .len) (h .inv .0) _ (omega arith) (c .step-before .ensures .0), (omega arith, halves (h .len) (h .left) (c .before .before .loop-test .taken) (h .inv .1 .1)))
-
-add-x-2 : tie.Need-add-x-2 Inv-loop μ-loop
-add-x-2 c = omega arith
+    (halving-half _ _ _ (c .before .before .before .before .before .pre .1 .0) (h .lo) (h .len) _ (h .inv .1 .0) (c .choose-before .ensures .0) (h .inv .0), (omega arith, halves (h .len) (h .left) (c .before .before .loop-test .taken) (h .inv .1 .1)))
 
 mul-x-2 : tie.Need-mul-x-2 Inv-loop μ-loop
 mul-x-2 c = omega arith
@@ -57,16 +49,16 @@ mul-x-2 c = omega arith
 shared-slice-read-x-2 : tie.Need-shared-slice-read-x-2 Inv-loop μ-loop
 shared-slice-read-x-2 c = omega arith
 
-step-before-requires-2 : tie.Need-step-before-requires-2 Inv-loop μ-loop
-step-before-requires-2 c κs = search needs
+add-choose-before : tie.Need-add-choose-before Inv-loop μ-loop
+add-choose-before c = omega arith
 
-add-result : tie.Need-add-result Inv-loop μ-loop
-add-result c = omega arith
+choose-before-requires-2 : tie.Need-choose-before-requires-2 Inv-loop μ-loop
+choose-before-requires-2 c κs = omega arith
 
 returns : tie.Need-returns Inv-loop μ-loop
 returns c =
     let h = c .before .before .before .loop in
-    halving-end _ _ (c .before .before .before .before .before .pre .1 .0) (h .lo) (h .len) (h .inv .0) _ (h .inv .1 .0) (short (h .len) (h .left) (c .before .before .loop-test .left) (h .inv .1 .1)) (c .step-before2 .ensures .0)
+    halving-end _ _ _ (c .before .before .before .before .before .pre .1 .0) (h .lo) (h .len) _ (h .inv .0) (h .inv .1 .0) (short (h .len) (h .left) (c .before .before .loop-test .left) (h .inv .1 .1)) (c .choose-before2 .ensures .0)
 
 pub front-within-spec : {M : Type 1} → statement M
 front-within-spec =
@@ -76,18 +68,15 @@ front-within-spec =
     μ-loop
     loop-holds
     add-mid
-    add-x
     mul-x
     shared-slice-read-x
-    step-before-requires
-    add-lo
+    choose-before-requires
     sub-len
     sub-left
     loop-less
     loop-again
-    add-x-2
     mul-x-2
     shared-slice-read-x-2
-    step-before-requires-2
-    add-result
+    add-choose-before
+    choose-before-requires-2
     returns)
