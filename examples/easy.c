@@ -58,8 +58,7 @@ static double range_to(zaqnuti_vector satellite, zaqnuti_vector place)
     const double to[3] = {place.x, place.y, place.z};
     double sight[4];
 
-    zaqnuti_geometry(from, to, sight);
-    return sight[3];
+    return zaqnuti_geometry(from, to, sight) == 0 ? sight[3] : 0.0;
 }
 
 /* What the receiver measures: pseudoranges with a clock, and 3 m of delay to the first satellite. */

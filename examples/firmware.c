@@ -1,6 +1,8 @@
 /*
  * One of each service as firmware would call it: a fix, times, a displacement,
- * a text in the line form, two epochs of corrections with a query, and a track.
+ * its compass directions, the same of epochs that are kept and sent as bytes,
+ * a text in the line form, a day's trip, two epochs of corrections with a
+ * query, and a track.
  * The sky is made up, so the answers are known: the program prints them and
  * exits with 1 where one is not as expected.
  *
@@ -62,8 +64,7 @@ static void expect_number(const char *what, unsigned got, unsigned wanted)
 static double range_to(const double satellite[3], const double place[3])
 {
     double sight[4];
-    zaqnuti_geometry(satellite, place, sight);
-    return sight[3];
+    return zaqnuti_geometry(satellite, place, sight) == 0 ? sight[3] : 0.0;
 }
 
 /* A fix from ranges to the receiver, with a clock offset for each constellation. */
@@ -181,18 +182,16 @@ static uint8_t displace_between(const struct epoch *p, const struct epoch *c, ui
         before, now, receiver, settings, 4, delta, counts);
 }
 
-/* A displacement of a few metres in a second; one carrier slips and is screened out. */
-static void displacement(void)
+/* Two epochs a second and a few metres apart; one carrier slips. */
+static const double moved[3] = {4.0, -2.5, 1.5};
+static struct epoch previous;
+static struct epoch current;
+
+/* Measures them. */
+static void drive(void)
 {
-    const double moved[3] = {4.0, -2.5, 1.5};
     double place[3];
     double rate[SATELLITES];
-    struct epoch previous;
-    struct epoch current;
-    double delta[3] = {0.0, 0.0, 0.0};
-    double across[3] = {0.0, 0.0, 0.0};
-    size_t counts[2] = {0, 0};
-    uint8_t number;
     size_t i;
 
     for (i = 0; i < 3; i++) {
@@ -204,6 +203,16 @@ static void displacement(void)
     measure(&previous, receiver, 0.0, rate);
     measure(&current, place, 30.0, rate);
     current.floats[6 * 4] += 9.0;
+}
+
+/* The displacement between them: the carrier that slips is screened out. */
+static void displacement(void)
+{
+    double delta[3] = {0.0, 0.0, 0.0};
+    double across[3] = {0.0, 0.0, 0.0};
+    size_t counts[2] = {0, 0};
+    uint8_t number;
+
     printf("displacement\n");
     number = displace(&previous, &current, SATELLITES, delta, counts);
     expect_number("answer", number, 0);
@@ -223,6 +232,95 @@ static void displacement(void)
     expect_number("the later time first", number, ZAQNUTI_BAD_INTERVAL);
     number = displace_between(&previous, &current, before_midnight, UINT64_MAX, across, counts);
     expect_number("no such time", number, ZAQNUTI_BAD_TIME);
+}
+
+#define EPOCH_BYTES (SATELLITES * ZAQNUTI_RECORD)
+
+/* An epoch as bytes, to be kept between calls or sent. */
+static uint8_t pack(const struct epoch *e, uint8_t bytes[EPOCH_BYTES])
+{
+    uint64_t floats[6 * SATELLITES];
+
+    memcpy(floats, e->floats, sizeof floats);
+    return zaqnuti_write_records(
+        e->constellation, SATELLITES, e->svid, SATELLITES, e->band, SATELLITES, e->state, SATELLITES,
+        floats, 6 * SATELLITES, SATELLITES, bytes, EPOCH_BYTES);
+}
+
+/* The epoch of such bytes; 21 where some of them were lost. */
+static uint8_t unpack(const uint8_t *bytes, size_t length, struct epoch *e, size_t *count)
+{
+    uint64_t floats[6 * SATELLITES];
+    uint8_t number = zaqnuti_read_records(
+        bytes, length, e->constellation, SATELLITES, e->svid, SATELLITES, e->band, SATELLITES, e->state, SATELLITES,
+        floats, 6 * SATELLITES, count);
+
+    if (number == 0) {
+        memcpy(e->floats, floats, *count * 6 * sizeof *floats);
+    }
+    return number;
+}
+
+/* The number of eight bytes, the least significant first. */
+static uint64_t word(const uint8_t *bytes)
+{
+    uint64_t n = 0;
+    size_t i;
+
+    for (i = 8; i > 0; i--) {
+        n = n << 8 | bytes[i - 1];
+    }
+    return n;
+}
+
+/* The epochs of the displacement kept as bytes: written, sent, read, and handed over as they are. */
+static void records(void)
+{
+    uint8_t kept[EPOCH_BYTES];
+    uint8_t now[EPOCH_BYTES];
+    uint8_t radio[EPOCH_BYTES];
+    uint8_t result[ZAQNUTI_RESULT] = {0};
+    struct epoch received;
+    double delta[3] = {0.0, 0.0, 0.0};
+    double same[3] = {0.0, 0.0, 0.0};
+    size_t counts[2] = {0, 0};
+    size_t count = 0;
+    uint64_t bits;
+    uint8_t number;
+    size_t i;
+
+    printf("records\n");
+    expect_number("written", pack(&previous, kept), 0);
+    expect_number("written", pack(&current, now), 0);
+    memcpy(radio, now, sizeof radio);
+    memset(&received, 0, sizeof received);
+    expect_number("read", unpack(radio, sizeof radio, &received, &count), 0);
+    expect_number("records", (unsigned)count, SATELLITES);
+    expect_number("as they were sent", memcmp(received.floats, current.floats, sizeof current.floats) == 0, 1);
+    expect_number("one byte lost", unpack(radio, sizeof radio - 1, &received, &count), ZAQNUTI_BROKEN_RECORDS);
+    /* The displacement by the bytes is that by the columns. */
+    number = zaqnuti_displacement_records(
+        kept, sizeof kept, radio, sizeof radio, 1.0, receiver[0], receiver[1], receiver[2],
+        0.5, 0.008, 0.002, 1.5, 10.0, 4, result, sizeof result);
+    expect_number("answer", number, 0);
+    expect_number("used", (unsigned)word(result), SATELLITES - 1);
+    expect_number("screened", (unsigned)word(result + 8), 1);
+    for (i = 0; i < 3; i++) {
+        bits = word(result + 16 + 8 * i);
+        memcpy(&delta[i], &bits, sizeof bits);
+    }
+    expect("dx, m", delta[0], moved[0], 1e-3);
+    number = displace(&previous, &current, SATELLITES, same, counts);
+    expect_number("the same", number == 0 && memcmp(same, delta, sizeof delta) == 0, 1);
+    number = zaqnuti_displacement_records(
+        kept, sizeof kept - 1, radio, sizeof radio, 1.0, receiver[0], receiver[1], receiver[2],
+        0.5, 0.008, 0.002, 1.5, 10.0, 4, result, sizeof result);
+    expect_number("one byte lost", number, ZAQNUTI_BROKEN_RECORDS);
+    number = zaqnuti_displacement_records(
+        kept, sizeof kept, radio, sizeof radio, 1.0, receiver[0], receiver[1], receiver[2],
+        0.5, 0.008, 0.002, 1.5, 10.0, 4, result, sizeof result - 1);
+    expect_number("39 bytes for the result", number, ZAQNUTI_TOO_MANY);
+    expect_number("result kept", (unsigned)word(result), SATELLITES - 1);
 }
 
 /* A text in the line form without a carrier, which is refused by its line. */
@@ -366,12 +464,80 @@ static void track(void)
                   ZAQNUTI_BAD_TRACK);
 }
 
+/* Whole metres of so many millimetres, for a sentence. */
+static unsigned long metres(uint64_t millimetres)
+{
+    return (unsigned long)(millimetres / 1000);
+}
+
+/*
+ * A day of 65,535 epochs, a second each: the van goes 12 m, 9 m or nothing in a
+ * second, the odometer has 4,000 pulses to the kilometre, and its wheels slip
+ * for ten seconds after five hours.
+ */
+static void trip(void)
+{
+    static const double step[3][3] = {{12.0, 0.0, 0.0}, {0.0, -9.0, 0.0}, {0.0, 0.0, 0.0}};
+    static const uint16_t pulses[3] = {48, 36, 0};
+    const double too_far[3] = {1000.0, 0.0, 0.001};
+    uint64_t day[6] = {0, 0, 0, 0, 0, 0};
+    uint64_t report[4] = {0, 0, 0, 0};
+    uint64_t per_km = 7;
+    unsigned refused = 0;
+    uint32_t i;
+
+    printf("trip\n");
+    expect_number("a rate of 0", zaqnuti_trip_start(0, day), ZAQNUTI_BAD_TRIP);
+    expect_number("start", zaqnuti_trip_start(4000, day), 0);
+    expect_number("fuel at no distance", zaqnuti_trip_fuel(day, 1, &per_km), ZAQNUTI_NO_DISTANCE);
+    expect_number("result kept", (unsigned)per_km, 7);
+    for (i = 0; i < 65535; i++) {
+        const uint16_t slipped = i / 10 == 1800 ? 100 : 0;
+        refused += zaqnuti_trip_add(day, step[i % 3], (uint16_t)(pulses[i % 3] + slipped)) != 0;
+        /* An epoch that is refused leaves the trip as it was, its pulses too. */
+        refused += i % 1000 == 0 && zaqnuti_trip_add(day, too_far, 65535) != ZAQNUTI_BAD_TRIP;
+    }
+    expect_number("other answers", refused, 0);
+    expect_number("one epoch more", zaqnuti_trip_add(day, step[2], 0), ZAQNUTI_BAD_TRIP);
+    expect_number("report", zaqnuti_trip_report(day, report), 0);
+    expect_number("carrier as driven", report[0] == 21845u * 21000u, 1);
+    expect_number("odometer with its slip", report[1] == 21845u * 21000u + 250000u, 1);
+    expect_number("greatest difference, mm", (unsigned)report[2], 250000);
+    expect_number("after epoch", (unsigned)report[3], 18010);
+    expect_number("fuel", zaqnuti_trip_fuel(day, 41288, &per_km), 0);
+    expect_number("ml a kilometre", (unsigned)per_km, 90);
+    printf("  In %lu epochs the van went %lu m by its carriers and %lu m by its odometer. The two were furthest\n"
+           "  apart, by %lu m, after epoch %lu; the day took %lu ml of fuel for a kilometre.\n",
+           (unsigned long)day[1], metres(report[0]), metres(report[1]), metres(report[2]), (unsigned long)report[3], (unsigned long)per_km);
+}
+
+/* A displacement by compass: on the equator at longitude 0 z is north, y is east and x is up. */
+static void directions(void)
+{
+    const double equator[3] = {6378137.0, 0.0, 0.0};
+    const double far[3] = {6378137.0, 0.0, 1000000001.0};
+    const double by[3] = {1.0, 2.0, 3.0};
+    double ned[3] = {0.0, 0.0, 0.0};
+
+    printf("directions\n");
+    expect_number("number", zaqnuti_north_east_down(equator, by, ned), 0);
+    expect("north, m", ned[0], 3.0, 0.0);
+    expect("east, m", ned[1], 2.0, 0.0);
+    expect("down, m", ned[2], -1.0, 0.0);
+    expect_number("beyond 1e9 m", zaqnuti_north_east_down(far, by, ned), ZAQNUTI_NOT_TURNED);
+    expect("result kept, m", ned[0], 3.0, 0.0);
+}
+
 int main(void)
 {
     fix();
     times();
+    drive();
     displacement();
+    records();
+    directions();
     line_form();
+    trip();
     corrections();
     track();
     printf("%d not as expected\n", failures);

@@ -1,7 +1,7 @@
 /*
  * Zaqnuti: a position from pseudoranges, the displacement between two carrier
- * epochs, times in whole nanoseconds, base-station corrections and a smoothed
- * track.
+ * epochs, in columns or as bytes, times in whole nanoseconds, the totals of a
+ * trip, base-station corrections and a smoothed track.
  *
  * Link libzaqnuti.a (`./run` leaves it in target/staticlib): Linux on x86-64,
  * System V calling convention. Of other libraries it needs memcpy and memset,
@@ -17,7 +17,7 @@
  * and answers or refuses. It never aborts, unwinds or loops on.
  *
  * Answer. A function that gives uint8_t gives 0 where it answers, or the
- * number of its refusal, 1 to 13, of which the first that applies is given
+ * number of its refusal, 1 to 21, of which the first that applies is given
  * (ZAQNUTI_TOO_MANY and so on; docs/REFUSALS.md). A refusal is the number
  * alone: every result and every table keeps its bytes. The functions that
  * give another type, or nothing, never refuse.
@@ -57,12 +57,17 @@
  *     displacement    16,640
  *     between         16,128
  *     line            40,704
+ *     records         24,064
+ *     read_records       256
+ *     write_records      256
  *     add_epoch       17,920
  *     query              512
  *     queries            512
  *     widen_bands        256
  *     smooth             768
  *     times              256
+ *     trip               256
+ *     north_east_down    256
  *     round            8,704
  *     centre             768
  *     geometry           256
@@ -94,11 +99,18 @@ extern "C" {
 #define ZAQNUTI_SAMPLES 2048     /* samples of a table of corrections */
 #define ZAQNUTI_EPOCHS 1024      /* epochs, anchors or links of a track */
 #define ZAQNUTI_WEEKS 15000      /* the last week of a time */
+#define ZAQNUTI_TRIP_EPOCHS 65535 /* epochs of a trip */
 #define ZAQNUTI_ROUNDS 50        /* rounds of an estimate, iterations of a track */
 #define ZAQNUTI_TEXT 32768       /* bytes of a text in the line form */
 #define ZAQNUTI_LINE 59          /* bytes that are always enough for its answer */
+#define ZAQNUTI_RECORD 59        /* bytes of a carrier record */
+#define ZAQNUTI_RESULT 40        /* bytes of the result of a displacement of such records */
 
-/* Why a call turns back, in checking order, but that 13 is tested between 4 and 5. */
+/*
+ * Why a call turns back, in checking order, but that 13 is tested between 4 and 5,
+ * 15 before 7 and before 10, 19 in place of 4, and
+ * 21 before 2.
+ */
 enum zaqnuti_refusal {
     ZAQNUTI_BROKEN_FORM = 1,           /* a text is too long or breaks the line form */
     ZAQNUTI_TOO_MANY = 2,              /* too many records, or too short a buffer */
@@ -113,7 +125,12 @@ enum zaqnuti_refusal {
     ZAQNUTI_TABLE_FULL = 11,           /* the epoch's corrections do not all fit in the table */
     ZAQNUTI_NO_CORRECTION = 12,        /* the table gives no correction for the query */
     ZAQNUTI_BAD_TIME = 13,             /* a week, a time of week or a time in nanoseconds is out of range */
-    ZAQNUTI_QUALITY_NOT_FINITE = 14    /* chi or pdop of a fix is not finite */
+    ZAQNUTI_QUALITY_NOT_FINITE = 14,   /* chi or pdop of a fix is not finite */
+    ZAQNUTI_ON_RECEIVER = 15,          /* the range of a satellite is zero or not finite */
+    ZAQNUTI_BAD_TRIP = 16,             /* a trip, its pulse rate or a displacement for it is out of its limits */
+    ZAQNUTI_NO_DISTANCE = 17,          /* fuel per kilometre is wanted at zero carrier distance */
+    ZAQNUTI_NOT_TURNED = 19,           /* a vector cannot be turned to north, east and down */
+    ZAQNUTI_BROKEN_RECORDS = 21        /* the bytes of carrier records are no multiple of 59 */
 };
 
 /*
@@ -209,7 +226,9 @@ uint8_t zaqnuti_seconds_since(uint64_t later, uint64_t earlier, double *seconds)
  * used           how many observations at or above the mask were used
  *
  * Refuses by 2 (more than 64, or a column shorter than count needs), 3, 4, 8,
- * 9, 10 and 14 (chi or pdop is not finite).
+ * 9, in each round 15 (the range of an observation at or above the mask is
+ * zero or not finite) before 10, at the end 10, 15 at the returned position,
+ * and 14 (chi or pdop is not finite).
  */
 uint8_t zaqnuti_fix(
     const uint8_t *constellation, size_t constellation_length,
@@ -258,7 +277,8 @@ uint8_t zaqnuti_position(
  *                dropped
  *
  * Refuses by 2 (an epoch has more than 64, or a column is shorter than its
- * count needs), 3, 4, 5, 7, 8, 9 and 10.
+ * count needs), 3, 4, 5, 15 (a range of a carrier pair, kept or screened out,
+ * is zero or not finite), 7, 8, 9 and 10, in this order.
  */
 uint8_t zaqnuti_displacement(
     const uint8_t *previous_constellation, size_t previous_constellation_length,
@@ -289,7 +309,8 @@ uint8_t zaqnuti_displacement(
  *                first
  *
  * The answer is that of zaqnuti_displacement with this dt. Refuses by 2, 3, 4,
- * 13 (a time past the start of week 15,001), 5, 7, 8, 9 and 10, in this order.
+ * 13 (a time past the start of week 15,001), 5, 15, 7, 8, 9 and 10, in this
+ * order.
  */
 uint8_t zaqnuti_displacement_between(
     const uint8_t *previous_constellation, size_t previous_constellation_length,
@@ -322,6 +343,173 @@ uint8_t zaqnuti_displacement_between(
 size_t zaqnuti_line(
     const uint8_t *text, size_t text_length,
     uint8_t *line, size_t line_length);
+
+/* ---- the trip */
+
+/*
+ * A trip has two recordings of the same epochs: displacements, and pulses of
+ * the odometer. The caller holds it as six words, which these calls read and
+ * write:
+ *
+ *     0  pulses per kilometre, 1 to 65,535, one rate for the whole trip
+ *     1  epochs so far, at most 65,535
+ *     2  carrier distance in millimetres
+ *     3  pulses
+ *     4  the greatest difference of the two distances after an epoch, mm
+ *     5  the first epoch that reached it, counted from 1
+ *
+ *     uint64_t trip[6], report[4], ml;
+ *     zaqnuti_trip_start(4000, trip);
+ *     zaqnuti_trip_add(trip, delta, 53);             for each epoch
+ *     zaqnuti_trip_report(trip, report);
+ *     zaqnuti_trip_fuel(trip, 850, &ml);
+ *
+ * Each call refuses by 16 a trip that no calls can have left: a rate of 0 or
+ * above 65,535, more than 65,535 epochs, more than 1,000,000 mm or 65,535
+ * pulses times its epochs, or an epoch in word 5 above 32 bits. A refusal
+ * leaves the trip as it was.
+ */
+
+/* A trip just started: zeros behind its rate. Refuses by 16 (a rate of 0). */
+uint8_t zaqnuti_trip_start(uint16_t per_km, uint64_t trip[6]);
+
+/*
+ * One epoch more.
+ *
+ * delta          a displacement in metres, as zaqnuti_displacement gives it:
+ *                its length is the root of the sum of its squares, each
+ *                operation rounded once; the exact value of that root times
+ *                1,000, rounded down, is added in whole millimetres
+ * pulses         the odometer's in this epoch
+ *
+ * Refuses by 16: a displacement that is not finite or longer than 1,000 m, one
+ * epoch more than 65,535, or a trip as above.
+ */
+uint8_t zaqnuti_trip_add(uint64_t trip[6], const double delta[3], uint16_t pulses);
+
+/*
+ * Carrier distance and odometer distance in millimetres, the greatest absolute
+ * difference of the two after an epoch, and the first epoch that reached it,
+ * counted from 1: zeros for a trip just started. The odometer's distance is
+ * its pulses times 1,000,000 by the rate, rounded down. Refuses by 16.
+ */
+uint8_t zaqnuti_trip_report(const uint64_t trip[6], uint64_t report[4]);
+
+/*
+ * Millilitres for a kilometre: millilitres times 1,000,000 by the carrier
+ * distance in millimetres, rounded down. Refuses by 16, and by 17 at zero
+ * carrier distance.
+ */
+uint8_t zaqnuti_trip_fuel(const uint64_t trip[6], uint32_t millilitres, uint64_t *per_km);
+/* ---- carrier records as bytes */
+
+/*
+ * An epoch that is kept or sent as bytes is its carrier records, one after
+ * the other. A record is 59 bytes, the least significant byte of each number
+ * first, whatever the machine:
+ *
+ *     at  bytes
+ *      0      1  constellation
+ *      1      2  svid
+ *      3      4  band (MHz)
+ *      7      8  accumulated delta range
+ *     15      4  state, two's complement
+ *     19     24  x, y, z of the satellite
+ *     43      8  elevation
+ *     51      8  range rate
+ *
+ * A float is its 64 bits. An epoch of none is no bytes at all. The pointers of
+ * bytes need no alignment.
+ *
+ * Reading a written epoch yields its count and its records, and writing a read
+ * one its bytes, whatever the floats are: a NaN keeps its sign and its payload.
+ * Only the displacement asks whether a float is in range.
+ */
+
+/*
+ * Writes the first `count` records of the columns into bytes, 59 each. What
+ * lies behind them stays as it was.
+ *
+ * constellation, svid, band, state
+ *                one number for each carrier
+ * floats         the bits of six floats for each carrier: accumulated delta
+ *                range, x, y, z, elevation, range rate
+ * count          how many carriers, at most 64
+ *
+ * Refuses by 2 (more than 64, a column or bytes shorter than count needs).
+ */
+uint8_t zaqnuti_write_records(
+    const uint8_t *constellation, size_t constellation_length,
+    const uint16_t *svid, size_t svid_length,
+    const uint32_t *band, size_t band_length,
+    const int32_t *state, size_t state_length,
+    const uint64_t *floats, size_t floats_length,
+    size_t count,
+    uint8_t *bytes, size_t bytes_length);
+
+/*
+ * Reads the records of bytes into the columns, from their first places on, and
+ * their number into count. What lies behind them in a column stays as it was.
+ *
+ * Refuses by 21 (bytes_length is no multiple of 59) and 2 (more than 64
+ * records, or a column shorter than they need); then every column and count
+ * are as they were.
+ */
+uint8_t zaqnuti_read_records(
+    const uint8_t *bytes, size_t bytes_length,
+    uint8_t *constellation, size_t constellation_length,
+    uint16_t *svid, size_t svid_length,
+    uint32_t *band, size_t band_length,
+    int32_t *state, size_t state_length,
+    uint64_t *floats, size_t floats_length,
+    size_t *count);
+
+/*
+ * The displacement between two epochs that are held as bytes: that of
+ * zaqnuti_displacement on the columns that zaqnuti_read_records reads, with
+ * its numbers in the order of the line form's line S.
+ *
+ * previous, current
+ *                the records of the two epochs
+ * dt .. rounds   as there; x, y, z are the receiver at the earlier epoch
+ * result         40 bytes, the least significant first: used and screened as
+ *                8 each, then dx, dy, dz; nothing behind them is written
+ *
+ * Refuses by 21 (one of the two lengths is no multiple of 59), 2 (more than 64
+ * records in one, or result_length below 40), 3, 4, 5, 15, 7, 8, 9 and 10, in
+ * this order.
+ */
+uint8_t zaqnuti_displacement_records(
+    const uint8_t *previous, size_t previous_length,
+    const uint8_t *current, size_t current_length,
+    double dt,
+    double x,
+    double y,
+    double z,
+    double screen,
+    double sigma_a,
+    double sigma_b,
+    double huber,
+    double mask,
+    uint32_t rounds,
+    uint8_t *result, size_t result_length);
+/* ---- directions */
+
+/*
+ * A displacement along north, east and down at a place, as a compass has them.
+ *
+ * position       the place, earth-centred and earth-fixed (m)
+ * displacement   the displacement along x, y and z (m)
+ * ned            along the north, along the east, and straight down (m),
+ *                finite; a displacement south, west or up is below 0
+ *
+ * It is worked out without angles. Within 1e-9 m of the earth's axis the
+ * longitude is taken as 0.
+ * Refuses by 19 (a coordinate of either is not finite or above 1e9 in
+ * magnitude, or a component of the result is not finite, as 42,698 m from the
+ * earth's centre in the plane of the equator).
+ */
+uint8_t zaqnuti_north_east_down(const double position[3], const double displacement[3], double ned[3]);
 
 /* ---- the corrections */
 
@@ -500,6 +688,8 @@ uint8_t zaqnuti_widen_bands(
  * Refuses by 2 (too many, or a column, result or work shorter than the counts
  * need), 3, 4, 6 and 10 (the first pass fails; a later one that fails ends the
  * work and keeps the last good track).
+ * How far a track may miss its equations, row by row, is stated in
+ * docs/SCOPE.md, "Track", and proved for every call.
  */
 uint8_t zaqnuti_smooth(
     size_t epochs,
@@ -559,8 +749,9 @@ double zaqnuti_elevation_sigma(double elevation, double a, double b);
 /*
  * The unit vector from the satellite to the receiver, and the range (m), with
  * the earth's turn during the signal's travel removed: out is x, y, z, range.
+ * Refuses by 15 (the range is zero or not finite).
  */
-void zaqnuti_geometry(
+uint8_t zaqnuti_geometry(
     const double satellite[3],
     const double receiver[3],
     double out[4]);

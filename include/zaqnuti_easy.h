@@ -26,6 +26,8 @@
 #ifndef ZAQNUTI_EASY_H
 #define ZAQNUTI_EASY_H
 
+#include <string.h>
+
 #include "zaqnuti.h"
 
 /*
@@ -66,6 +68,11 @@ static inline const char *zaqnuti_refusal_text(uint8_t number)
     case ZAQNUTI_NO_CORRECTION: return "the table gives no correction for the signal and time";
     case ZAQNUTI_BAD_TIME: return "a week is above 15,000, a time of week is not in 0 to below 604,800 s, or a time is past the start of week 15,001";
     case ZAQNUTI_QUALITY_NOT_FINITE: return "chi or pdop of the fix is not finite";
+    case ZAQNUTI_ON_RECEIVER: return "the range of a satellite is zero or not finite";
+    case ZAQNUTI_BAD_TRIP: return "a displacement not finite or longer than 1,000 m, a full trip, a pulse rate of 0, or a trip out of its limits";
+    case ZAQNUTI_NO_DISTANCE: return "fuel per kilometre at zero carrier distance";
+    case ZAQNUTI_BROKEN_RECORDS: return "the bytes of carrier records are no multiple of 59";
+    case ZAQNUTI_NOT_TURNED: return "a coordinate is not finite or above 1e9, or there is no north, east and down at the place";
     default: return "no such number";
     }
 }
@@ -315,6 +322,149 @@ static inline uint8_t zaqnuti_easy_displacement_between(
         moved->screened = counts[1];
     }
     return number;
+}
+
+/* ---- the trip */
+
+/* A trip, which its calls alone write. */
+typedef struct zaqnuti_trip {
+    uint64_t word[6];
+} zaqnuti_trip;
+
+typedef struct zaqnuti_report {
+    uint64_t carrier;   /* mm */
+    uint64_t odometer;  /* mm */
+    uint64_t greatest;  /* the greatest difference of the two after an epoch, mm */
+    uint64_t reached;   /* the first epoch that reached it, counted from 1 */
+} zaqnuti_report;
+
+/* A trip just started, with so many pulses to the kilometre. */
+static inline uint8_t zaqnuti_easy_trip_start(uint16_t per_km, zaqnuti_trip *trip)
+{
+    return zaqnuti_trip_start(per_km, trip->word);
+}
+
+/* One epoch more: how far the van moved, and the odometer's pulses. A refused one leaves the trip as it was. */
+static inline uint8_t zaqnuti_easy_trip_add(zaqnuti_trip *trip, zaqnuti_vector delta, uint16_t pulses)
+{
+    const double d[3] = {delta.x, delta.y, delta.z};
+    return zaqnuti_trip_add(trip->word, d, pulses);
+}
+
+static inline uint8_t zaqnuti_easy_trip_report(const zaqnuti_trip *trip, zaqnuti_report *report)
+{
+    uint64_t r[4] = {0, 0, 0, 0};
+    const uint8_t number = zaqnuti_trip_report(trip->word, r);
+    if (number == 0) {
+        report->carrier = r[0];
+        report->odometer = r[1];
+        report->greatest = r[2];
+        report->reached = r[3];
+    }
+    return number;
+}
+
+/* ---- directions */
+
+/* A displacement by compass (m); south, west and up are below 0. */
+typedef struct zaqnuti_ned {
+    double north;
+    double east;
+    double down;
+} zaqnuti_ned;
+
+/* A displacement at a place, along north, east and down. */
+static inline uint8_t zaqnuti_easy_north_east_down(zaqnuti_vector place, zaqnuti_vector displacement, zaqnuti_ned *ned)
+{
+    const double at[3] = {place.x, place.y, place.z};
+    const double by[3] = {displacement.x, displacement.y, displacement.z};
+    double along[3] = {0.0, 0.0, 0.0};
+    uint8_t number = zaqnuti_north_east_down(at, by, along);
+
+    if (number == 0) {
+        ned->north = along[0];
+        ned->east = along[1];
+        ned->down = along[2];
+    }
+    return number;
+}
+
+/* ---- carrier records as bytes */
+
+/* Bytes that are always enough for an epoch. */
+#define ZAQNUTI_EASY_EPOCH_BYTES (ZAQNUTI_RECORDS * ZAQNUTI_RECORD)
+
+/* Writes the epoch's carriers, ZAQNUTI_RECORD bytes each, to be kept or sent. */
+static inline uint8_t zaqnuti_easy_write_records(const zaqnuti_epoch *epoch, uint8_t *bytes, size_t bytes_length)
+{
+    return zaqnuti_write_records(
+        epoch->constellation, ZAQNUTI_RECORDS, epoch->svid, ZAQNUTI_RECORDS, epoch->band, ZAQNUTI_RECORDS,
+        epoch->state, ZAQNUTI_RECORDS, (const uint64_t *)(const void *)epoch->floats, 6 * ZAQNUTI_RECORDS, epoch->count,
+        bytes, bytes_length);
+}
+
+/* The epoch of carriers that were written so. */
+static inline uint8_t zaqnuti_easy_read_records(const uint8_t *bytes, size_t bytes_length, zaqnuti_epoch *epoch)
+{
+    return zaqnuti_read_records(
+        bytes, bytes_length,
+        epoch->constellation, ZAQNUTI_RECORDS, epoch->svid, ZAQNUTI_RECORDS, epoch->band, ZAQNUTI_RECORDS,
+        epoch->state, ZAQNUTI_RECORDS, (uint64_t *)(void *)epoch->floats, 6 * ZAQNUTI_RECORDS, &epoch->count);
+}
+
+/* The number of eight bytes, the least significant first. */
+static inline uint64_t zaqnuti_easy_word(const uint8_t *bytes)
+{
+    uint64_t word = 0;
+    size_t i;
+
+    for (i = 8; i > 0; i--) {
+        word = word << 8 | bytes[i - 1];
+    }
+    return word;
+}
+
+/* The float whose bits these are. */
+static inline double zaqnuti_easy_float(uint64_t bits)
+{
+    double x;
+
+    memcpy(&x, &bits, sizeof x);
+    return x;
+}
+
+/* How the receiver moved in `dt` seconds between two epochs that are held as bytes; `receiver` is where it was at the previous one. */
+static inline uint8_t zaqnuti_easy_displacement_records(
+    const uint8_t *previous, size_t previous_length,
+    const uint8_t *current, size_t current_length,
+    double dt,
+    zaqnuti_vector receiver,
+    const zaqnuti_displacement_settings *settings,
+    zaqnuti_moved *moved)
+{
+    uint8_t result[ZAQNUTI_RESULT] = {0};
+    /* Every count above 50 is refused alike. */
+    const uint32_t rounds = settings->rounds > 50 ? 51 : (uint32_t)settings->rounds;
+    uint8_t number = zaqnuti_displacement_records(
+        previous, previous_length, current, current_length,
+        dt, receiver.x, receiver.y, receiver.z,
+        settings->screen, settings->sigma_a, settings->sigma_b, settings->huber, settings->mask, rounds,
+        result, sizeof result);
+
+    if (number == 0) {
+        moved->used = (size_t)zaqnuti_easy_word(result);
+        moved->screened = (size_t)zaqnuti_easy_word(result + 8);
+        moved->delta.x = zaqnuti_easy_float(zaqnuti_easy_word(result + 16));
+        moved->delta.y = zaqnuti_easy_float(zaqnuti_easy_word(result + 24));
+        moved->delta.z = zaqnuti_easy_float(zaqnuti_easy_word(result + 32));
+    }
+    return number;
+}
+
+/* Millilitres for a kilometre of carrier distance. */
+static inline uint8_t zaqnuti_easy_trip_fuel(const zaqnuti_trip *trip, uint32_t millilitres, uint64_t *per_km)
+{
+    return zaqnuti_trip_fuel(trip->word, millilitres, per_km);
 }
 
 /* ---- the corrections */

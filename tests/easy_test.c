@@ -209,6 +209,55 @@ static uint8_t displacement_both(
     return plain_number;
 }
 
+/* ---- the trip */
+
+/* A trip by both calls: the words, the numbers and the results are the same. */
+static void trips(void)
+{
+    size_t round;
+    for (round = 0; round < 200; round++) {
+        const uint16_t per_km = (uint16_t)(round % 9 == 0 ? 0 : chance(65536));
+        zaqnuti_trip easy = {{round, 1, 2, 3, 4, 5}};
+        uint64_t word[6] = {round, 1, 2, 3, 4, 5};
+        size_t k;
+        same(zaqnuti_easy_trip_start(per_km, &easy) == zaqnuti_trip_start(per_km, word), "the start of a trip, its number");
+        same(memcmp(easy.word, word, sizeof word) == 0, "the start of a trip");
+        for (k = 0; k < 40; k++) {
+            zaqnuti_vector delta = {(double)chance(1000) / 7.0, 3.0, -0.25};
+            zaqnuti_report report = {11, 12, 13, 14};
+            uint64_t plain_report[4] = {11, 12, 13, 14};
+            uint64_t fuel = 15;
+            uint64_t plain_fuel = 15;
+            const uint16_t pulses = (uint16_t)chance(65536);
+            const uint32_t millilitres = (uint32_t)chance(100000);
+            double d[3];
+            uint8_t number;
+            alter(&delta.y, 9);
+            if (chance(20) == 0) {
+                word[chance(6)] = chance(100000);
+                memcpy(easy.word, word, sizeof word);
+            }
+            d[0] = delta.x;
+            d[1] = delta.y;
+            d[2] = delta.z;
+            number = zaqnuti_trip_add(word, d, pulses);
+            met[number] += 1;
+            same(zaqnuti_easy_trip_add(&easy, delta, pulses) == number, "an epoch of a trip, its number");
+            same(memcmp(easy.word, word, sizeof word) == 0, "an epoch of a trip");
+            number = zaqnuti_trip_report(word, plain_report);
+            same(zaqnuti_easy_trip_report(&easy, &report) == number, "the report of a trip, its number");
+            same(report.carrier == plain_report[0] && report.odometer == plain_report[1] && report.greatest == plain_report[2] &&
+                     report.reached == plain_report[3], "the report of a trip");
+            number = zaqnuti_trip_fuel(word, millilitres, &plain_fuel);
+            met[number] += 1;
+            same(zaqnuti_easy_trip_fuel(&easy, millilitres, &fuel) == number && fuel == plain_fuel, "the fuel of a trip");
+        }
+    }
+}
+/* ---- carrier records as bytes */
+
+#include "easy_records.h"
+
 /* ---- times */
 
 /* The same of a week and a time of week, and of two times. */
@@ -252,6 +301,43 @@ static void times(void)
         alter(&tow, 8);
         times_both(week, tow, before, &now);
         before = now;
+    }
+}
+
+/* ---- directions */
+
+/* The same of a displacement at a place. */
+static void directions(void)
+{
+    size_t k;
+
+    for (k = 0; k < 20000; k++) {
+        const double earth = chance(9) == 0 ? 1e-9 : 6378137.0;
+        zaqnuti_vector place;
+        zaqnuti_vector by;
+        zaqnuti_ned easy = {7.5, 7.5, 7.5};
+        double at[3];
+        double along[3];
+        double ned[3] = {7.5, 7.5, 7.5};
+        uint8_t number;
+        size_t i;
+        for (i = 0; i < 3; i++) {
+            at[i] = earth * (1e-3 * (double)chance(2001) - 1.0);
+            along[i] = 1e-3 * (double)chance(200001) - 100.0;
+            alter(&at[i], 30);
+            alter(&along[i], 30);
+        }
+        place.x = at[0];
+        place.y = at[1];
+        place.z = at[2];
+        by.x = along[0];
+        by.y = along[1];
+        by.z = along[2];
+        number = zaqnuti_north_east_down(at, along, ned);
+        met[number] += 1;
+        same(zaqnuti_easy_north_east_down(place, by, &easy) == number, "north, east, down, its number");
+        same(memcmp(&easy, ned, sizeof ned) == 0, "north, east, down");
+        same(number == 0 || (ned[0] == 7.5 && ned[1] == 7.5 && ned[2] == 7.5), "north, east, down, the result of a refusal");
     }
 }
 
@@ -654,7 +740,8 @@ static void alter_displacements(const struct text *t, size_t times)
             }
             a.count[1] = 65;
         }
-        displacement_both(a.carrier[0], a.count[0], a.carrier[1], a.count[1], a.dt, NULL, a.receiver, &a.settings, &moved);
+        number = displacement_both(a.carrier[0], a.count[0], a.carrier[1], a.count[1], a.dt, NULL, a.receiver, &a.settings, &moved);
+        records_both(a.carrier[0], a.count[0], a.carrier[1], a.count[1], a.dt, a.receiver, &a.settings, number, &moved);
         /* Between two times: the number and the bytes of the call with their interval. */
         times_of(time, a.dt);
         number = displacement_both(a.carrier[0], a.count[0], a.carrier[1], a.count[1], 0.0, time, a.receiver, &a.settings, &between);
@@ -934,14 +1021,16 @@ static void tracks(void)
 /* Every number has a text of its own. */
 static void texts(void)
 {
+    const char *none = zaqnuti_refusal_text(255);
     unsigned a;
     unsigned b;
-    for (a = 0; a <= 15; a++) {
+    for (a = 0; a <= 21; a++) {
         for (b = 0; b < a; b++) {
-            same(strcmp(zaqnuti_refusal_text((uint8_t)a), zaqnuti_refusal_text((uint8_t)b)) != 0, "texts of two numbers");
+            const char *text = zaqnuti_refusal_text((uint8_t)a);
+            same(strcmp(text, none) == 0 || strcmp(text, zaqnuti_refusal_text((uint8_t)b)) != 0, "texts of two numbers");
         }
     }
-    for (a = 15; a < 256; a++) {
+    for (a = 22; a < 256; a++) {
         same(strcmp(zaqnuti_refusal_text((uint8_t)a), "no such number") == 0, "the text of no number");
     }
 }
@@ -980,6 +1069,8 @@ int main(int count, char **word)
         }
     }
     times();
+    trips();
+    directions();
     tracks();
     corrections();
     texts();
@@ -993,6 +1084,9 @@ int main(int count, char **word)
     for (k = 2; k <= 13; k++) {
         same(met[k] != 0, "a number that was never met");
     }
+    same(met[ZAQNUTI_BAD_TRIP] != 0 && met[ZAQNUTI_NO_DISTANCE] != 0, "a number of a trip that was never met");
+    same(met[ZAQNUTI_BROKEN_RECORDS] != 0, "21 was never met");
+    same(met[ZAQNUTI_NOT_TURNED] != 0, "19 that was never met");
     printf("\n%lu compared, %lu differ\n", compared, different);
     return different == 0 ? 0 : 1;
 }

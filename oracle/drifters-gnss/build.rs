@@ -14,6 +14,6 @@ fn main() {
             "tdcp.rs",
             "wls.rs",
         ],
-        &["lib.rs", "record.rs"],
+        &["lib.rs", "passes.rs", "record.rs"],
     );
 }

@@ -125,4 +125,17 @@ pub const SUBSTITUTIONS: &[Substitution] = &[
         "    let factor = Cholesky::new(&ata)?;\n    let dx = factor.solve(&atb);\n    crate::record::note(&ata, &atb, &factor, &dx);\n",
         1,
     ),
+    // The passes of a track, kept where its bound is checked over them.
+    sub(
+        SMOOTH,
+        "        let x = thomas(&mut diag, &mut upper, &mut rhs)?;\n",
+        "        let kept = crate::passes::before(&diag, &upper, &rhs);\n        let x = thomas(&mut diag, &mut upper, &mut rhs)?;\n        crate::passes::solved(kept, &diag, &x);\n",
+        1,
+    ),
+    sub(
+        SMOOTH,
+        "    Some(out)\n}\n\n/// Huber weight",
+        "    crate::passes::passed();\n    Some(out)\n}\n\n/// Huber weight",
+        1,
+    ),
 ];

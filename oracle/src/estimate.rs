@@ -15,6 +15,8 @@ const AT_ODDS: u8 = 255;
 const FIT_FAILED: u8 = 10;
 /// chi or pdop is not finite.
 const QUALITY_NOT_FINITE: u8 = 14;
+/// A range is zero or not finite.
+const ON_RECEIVER: u8 = 15;
 
 /// Input of a displacement.
 pub struct Displacement {
@@ -55,7 +57,7 @@ impl Displacement {
         match rules::displacement(self) {
             None => self.rust().ok_or(FIT_FAILED),
             // Added, or a panic of the Rust's.
-            Some(n @ (2..=4 | 9)) => Err(n),
+            Some(n @ (2..=4 | 9 | ON_RECEIVER)) => Err(n),
             Some(5) if self.dt > rules::INTERVAL && self.dt.is_finite() => Err(5),
             Some(n) => Err(if self.rust().is_none() { n } else { AT_ODDS }),
         }
@@ -123,11 +125,49 @@ impl Fix {
         self.answer_and_rounds().0
     }
 
-    /// The Rust's solution with the model's chi in place of its own, 10 where there is none, and 14
-    /// where chi or pdop is not finite.
+    /// Observations at or above the mask.
+    fn kept(&self) -> impl Iterator<Item = &Observation> {
+        let all = self.observations.iter();
+        all.filter(|o| o.elevation >= self.settings.mask)
+    }
+
+    /// Whether a range at the state is zero or not finite.
+    fn met(&self, x: &[f64; NX]) -> bool {
+        self.kept()
+            .any(|o| rules::on_receiver(wls::geometry(o, x).1))
+    }
+
+    /// 15 where a range is zero or not finite at the start of a round, 10 where the Rust has no
+    /// solution, 15 at the returned position, 14 where chi or pdop is not finite; or the Rust's
+    /// solution with the model's chi in place of its own. The states are the Rust's: the guess, with
+    /// its steps added one after the other.
     fn judged(&self, found: Option<Solution>, rounds: &[Round]) -> Result<Solution, u8> {
+        let n = Clocks::assign(self.kept().map(|o| o.constellation)).unknowns();
+        let mut x = [0.0; NX];
+        x[..3].copy_from_slice(&self.guess);
+        for round in rounds {
+            if self.met(&x) {
+                return Err(ON_RECEIVER);
+            }
+            for (x, step) in x.iter_mut().zip(round.step).take(n) {
+                *x += step;
+            }
+        }
+        let short = |round: &Round| {
+            let [a, b, c] = [round.step[0], round.step[1], round.step[2]];
+            let level = (a * a + b * b).sqrt();
+            (level * level + c * c).sqrt() < 1e-3
+        };
+        // Where the rounds are not used up and the last was not the end, one more began here.
+        let ended = rounds.len() == self.settings.iterations || rounds.last().is_some_and(short);
+        if !ended && self.met(&x) {
+            return Err(ON_RECEIVER);
+        }
         let found = found.ok_or(FIT_FAILED)?;
-        let chi = self.chi(rounds);
+        if self.met(&x) {
+            return Err(ON_RECEIVER);
+        }
+        let chi = self.chi(&x);
         if chi.is_finite() && found.pdop.is_finite() {
             Ok(Solution { chi, ..found })
         } else {
@@ -135,31 +175,18 @@ impl Fix {
         }
     }
 
-    /// chi where the rounds end, over the Rust's own position and clocks: the guess with every step
-    /// added, and the residuals there.
-    fn chi(&self, rounds: &[Round]) -> f64 {
+    /// chi at the state where the rounds end.
+    fn chi(&self, x: &[f64; NX]) -> f64 {
         let set = &self.settings;
-        let kept = || {
-            let all = self.observations.iter();
-            all.filter(|o| o.elevation >= set.mask)
-        };
-        let clocks = Clocks::assign(kept().map(|o| o.constellation));
-        let n = clocks.unknowns();
-        let mut x = [0.0; NX];
-        x[..3].copy_from_slice(&self.guess);
-        for round in rounds {
-            for (x, step) in x.iter_mut().zip(round.step).take(n) {
-                *x += step;
-            }
-        }
+        let clocks = Clocks::assign(self.kept().map(|o| o.constellation));
         let square = |o: &Observation| {
-            let (_, range) = wls::geometry(o, &x);
+            let (_, range) = wls::geometry(o, x);
             let residual = o.pseudorange - (range + x[clocks.slot(o.constellation)]);
             let r = residual / elevation_sigma(o.elevation, set.sigma_a, set.sigma_b);
             r * r
         };
-        let freedom = kept().count().saturating_sub(n).max(1) as f64;
-        (kept().map(square).sum::<f64>() / freedom).sqrt()
+        let freedom = self.kept().count().saturating_sub(clocks.unknowns()).max(1) as f64;
+        (self.kept().map(square).sum::<f64>() / freedom).sqrt()
     }
 }
 

@@ -1,18 +1,24 @@
 //! A safe function over each C entry point of the Rattle library, on columns of any length: the bindings' own fit theirs to the count.
 
 mod columns;
+mod directions;
 mod displacement;
 mod fix;
 mod line;
 mod robust;
 mod times;
+mod trips;
+mod wire;
 
 pub use columns::Columns;
+pub use directions::*;
 pub use displacement::*;
 pub use fix::*;
 pub use line::*;
 pub use robust::*;
 pub use times::*;
+pub use trips::*;
+pub use wire::*;
 pub use zaqnuti::math::{
     abs, before, elevation_sine, hypot, max, pattern, radians, sqrt, square, travel_cosine,
     travel_sine,

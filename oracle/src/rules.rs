@@ -1,9 +1,10 @@
 //! docs/SCOPE.md, "Why a call turns back": numbers 2 to 9 of a displacement and a fix, in checking
-//! order, and 13 between 4 and 5. Used only to say which number a refusal is, and where the Rust is
+//! order, 13 between 4 and 5, and 15 of a displacement ahead of 7. Used only to say which number a refusal is, and where the Rust is
 //! not asked.
 
 use crate::estimate::{Between, Displacement, Fix};
-use drifters_gnss::tdcp::Carrier;
+use drifters_core::frames::Ecef;
+use drifters_gnss::tdcp::{geometry, Carrier};
 
 /// The most records of an epoch.
 pub const RECORDS: usize = 64;
@@ -55,17 +56,37 @@ fn same(p: &Carrier, c: &Carrier) -> bool {
     (p.constellation, p.svid, p.band) == (c.constellation, c.svid, c.band)
 }
 
-/// The constellation and the detector of each pair.
-pub fn pairs(input: &Displacement) -> Vec<(u8, f64)> {
+/// Each current carrier that has a previous one, with that one.
+fn paired(input: &Displacement) -> impl Iterator<Item = (&Carrier, &Carrier)> {
     let rows = input.current.iter();
     rows.filter(|c| usable(c) && c.elevation >= input.settings.mask)
         .filter_map(|c| {
             let mut previous = input.previous.iter();
             let p = previous.find(|p| usable(p) && same(p, c))?;
+            Some((c, p))
+        })
+}
+
+/// The constellation and the detector of each pair.
+pub fn pairs(input: &Displacement) -> Vec<(u8, f64)> {
+    paired(input)
+        .map(|(c, p)| {
             let detector = (c.adr - p.adr) - 0.5 * (c.rate + p.rate) * input.dt;
-            Some((c.constellation, detector))
+            (c.constellation, detector)
         })
         .collect()
+}
+
+/// 15: the range is zero or not finite.
+pub fn on_receiver(range: f64) -> bool {
+    range == 0.0 || !range.is_finite()
+}
+
+/// 15 of a displacement: a pair in order, the current satellite before the previous.
+fn met(input: &Displacement) -> bool {
+    let [x, y, z] = input.receiver;
+    let range = |c: &Carrier| geometry(c.satellite, Ecef::new(x, y, z)).1;
+    paired(input).any(|(c, p)| on_receiver(range(c)) || on_receiver(range(p)))
 }
 
 /// The element at place len/2 of the detectors in totalOrder.
@@ -111,6 +132,9 @@ fn unmoved(input: &Displacement) -> Option<u8> {
     if !(input.dt > 0.0 && input.dt <= INTERVAL) {
         return Some(5);
     }
+    if met(input) {
+        return Some(15);
+    }
     let pairs = pairs(input);
     if pairs.len() < 6 {
         return Some(7);
@@ -134,7 +158,7 @@ pub fn between(input: &Between) -> Option<u8> {
     first.or_else(|| unmoved(&input.displacement))
 }
 
-/// The number of a fix, but for 10.
+/// The number of a fix, but for 10, 14 and 15.
 pub fn fix(input: &Fix) -> Option<u8> {
     let set = &input.settings;
     if input.observations.len() > RECORDS {

@@ -2,6 +2,7 @@
 
 mod displacement;
 mod fix;
+pub mod top;
 mod turns;
 
 pub use turns::input;

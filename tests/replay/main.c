@@ -58,6 +58,11 @@ static const struct kind kinds[] = {
     {21, "since", same_since},
     {22, "between", same_between},
     {23, "widen", same_widen},
+    {27, "trip", same_trip},
+    {40, "read", same_read},
+    {41, "write", same_write},
+    {42, "records", same_records},
+    {31, "directions", same_directions},
 };
 
 #define KINDS (sizeof kinds / sizeof *kinds)

@@ -142,17 +142,18 @@ bool same_sigma(struct stored *s)
     return is_float(s, zaqnuti_elevation_sigma(elevation, a, b));
 }
 
-/* Satellite, receiver; unit vector and range. */
+/* Satellite, receiver; number, unit vector and range. */
 bool same_sight(struct stored *s)
 {
     double satellite[3];
     double receiver[3];
     double out[4 + MARGIN / 8];
+    uint8_t number;
     next_floats(s, satellite, 3);
     next_floats(s, receiver, 3);
     lend(out, 4 * sizeof *out);
-    zaqnuti_geometry(satellite, receiver, out);
-    return given(0, out, 4 * sizeof *out) && is_floats(s, out, 4);
+    number = zaqnuti_geometry(satellite, receiver, out);
+    return given(number, out, 4 * sizeof *out) && is_number(s, number) && is_floats(s, out, 4);
 }
 
 /*

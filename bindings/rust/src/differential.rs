@@ -116,11 +116,12 @@ pub struct Signal {
 /// });
 /// // What the base measures where the path to satellite 8 is so much too long.
 /// let epoch = |tow, error| {
+///     let metres = |position| robust::geometry(position, base).map_or(0.0, |sight| sight.1);
 ///     let range = |(svid, position)| BaseRange {
 ///         constellation: 1,
 ///         svid,
 ///         band: 1,
-///         pseudorange: robust::geometry(position, base).1 + if svid == 8 { error } else { 0.0 },
+///         pseudorange: metres(position) + if svid == 8 { error } else { 0.0 },
 ///     };
 ///     BaseEpoch { tow, ranges: sky.map(range).to_vec() }
 /// };

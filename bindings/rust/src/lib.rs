@@ -5,6 +5,9 @@
 //! | [`wls`] | the position from one epoch of pseudoranges |
 //! | [`tdcp`] | the displacement between two epochs of carrier phases |
 //! | [`time`] | epoch times in whole nanoseconds |
+//! | [`trip`] | odometer beside carrier distance: the totals of a trip |
+//! | [`wire`] | carrier records as bytes, and the displacement between two epochs of them |
+//! | [`frames`] | displacements along north, east and down |
 //! | [`line`](mod@line) | the displacement of a text in the line form |
 //! | [`differential`] | corrections from a base station |
 //! | [`smooth`](mod@smooth) | the track that fits anchors and links |
@@ -41,6 +44,7 @@
 extern crate alloc;
 
 pub mod differential;
+pub mod frames;
 pub mod line;
 pub mod math;
 mod refusal;
@@ -49,6 +53,8 @@ pub mod smooth;
 pub mod sys;
 pub mod tdcp;
 pub mod time;
+pub mod trip;
+pub mod wire;
 pub mod wls;
 
 pub use math::Vec3;

@@ -117,11 +117,11 @@ pub fn elevation_sigma(elevation: f64, a: f64, b: f64) -> f64 {
 }
 
 /// The unit vector from the satellite to the receiver, and the range in metres, with the earth's
-/// turn during the signal's travel removed.
-pub fn geometry(satellite: [f64; 3], at: crate::Ecef) -> ([f64; 3], f64) {
+/// turn during the signal's travel removed. Refused where the range is zero or not finite.
+pub fn geometry(satellite: [f64; 3], at: crate::Ecef) -> Result<([f64; 3], f64), Refusal> {
     let mut out = [0.0; 4];
     // SAFETY: each points to as many floats as its type says, and the last is ours alone.
-    unsafe { sys::zaqnuti_geometry(&satellite, &at.coordinates(), &mut out) };
+    answered(unsafe { sys::zaqnuti_geometry(&satellite, &at.coordinates(), &mut out) })?;
     let [x, y, z, range] = out;
-    ([x, y, z], range)
+    Ok(([x, y, z], range))
 }

@@ -9,6 +9,20 @@ extern "C" {
     pub fn zaqnuti_nanos_since(later: u64, earlier: u64, nanos: *mut i64) -> u8;
     /// The seconds between two times.
     pub fn zaqnuti_seconds_since(later: u64, earlier: u64, seconds: *mut f64) -> u8;
+    /// A trip just started.
+    pub fn zaqnuti_trip_start(per_km: u16, trip: *mut [u64; 6]) -> u8;
+    /// One epoch more for a trip.
+    pub fn zaqnuti_trip_add(trip: *mut [u64; 6], delta: *const [f64; 3], pulses: u16) -> u8;
+    /// The report of a trip.
+    pub fn zaqnuti_trip_report(trip: *const [u64; 6], report: *mut [u64; 4]) -> u8;
+    /// The fuel of a trip for a kilometre.
+    pub fn zaqnuti_trip_fuel(trip: *const [u64; 6], millilitres: u32, per_km: *mut u64) -> u8;
+    /// A displacement at a place along north, east and down.
+    pub fn zaqnuti_north_east_down(
+        position: *const [f64; 3],
+        displacement: *const [f64; 3],
+        ned: *mut [f64; 3],
+    ) -> u8;
     /// The receiver's position from one epoch, with what the fit says of itself.
     pub fn zaqnuti_fix(
         constellation: *const u8,
@@ -104,6 +118,57 @@ extern "C" {
         line: *mut u8,
         line_length: usize,
     ) -> usize;
+    /// Carrier records written as bytes.
+    pub fn zaqnuti_write_records(
+        constellation: *const u8,
+        constellation_length: usize,
+        svid: *const u16,
+        svid_length: usize,
+        band: *const u32,
+        band_length: usize,
+        state: *const i32,
+        state_length: usize,
+        floats: *const u64,
+        floats_length: usize,
+        count: usize,
+        bytes: *mut u8,
+        bytes_length: usize,
+    ) -> u8;
+    /// Carrier records read from bytes.
+    pub fn zaqnuti_read_records(
+        bytes: *const u8,
+        bytes_length: usize,
+        constellation: *mut u8,
+        constellation_length: usize,
+        svid: *mut u16,
+        svid_length: usize,
+        band: *mut u32,
+        band_length: usize,
+        state: *mut i32,
+        state_length: usize,
+        floats: *mut u64,
+        floats_length: usize,
+        count: *mut usize,
+    ) -> u8;
+    /// The displacement between two slices of carrier records.
+    pub fn zaqnuti_displacement_records(
+        previous: *const u8,
+        previous_length: usize,
+        current: *const u8,
+        current_length: usize,
+        dt: f64,
+        x: f64,
+        y: f64,
+        z: f64,
+        screen: f64,
+        sigma_a: f64,
+        sigma_b: f64,
+        huber: f64,
+        mask: f64,
+        rounds: u32,
+        result: *mut u8,
+        result_length: usize,
+    ) -> u8;
     /// One base epoch added to a table of corrections.
     pub fn zaqnuti_add_epoch(
         dc: *mut u8,
@@ -263,7 +328,7 @@ extern "C" {
         satellite: *const [f64; 3],
         receiver: *const [f64; 3],
         out: *mut [f64; 4],
-    );
+    ) -> u8;
     /// The Cholesky factor of nine rows of nine.
     pub fn zaqnuti_factor(a: *const [[f64; 9]; 9], l: *mut [[f64; 9]; 9]) -> u8;
     /// The solution of `l lᵀ x = b`.

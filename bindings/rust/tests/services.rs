@@ -6,11 +6,13 @@ use common::{carriers, observations, text, AT};
 use zaqnuti::differential::{
     build, Base, BaseEpoch, BaseRange, Corrections, SatelliteState, Signal,
 };
+use zaqnuti::frames::north_east_down;
 use zaqnuti::math::{self, Cholesky};
 use zaqnuti::robust::{centre_scale, elevation_sigma, geometry, step, Clocks, Row};
 use zaqnuti::smooth::{smooth, Anchor, Link};
 use zaqnuti::time::{GpsTime, NANOS_PER_WEEK};
-use zaqnuti::{differential, line, smooth as track, tdcp, wls, Ecef, Refusal, Vec3, TEXT};
+use zaqnuti::trip::{Report, Trip};
+use zaqnuti::{differential, line, smooth as track, tdcp, wire, wls, Ecef, Refusal, Vec3, TEXT};
 
 fn near(a: f64, b: f64, within: f64) -> bool {
     (a - b).abs() <= within
@@ -170,6 +172,29 @@ fn times() {
 }
 
 #[test]
+fn directions() {
+    let along = |x, y, z| {
+        let ned = north_east_down(Ecef::new(x, y, z), Vec3::new(1.0, 2.0, 3.0))?;
+        Ok([ned.n, ned.e, ned.d])
+    };
+    let (a, b) = (6_378_137.0, 6_356_752.314_245_179);
+    assert_eq!(along(a, 0.0, 0.0), Ok([3.0, 2.0, -1.0]));
+    assert_eq!(along(0.0, a, 0.0), Ok([3.0, -1.0, -2.0]));
+    // On the axis the longitude is 0.
+    assert_eq!(along(0.0, 0.0, b), Ok([-1.0, 2.0, -3.0]));
+    assert_eq!(along(0.0, -9e-10, -b), Ok([1.0, 2.0, 3.0]));
+    // In Berlin as long as it was.
+    let [n, e, d] = along(3_782_970.0, 902_155.0, 5_038_376.0).unwrap();
+    assert!(near(n * n + e * e + d * d, 14.0, 1e-12));
+    let none = Err(Refusal::NotTurned);
+    assert_eq!(along(1e9f64.next_up(), 0.0, 0.0), none);
+    assert_eq!(along(f64::NAN, 0.0, 0.0), none);
+    assert_eq!(along(42_697.672_707_179_97, 0.0, 0.0), none);
+    let far = north_east_down(AT, Vec3::new(0.0, f64::INFINITY, 0.0));
+    assert_eq!(far.unwrap_err(), Refusal::NotTurned);
+}
+
+#[test]
 fn a_displacement_between_times() {
     let set = tdcp::Settings {
         screen: 1e3,
@@ -206,6 +231,121 @@ fn a_displacement_between_times() {
     assert_eq!(why(&p[..3], now, before, &set), Refusal::BadInterval);
     assert_eq!(why(&p[..3], now, now, &set), Refusal::BadInterval);
     assert_eq!(why(&p[..3], before, now, &set), Refusal::TooFewPairs);
+}
+
+#[test]
+fn a_trip() {
+    let mut trip = Trip::start(1000).unwrap();
+    assert_eq!(trip.words(), [1000, 0, 0, 0, 0, 0]);
+    assert_eq!(trip.report(), Ok(Report::default()));
+    // A difference of 0 is reached by the first epoch.
+    trip.add(Vec3::new(3.0, 4.0, 0.0), 5).unwrap();
+    assert_eq!(trip.words(), [1000, 1, 5000, 5, 0, 1]);
+    trip.add(Vec3::new(0.0, 0.0, 1.0), 3).unwrap();
+    trip.add(Vec3::new(2.0, 0.0, 0.0), 0).unwrap();
+    trip.add(Vec3::new(0.0, -2.0, 0.0), 0).unwrap();
+    // 2,000 mm are reached by the second epoch and again by the fourth.
+    assert_eq!(trip.words(), [1000, 4, 10_000, 8, 2000, 2]);
+    let report = trip.report().unwrap();
+    assert_eq!([report.carrier, report.odometer], [10_000, 8000]);
+    assert_eq!([report.greatest, report.reached], [2000, 2]);
+    assert_eq!(trip.fuel(850), Ok(85_000));
+    // The double below 0.001 has no whole millimetre.
+    let mut short = Trip::start(1).unwrap();
+    short.add(Vec3::new(0.001f64.next_down(), 0.0, 0.0), 0).unwrap();
+    assert_eq!(short.words()[2], 0);
+    assert_eq!(short.fuel(1), Err(Refusal::NoDistance));
+    short.add(Vec3::new(0.001, 0.0, 0.0), 0).unwrap();
+    assert_eq!(short.words()[2], 1);
+    assert_eq!(short.fuel(u32::MAX), Ok(4_294_967_295_000_000));
+}
+
+#[test]
+fn a_trip_refuses() {
+    let bad = Err(Refusal::BadTrip);
+    assert_eq!(Trip::start(0), Err(Refusal::BadTrip));
+    let step = Vec3::new(1.0, 0.0, 0.0);
+    let mut full = Trip::from_words([1, 65_535, 65_535_000_000, 4_294_836_225, 9, 4_294_967_295]);
+    let kept = full;
+    assert_eq!(full.add(step, 1), bad);
+    assert_eq!(full, kept);
+    assert_eq!(full.report().unwrap().odometer, 4_294_836_225_000_000);
+    assert_eq!(full.report().unwrap().reached, 4_294_967_295);
+    let mut trip = Trip::start(65_535).unwrap();
+    for x in [f64::NAN, f64::INFINITY, -f64::INFINITY, 1000f64.next_up(), 1e200] {
+        assert_eq!(trip.add(Vec3::new(0.0, x, 0.0), 65_535), bad, "{x}");
+    }
+    assert_eq!(trip.words(), [65_535, 0, 0, 0, 0, 0]);
+    trip.add(Vec3::new(0.0, 0.0, -1000.0), 65_535).unwrap();
+    assert_eq!(trip.words(), [65_535, 1, 1_000_000, 65_535, 0, 1]);
+    // One above each limit; 17 comes after 16.
+    for words in [
+        [0, 1, 0, 0, 0, 1],
+        [65_536, 1, 0, 0, 0, 1],
+        [1, 65_536, 0, 0, 0, 1],
+        [1, 1, 1_000_001, 0, 0, 1],
+        [1, 1, 0, 65_536, 0, 1],
+        [1, 1, 0, 0, 0, 1 << 32],
+        [u64::MAX; 6],
+    ] {
+        let mut trip = Trip::from_words(words);
+        assert_eq!(trip.add(step, 1), bad, "{words:?}");
+        assert_eq!(trip.words(), words);
+        assert_eq!(trip.report(), Err(Refusal::BadTrip), "{words:?}");
+        assert_eq!(trip.fuel(1), Err(Refusal::BadTrip), "{words:?}");
+    }
+}
+
+fn carrier_records() {
+    let mut epoch = carriers(64, AT);
+    // NaNs of either sign, quiet and signalling, and the ends of each field.
+    epoch[0].adr = f64::from_bits(0x7FF0_0000_0000_0001);
+    epoch[1].satellite =
+        [0xFFF8_0000_0000_0002, 0xFFF0_0000_0000_0003, 1 << 63].map(f64::from_bits);
+    epoch[2].rate = f64::from_bits(u64::MAX);
+    (epoch[3].constellation, epoch[3].svid) = (u8::MAX, u16::MAX);
+    (epoch[4].band, epoch[4].state) = (u32::MAX, i32::MIN);
+    for n in 0..=64 {
+        let sent = wire::write(&epoch[..n]).unwrap();
+        assert_eq!(sent.len(), n * wire::RECORD);
+        let received = wire::read(&sent).unwrap();
+        assert_eq!(received.len(), n);
+        assert_eq!(wire::write(&received).unwrap(), sent);
+        let bits = |c: &tdcp::Carrier| [c.adr, c.satellite[0], c.rate].map(f64::to_bits);
+        assert!(received.iter().map(bits).eq(epoch[..n].iter().map(bits)));
+    }
+    let many = carriers(65, AT);
+    assert_eq!(wire::write(&many), Err(Refusal::TooMany));
+    assert_eq!(wire::read(&[0; 65 * 59]), Err(Refusal::TooMany));
+    assert_eq!(wire::read(&[0; 65 * 59 + 1]), Err(Refusal::BrokenRecords));
+    assert_eq!(wire::read(&[0; 58]), Err(Refusal::BrokenRecords));
+}
+
+#[test]
+fn a_displacement_of_records() {
+    let set = tdcp::Settings {
+        screen: 1e3,
+        ..tdcp::Settings::default()
+    };
+    let moved = Ecef::new(AT.x + 3.0, AT.y - 2.0, AT.z + 0.5);
+    let (p, c) = (carriers(20, AT), carriers(20, moved));
+    let [before, now] = [&p, &c].map(|e| wire::write(e).unwrap());
+    let of = |p: &[u8], c: &[u8], dt, set| wire::delta_position(p, c, dt, AT, set);
+    let d = of(&before, &now, 1.0, &set).unwrap();
+    assert_eq!(Ok(d), tdcp::delta_position(&p, &c, 1.0, AT, &set));
+    // 21 of either slice comes before 2, and 2 before 3.
+    let odd = tdcp::Settings {
+        iterations: usize::MAX,
+        ..set
+    };
+    let many = vec![0; 65 * wire::RECORD];
+    let why = |p: &[u8], c: &[u8], dt, set| of(p, c, dt, set).unwrap_err();
+    assert_eq!(why(&many, &now[1..], 0.0, &odd), Refusal::BrokenRecords);
+    assert_eq!(why(&before[1..], &many, 0.0, &odd), Refusal::BrokenRecords);
+    assert_eq!(why(&before, &many, 0.0, &odd), Refusal::TooMany);
+    assert_eq!(why(&before, &now, 0.0, &odd), Refusal::SettingOutOfRange);
+    assert_eq!(why(&before, &now, 0.0, &set), Refusal::BadInterval);
+    assert_eq!(why(&[], &now, 1.0, &set), Refusal::TooFewPairs);
 }
 
 /// The example of docs/SCOPE.md, without its LF.
@@ -255,7 +395,9 @@ fn epoch(tow: f64, error: f64, n: usize) -> (BaseEpoch, Vec<SatelliteState>) {
             constellation,
             svid,
             band,
-            pseudorange: geometry(o.satellite, AT).1 + 250.0 + if i == 0 { error } else { 0.0 },
+            pseudorange: geometry(o.satellite, AT).expect("it is seen").1
+                + 250.0
+                + if i == 0 { error } else { 0.0 },
         });
         states.push(SatelliteState {
             constellation,

@@ -182,6 +182,36 @@ fn displacements() {
         };
         assert_eq!(text(answer.as_bytes()), expected);
     }
+    // Along north, east and down the way is as long.
+    let words = answered(&["displacement", "--compass", &drive("drive.csv")], 1);
+    let first =
+        "01: 11.386 m north, 7.971 m east, 0.273 m up, 13.901 m in all; 13 used, 0 screened";
+    assert_eq!(words.lines().next(), Some(first));
+    assert_eq!(words.lines().nth(6), Some(bridge));
+    let compass = answered(
+        &["displacement", "--compass", "--csv", &drive("drive.csv")],
+        1,
+    );
+    for (row, plain) in compass.lines().zip(csv.lines()).skip(1) {
+        let ned: Vec<&str> = row
+            .strip_prefix(plain)
+            .unwrap()
+            .split(',')
+            .skip(1)
+            .collect();
+        assert_eq!(ned.len(), 3);
+        let square = |f: &[&str]| {
+            f.iter()
+                .map(|x| x.parse::<f64>().unwrap().powi(2))
+                .sum::<f64>()
+        };
+        let f: Vec<&str> = plain.split(',').collect();
+        if f[9] == "0" {
+            assert!((square(&ned) - square(&f[4..7])).abs() < 1e-10);
+        } else {
+            assert_eq!(ned, [""; 3]);
+        }
+    }
     let rover = geonet("rover.csv");
     let still = answered(&["displacement", "--receiver=geodetic", AT, &rover], 0);
     assert_eq!(still.lines().count(), 119);
@@ -739,7 +769,7 @@ fn the_page_shows_what_is_written() {
     symlink(examples().canonicalize().unwrap(), at.join("examples")).unwrap();
     let page = examples().join("../docs/SHELL.md");
     let shown = shown(&fs::read_to_string(page).unwrap());
-    assert_eq!(shown.len(), 8);
+    assert_eq!(shown.len(), 9);
     let programs = Path::new(COMMAND).parent().unwrap().display();
     let path = format!("{programs}:{}", std::env::var("PATH").unwrap());
     for (command, written) in shown {

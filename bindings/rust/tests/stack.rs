@@ -13,7 +13,7 @@ use std::collections::BTreeMap;
 use std::path::Path;
 use zaqnuti::sys;
 use zaqnuti::tdcp::{Carrier, Settings};
-use zaqnuti::{Ecef, LINE, TEXT};
+use zaqnuti::{wire, Ecef, LINE, TEXT};
 
 /// How far down the stack is filled, above what any call uses.
 const DEPTH: usize = 1 << 20;
@@ -224,6 +224,101 @@ fn displacement(count: usize, rounds: usize, screen: f64, times: Option<[u64; 2]
     })
 }
 
+/// A displacement of the bytes of both epochs, the first so many of each, with a result of so many bytes.
+fn records(previous: usize, current: usize, rounds: u32, screen: f64, room: usize) -> usize {
+    let (before, after) = epochs();
+    let [p, c] = [(&before, previous), (&after, current)].map(|(epoch, n)| {
+        let mut bytes = wire::write(epoch).unwrap();
+        bytes.resize(n, 0);
+        bytes
+    });
+    let mut result = vec![0; room];
+    measured(move || {
+        let frame = top();
+        // SAFETY: each slice has its length beside it, and the last is ours alone.
+        unsafe {
+            sys::zaqnuti_displacement_records(
+                p.as_ptr(),
+                p.len(),
+                c.as_ptr(),
+                c.len(),
+                1.0,
+                AT.x,
+                AT.y,
+                AT.z,
+                screen,
+                0.008,
+                0.002,
+                1e-3,
+                10.0,
+                rounds,
+                result.as_mut_ptr(),
+                room,
+            );
+        }
+        frame
+    })
+}
+
+/// Reading so many bytes into columns of 64 places.
+fn read_records(bytes: usize) -> usize {
+    let bytes = vec![0xA5; bytes];
+    let (mut constellation, mut svid) = ([0; 64], [0; 64]);
+    let (mut band, mut state, mut floats) = ([0; 64], [0; 64], [0; 384]);
+    let mut count = 0;
+    measured(move || {
+        let frame = top();
+        // SAFETY: each column has its length beside it, and all but the bytes are ours alone.
+        unsafe {
+            sys::zaqnuti_read_records(
+                bytes.as_ptr(),
+                bytes.len(),
+                constellation.as_mut_ptr(),
+                64,
+                svid.as_mut_ptr(),
+                64,
+                band.as_mut_ptr(),
+                64,
+                state.as_mut_ptr(),
+                64,
+                floats.as_mut_ptr(),
+                384,
+                &mut count,
+            );
+        }
+        frame
+    })
+}
+
+/// Writing so many records of 64 into so many bytes.
+fn write_records(count: usize, room: usize) -> usize {
+    let (constellation, svid, band) = ([1; 64], [2; 64], [1575; 64]);
+    let (state, floats) = ([-1; 64], [u64::MAX; 384]);
+    let mut bytes = vec![0; room];
+    measured(move || {
+        let frame = top();
+        // SAFETY: each column has its length beside it, and the last is ours alone.
+        unsafe {
+            sys::zaqnuti_write_records(
+                constellation.as_ptr(),
+                64,
+                svid.as_ptr(),
+                64,
+                band.as_ptr(),
+                64,
+                state.as_ptr(),
+                64,
+                floats.as_ptr(),
+                384,
+                count,
+                bytes.as_mut_ptr(),
+                room,
+            );
+        }
+        frame
+    })
+}
+
 fn times(week: u32, tow: f64, earlier: u64) -> usize {
     let (mut nanos, mut since, mut seconds) = (0, 0, 0.0);
     measured(move || {
@@ -234,6 +329,33 @@ fn times(week: u32, tow: f64, earlier: u64) -> usize {
             sys::zaqnuti_nanos_since(nanos, earlier, &mut since);
             sys::zaqnuti_seconds_since(nanos, earlier, &mut seconds);
         }
+        frame
+    })
+}
+
+/// A trip as it is handed in, and one epoch more for it.
+fn trip(words: [u64; 6], x: f64) -> usize {
+    let (mut lent, mut report, mut per_km) = (words, [0; 4], 0);
+    measured(move || {
+        let frame = top();
+        // SAFETY: what is written is ours alone.
+        unsafe {
+            sys::zaqnuti_trip_start(words[0] as u16, &mut lent);
+            lent = words;
+            sys::zaqnuti_trip_add(&mut lent, &[x, -x, x], 7);
+            sys::zaqnuti_trip_report(&lent, &mut report);
+            sys::zaqnuti_trip_fuel(&lent, 850, &mut per_km);
+        }
+        frame
+    })
+}
+
+fn directions(position: [f64; 3], displacement: [f64; 3]) -> usize {
+    let mut ned = [0.0; 3];
+    measured(move || {
+        let frame = top();
+        // SAFETY: the last is ours alone.
+        unsafe { sys::zaqnuti_north_east_down(&position, &displacement, &mut ned) };
         frame
     })
 }
@@ -543,7 +665,9 @@ fn geometry() -> usize {
     measured(move || {
         let frame = top();
         // SAFETY: each points to as many floats as its type says, and the last is ours alone.
-        unsafe { sys::zaqnuti_geometry(&[2e7, 1e7, 1e7], &AT.coordinates(), &mut out) };
+        let number =
+            unsafe { sys::zaqnuti_geometry(&[2e7, 1e7, 1e7], &AT.coordinates(), &mut out) };
+        assert_eq!(number, 0);
         frame
     })
 }
@@ -653,6 +777,33 @@ fn no_more_than_the_header_says() {
             ]),
         ),
         (
+            "records",
+            most([
+                records(64 * 59, 64 * 59, 50, 1e9, 40),
+                records(64 * 59, 64 * 59, 50, 4.0, 41),
+                records(64 * 59, 64 * 59, 0, 1e9, 40),
+                records(65 * 59, 64 * 59, 4, 1e9, 40),
+                records(64 * 59, 65 * 59, 4, 1e9, 40),
+                records(64 * 59, 63 * 59 + 1, 4, 1e9, 40),
+                records(5 * 59, 64 * 59, 4, 1e9, 40),
+                records(64 * 59, 64 * 59, 4, 1e9, 39),
+                records(0, 0, 4, 1e9, 40),
+            ]),
+        ),
+        (
+            "read_records",
+            most([64 * 59, 65 * 59, 63 * 59 + 1, 59, 0].map(read_records)),
+        ),
+        (
+            "write_records",
+            most([
+                write_records(64, 64 * 59),
+                write_records(65, 65 * 59),
+                write_records(64, 64 * 59 - 1),
+                write_records(0, 0),
+            ]),
+        ),
+        (
             "add_epoch",
             most([
                 add_epoch(64, 2048, 0),
@@ -716,6 +867,22 @@ fn no_more_than_the_header_says() {
                 times(15_001, 0.5, 77),
                 times(15_000, f64::NAN, u64::MAX),
                 times(2, 5e-324, u64::MAX),
+            ]),
+        ),
+        (
+            "trip",
+            most([
+                trip([1000, 4, 10_000, 8, 2000, 2], 3.0),
+                trip([1, 0, 0, 0, 0, 0], 0.001),
+                trip([1000, 65_535, 0, 8, 2000, 2], 3.0),
+                trip([0; 6], f64::NAN),
+                trip([u64::MAX; 6], 1e300),
+            "north_east_down",
+            most([
+                directions([3782970.0, 902155.0, 5038376.0], [10.0, -20.0, 30.0]),
+                directions([0.0, 0.0, -6356752.0], [10.0, -20.0, 30.0]),
+                directions([0.0, 0.0, 2e9], [10.0, -20.0, 30.0]),
+                directions([5e-324, 1e-9, 0.0], [f64::NAN, 0.0, 0.0]),
             ]),
         ),
         ("geometry", geometry()),

@@ -5,7 +5,7 @@ use mathlib.Core.Bool.{Bool, true, false, cond, not, _&&_, _||_}
 use Prim.Native.Nat.{ℕ, _+_, _*_, _≤_, _<_}
 use native.Mathlib.Nat.{le-trans, le-of-eq, le-of-mul-le-mul-right, mul-le-mul-right, mul-right-comm, mul-one}
 use native.Mathlib.Omega.{arith}
-use borrow.Author.Tests.{ltb-false, le-ltb, not-true}
+use borrow.Author.Tests.{ltb-false, lt-ltb, le-ltb, not-true}
 use lib.Dec.{ltb, leb}
 use lib.ListN.{length, take}
 use lib.Ieee.{Float, nan, inf, fin, lt, le, up, down, ofInt}
@@ -24,10 +24,14 @@ use Rattle.table.specs.declared.add.Samples.{Samples}
 use Rattle.table.specs.declared.add.Test.the-variants.{Refused, Passed}
 use Rattle.table.proofs.TableLaws.{and-left, and-right}
 use Rattle.table.proofs.SmallLaws.{Small, range-small}
+use Rattle.directory.specs.Directory.{Blocks, Directory, soundDirectory}
+use Rattle.addition.specs.Add.{Placed, Places, addIn, addedIn, additionNumber, additionOf, directoryWith, entriesNow, placedOf, refusedIn, samplesNow, testIn}
+use Rattle.addition.specs.declared.add.Addition.{Addition}
+use Rattle.addition.specs.declared.add.Addition.the-variants as Addition
 use Rattle.differential.specs.Record.{rangesOf, statesCount, statesOf, placeInRange, rangeInRange, stateInRange}
 use Rattle.differential.specs.Raw.{rawsOf, Holds}
 use Rattle.differential.specs.Sample.{group, clockOf, kept, sampleOf, corrected, sampleAt, samplesOf, epochSamples}
-use Rattle.differential.specs.AddEpoch.{tooMany, settingsInRange, recordsInRange, addedOf, recordsTest}
+use Rattle.differential.specs.AddEpoch.{tooMany, settingsInRange, recordsInRange, addedOf, epochIn, recordsTest}
 use Rattle.differential.specs.declared.record.Range.{Range}
 use Rattle.differential.specs.declared.record.State.{State}
 use Rattle.differential.specs.declared.record.BaseEpoch.{BaseEpoch}
@@ -118,6 +122,12 @@ epoch-holds e s base rover set m em raws hr new hs =
     (hr .all ∙ ap (λ (k : ℕ). rawsOf set base rover (take k (s .states)) (rangesOf e)) em)
     hs
 
+-- they are in range
+counted-ranged : (n room : ℕ) (e : BaseEpoch) (s : States) (base rover : Vec3) (set : Settings) → PassedRecords n room e s base rover set → (new : Samples) → Holds (new .count) (new .samples) (epochSamples base rover set e s) → every ranged (counted new) ≡ true
+unfolding epochSamples settingsInRange
+counted-ranged n room e s base rover set p new h =
+    rw (h .all) (samples-ranged (e .time) (set .«max_correction») (time-in-range e s base rover (p .records)) (and-right (inRange (set .«max_gap»)) _ (p .settings)) _)
+
 module _ (n room : ℕ) (t : List Sample) (e : BaseEpoch) (s : States) (base rover : Vec3) (set : Settings) where
   pub epoch-refused : (r : Refusal) → Refused r ≡ recordsTest n room e s base rover set → refused r ≡ addedOf n room t e s base rover set
   unfolding recordsTest addedOf
@@ -135,14 +145,10 @@ module _ (n room : ℕ) (t : List Sample) (e : BaseEpoch) (s : States) (base rov
       go false true true q = absurd (let z : _≡_ {A = ℕ} 0 1 = cc in omega arith)
 
   module _ (p : PassedRecords n room e s base rover set) (new : Samples) (h : Holds (new .count) (new .samples) (epochSamples base rover set e s)) where
-    new-ranged : every ranged (counted new) ≡ true
-    unfolding epochSamples settingsInRange
-    new-ranged = rw (h .all) (samples-ranged (e .time) (set .«max_correction») (time-in-range e s base rover (p .records)) (and-right (inRange (set .«max_gap»)) _ (p .settings)) _)
-
     pub epoch-passed : addOf n room t new ≡ addedOf n room t e s base rover set
     unfolding addOf testOf addedOf
     epoch-passed =
-        rw (le-ltb room n (p .few), le-ltb 64 (new .count) (h .room), new-ranged, h .all, p .not-many, p .settings, p .records, ← (h .count)) (go (sound t) (ltb room (n + new .count)))
+        rw (le-ltb room n (p .few), le-ltb 64 (new .count) (h .room), counted-ranged n room e s base rover set p new h, h .all, p .not-many, p .settings, p .records, ← (h .count)) (go (sound t) (ltb room (n + new .count)))
       where
         go : (x y : Bool)
             → outcomeOf (cond (not (x && true)) (Refused RecordOutOfRange) (cond y (Refused TableFull) Passed)) (insertAll t (epochSamples base rover set e s))
@@ -150,6 +156,49 @@ module _ (n room : ℕ) (t : List Sample) (e : BaseEpoch) (s : States) (base rov
         go true true = refl
         go true false = refl
         go false y = refl
+
+-- ---- the same in a directory
+
+-- what a call leaves is said by the outcome
+pub told-same : {o o′ : Placed} {r : Addition} {m n : ℕ} {l l′ : Blocks} → o ≡ o′ → (r ≡ additionOf o) × Places o (additionNumber r) m (entriesNow r m) n (samplesNow r n) l l′ → (r ≡ additionOf o′) × Places o′ (additionNumber r) m (entriesNow r m) n (samplesNow r n) l l′
+told-same e a = rw (← e) a
+
+pub told-nothing : {o : Placed} (r : Refusal) (m n : ℕ) (l : Blocks) → refusedIn r ≡ o → (Addition.Refused r ≡ additionOf o) × Places o (additionNumber (Addition.Refused r)) m m n n l l
+told-nothing r m n l e = rw (← e) (refl, record { number-is = refl; entries-are = refl; samples-are = refl; columns = refl })
+
+module _ (m n room : ℕ) (d : Directory) (e : BaseEpoch) (s : States) (base rover : Vec3) (set : Settings) where
+  pub entries-refused : room < m → refusedIn TooMany ≡ epochIn m n room d e s base rover set
+  unfolding epochIn
+  entries-refused h = rw (lt-ltb room m h)
+
+  module _ (few : m ≤ room) where
+    pub placed-refused : (r : Refusal) → Refused r ≡ recordsTest n room e s base rover set → refusedIn r ≡ epochIn m n room d e s base rover set
+    unfolding recordsTest epochIn
+    placed-refused r q = rw (le-ltb room m few) (go (tooMany n room e s) (settingsInRange set) (recordsInRange e s base rover) q)
+      where
+        go : (a b x : Bool) → Refused r ≡ cond a (Refused TooMany) (cond (not b) (Refused SettingOutOfRange) (cond (not x) (Refused RecordOutOfRange) Passed))
+            → refusedIn r
+            ≡ cond a (refusedIn TooMany)
+            (cond (not b) (refusedIn SettingOutOfRange)
+            (cond (not (x && soundDirectory d)) (refusedIn RecordOutOfRange)
+            (cond (ltb room (n + length (epochSamples base rover set e s))) (refusedIn TableFull) (addedIn (directoryWith d (epochSamples base rover set e s))))))
+        go true b x q = let z : r ≡ TooMany = cc in ap refusedIn z
+        go false false x q = let z : r ≡ SettingOutOfRange = cc in ap refusedIn z
+        go false true false q = let z : r ≡ RecordOutOfRange = cc in ap refusedIn z
+        go false true true q = absurd (let z : _≡_ {A = ℕ} 0 1 = cc in omega arith)
+
+    module _ (p : PassedRecords n room e s base rover set) (new : Samples) (h : Holds (new .count) (new .samples) (epochSamples base rover set e s)) where
+      pub placed-passed : addIn m n room d new ≡ epochIn m n room d e s base rover set
+      unfolding addIn testIn epochIn
+      placed-passed =
+          rw (le-ltb room m few, le-ltb room n (p .few), le-ltb 64 (new .count) (h .room), counted-ranged n room e s base rover set p new h, h .all, p .not-many, p .settings, p .records, ← (h .count)) (go (soundDirectory d) (ltb room (n + new .count)))
+        where
+          go : (x y : Bool)
+              → placedOf (cond (not (x && true)) (Refused RecordOutOfRange) (cond y (Refused TableFull) Passed)) (directoryWith d (epochSamples base rover set e s))
+              ≡ cond (not x) (refusedIn RecordOutOfRange) (cond y (refusedIn TableFull) (addedIn (directoryWith d (epochSamples base rover set e s))))
+          go true true = refl
+          go true false = refl
+          go false y = refl
 
 -- ---- an epoch is known by what counts of it
 addedBy : ℕ → ℕ → List Sample → ℕ → Float → List Range → ℕ → List State → Vec3 → Vec3 → Settings → Outcome

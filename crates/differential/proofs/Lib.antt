@@ -3,6 +3,7 @@ pub mod RawLaws
 pub mod SampleLaws
 pub mod TestLaws
 pub mod EpochLaws
-pub mod BuildLaws
 pub mod SampleValues
 pub mod WidenedLaws
+pub mod BuildLaws
+pub mod SameLaws

@@ -13,6 +13,8 @@ use Rattle.table.specs.Add.{Outcome, refused, added, insertAll}
 use Rattle.table.specs.declared.sample.Sample.{Sample}
 use Rattle.table.specs.declared.add.Test.{Test}
 use Rattle.table.specs.declared.add.Test.the-variants.{Refused, Passed}
+use Rattle.directory.specs.Directory.{Directory, soundDirectory}
+use Rattle.addition.specs.Add.{Placed, refusedIn, addedIn, directoryWith}
 use Rattle.differential.specs.Record.{rangesOf, statesCount, statesOf, placeInRange, rangeInRange, stateInRange}
 use Rattle.differential.specs.Sample.{epochSamples}
 use Rattle.differential.specs.declared.record.BaseEpoch.{BaseEpoch}
@@ -41,6 +43,16 @@ addedOf n room t e s base rover set =
     (cond (not (recordsInRange e s base rover && sound t)) (refused RecordOutOfRange)
     (cond (ltb room (n + length new)) (refused TableFull)
     (added (insertAll t new)))))
+
+-- the epoch to m entries and n samples of a directory, in columns with the capacity room: the refusal, or the directory with the epoch's samples
+unfoldable pub epochIn : ℕ → ℕ → ℕ → Directory → BaseEpoch → States → Vec3 → Vec3 → Settings → Placed
+epochIn m n room d e s base rover set =
+    let new = epochSamples base rover set e s in
+    cond (ltb room m || tooMany n room e s) (refusedIn TooMany)
+    (cond (not (settingsInRange set)) (refusedIn SettingOutOfRange)
+    (cond (not (recordsInRange e s base rover && soundDirectory d)) (refusedIn RecordOutOfRange)
+    (cond (ltb room (n + length new)) (refusedIn TableFull)
+    (addedIn (directoryWith d new)))))
 
 -- ---- what the contracts of the steps say
 

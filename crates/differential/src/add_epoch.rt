@@ -1,8 +1,8 @@
-// One base epoch added to the table.
+// One base epoch added to the table, which is a directory beside the columns of times and corrections.
 ghost use mathlib.Core.Path.{_≡_};
-ghost use Rattle.table.specs.Table.{lent, capacity, tableOf};
-ghost use Rattle.table.specs.Add.{addingOf, addingNumber, countAfter, Adds};
-ghost use Rattle.differential.specs.AddEpoch.{recordsTest, addedOf};
+ghost use Rattle.directory.specs.Directory.{lentBlocks, blockCapacity, directoryIn};
+ghost use Rattle.addition.specs.Add.{additionOf, additionNumber, entriesNow, samplesNow, Places};
+ghost use Rattle.differential.specs.AddEpoch.{recordsTest, epochIn};
 use crate::raw::raws_of;
 use crate::record::BaseEpoch;
 use crate::record::Settings;
@@ -12,15 +12,15 @@ use crate::record::ranges_in_range;
 use crate::record::states_count;
 use crate::record::states_in_range;
 use crate::sample::samples_of;
+use addition::add::Addition;
+use addition::add::add;
+use directory::entry::block_capacity;
 use numeric::real::in_range;
 use numeric::refusal::Refusal;
 use numeric::vec3::Vec3;
-use table::add::Adding;
 use table::add::Test;
-use table::add::add;
-use table::sample::capacity_of;
 
-// Numbers 2, 3 and 4 of all but the table, in this order; room is the table's capacity.
+// Numbers 2, 3 and 4 of all but the table, in this order; room is the capacity of the table's columns.
 fn records_tested(
     n: usize,
     room: usize,
@@ -52,11 +52,14 @@ fn records_tested(
     Test::Passed
 }
 
-// The corrections of the epoch to the first n samples of the table, or the refusal, which leaves every column as it was.
+// The corrections of the epoch to the directory of m entries and n samples, or the refusal, which leaves every column as it was.
 pub fn add_epoch(
-    cs: &mut [u8],
-    vs: &mut [u16],
-    bs: &mut [u32],
+    dc: &mut [u8],
+    dv: &mut [u16],
+    db: &mut [u32],
+    df: &mut [usize],
+    dn: &mut [usize],
+    m: usize,
     ts: &mut [f64],
     xs: &mut [f64],
     n: usize,
@@ -65,21 +68,24 @@ pub fn add_epoch(
     base: Vec3,
     rover: Vec3,
     settings: Settings,
-) -> Adding
-    ensures { λ r. ⌜ (let l = lent (now (cs .entry)) (now (vs .entry)) (now (bs .entry)) (now (ts .entry)) (now (xs .entry)) in
-        let o = addedOf n (capacity l) (tableOf n l) epoch states base rover settings in
-        (r ≡ addingOf o) × Adds o (addingNumber r) n (countAfter r n) l (lent (now (cs .exit)) (now (vs .exit)) (now (bs .exit)) (now (ts .exit)) (now (xs .exit)))) ⌝ }
+) -> Addition
+    ensures { λ r. ⌜ (let l = lentBlocks (now (dc .entry)) (now (dv .entry)) (now (db .entry)) (now (df .entry)) (now (dn .entry)) (now (ts .entry)) (now (xs .entry)) in
+        let o = epochIn m n (blockCapacity l) (directoryIn m n l) epoch states base rover settings in
+        (r ≡ additionOf o) × Places o (additionNumber r) m (entriesNow r m) n (samplesNow r n) l (lentBlocks (now (dc .exit)) (now (dv .exit)) (now (db .exit)) (now (df .exit)) (now (dn .exit)) (now (ts .exit)) (now (xs .exit)))) ⌝ }
 {
-    let room = capacity_of(cs, vs, bs, ts, xs);
+    let room = block_capacity(dc, dv, db, df, dn, ts, xs);
+    if room < m {
+        return Addition::Refused(Refusal::TooMany);
+    }
     let test = records_tested(n, room, epoch, states, base, rover, settings);
     match test {
-        Test::Refused(r) => Adding::Refused(r),
+        Test::Refused(r) => Addition::Refused(r),
         Test::Passed => {
             let k = epoch.count;
-            let m = states_count(states);
-            let raws = raws_of(epoch, k, states, m, base, rover, settings);
+            let j = states_count(states);
+            let raws = raws_of(epoch, k, states, j, base, rover, settings);
             let samples = samples_of(raws, epoch.time, settings.max_correction);
-            add(cs, vs, bs, ts, xs, n, samples)
+            add(dc, dv, db, df, dn, m, ts, xs, n, samples)
         }
     }
 }

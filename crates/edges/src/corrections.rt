@@ -69,15 +69,20 @@ fn five_metres(name: &[u8], maximum: f64) {
         max_correction: maximum,
         constellations: [true; 8],
     };
-    let mut cs = [0u8; 4];
-    let mut vs = [0u16; 4];
-    let mut bs = [0u32; 4];
+    let mut dc = [0u8; 4];
+    let mut dv = [0u16; 4];
+    let mut db = [0u32; 4];
+    let mut df = [0usize; 4];
+    let mut dn = [0usize; 4];
     let mut ts = [0.0; 4];
     let mut xs = [0.0; 4];
     let a = add_epoch(
-        &mut cs,
-        &mut vs,
-        &mut bs,
+        &mut dc,
+        &mut dv,
+        &mut db,
+        &mut df,
+        &mut dn,
+        0,
         &mut ts,
         &mut xs,
         0,

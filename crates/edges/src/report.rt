@@ -1,10 +1,10 @@
 // A line for each trial: its name, and what came.
+use addition::add::Addition;
 use libc::STDOUT_FILENO;
 use numeric::order::pattern;
 use numeric::refusal::Refusal;
 use numeric::vec3::Vec3;
 use query::query::Correction;
-use table::add::Adding;
 use tdcp::displacement::Displacement;
 use wls::fix::Fix;
 
@@ -63,14 +63,14 @@ pub fn fix(name: &[u8], f: Fix) {
     text(b"\n");
 }
 
-pub fn adding(name: &[u8], a: Adding) {
+pub fn adding(name: &[u8], a: Addition) {
     text(name);
     match a {
-        Adding::Count(n) => {
+        Addition::Added(counts) => {
             text(b": samples ");
-            number(n as u64);
+            number(counts.samples as u64);
         }
-        Adding::Refused(r) => refused(r),
+        Addition::Refused(r) => refused(r),
     }
     text(b"\n");
 }

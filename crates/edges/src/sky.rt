@@ -1,5 +1,5 @@
 // One maker of skies: satellites well apart, over a receiver that moves from one place to another between two epochs.
-use numeric::sight::geometry;
+use numeric::sight::sight_of;
 use numeric::vec3::Vec3;
 use records::record::Carrier;
 use records::record::Epoch;
@@ -52,8 +52,8 @@ fn after(g: u8, slots: u8) -> u8 {
 // Satellite k of the constellation g: the phase is the range, and the rate the change in range of the second between the epochs.
 fn carrier(k: u64, g: u8, current: bool) -> Carrier {
     let place = satellite(k);
-    let then = geometry(place, start()).range;
-    let now = geometry(place, end()).range;
+    let then = sight_of(place, start()).range;
+    let now = sight_of(place, end()).range;
     let adr = if current { now } else { then };
     Carrier {
         constellation: g,
@@ -97,7 +97,7 @@ fn observation(k: u64, g: u8) -> Observation {
         band: 1,
         svid: (k % 64) as u16,
         modelled: 0.0,
-        pseudorange: geometry(place, start()).range,
+        pseudorange: sight_of(place, start()).range,
         satellite: place,
         elevation: 45.0,
     }

@@ -51,6 +51,16 @@ module _ {A : Type 0} (f : Refusal → A) (a : A) where
       go (Refused r) e = absurd (ne r (refused-by rs (sym e) ∙ h))
       go Passed e = refl
 
+-- what g makes of a call's answers is the answer of a call that gives those
+pub ruled-map : {A B : Type 0} (g : A → B) (f : Refusal → A) (a : A) (rs : List Rule) → g (ruled f rs a) ≡ ruled (λ r. g (f r)) rs (g a)
+unfolding ruled
+ruled-map g f a [] = refl
+ruled-map g f a (r ∷ rs) = go (r .applies) (ruled-map g f a rs)
+  where
+    go : (b : Bool) → g (ruled f rs a) ≡ ruled (λ r. g (f r)) rs (g a) → g (cond b (f (r .refusal)) (ruled f rs a)) ≡ cond b (g (f (r .refusal))) (ruled (λ r. g (f r)) rs (g a))
+    go true ih = refl
+    go false ih = ih
+
 -- ---- what has been passed
 
 -- the rule at the head does not apply, and the others have been passed

@@ -102,10 +102,10 @@ total-is n l = is-Σ (λ i. Σ n (λ k. ∣ triangle l i k ∣)) (λ i. sum (λ 
 sizes-is : (n : ℕ) (x : ℕ → Float) → Is (Σ n (λ j. ∣ column x j ∣)) (num (sizeX x n) 0) scale
 sizes-is n x = is-Σ (λ j. ∣ column x j ∣) (λ j. magnitude (x j)) scale n (λ j. is-∣exactly∣ (x j))
 
--- the bound's two terms over one denominator: t is 1 / M, r is 1 / K, f and g are 1 + F and 1 + X
-bound-is : (K c M S P F X : ℕ) {t r T f g : Number} → c * M ≡ K → Is t (num 1 0) M → Is r (num 1 0) K → Is T (num P 0) (S * (S * S)) → Is f (num F 0) S → Is g (num X 0) S
-    → Is (t *ₑ T +ₑ r *ₑ f *ₑ f *ₑ g) (num (c * 1 * P + 1 * F * F * X) 0) (K * (S * (S * S)))
-bound-is K c M S P F X e ht hr hT hf hg = is-+ (is-*ℕ (is-over (is-scaledℕ c ht) e) hT) (is-over (is-*ℕ (is-*ℕ (is-*ℕ hr hf) hf) hg) (cube K S))
+-- a bound's two terms over one denominator: t is 1 / M, r is 1 / K
+pub bound-is : (K c M S P F G X : ℕ) {t r T f g h : Number} → c * M ≡ K → Is t (num 1 0) M → Is r (num 1 0) K → Is T (num P 0) (S * (S * S)) → Is f (num F 0) S → Is g (num G 0) S → Is h (num X 0) S
+    → Is (t *ₑ T +ₑ r *ₑ f *ₑ g *ₑ h) (num (c * 1 * P + 1 * F * G * X) 0) (K * (S * (S * S)))
+bound-is K c M S P F G X e ht hr hT hf hg hh = is-+ (is-*ℕ (is-over (is-scaledℕ c ht) e) hT) (is-over (is-*ℕ (is-*ℕ (is-*ℕ hr hf) hg) hh) (cube K S))
   where
     cube : (K S : ℕ) → K * S * S * S ≡ K * (S * (S * S))
     cube K S = omega arith
@@ -120,7 +120,7 @@ accurate-of n a l b x h i g =
     let c = 2 ^ 1022 in
     le-of-is (mul-pos (pow-pos 1070) (mul-pos scale-pos (mul-pos scale-pos scale-pos)))
     (is-over (is-scaledℕ (K * scale) (is-∣∣ (residual-is n a l b x i))) (mul-assoc K scale (scale * scale)))
-    (bound-is K c (2 ^ 48) scale (P n a l b x i) (scale + sizeL l n) (scale + sizeX x n) refl (is-2^- 48) (is-2^- 1070) (product-is n a l b x i) (is-+ (is-1 scale) (total-is n l)) (is-+ (is-1 scale) (sizes-is n x)))
+    (bound-is K c (2 ^ 48) scale (P n a l b x i) (scale + sizeL l n) (scale + sizeL l n) (scale + sizeX x n) refl (is-2^- 48) (is-2^- 1070) (product-is n a l b x i) (is-+ (is-1 scale) (total-is n l)) (is-+ (is-1 scale) (total-is n l)) (is-+ (is-1 scale) (sizes-is n x)))
     (finish K c scale (sum (λ j. sum (λ k. lower l i k * lower l j k) n * magnitude (x j)) n) (P n a l b x i) (sizeL l n) (sizeX x n) (error n a l b x i) (gap (residual n a l b x i)) (error-is n a l b x i)
     (exchange (lower l i) (lower l) (λ j. magnitude (x j)) n n)
     (loosen (2 ^ 48) (2 ^ 52) K c scale (error n a l b x i * scale) (sum (λ j. sum (λ k. lower l i k * lower l j k) n * magnitude (x j)) n) (sizeL l n) (sizeX x n) thousand whole (h i g)))

@@ -13,7 +13,7 @@ use lib.Ieee.{Float, unlike}
 use Rattle.exact.specs.Value.{scale, magnitude}
 use Rattle.exact.specs.Number.{Number, _+ₑ_, _-ₑ_, _*ₑ_, ∣_∣, _≤ₑ_, _<ₑ_, negative, 0ₑ, 1ₑ, 2^-_, Σ, exactly}
 use Rattle.exact.proofs.Sharper.{sum}
-use Rattle.exact.proofs.Num.{Num, num, none, _∔_, _∸_, _⊙_, _·_, abs, apart, Plain}
+use Rattle.exact.proofs.Num.{Num, num, none, _∔_, _∸_, _⊙_, _·_, abs, apart, Plain, plain-⊙}
 use Rattle.exact.proofs.Ops.{val, sgn, val-plain}
 use Rattle.exact.proofs.Products.{dot}
 use Rattle.exact.proofs.Bridge.{Stands, stands-+, stands--, stands-*, stands-val, abs-val}
@@ -241,12 +241,30 @@ unfolding Σ dot
 is-dot f g x y d e zero h k = is-0 (d * e)
 is-dot f g x y d e (suc n) h k = is-+ (is-dot f g x y d e n h k) (is-* (h n) (k n))
 
-pub is-∣exactly∣ : (x : Float) → Is ∣ exactly x ∣ (num (magnitude x) 0) scale
-is-∣exactly∣ x = is-same (num (magnitude x) 0) (is-∣∣ (is-exactly x)) (plain (val x) (magnitude x) (val-plain x) (abs-val x))
+-- x is the fraction u / d, and one part of u is 0
+pub record Sized (x : Number) (u : Num) (d : ℕ) : Type 0 where
+  pub is : Is x u d
+  pub plain : Plain u
+
+pub sized-0 : (d : ℕ) → Sized 0ₑ none d
+sized-0 d = record { is = is-0 d; plain = inl refl }
+
+pub sized-exactly : (x : Float) → Sized (exactly x) (val x) scale
+sized-exactly x = record { is = is-exactly x; plain = val-plain x }
+
+pub sized-* : {x y : Number} {u t : Num} {d e : ℕ} → Sized x u d → Sized y t e → Sized (x *ₑ y) (u ⊙ t) (d * e)
+sized-* {u = u} {t = t} h k = record { is = is-* (h .is) (k .is); plain = plain-⊙ u t (h .plain) (k .plain) }
+
+-- its magnitude
+pub is-size : {x : Number} {u : Num} {d : ℕ} → Sized x u d → Is ∣ x ∣ (num (abs u) 0) d
+is-size {x} {u} {d} h = is-same (num (abs u) 0) (is-∣∣ (h .is)) (only u (h .plain))
   where
-    plain : (u : Num) (m : ℕ) → Plain u → abs u ≡ m → gap u + 0 ≡ m + 0
-    plain u m (inl z) e = omega arith
-    plain u m (inr z) e = omega arith
+    only : (u : Num) → Plain u → gap u + 0 ≡ abs u + 0
+    only u (inl z) = omega arith
+    only u (inr z) = omega arith
+
+pub is-∣exactly∣ : (x : Float) → Is ∣ exactly x ∣ (num (magnitude x) 0) scale
+is-∣exactly∣ x = subst (λ (m : ℕ). Is ∣ exactly x ∣ (num m 0) scale) (abs-val x) (is-size (sized-exactly x))
 
 -- ---- numbers by their sign and their magnitude
 pub is-sgn-* : {x y : Number} {d e : ℕ} (s t : Bool) (a b : ℕ) → Is x (sgn s a) d → Is y (sgn t b) e → Is (x *ₑ y) (sgn (unlike s t) (a * b)) (d * e)

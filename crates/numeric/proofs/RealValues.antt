@@ -3,13 +3,15 @@ use mathlib.Core.Path.{_≡_, refl}
 use mathlib.Core.Bool.{true, false}
 use mathlib.Core.List.{[], _∷_}
 use lib.IntN.{negsuc}
-use lib.Ieee.{Float, nan, inf, fin, neg, add, sub, mul, div, lt, le, isNan, ofInt, ofBits}
+use lib.Ieee.{Float, nan, inf, fin, neg, add, sub, mul, div, eq, lt, le, isNan, ofInt, ofBits}
 use Rattle.exact.specs.Float.{_⊘_, +0, 1·0, bits, whole}
 use Rattle.root.specs.Root.{rootOf}
 use Rattle.numeric.specs.Real.{square, hypot, travelLimit, travelSine, travelCosine, pi, radians, factorial, _!, -1·0, elevationSine, abs, max, inRange}
 use Rattle.numeric.specs.Vec3.{add as vec-plus, sub as vec-minus, norm}
-use Rattle.numeric.specs.Sight.{earthRate, travelAngle, turned, gap, along, geometry}
+use Rattle.numeric.specs.Sight.{earthRate, travelAngle, turned, gap, along, sightOf, onReceiver, geometry}
 use Rattle.numeric.specs.declared.vec3.Vec3.{Vec3}
+use Rattle.numeric.specs.declared.refusal.Refusal.the-variants.{OnReceiver}
+use Rattle.numeric.specs.declared.sight.Sighting.the-variants.{Refused}
 
 -- ---- square and hypot
 
@@ -179,6 +181,11 @@ unfolding div ofInt ofBits
 earth-rate = refl
 
 -- a range of 23,403,217.284568273 m
-pub sight : geometry (vec (whole 15600000) (whole 7540000) (whole 20140000)) (vec (whole 6371000) (whole 1000) (neg (whole 2000))) ≡ record { x = bits 0xBFD9_3D04_F2BA_2812; y = bits 0xBFD4_9DCD_072D_30BB; z = bits 0xBFEB_8A73_C129_FB2E; range = bits 0x4176_51AD_148D_9776 }
-unfolding geometry gap along turned travelAngle travelSine travelCosine le norm vec-minus sub add mul div neg rootOf ofInt ofBits
+pub sight : sightOf (vec (whole 15600000) (whole 7540000) (whole 20140000)) (vec (whole 6371000) (whole 1000) (neg (whole 2000))) ≡ record { x = bits 0xBFD9_3D04_F2BA_2812; y = bits 0xBFD4_9DCD_072D_30BB; z = bits 0xBFEB_8A73_C129_FB2E; range = bits 0x4176_51AD_148D_9776 }
+unfolding sightOf gap along turned travelAngle travelSine travelCosine le norm vec-minus sub add mul div neg rootOf ofInt ofBits
 sight = refl
+
+-- a satellite at the receiver's own coordinates is not seen
+pub on-top : geometry (vec (whole 6371000) (whole 1000) (neg (whole 2000))) (vec (whole 6371000) (whole 1000) (neg (whole 2000))) ≡ Refused OnReceiver
+unfolding geometry onReceiver eq sightOf gap along turned travelAngle travelSine travelCosine le norm vec-minus sub add mul div neg rootOf ofInt ofBits
+on-top = refl

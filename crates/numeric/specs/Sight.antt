@@ -1,10 +1,18 @@
--- The line of sight from a satellite to a receiver, `geometry` of wls.rs and tdcp.rs. Definitions only.
-use lib.Ieee.{Float, neg}
-use Rattle.exact.specs.Float.{_⊕_, _⊗_, _⊘_, whole, decimal}
+-- The line of sight from a satellite to a receiver, `geometry` of wls.rs and tdcp.rs, and its refusal (docs/SCOPE.md, "Line of sight"). Definitions only.
+use Prim.Native.Nat.{ℕ}
+use mathlib.Core.Bool.{Bool, not, cond, _||_}
+use mathlib.Core.List.{List, [], _∷_}
+use lib.Ieee.{Float, neg, eq}
+use lib.Ieee.Scale.{finite}
+use Rattle.exact.specs.Float.{_⊕_, _⊗_, _⊘_, +0, whole, decimal}
 use Rattle.numeric.specs.Real.{travelSine, travelCosine}
 use Rattle.numeric.specs.Vec3.{sub, norm}
+use Rattle.numeric.specs.Refusal.{numberOf}
 use Rattle.numeric.specs.declared.vec3.Vec3.{Vec3}
+use Rattle.numeric.specs.declared.refusal.Refusal.the-variants.{OnReceiver}
 use Rattle.numeric.specs.declared.sight.Sight.{Sight}
+use Rattle.numeric.specs.declared.sight.Sighting.{Sighting}
+use Rattle.numeric.specs.declared.sight.Sighting.the-variants.{Refused, Seen}
 
 -- IS-GPS-200: the speed of light, 299,792,458 m/s, and the earth's rotation rate, 7.2921151467e-5 rad/s
 abbrev pub lightSpeed : Float
@@ -32,8 +40,25 @@ gap satellite receiver distance = sub receiver (turned satellite (travelAngle di
 unfoldable pub along : Vec3 → Float → Sight
 along d range = record { x = d .x ⊘ range; y = d .y ⊘ range; z = d .z ⊘ range; range = range }
 
--- the line of sight: the signal travels the distance of the two places
-unfoldable pub geometry : Vec3 → Vec3 → Sight
-geometry satellite receiver =
+-- the line of sight as the formulas give it, whatever its range: the signal travels the distance of the two places
+unfoldable pub sightOf : Vec3 → Vec3 → Sight
+sightOf satellite receiver =
     let d = gap satellite receiver (norm (sub satellite receiver)) in
     along d (norm d)
+
+-- 15: the range is zero or not finite
+unfoldable pub onReceiver : Float → Bool
+onReceiver range = eq range +0 || not (finite range)
+
+-- the geometry of one satellite: refused where the range that it gives is zero or not finite
+unfoldable pub geometry : Vec3 → Vec3 → Sighting
+geometry satellite receiver = cond (onReceiver (sightOf satellite receiver .range)) (Refused OnReceiver) (Seen (sightOf satellite receiver))
+
+-- its number, which is 0 where it is given, and what four lent floats hold afterwards: a refusal leaves them
+abbrev pub sightingNumber : Sighting → ℕ
+sightingNumber (Refused r) = numberOf r
+sightingNumber (Seen s) = 0
+
+abbrev pub sightingAfter : Sighting → List Float → List Float
+sightingAfter (Refused r) out = out
+sightingAfter (Seen s) out = s .x ∷ s .y ∷ s .z ∷ s .range ∷ []

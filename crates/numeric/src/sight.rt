@@ -1,8 +1,10 @@
 // The line of sight between a satellite and a receiver.
 ghost use mathlib.Core.Path.{_≡_};
 ghost use Rattle.numeric.specs.Sight as spec;
+use crate::real::is_finite;
 use crate::real::travel_cosine;
 use crate::real::travel_sine;
+use crate::refusal::Refusal;
 use crate::vec3::Vec3;
 use root::sqrt::sqrt;
 
@@ -12,6 +14,12 @@ pub struct Sight {
     pub y: f64,
     pub z: f64,
     pub range: f64,
+}
+
+// The line of sight, or why it is not given.
+pub enum Sighting {
+    Refused(Refusal),
+    Seen(Sight),
 }
 
 // How far the earth turns while a signal travels the distance.
@@ -54,14 +62,32 @@ fn along(d: Vec3, range: f64) -> Sight
     }
 }
 
-// The line of sight from the satellite to the receiver. The turn changes the distance by so little that its root helps to find the range.
-pub fn geometry(satellite: Vec3, receiver: Vec3) -> Sight
-    ensures { λ r. ⌜ r ≡ spec.geometry satellite receiver ⌝ }
+// The line of sight from the satellite to the receiver, whatever its range. The turn changes the distance by so little that its root helps to find the range.
+pub fn sight_of(satellite: Vec3, receiver: Vec3) -> Sight
+    ensures { λ r. ⌜ r ≡ spec.sightOf satellite receiver ⌝ }
 {
     let distance = satellite.sub(receiver).norm();
     let d = gap(satellite, receiver, distance);
     let range = d.norm_beside(distance);
     along(d, range)
+}
+
+// Rule 15: whether the range is zero or not finite.
+pub fn is_on_receiver(range: f64) -> bool
+    ensures { λ r. ⌜ r ≡ spec.onReceiver range ⌝ }
+{
+    (range == 0.0) | !is_finite(range)
+}
+
+// The geometry of one satellite, which refuses by 15.
+pub fn geometry(satellite: Vec3, receiver: Vec3) -> Sighting
+    ensures { λ r. ⌜ r ≡ spec.geometry satellite receiver ⌝ }
+{
+    let s = sight_of(satellite, receiver);
+    if is_on_receiver(s.range) {
+        return Sighting::Refused(Refusal::OnReceiver);
+    }
+    Sighting::Seen(s)
 }
 
 // The lines of sight of one satellite's places at two epochs.
@@ -73,7 +99,7 @@ pub struct Sights {
 // Both lines of sight, step by step side by side: neither waits for the other's roots, which take most of the time. The root is handed a float
 // and not a vector: what lies in memory field by field is slow to read back whole.
 pub fn sights_of(now: Vec3, then: Vec3, receiver: Vec3) -> Sights
-    ensures { λ r. ⌜ (r .now ≡ spec.geometry now receiver) × (r .then ≡ spec.geometry then receiver) ⌝ }
+    ensures { λ r. ⌜ (r .now ≡ spec.sightOf now receiver) × (r .then ≡ spec.sightOf then receiver) ⌝ }
 {
     let u = now.sub(receiver);
     let v = then.sub(receiver);

@@ -4,7 +4,7 @@ use mathlib.Core.List.{List, [], _∷_}
 use lib.Ieee.{Float, le}
 use Rattle.exact.specs.Float.{_⊕_, _⊖_, _⊗_, bits}
 use Rattle.walk.specs.Walk.{first, collect}
-use Rattle.numeric.specs.Sight.{geometry}
+use Rattle.numeric.specs.Sight.{sightOf}
 use Rattle.numeric.specs.declared.vec3.Vec3.{Vec3}
 use Rattle.records.specs.Record.{usable, same}
 use Rattle.records.specs.declared.record.Carrier.{Carrier}
@@ -18,8 +18,8 @@ half = bits 0x3FE0_0000_0000_0000
 -- `detector` the phase change less what the mean of the two rates predicts, and the ranges are those of the two satellite places.
 unfoldable pub pairOf : Vec3 → Float → Carrier → Carrier → Pair
 pairOf receiver dt c p =
-    let now = geometry (c .satellite) receiver in
-    let then = geometry (p .satellite) receiver in
+    let now = sightOf (c .satellite) receiver in
+    let then = sightOf (p .satellite) receiver in
     let phase = c .adr ⊖ p .adr in
     record {
       unit = record { x = now .x; y = now .y; z = now .z };

@@ -15,15 +15,16 @@ use Rattle.numeric.specs.declared.refusal.Refusal.the-variants.{TooMany, Settin
 use Rattle.tridiagonal.specs.Columns.{Filled}
 use Rattle.tridiagonal.proofs.Cells.{fill-list}
 use Rattle.trajectory.specs.Input.{Trajectory, workNeed}
-use Rattle.trajectory.specs.Pass.{passes}
+use Rattle.trajectory.specs.Pass.{passes, fitOf}
 use Rattle.smooth.specs.declared.Settings.{Settings}
 use Rattle.smooth.specs.declared.Track.{Track}
 use Rattle.smooth.specs.declared.Track.the-variants as Track
-use Rattle.smooth.specs.Track.{ones, smoothed, points}
+use Rattle.smooth.specs.Track.{ones, smoothed, points, goodPasses, lastPass}
 use Rattle.smooth.specs.Answer.{countsOk, settingsOk, recordsOk, trackOk, Tracked, Refused, Points, unless, trackOf, cleared, Called}
 use Rattle.smooth.specs.Steps.{FitDone}
 use Rattle.smooth.proofs.Refusals.{counted, valid}
 use Rattle.smooth.proofs.Finite.{smoothed-finite, origin-small}
+use Rattle.smooth.proofs.Passes.{track-is-last, all-accurate}
 use Rattle.smooth.proofs.Points.{points-finite, points-list}
 
 -- ---- what is given out is finite
@@ -37,10 +38,14 @@ passed : (b : Bool) (x : Refusal) (t : Tracked) (ps : List Float) → unless b x
 passed true x t ps e = (refl, e)
 passed false x t ps e = (cc, cc)
 
--- every coordinate of a track that is given out is finite
-pub track-finite : (p : Trajectory) (s : Settings) (r w : ℕ) (ps : List Float) → trackOf p s r w ≡ Points ps → (k : ℕ) → k < length ps → finite (getD ps k nan) ≡ true
+-- what is known of a track that is given out
+record Known (p : Trajectory) (s : Settings) (ps : List Float) : Type 0 where
+  coordinates : (k : ℕ) → k < length ps → finite (getD ps k nan) ≡ true
+  last : ps ≡ points (fitOf p (lastPass ones (goodPasses p (s .huber) (s .iterations)))) (p .n)
+
+known : (p : Trajectory) (s : Settings) (r w : ℕ) (ps : List Float) → trackOf p s r w ≡ Points ps → Known p s ps
 unfolding trackOf listed
-track-finite p s r w ps e =
+known p s r w ps e =
     let f = smoothed p (s .huber) (s .iterations) in
     let e2 = passed (countsOk p r w) TooMany _ ps e in
     let e3 = passed (settingsOk s) SettingOutOfRange _ ps (e2 .1) in
@@ -49,7 +54,10 @@ track-finite p s r w ps e =
     let e10 = passed (passes p ones) FitFailed _ ps (e6 .1) in
     let v = valid p r w (counted p r w (e2 .0)) (e6 .0) in
     let same : points f (p .n) ≡ ps = ap listed (e10 .1) in
-    rw same at (points-finite f (p .n) (smoothed-finite p (origin-small p (v .some) (e4 .0)) (s .huber) (s .iterations) (e10 .0)))
+    record {
+      coordinates = rw same at (points-finite f (p .n) (smoothed-finite p (origin-small p (v .some) (e4 .0)) (s .huber) (s .iterations) (e10 .0)));
+      last = sym same ∙ ap (λ (g : ℕ → ℕ → Float). points g (p .n)) (track-is-last p (s .huber) (s .iterations) (e10 .0));
+    }
 
 -- ---- the call's ends
 
@@ -60,7 +68,9 @@ module _ (p : Trajectory) (s : Settings) (r w : List Float) where
     answer = rw e;
     result = rw e;
     work = rw (e, l);
-    all-finite = track-finite p s (length r) (length w);
+    all-finite = λ ps f. known p s (length r) (length w) ps f .coordinates;
+    last-given = λ ps f. known p s (length r) (length w) ps f .last;
+    accurate = all-accurate p (goodPasses p (s .huber) (s .iterations));
   }
 
   module _ (b2 : Bool) (e2 : b2 ≡ countsOk p (length r) (length w)) where
@@ -97,7 +107,9 @@ module _ (p : Trajectory) (s : Settings) (r w : List Float) where
                   answer = rw e;
                   result = rw e (d .no-same f);
                   work = rw e clear;
-                  all-finite = track-finite p s (length r) (length w);
+                  all-finite = λ ps f. known p s (length r) (length w) ps f .coordinates;
+                  last-given = λ ps f. known p s (length r) (length w) ps f .last;
+                  accurate = all-accurate p (goodPasses p (s .huber) (s .iterations));
                 }
 
             pub found : ok ≡ true → Called p s r w Track.Smoothed r1 w2
@@ -109,5 +121,7 @@ module _ (p : Trajectory) (s : Settings) (r w : List Float) where
                   answer = rw e;
                   result = rw e (points-list r r1 (p .n) f lr (counted p (length r) (length w) (sym e2 ∙ y2) .result) (d .yes-holds t) (d .kept));
                   work = rw e clear;
-                  all-finite = track-finite p s (length r) (length w);
+                  all-finite = λ ps f. known p s (length r) (length w) ps f .coordinates;
+                  last-given = λ ps f. known p s (length r) (length w) ps f .last;
+                  accurate = all-accurate p (goodPasses p (s .huber) (s .iterations));
                 }

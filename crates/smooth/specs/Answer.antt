@@ -15,11 +15,11 @@ use Rattle.numeric.specs.declared.refusal.Refusal.the-variants.{TooMany, Settin
 use Rattle.tridiagonal.specs.Columns.{eachBelow}
 use Rattle.trajectory.specs.Input.{Measured, Trajectory, indexAt, workNeed}
 use Rattle.trajectory.specs.Equations.{nextAt}
-use Rattle.trajectory.specs.Pass.{passes}
+use Rattle.trajectory.specs.Pass.{passes, fitOf, PassAccurate}
 use Rattle.smooth.specs.declared.Settings.{Settings}
 use Rattle.smooth.specs.declared.Track.{Track}
 use Rattle.smooth.specs.declared.Track.the-variants as Track
-use Rattle.smooth.specs.Track.{ones, smoothed, points}
+use Rattle.smooth.specs.Track.{ones, smoothed, points, goodPasses, lastPass, EachPass}
 
 -- ---- the tests, in checking order
 
@@ -98,9 +98,12 @@ abbrev pub workAfter : ℕ → Tracked → List Float → List Float
 workAfter need (Refused x) w = cond (leb (numberOf x) 6) w (cleared need w)
 workAfter need (Points ps) w = cleared need w
 
--- What the call answers and leaves. Every coordinate of a track is finite.
+-- What the call answers and leaves. Every coordinate of a track is finite, and the track is the fit of the last good pass.
+-- Each pass whose track is given out or reweighted from meets its equations as closely as docs/SCOPE.md, "Track", says, on every axis and in every row.
 pub record Called (p : Trajectory) (s : Settings) (r w : List Float) (x : Track) (r' w' : List Float) : Type 0 where
   pub answer : x ≡ answerOf (trackOf p s (length r) (length w))
   pub result : r' ≡ resultAfter (trackOf p s (length r) (length w)) r
   pub work : w' ≡ workAfter (workNeed p) (trackOf p s (length r) (length w)) w
   pub all-finite : (ps : List Float) → trackOf p s (length r) (length w) ≡ Points ps → (k : ℕ) → k < length ps → finite (getD ps k nan) ≡ true
+  pub last-given : (ps : List Float) → trackOf p s (length r) (length w) ≡ Points ps → ps ≡ points (fitOf p (lastPass ones (goodPasses p (s .huber) (s .iterations)))) (p .n)
+  pub accurate : EachPass (PassAccurate p) (goodPasses p (s .huber) (s .iterations))

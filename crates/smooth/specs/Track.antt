@@ -67,3 +67,13 @@ passesFrom p h (suc r) s = let s' = scalesOf p h (fitOf p s) in s ∷ cond (pass
 -- all the good passes of a track, none where the first fails
 unfoldable pub goodPasses : Trajectory → Float → ℕ → List Scales
 goodPasses p h iterations = cond (passes p ones) (passesFrom p h (iterations - 1) ones) []
+
+-- the last of a list of passes, s where there is none: the track that is given out is its fit
+unfoldable pub lastPass : Scales → List Scales → Scales
+lastPass s [] = s
+lastPass s (t ∷ ts) = lastPass t ts
+
+-- P holds of each pass of a list
+unfoldable pub EachPass : (Scales → Type 0) → List Scales → Type 0
+EachPass P [] = Unit
+EachPass P (s ∷ ss) = P s × EachPass P ss

@@ -9,7 +9,6 @@ pub mod SeriesLaws
 pub mod BuiltLaws
 pub mod SpotLaws
 pub mod InsertLaws
-pub mod AddLaws
 pub mod PlaceLaws
 pub mod WidenLaws
 pub mod Values

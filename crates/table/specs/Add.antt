@@ -2,17 +2,14 @@
 use Prim.Native.Nat.{ℕ, zero, suc, _+_}
 use mathlib.Core.Path.{_≡_}
 use mathlib.Core.Bool.{cond, not, _&&_, _||_}
-use mathlib.Core.List.{List, [], _∷_, _++_, map}
+use mathlib.Core.List.{List, [], _∷_}
 use lib.Dec.{ltb}
-use lib.ListN.{length, take, drop}
+use lib.ListN.{take, drop}
 use Rattle.walk.specs.Walk.{every}
-use Rattle.numeric.specs.Refusal.{numberOf}
 use Rattle.numeric.specs.declared.refusal.Refusal.{Refusal}
 use Rattle.numeric.specs.declared.refusal.Refusal.the-variants.{TooMany, RecordOutOfRange, TableFull}
 use Rattle.table.specs.Table.{Columns, tableOf, standsBefore, ranged, sound}
 use Rattle.table.specs.declared.sample.Sample.{Sample}
-use Rattle.table.specs.declared.add.Adding.{Adding}
-use Rattle.table.specs.declared.add.Adding.the-variants.{Refused, Count}
 use Rattle.table.specs.declared.add.Samples.{Samples}
 use Rattle.table.specs.declared.add.Test.{Test}
 use Rattle.table.specs.declared.add.Test.the-variants as Test
@@ -33,47 +30,6 @@ insertAll t (s ∷ ss) = insertAll (insert s t) ss
 pub data Outcome : Type 0 where
   refused : Refusal → Outcome
   added : List Sample → Outcome
-
--- the answer: the refusal, or how many samples the table has now
-abbrev pub addingOf : Outcome → Adding
-addingOf (refused r) = Refused r
-addingOf (added t) = Count (length t)
-
--- 0, or the number of the refusal
-abbrev pub addingNumber : Adding → ℕ
-addingNumber (Refused r) = numberOf r
-addingNumber (Count k) = 0
-
--- how many samples the table has after an answer, n before it
-abbrev pub countAfter : Adding → ℕ → ℕ
-countAfter (Refused r) n = n
-countAfter (Count k) n = k
-
--- a column with the values of the table t, f being its field, and past them what was there
-abbrev pub columnWith : {A : Type 0} → (Sample → A) → List Sample → List A → List A
-columnWith f t column = map f t ++ drop (length t) column
-
--- the columns with the table t, and past it what was there
-abbrev pub columnsWith : List Sample → Columns → Columns
-columnsWith t l =
-    record {
-      constellations = columnWith (λ (s : Sample). s .constellation) t (l .constellations);
-      svids = columnWith (λ (s : Sample). s .svid) t (l .svids);
-      bands = columnWith (λ (s : Sample). s .band) t (l .bands);
-      times = columnWith (λ (s : Sample). s .time) t (l .times);
-      corrections = columnWith (λ (s : Sample). s .correction) t (l .corrections);
-    }
-
--- the columns afterwards: as they were where adding is refused, else with the table
-abbrev pub columnsAfter : Outcome → Columns → Columns
-columnsAfter (refused r) l = l
-columnsAfter (added t) l = columnsWith t l
-
--- the number, the count and the columns afterwards are those of the outcome
-pub record Adds (o : Outcome) (number n n′ : ℕ) (l l′ : Columns) : Type 0 where
-  pub number-is : number ≡ addingNumber (addingOf o)
-  pub count : n′ ≡ countAfter (addingOf o) n
-  pub columns : l′ ≡ columnsAfter o l
 
 -- the samples that are counted
 abbrev pub counted : Samples → List Sample

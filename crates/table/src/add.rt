@@ -4,12 +4,10 @@ ghost use mathlib.Core.Bool.{true};
 ghost use Prim.Native.Nat.{_+_, _-_, _≤_, _<_};
 ghost use lib.ListN.{length, take};
 ghost use Rattle.walk.specs.Walk.{every};
-ghost use Rattle.table.specs.Table.{lent, rows, capacity, tableOf, ranged, sound};
-ghost use Rattle.table.specs.Add.{spotOf, opened, Inserted, InsertedAll, counted, testOf, addOf, addingOf, addingNumber, countAfter, Adds};
+ghost use Rattle.table.specs.Table.{lent, rows, tableOf, ranged, sound};
+ghost use Rattle.table.specs.Add.{spotOf, opened, Inserted, InsertedAll, counted};
 use crate::sample::Sample;
-use crate::sample::capacity_of;
 use crate::sample::is_ranged;
-use crate::sample::is_sound;
 use crate::sample::precedes;
 use crate::sample::sample_at;
 use numeric::refusal::Refusal;
@@ -24,12 +22,6 @@ pub struct Samples {
 pub enum Test {
     Refused(Refusal),
     Passed,
-}
-
-// The answer to adding: why nothing was added, or how many samples the table has now.
-pub enum Adding {
-    Refused(Refusal),
-    Count(usize),
 }
 
 // How many samples at the front of a sound table the sample s does not precede.
@@ -125,7 +117,7 @@ fn insert(
 }
 
 // The first m samples of new, one after the other, into the n samples of a sound table that has room for them all.
-fn insert_all(
+pub fn insert_all(
     cs: &mut [u8],
     vs: &mut [u16],
     bs: &mut [u32],
@@ -151,7 +143,7 @@ fn insert_all(
 }
 
 // Whether rule 4 lets the counted samples pass.
-fn all_ranged(new: Samples) -> bool
+pub fn all_ranged(new: Samples) -> bool
     requires { ⌜ new .count ≤ 64 ⌝ }
     ensures { λ r. ⌜ r ≡ every ranged (counted new) ⌝ }
 {
@@ -165,55 +157,4 @@ fn all_ranged(new: Samples) -> bool
         i += 1;
     }
     true
-}
-
-// Numbers 2, 4 and 11, in this order.
-fn tested(cs: &[u8], vs: &[u16], bs: &[u32], ts: &[f64], xs: &[f64], n: usize, new: Samples) -> Test
-    ensures { λ r. ⌜ (let l = lent (now (cs .entry)) (now (vs .entry)) (now (bs .entry)) (now (ts .entry)) (now (xs .entry)) in
-        r ≡ testOf n (capacity l) (tableOf n l) new) ⌝ }
-{
-    let m = new.count;
-    let room = capacity_of(cs, vs, bs, ts, xs);
-    if n > room {
-        return Test::Refused(Refusal::TooMany);
-    }
-    if m > 64 {
-        return Test::Refused(Refusal::TooMany);
-    }
-    if !is_sound(cs, vs, bs, ts, xs, n) {
-        return Test::Refused(Refusal::RecordOutOfRange);
-    }
-    if !all_ranged(new) {
-        return Test::Refused(Refusal::RecordOutOfRange);
-    }
-    if room < n + m {
-        return Test::Refused(Refusal::TableFull);
-    }
-    Test::Passed
-}
-
-// The counted samples of new to the first n samples of the table, or the refusal, which leaves every column as it was.
-pub fn add(
-    cs: &mut [u8],
-    vs: &mut [u16],
-    bs: &mut [u32],
-    ts: &mut [f64],
-    xs: &mut [f64],
-    n: usize,
-    new: Samples,
-) -> Adding
-    ensures { λ r. ⌜ (let l = lent (now (cs .entry)) (now (vs .entry)) (now (bs .entry)) (now (ts .entry)) (now (xs .entry)) in
-        let o = addOf n (capacity l) (tableOf n l) new in
-        (r ≡ addingOf o) × Adds o (addingNumber r) n (countAfter r n) l (lent (now (cs .exit)) (now (vs .exit)) (now (bs .exit)) (now (ts .exit)) (now (xs .exit)))) ⌝ }
-{
-    let test = tested(cs, vs, bs, ts, xs, n, new);
-    match test {
-        Test::Refused(r) => Adding::Refused(r),
-        Test::Passed => {
-            let m = new.count;
-            let samples = new.samples;
-            insert_all(cs, vs, bs, ts, xs, n, samples, m);
-            Adding::Count(n + m)
-        }
-    }
 }

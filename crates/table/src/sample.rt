@@ -72,7 +72,7 @@ pub fn sample_at(cs: &[u8], vs: &[u16], bs: &[u32], ts: &[f64], xs: &[f64], i: u
 }
 
 // Whether a sample of the signal s at the time t stands before one of the signal h at the time u.
-fn is_below(s: u64, t: f64, h: u64, u: f64) -> bool
+pub fn is_below(s: u64, t: f64, h: u64, u: f64) -> bool
     ensures { λ r. ⌜ r ≡ (ltb s h || (eqb s h && timeBefore t u)) ⌝ }
 {
     if s != h {

@@ -15,7 +15,7 @@ use Rattle.records.specs.Screen.{keptOf, constellations}
 use Rattle.records.specs.Kept.{pairsIn, Kept}
 use Rattle.estimator.specs.Rules.{Rule, ruled}
 use Rattle.tdcp.specs.Valid.{badInterval, epochRules, intervalRules, displacementCounts}
-use Rattle.tdcp.specs.Front.{pairRules}
+use Rattle.tdcp.specs.Front.{sightRules, countRules, pairRules}
 use Rattle.estimator.specs.Rounds.{End, Stopped, Reached, Fit, concluded, Ended}
 use Rattle.tdcp.specs.Displacement.{Input, fitOver, fitBy, pairs, deltaAt, endRules, concludedAt, movedBy, movedIn, displacementOf}
 use Rattle.clocks.specs.declared.clocks.Clocks.{Clocks}
@@ -24,7 +24,7 @@ use Rattle.tdcp.specs.declared.displacement.Settings.{Settings}
 use Rattle.tdcp.specs.declared.displacement.Displacement.{Displacement}
 use Rattle.tdcp.specs.declared.displacement.Displacement.the-variants.{Refused, Moved}
 use Rattle.estimator.specs.declared.rules.Check.the-variants.{Refused as Stops, Passed}
-use Rattle.estimator.proofs.RulesLaws.{checked, refused-by, passed-by}
+use Rattle.estimator.proofs.RulesLaws.{checked, ruled-append, refused-by, passed-by}
 use Rattle.tdcp.proofs.DisplacementLaws.{fit-same}
 use Rattle.tdcp.proofs.FrontLaws.{counts-passed, kept-few}
 
@@ -37,8 +37,12 @@ ended-reached : {A : Type 0} (f : Refusal → A) (rules : List Float → List Ru
 ended-reached f rules answer (Stopped r) h = absurd (let q = h .answer-is in let z : _≡_ {A = ℕ} 0 1 = cc in omega arith)
 ended-reached f rules answer (Reached z) h = ap (λ (w : List Float). ruled f (rules w) (answer w)) (h .state-is)
 
--- ---- what n pairs ps come to: what the code has once it has screened
-module _ (settings : Settings) (ps : List Pair) (n : ℕ) (all : n ≡ length ps) (k : Clocks) {used : ℕ} {x y z : List Float} {constellation : List ℕ} {elevation observed : List Float}
+pub refused-sights : (settings : Settings) (ps : List Pair) {r : Refusal} → Stops r ≡ checked (sightRules ps) → Refused r ≡ movedBy settings ps
+unfolding movedBy pairRules
+refused-sights settings ps e = refused-by Refused _ (sightRules ps) e ∙ sym (ruled-append Refused _ (sightRules ps) (countRules settings ps))
+
+-- ---- what n pairs ps come to that 15 lets pass: what the code has once it has screened
+module _ (settings : Settings) (ps : List Pair) (n : ℕ) (all : n ≡ length ps) (seen : Passed ≡ checked (sightRules ps)) (k : Clocks) {used : ℕ} {x y z : List Float} {constellation : List ℕ} {elevation observed : List Float}
     (h : Kept (keptOf (settings .screen) ps) used x y z constellation elevation observed) (clocks : k ≡ clocksOf (take used constellation)) where
   abbrev kept : List Pair
   kept = keptOf (settings .screen) ps
@@ -55,16 +59,18 @@ module _ (settings : Settings) (ps : List Pair) (n : ℕ) (all : n ≡ length ps
   abbrev counts : List Rule
   counts = displacementCounts n used (k .count)
 
-  counts-are : counts ≡ pairRules settings ps
-  unfolding pairRules
+  counts-are : counts ≡ countRules settings ps
+  unfolding countRules
   counts-are = rw (all, h .count, slots)
 
   abbrev answer : List Float → Displacement
   answer x = Moved (deltaAt (length kept) (length ps - length kept) x)
 
   counted : ruled Refused counts (concluded Refused endRules answer (fitBy settings ps .end)) ≡ movedBy settings ps
-  unfolding movedBy
-  counted = ap (λ (rs : List Rule). ruled Refused rs (concluded Refused endRules answer (fitBy settings ps .end))) counts-are
+  unfolding movedBy pairRules
+  counted =
+      ap (λ (rs : List Rule). ruled Refused rs (concluded Refused endRules answer (fitBy settings ps .end))) counts-are
+      ∙ sym (ruled-append Refused _ (sightRules ps) (countRules settings ps) ∙ passed-by Refused _ (sightRules ps) seen)
 
   pub refused-counts : {r : Refusal} → Stops r ≡ checked counts → Refused r ≡ movedBy settings ps
   refused-counts e = refused-by Refused _ counts e ∙ counted

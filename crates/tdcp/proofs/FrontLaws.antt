@@ -10,11 +10,11 @@ use lib.ListN.{length}
 use lib.Ieee.{Float}
 use Rattle.clocks.specs.Clocks.{clocksOf}
 use Rattle.records.specs.Screen.{centre, within, keptOf, constellations}
-use Rattle.tdcp.specs.Front.{pairRules}
+use Rattle.tdcp.specs.Front.{sightRules, countRules, pairRules}
 use Rattle.records.specs.declared.pair.Pair.{Pair}
 use Rattle.tdcp.specs.declared.displacement.Settings.{Settings}
 use Rattle.records.proofs.KeepLaws.{keep-few}
-use Rattle.estimator.proofs.RulesLaws.{checked, head-passed, Enough, rows-passed}
+use Rattle.estimator.proofs.RulesLaws.{checked, head-passed, append-passed, Enough, rows-passed}
 
 pub counts-passed : (pairs kept slots : ℕ) → Passed ≡ checked (displacementCounts pairs kept slots) → (6 ≤ pairs) × Enough kept slots
 unfolding displacementCounts rowRules
@@ -30,5 +30,5 @@ kept-few screen ps = keep-few (within screen (centre ps)) ps
 -- what an accepted displacement has: used exceeds three plus the slots
 pub pairs-enough : (settings : Settings) (ps : List Pair) → Passed ≡ checked (pairRules settings ps)
     → Enough (length (keptOf (settings .screen) ps)) (clocksOf (constellations (keptOf (settings .screen) ps)) .count)
-unfolding pairRules
-pairs-enough settings ps e = counts-passed _ _ _ e .1
+unfolding pairRules countRules
+pairs-enough settings ps e = counts-passed _ _ _ (append-passed (sightRules ps) _ e) .1

@@ -11,8 +11,9 @@ use Rattle.walk.specs.Walk.{every, first, collect, fold}
 use Rattle.numeric.specs.Real.{abs, inRange}
 use Rattle.exact.specs.Pattern.{sign, exponent, digits}
 use Rattle.numeric.specs.Order.{isNanPattern, isQuiet, payload, payloadOrder, unordered, totalOrder, patternOf}
+use Rattle.numeric.specs.Sight.{onReceiver}
 use Rattle.numeric.specs.declared.vec3.Vec3.{Vec3}
-use Rattle.numeric.specs.declared.refusal.Refusal.the-variants.{TooMany, SettingOutOfRange, RecordOutOfRange, BadInterval, TooFewPairs, TooFewRows, TooManySlots}
+use Rattle.numeric.specs.declared.refusal.Refusal.the-variants.{TooMany, SettingOutOfRange, RecordOutOfRange, BadInterval, TooFewPairs, TooFewRows, TooManySlots, OnReceiver}
 use Rattle.median.specs.Sorted.{insertBy, sortedBy, medianOf}
 use Rattle.median.specs.Centre.{centreOf}
 use Rattle.estimator.specs.Rules.{ruled, rowRules}
@@ -21,9 +22,10 @@ use Rattle.clocks.specs.Clocks.{none, given, slot, has, appearing, slotFrom, cl
 use Rattle.records.specs.Pair.{pairOf, firstPair, pairAt, pairsOf}
 use Rattle.records.specs.Screen.{centre, within, keptOf}
 use Rattle.tdcp.specs.Valid.{settingsPass, badInterval, epochRules, intervalRules, displacementCounts}
-use Rattle.tdcp.specs.Front.{allPairs, keptPairs, pairRules}
+use Rattle.tdcp.specs.Front.{allPairs, keptPairs, sightRules, countRules}
 use Rattle.records.specs.declared.record.Carrier.{Carrier}
 use Rattle.records.specs.declared.record.Epoch.{Epoch}
+use Rattle.records.specs.declared.pair.Pair.{Pair}
 use Rattle.tdcp.specs.declared.displacement.Settings.{Settings}
 use Rattle.estimator.specs.declared.rules.Check.{Check}
 use Rattle.estimator.specs.declared.rules.Check.the-variants.{Refused, Passed}
@@ -65,9 +67,9 @@ epoch cs = record { count = length cs; carriers = cs }
 abbrev set : Float → Settings
 set m = record { screen = decimal 5 1; «sigma_a» = 1·0; «sigma_b» = +0; huber = 1·0; mask = m; rounds = 4; agreement = nan }
 
--- what the rules say at dt seconds
+-- what the rules but for 15 say at dt seconds
 abbrev said : Float → Float → List Carrier → List Carrier → Check
-said m dt previous current = ruled Refused (epochRules (epoch previous) (epoch current) origin (set m) ++ intervalRules dt ++ pairRules (set m) (allPairs (epoch previous) (epoch current) dt origin (set m))) Passed
+said m dt previous current = ruled Refused (epochRules (epoch previous) (epoch current) origin (set m) ++ intervalRules dt ++ countRules (set m) (allPairs (epoch previous) (epoch current) dt origin (set m))) Passed
 
 abbrev six : List Carrier
 six = map (used 1) (1 ∷ 2 ∷ 3 ∷ 4 ∷ 5 ∷ 6 ∷ [])
@@ -94,7 +96,7 @@ pub record Edges : Type 0 where
   pub mask-not-finite : said nan 1·0 six six ≡ Refused SettingOutOfRange
 
 pub edges : Edges
-unfolding ruled every first collect abs inRange placeable isElevation sound unsigned bitSet usable same has appearing slotFrom clocksIn clocksOf pairOf firstPair pairAt pairsOf centre within keptOf settingsPass badInterval epochRules intervalRules displacementCounts rowRules pairRules sign exponent digits isNanPattern isQuiet payload payloadOrder unordered totalOrder patternOf insertBy sortedBy medianOf centreOf ofInt ofBits toBits neg add sub mul div le lt eq isNan
+unfolding ruled every first collect abs inRange placeable isElevation sound unsigned bitSet usable same has appearing slotFrom clocksIn clocksOf pairOf firstPair pairAt pairsOf centre within keptOf settingsPass badInterval epochRules intervalRules displacementCounts rowRules countRules sign exponent digits isNanPattern isQuiet payload payloadOrder unordered totalOrder patternOf insertBy sortedBy medianOf centreOf ofInt ofBits toBits neg add sub mul div le lt eq isNan
 edges =
     record {
       nothing = refl;
@@ -112,3 +114,22 @@ edges =
       records-65 = refl;
       mask-not-finite = refl;
     }
+
+-- ---- 15, of pairs with these ranges, the current satellite's and the previous one's
+
+abbrev ranged : Float → Float → Pair
+ranged now then = record { unit = origin; constellation = 1; elevation = +0; observed = +0; detector = +0; range = now; «previous_range» = then }
+
+abbrev sighted : List Pair → Check
+sighted ps = ruled Refused (sightRules (ranged 1·0 1·0 ∷ ps)) Passed
+
+pub record Ranges : Type 0 where
+  pub all-seen : sighted (ranged (whole 7) 1·0 ∷ []) ≡ Passed
+  pub current-zero : sighted (ranged +0 1·0 ∷ []) ≡ Refused OnReceiver
+  pub previous-zero : sighted (ranged 1·0 (neg +0) ∷ []) ≡ Refused OnReceiver
+  pub current-not-finite : sighted (ranged nan 1·0 ∷ []) ≡ Refused OnReceiver
+  pub previous-not-finite : sighted (ranged 1·0 (inf false) ∷ []) ≡ Refused OnReceiver
+
+pub ranges : Ranges
+unfolding ruled collect sightRules onReceiver eq neg ofInt ofBits
+ranges = record { all-seen = refl; current-zero = refl; previous-zero = refl; current-not-finite = refl; previous-not-finite = refl }

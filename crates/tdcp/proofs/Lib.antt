@@ -1,5 +1,6 @@
 -- What the proofs of more than one function use, and the laws.
 pub mod FrontLaws
+pub mod SightLaws
 pub mod FrontValues
 pub mod DisplacementLaws
 pub mod DisplacementSound

@@ -104,7 +104,7 @@ endRules x = rule FitFailed (not (finiteAt x)) ∷ []
 abbrev pub concludedAt : ℕ → ℕ → List Float → Displacement
 concludedAt used screened x = ruled Refused (endRules x) (Moved (deltaAt used screened x))
 
--- What every displacement shares, from its pairs on: 7 to 9, the rounds over those that the screen keeps, and 10. The screened are the pairs less those kept.
+-- What every displacement shares, from its pairs on: 15 and 7 to 9, the rounds over those that the screen keeps, and 10. The screened are the pairs less those kept.
 unfoldable pub movedBy : Settings → List Pair → Displacement
 movedBy settings ps =
     let used = length (keptOf (settings .screen) ps) in

@@ -1,9 +1,12 @@
 -- What comes before the rounds: the rows, and the rules on them in the order of docs/SCOPE.md, "Why a call turns back". Definitions only.
-use mathlib.Core.List.{List}
+use mathlib.Core.List.{List, [], _∷_, _++_}
 use lib.ListN.{length}
 use lib.Ieee.{Float}
 use Rattle.numeric.specs.declared.vec3.Vec3.{Vec3}
-use Rattle.estimator.specs.Rules.{Rule}
+use Rattle.walk.specs.Walk.{collect}
+use Rattle.numeric.specs.Sight.{onReceiver}
+use Rattle.numeric.specs.declared.refusal.Refusal.the-variants.{OnReceiver}
+use Rattle.estimator.specs.Rules.{Rule, rule}
 use Rattle.records.specs.Record.{counted}
 use Rattle.clocks.specs.Clocks.{clocksOf}
 use Rattle.records.specs.Pair.{pairsOf}
@@ -21,8 +24,20 @@ allPairs previous current dt receiver settings = pairsOf receiver (settings .mas
 abbrev pub keptPairs : Epoch → Epoch → Float → Vec3 → Settings → List Pair
 keptPairs previous current dt receiver settings = keptOf (settings .screen) (allPairs previous current dt receiver settings)
 
+-- 15, of one pair: the current satellite before the previous
+abbrev pub rangeRules : Pair → List Rule
+rangeRules p = rule OnReceiver (onReceiver (p .range)) ∷ rule OnReceiver (onReceiver (p .«previous_range»)) ∷ []
+
+-- 15, of each pair in order
+unfoldable pub sightRules : List Pair → List Rule
+sightRules ps = collect rangeRules ps
+
 -- 7 to 9, of the pairs before screening
-unfoldable pub pairRules : Settings → List Pair → List Rule
-pairRules settings ps =
+unfoldable pub countRules : Settings → List Pair → List Rule
+countRules settings ps =
     let kept = keptOf (settings .screen) ps in
     displacementCounts (length ps) (length kept) (clocksOf (constellations kept) .count)
+
+-- 15, ahead of 7
+unfoldable pub pairRules : Settings → List Pair → List Rule
+pairRules settings ps = sightRules ps ++ countRules settings ps

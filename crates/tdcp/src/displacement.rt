@@ -12,6 +12,7 @@ ghost use Rattle.estimator.specs.Rounds.{Ended};
 ghost use Rattle.tdcp.specs.Displacement as spec;
 use crate::valid::check_in;
 use crate::valid::check_pairs;
+use crate::valid::check_sights;
 use crate::valid::is_bad_interval;
 use clocks::clocks::Clocks;
 use estimator::rounds::is_short;
@@ -147,11 +148,14 @@ fn moved_to(x: [f64; 9], used: usize, screened: usize) -> Displacement
     Displacement::Refused(Refusal::FitFailed)
 }
 
-// What every displacement shares, from its pairs on: the screen, rules 7 to 9, the rounds, and 10.
+// What every displacement shares, from its pairs on: rule 15, the screen, rules 7 to 9, the rounds, and 10.
 pub(crate) fn moved_by(settings: Settings, all: Pairs) -> Displacement
     requires { ⌜ all .count ≤ 64 ⌝ }
     ensures { λ r. ⌜ r ≡ spec.movedBy settings (take (all .count) (all .pair)) ⌝ }
 {
+    if let Check::Refused(r) = check_sights(all) {
+        return Displacement::Refused(r);
+    }
     let mut x = [0.0; 64];
     let mut y = [0.0; 64];
     let mut z = [0.0; 64];

@@ -3,3 +3,4 @@ pub mod Anchors
 pub mod Links
 pub mod Assembly
 pub mod Passing
+pub mod Accuracy

@@ -1,11 +1,12 @@
 -- One pass of the fit: three axes, each with its own equations (smooth.rs, `solve_once`). Definitions only.
 use mathlib.Core.Bool.{Bool, not, _&&_}
-use Prim.Native.Nat.{ℕ}
+use Prim.Native.Nat.{ℕ, _<_}
 use lib.Ieee.{Float, le}
 use lib.Ieee.Scale.{finite}
 use Rattle.exact.specs.Float.{_⊕_, +0}
 use Rattle.tridiagonal.specs.Columns.{eachBelow}
 use Rattle.tridiagonal.specs.Tridiagonal.{Equations, solvable, solution}
+use Rattle.tridiagonal.specs.Accuracy.{RowsAccurate}
 use Rattle.trajectory.specs.Input.{Trajectory, origin}
 use Rattle.trajectory.specs.Equations.{Scales, equationsOf}
 
@@ -30,3 +31,7 @@ passes p s = onAxes (λ t. axisSolved (equationsOf p s t) (p .n))
 -- what a good pass fits at epoch k on axis t: the unknown and the origin
 unfoldable pub fitOf : Trajectory → Scales → ℕ → ℕ → Float
 fitOf p s t k = solution (equationsOf p s t) (p .n) k ⊕ origin (p .anchors) t
+
+-- On each axis the solution, before the origin is added, meets the pass's equations as closely as `RowsAccurate` says.
+abbrev pub PassAccurate : Trajectory → Scales → Type 0
+PassAccurate p s = (t : ℕ) → t < 3 → RowsAccurate (equationsOf p s t) (p .n)

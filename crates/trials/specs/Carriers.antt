@@ -19,9 +19,13 @@ ten = bits 0x4024_0000_0000_0000
 abbrev pub origin : Vec3
 origin = record { x = +0; y = +0; z = +0 }
 
+-- a metre from the receiver
+abbrev pub place : Vec3
+place = record { x = 1·0; y = +0; z = +0 }
+
 -- a carrier in the state z, at the mask
 abbrev pub carrierIn : ℤ → Carrier
-carrierIn z = record { constellation = 1; svid = 5; band = 1575; adr = +0; state = z; satellite = origin; elevation = ten; rate = +0 }
+carrierIn z = record { constellation = 1; svid = 5; band = 1575; adr = +0; state = z; satellite = place; elevation = ten; rate = +0 }
 
 abbrev pub epochIn : ℤ → Epoch
 epochIn z = record { count = 6; carriers = replicate 64 (carrierIn z) }

@@ -19,13 +19,18 @@ fn used_in(state: i32) -> usize
         y: 0.0,
         z: 0.0,
     };
+    let place = Vec3 {
+        x: 1.0,
+        y: 0.0,
+        z: 0.0,
+    };
     let carrier = Carrier {
         constellation: 1,
         svid: 5,
         band: 1575,
         adr: 0.0,
         state: state,
-        satellite: zero,
+        satellite: place,
         elevation: 10.0,
         rate: 0.0,
     };

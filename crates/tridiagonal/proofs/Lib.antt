@@ -4,3 +4,6 @@ pub mod Blocks
 pub mod Alike
 pub mod Elimination
 pub mod Substitution
+pub mod RowGap
+pub mod RowBound
+pub mod RowAccuracy

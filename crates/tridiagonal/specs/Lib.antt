@@ -1,3 +1,4 @@
 pub mod Columns
 pub mod Tridiagonal
+pub mod Accuracy
 pub mod Steps

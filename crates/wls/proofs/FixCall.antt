@@ -13,20 +13,23 @@ use Rattle.cholesky.specs.Answer as factor
 use Rattle.numeric.specs.declared.refusal.Refusal.{Refusal}
 use Rattle.numeric.specs.declared.refusal.Refusal.the-variants.{FitFailed, QualityNotFinite}
 use Rattle.robust.specs.declared.row.Row.{Row}
-use Rattle.estimator.specs.Rules.{ruled, rowRules}
+use Rattle.estimator.specs.Rules.{Rule, ruled, rowRules}
 use Rattle.records.specs.Record.{Holds, countedObservations}
 use Rattle.clocks.specs.Clocks.{clocksOf}
 use Rattle.records.specs.Mask.{constellations}
 use Rattle.wls.specs.Valid.{fixInputRules}
 use Rattle.estimator.specs.Rounds.{vector, finiteAt}
-use Rattle.wls.specs.Fix.{Input, kept, clocks, plainMatrix, pdopOf, dilutionOf, endRules, concludedAt, foundOver, fixOf}
+use Rattle.wls.specs.Fix.{Input, kept, clocks, plainMatrix, pdopOf, dilutionOf, qualityRules, endRules, solutionAt, concludedAt, foundOver, fixOf, ratedBy}
 use Rattle.clocks.specs.declared.clocks.Clocks.{Clocks}
 use Rattle.records.specs.declared.record.Observation.{Observation}
 use Rattle.records.specs.declared.record.Observations.{Observations}
+use Rattle.numeric.specs.declared.vec3.Vec3.{Vec3}
+use Rattle.wls.specs.declared.quality.Chi.{Chi}
+use Rattle.wls.specs.declared.quality.Chi.the-variants.{Refused as NoChi, Of as ChiOf}
 use Rattle.wls.specs.declared.fix.Fix.{Fix}
 use Rattle.wls.specs.declared.fix.Fix.the-variants.{Refused, At}
 use Rattle.estimator.specs.declared.rules.Check.the-variants.{Refused as Stops, Passed}
-use Rattle.estimator.proofs.RulesLaws.{checked, rows-passed}
+use Rattle.estimator.proofs.RulesLaws.{checked, ruled-append, ruled-map, rows-passed}
 use Rattle.wls.proofs.FrontLaws.{fix-input-refused, fix-clocks, fix-counts-refused, fix-counts-kept}
 
 -- the lent rows do not matter where there is a factor
@@ -34,9 +37,30 @@ same-rows : (v : Factored) (y z : List (List Float)) → true ≡ factor.accepte
 same-rows NoFactor y z e = absurd (let z : _≡_ {A = ℕ} 0 1 = cc in omega arith)
 same-rows (Lower l) y z e = refl
 
--- ---- the answer at the state x of the rows, with chi there, by the tests a, b and d of its position
-module _ (n : ℕ) (rows : List Row) (chi : Float) (x : List Float) (a b d : Bool) (a-is : a ≡ finite (at x 0)) (b-is : b ≡ finite (at x 1)) (d-is : d ≡ finite (at x 2)) where
-  pub found-no : (a && b && d) ≡ false → Refused FitFailed ≡ concludedAt n rows chi x
+-- the code's three ways of what chi and pdop come to
+module _ (position : Vec3) (used : ℕ) (pdop : Float) {v : Chi} where
+  pub rated-no : {r : Refusal} → v ≡ NoChi r → Refused r ≡ ratedBy position used pdop v
+  rated-no e = sym (ap (ratedBy position used pdop) e)
+
+  module _ {c : Float} (e : v ≡ ChiOf c) {p q : Bool} (p-is : p ≡ finite c) (q-is : q ≡ finite pdop) where
+    pub rated-yes : (p && q) ≡ true → At (record { position = position; used = used; chi = c; pdop = pdop }) ≡ ratedBy position used pdop v
+    unfolding ruled
+    rated-yes t = rw (e, sym (ap₂ _&&_ p-is q-is) ∙ t)
+
+    pub rated-unfit : (p && q) ≡ false → Refused QualityNotFinite ≡ ratedBy position used pdop v
+    unfolding ruled
+    rated-unfit t = rw (e, sym (ap₂ _&&_ p-is q-is) ∙ t)
+
+-- what is left of the rules once 10 has let a fit pass, as the code has it of chi
+rated-is : (position : Vec3) (used : ℕ) (pdop : Float) (sights : List Rule) (chi : Float) {v : Chi} → v ≡ ruled NoChi sights (ChiOf chi)
+    → ratedBy position used pdop v ≡ ruled Refused (qualityRules sights chi pdop) (At (record { position = position; used = used; chi = chi; pdop = pdop }))
+unfolding qualityRules
+rated-is position used pdop sights chi e =
+    ap (ratedBy position used pdop) e ∙ ruled-map (ratedBy position used pdop) NoChi (ChiOf chi) sights ∙ sym (ruled-append Refused _ sights _)
+
+-- ---- the answer at the state x of the rows, with 15 and chi there, by the tests a, b and d of its position
+module _ (n : ℕ) (rows : List Row) (sights : List Rule) (chi : Float) (x : List Float) (a b d : Bool) (a-is : a ≡ finite (at x 0)) (b-is : b ≡ finite (at x 1)) (d-is : d ≡ finite (at x 2)) where
+  pub found-no : (a && b && d) ≡ false → Refused FitFailed ≡ concludedAt n rows sights chi x
   unfolding endRules finiteAt ruled
   found-no e = rw (rw (a-is, b-is, d-is) at e)
 
@@ -45,25 +69,24 @@ module _ (n : ℕ) (rows : List Row) (chi : Float) (x : List Float) (a b d : Boo
     factored : ok ≡ factor.accepted (factorOf (plainMatrix n rows))
     factored = ok-is ∙ ap (λ (z : List (List Float)). factor.accepted (factorOf z)) m-is
 
-    pub found-refused : ok ≡ false → Refused FitFailed ≡ concludedAt n rows chi x
+    pub found-refused : ok ≡ false → Refused FitFailed ≡ concludedAt n rows sights chi x
     unfolding endRules finiteAt ruled
     found-refused e = rw (rw (a-is, b-is, d-is) at tests, sym factored ∙ e)
 
-    -- with the factor l, its pdop, and the tests p and q of chi and pdop
-    module _ (l z : List (List Float)) (l-is : l ≡ rowsAfter (factorOf m) z) (e : ok ≡ true) (pdop : Float) (pdop-is : pdop ≡ pdopOf l) (p q : Bool) (p-is : p ≡ finite chi) (q-is : q ≡ finite pdop) where
+    -- with the factor l and its pdop
+    module _ (l z : List (List Float)) (l-is : l ≡ rowsAfter (factorOf m) z) (e : ok ≡ true) (pdop : Float) (pdop-is : pdop ≡ pdopOf l) where
       dilution : pdop ≡ dilutionOf n rows
       dilution = pdop-is ∙ ap pdopOf (l-is ∙ same-rows (factorOf m) z [] (sym e ∙ ok-is) ∙ ap (λ (y : List (List Float)). rowsAfter (factorOf y) []) m-is)
 
-      quality : (p && q) ≡ (finite chi && finite (dilutionOf n rows))
-      quality = ap₂ _&&_ p-is (q-is ∙ ap finite dilution)
-
-      pub found-unfit : (p && q) ≡ false → Refused QualityNotFinite ≡ concludedAt n rows chi x
+      passed-ten : (answer : Fix) → ruled Refused (qualityRules sights chi (dilutionOf n rows)) answer ≡ ruled Refused (endRules n rows sights chi x) answer
       unfolding endRules finiteAt ruled
-      found-unfit t = rw (rw (a-is, b-is, d-is) at tests, sym factored ∙ e, sym quality ∙ t)
+      passed-ten answer = rw (rw (a-is, b-is, d-is) at tests, sym factored ∙ e)
 
-      pub found-yes : (p && q) ≡ true → (count : ℕ) → count ≡ length rows → At (record { position = vector x; used = count; chi = chi; pdop = pdop }) ≡ concludedAt n rows chi x
-      unfolding endRules finiteAt ruled
-      found-yes t count count-is = rw (rw (a-is, b-is, d-is) at tests, sym factored ∙ e, sym quality ∙ t, dilution, count-is)
+      pub found-rated : (count : ℕ) → count ≡ length rows → {v : Chi} → v ≡ ruled NoChi sights (ChiOf chi) → ratedBy (vector x) count pdop v ≡ concludedAt n rows sights chi x
+      found-rated count count-is {v} v-is =
+          ap₂ (λ (u : ℕ) (p : Float). ratedBy (vector x) u p v) count-is dilution
+          ∙ rated-is (vector x) (length rows) (dilutionOf n rows) sights chi v-is
+          ∙ passed-ten (At (solutionAt n rows chi x))
 
 -- ---- the call
 module _ (i : Input) where

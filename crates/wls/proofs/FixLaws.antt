@@ -1,10 +1,10 @@
 -- The rounds of a fix, as the code has them. Assumes nothing.
-use mathlib.Core.Path.{_≡_, refl, sym, ap, ap₂, _∙_, subst₂}
+use mathlib.Core.Path.{_≡_, refl, sym, ap, ap₂, _∙_, subst, subst₂}
 use Prim.Native.Nat.{ℕ, _+_, _≤_}
 use mathlib.Core.List.{List, [], map}
 use lib.ListN.{length, take}
 use lib.Ieee.{Float, nan}
-use Rattle.robust.specs.Round.{Round, Solved, roundOf}
+use Rattle.robust.specs.Round.{Round, Outcome, Solved, roundOf}
 use Rattle.robust.specs.Normal.{Solving}
 use Rattle.robust.specs.Columns.{columns, rowsIn}
 use Rattle.robust.specs.declared.row.Row.{Row}
@@ -17,9 +17,12 @@ use Rattle.clocks.specs.declared.clocks.Clocks.{Clocks}
 use Rattle.records.specs.declared.record.Observation.{Observation}
 use Rattle.wls.specs.declared.fix.Settings.{Settings}
 use Rattle.estimator.specs.Rounds.{Stopped, Reached, Fit, fitFrom, lastRows, concluded}
-use Rattle.wls.specs.Fix.{sigmaOf, rowAt, roundAt, limit, start, fitOver, endRules, solutionAt, chiOf, chiAt, concludedAt, foundOver, RowsAt}
+use Rattle.wls.specs.Fix.{sigmaOf, sightRules, rowAt, roundAt, limit, start, fitOver, endRules, solutionAt, chiAt, concludedAt, foundOver, RowsAt}
 use Rattle.wls.specs.declared.fix.Fix.the-variants.{Refused, At}
+use Rattle.estimator.specs.declared.rules.Check.the-variants.{Passed}
+use Rattle.estimator.proofs.RulesLaws.{checked}
 use Rattle.estimator.proofs.RoundsLaws.{Left, LeftRows, left-start, rows-start}
+use Rattle.wls.proofs.SightLaws.{round-passed, round-solved}
 
 -- what the logic has for an observation past the end
 abbrev pub blank : Observation
@@ -43,14 +46,14 @@ module _ (settings : Settings) (k : Clocks) (os : List Observation) (x₀ : List
   going-rows = rows-start (roundAt settings k os) (3 + k .count) limit (settings .rounds) fit x₀ refl
 
 module _ (settings : Settings) (k : Clocks) (os : List Observation) (x : List Float) (rows : List Row) (rows-are : rows ≡ map (rowAt settings k x) os) where
-  pub solving : (n : ℕ) (answer : Stepping) (a b : List Float) → n ≡ 3 + k .count → Solving (roundOf rows n (settings .huber)) answer a b → Solving (roundAt settings k os x) answer a b
-  unfolding roundAt
-  solving n answer a b h s = subst₂ (λ (r : List Row) (m : ℕ). Solving (roundOf r m (settings .huber)) answer a b) rows-are h s
+  pub solving : Passed ≡ checked (sightRules os x) → (n : ℕ) (answer : Stepping) (a b : List Float) → n ≡ 3 + k .count → Solving (roundOf rows n (settings .huber)) answer a b → Solving (roundAt settings k os x) answer a b
+  solving seen n answer a b h s =
+      subst (λ (o : Outcome). Solving o answer a b) (sym (round-passed settings k os x seen))
+      (subst₂ (λ (r : List Row) (m : ℕ). Solving (roundOf r m (settings .huber)) answer a b) rows-are h s)
 
   -- the round's rows are those that the code made
   pub made-rows : (r : Round) → roundAt settings k os x ≡ Solved r → r .rows ≡ rows
-  unfolding roundAt
-  made-rows r e = round-rows (map (rowAt settings k x) os) (3 + k .count) (settings .huber) r e ∙ sym rows-are
+  made-rows r e = round-rows (map (rowAt settings k x) os) (3 + k .count) (settings .huber) r (round-solved settings k os x r e) ∙ sym rows-are
 
 -- the columns of a round hold its rows
 pub held : (settings : Settings) (k : Clocks) (n : ℕ) (os : List Observation) (s : List Float) {x y z : List Float} {clock residual : List ℕ} (sigma : List Float) → n ≤ length os → n ≤ 64 → RowsAt k n os s x y z clock residual
@@ -65,16 +68,10 @@ module _ (settings : Settings) (k : Clocks) (os : List Observation) (guess : Vec
   unfolding foundOver fitOver
   stopped-at e = rw (sym e)
 
-  pub reached-at : {n : ℕ} {rows : List Row} {chi : Float} {x : List Float} → n ≡ 3 + k .count → Reached x ≡ fit settings k os (start guess) .end → rows ≡ lastRows [] (fit settings k os (start guess) .rounds) → chi ≡ chiAt settings k os x
-      → concludedAt n rows chi x ≡ foundOver settings k os guess
+  pub reached-at : {n : ℕ} {rows : List Row} {x : List Float} → n ≡ 3 + k .count → Reached x ≡ fit settings k os (start guess) .end → rows ≡ lastRows [] (fit settings k os (start guess) .rounds)
+      → concludedAt n rows (sightRules os x) (chiAt settings k os x) x ≡ foundOver settings k os guess
   unfolding foundOver fitOver
-  reached-at {n} {rows} {chi} {x} n-is e l c =
+  reached-at {n} {rows} {x} n-is e l =
       let last = lastRows [] (fit settings k os (start guess) .rounds) in
-      ap₂ (λ (m : ℕ) (r : List Row). concludedAt m r chi x) n-is l
-      ∙ ap (λ (q : Float). concludedAt (3 + k .count) last q x) c
-      ∙ ap (concluded Refused (λ y. endRules (3 + k .count) last (chiAt settings k os y) y) (λ y. At (solutionAt (3 + k .count) last (chiAt settings k os y) y))) e
-
--- chi at the state s, of columns that hold the rows there
-pub chi-is : (settings : Settings) (k : Clocks) (os : List Observation) (s : List Float) {rows : List Row} {n : ℕ} {chi : Float} → rows ≡ map (rowAt settings k s) os → n ≡ 3 + k .count → chi ≡ chiOf n rows → chi ≡ chiAt settings k os s
-unfolding chiAt
-chi-is settings k os s r n c = c ∙ ap₂ chiOf n r
+      ap₂ (λ (m : ℕ) (r : List Row). concludedAt m r (sightRules os x) (chiAt settings k os x) x) n-is l
+      ∙ ap (concluded Refused (λ y. endRules (3 + k .count) last (sightRules os y) (chiAt settings k os y) y) (λ y. At (solutionAt (3 + k .count) last (chiAt settings k os y) y))) e

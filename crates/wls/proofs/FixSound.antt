@@ -24,12 +24,13 @@ use Rattle.clocks.specs.declared.clocks.Clocks.{Clocks}
 use Rattle.records.specs.declared.record.Observation.{Observation}
 use Rattle.wls.specs.declared.fix.Settings.{Settings}
 use Rattle.estimator.specs.Rounds.{lastRows, Each}
-use Rattle.wls.specs.Fix.{Input, rowAt, roundAt, limit, start, fitOver, kept, clocks, fitOf, roundsOf, dilutionOf, chiAt, endRules, solutionAt, foundOver, fixOf, positionOf, fixFloats, positionFloats, Accepted, Promised, PositionPromised}
+use Rattle.wls.specs.Fix.{Input, rowAt, roundAt, limit, start, fitOver, kept, clocks, fitOf, roundsOf, sightRules, dilutionOf, chiAt, qualityRules, endRules, solutionAt, foundOver, fixOf, positionOf, fixFloats, positionFloats, Accepted, Promised, PositionPromised}
 use Rattle.wls.specs.declared.fix.Solution.{Solution}
 use Rattle.wls.specs.declared.fix.Fix.{Fix}
 use Rattle.wls.specs.declared.fix.Fix.the-variants.{Refused, At}
 use Rattle.wls.specs.declared.fix.Position.{Position}
-use Rattle.estimator.proofs.RulesLaws.{passed-of, passed-by, head-passed}
+use Rattle.estimator.proofs.RulesLaws.{passed-of, passed-by, head-passed, append-passed}
+use Rattle.wls.proofs.SightLaws.{round-solved}
 use Rattle.estimator.proofs.RoundsSound.{rounds-each, rows-long, Finished, finished, Placed, placed, three-finite}
 use Rattle.wls.proofs.FrontLaws.{fix-enough, fix-rounds}
 
@@ -37,12 +38,10 @@ never : (s : Solution) (r : Refusal) → Refused r ≡ At s → ⊥
 never s r e = let z : _≡_ {A = ℕ} 0 1 = cc in omega arith
 
 one-sound : (settings : Settings) (k : Clocks) (os : List Observation) (x : List Float) (r : Round) → roundAt settings k os x ≡ Solved r → T (finite (at (r .step) 0)) → Sound r
-unfolding roundAt
-one-sound settings k os x = round-sound (map (rowAt settings k x) os) (3 + k .count) (settings .huber)
+one-sound settings k os x r e = round-sound (map (rowAt settings k x) os) (3 + k .count) (settings .huber) r (round-solved settings k os x r e)
 
 one-finite : (settings : Settings) (k : Clocks) (os : List Observation) (x : List Float) (r : Round) → roundAt settings k os x ≡ Solved r → T (finite (at (r .step) 0)) → FiniteResiduals r
-unfolding roundAt
-one-finite settings k os x = round-residuals (map (rowAt settings k x) os) (3 + k .count) (settings .huber) (omega arith)
+one-finite settings k os x r e = round-residuals (map (rowAt settings k x) os) (3 + k .count) (settings .huber) (omega arith) r (round-solved settings k os x r e)
 
 -- what an accepted fix came from
 abbrev unknowns : Input → ℕ
@@ -56,7 +55,7 @@ fitted i = foundOver (i .settings) (clocks i) (kept i) (i .guess)
 
 -- the rules at the state that its rounds reach, and the answer there
 abbrev rulesAt : Input → List Float → List Rule
-rulesAt i x = endRules (unknowns i) (rows i) (chiAt (i .settings) (clocks i) (kept i) x) x
+rulesAt i x = endRules (unknowns i) (rows i) (sightRules (kept i) x) (chiAt (i .settings) (clocks i) (kept i) x) x
 
 abbrev answerAt : Input → List Float → Fix
 answerAt i x = At (solutionAt (unknowns i) (rows i) (chiAt (i .settings) (clocks i) (kept i) x) x)
@@ -78,13 +77,13 @@ record Figured (i : Input) (x : List Float) : Type 0 where
   pdop : T (finite (dilutionOf (unknowns i) (rows i)))
 
 figured : (i : Input) (s : Solution) (e : fixOf i ≡ At s) → Figured i (ended i s e .x)
-unfolding endRules
+unfolding endRules qualityRules
 figured i s e =
     let x = ended i s e .x in
     let c = finite (chiAt (i .settings) (clocks i) (kept i) x) in
     let d = finite (dilutionOf (unknowns i) (rows i)) in
-    let third = head-passed _ _ (head-passed _ _ (head-passed _ _ (ended i s e .passed) .1) .1) .0 in
-    let both : T (c && d) = subst T (sym (not-false (c && d) third)) tt in
+    let last = head-passed _ _ (append-passed (sightRules (kept i) x) _ (head-passed _ _ (head-passed _ _ (ended i s e .passed) .1) .1)) .0 in
+    let both : T (c && d) = subst T (sym (not-false (c && d) last)) tt in
     record { chi = and-l c d both; pdop = and-r c d both }
 
 -- what each of its rounds has
@@ -95,8 +94,7 @@ fix-each P one i s e =
     rounds-each P (roundAt (i .settings) (clocks i) (kept i)) (unknowns i) limit (omega arith) (one (i .settings) (clocks i) (kept i)) (i .settings .rounds) (start (i .guess)) (ended i s e .x) (ended i s e .end-is) (place i s e .first)
 
 one-long : (settings : Settings) (k : Clocks) (os : List Observation) (x : List Float) (r : Round) → roundAt settings k os x ≡ Solved r → length (r .rows) ≡ length os
-unfolding roundAt
-one-long settings k os x r e = ap length (round-rows (map (rowAt settings k x) os) (3 + k .count) (settings .huber) r e) ∙ length-map os (rowAt settings k x)
+one-long settings k os x r e = ap length (round-rows (map (rowAt settings k x) os) (3 + k .count) (settings .huber) r (round-solved settings k os x r e)) ∙ length-map os (rowAt settings k x)
 
 used-rows : (i : Input) (s : Solution) → fixOf i ≡ At s → length (rows i) ≡ length (kept i)
 unfolding roundsOf fitOf fitOver fixOf

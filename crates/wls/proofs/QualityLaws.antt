@@ -1,19 +1,22 @@
 -- What a fit says of itself, as the code works it out from the rows. Assumes nothing.
 use mathlib.Core.Path.{_≡_, refl, sym, ap, ap₂, _∙_}
-use Prim.Native.Nat.{ℕ, _+_, _-_, _≤_, _<_, max}
+use Prim.Native.Nat.{ℕ, zero, suc, _+_, _-_, _≤_, _<_, max}
 use native.Mathlib.Decide.{ℕ-discrete}
 use native.Mathlib.Omega.{arith}
 use mathlib.Core.Bool.{cond}
-use mathlib.Core.List.{List}
+use mathlib.Core.List.{List, map}
 use lib.Dec.{eqb}
 use borrow.Author.Tests.{eq-eqb, ne-eqb}
-use lib.ListN.{getD, length, set, length-set, getD-replicate}
-use lib.Seq.{getD-set-same, getD-set-other}
-use lib.Ieee.{Float, nan, ofInt, ofBits}
-use Rattle.walk.proofs.Walk.{places-length}
-use Rattle.exact.specs.Float.{_⊕_, _⊗_, _⊘_, +0, 1·0, bits, whole}
+use lib.ListN.{getD, length, take, set, length-map, length-set, getD-replicate}
+use lib.Seq.{getD-set-same, getD-set-other, length-take-le}
+use lib.Ieee.{Float, nan, binary64, ofInt, ofBits}
+use lib.Ieee.Fits.{sub-fits}
+use Rattle.walk.specs.Walk.{places}
+use Rattle.walk.proofs.Walk.{places-map, places-take}
+use Rattle.exact.specs.Float.{_⊕_, _⊖_, _⊗_, _⊘_, +0, 1·0, bits, whole}
 use Rattle.cholesky.specs.Factor.{at, zeros, solutionOf}
 use Rattle.numeric.specs.Real.{square}
+use Rattle.numeric.proofs.OrderLaws.{pattern-back}
 use Rattle.root.specs.Root.{rootOf}
 use Rattle.robust.specs.Nine.{nine}
 use Rattle.robust.specs.Round.{wide, total, triangleOf}
@@ -22,7 +25,13 @@ use Rattle.robust.specs.declared.row.Row.{Row}
 use Rattle.robust.proofs.NineLaws.{nine-is}
 use Rattle.robust.proofs.Sums.{sumTo, sumTo-zero, sumTo-next, sum-places}
 use Rattle.robust.proofs.FormedLaws.{sums, sums-next, sums-triangle}
-use Rattle.wls.specs.Fix.{freedomOf, chiOf, plainMatrix, pdopOf}
+use Rattle.robust.proofs.ColumnLaws.{filled-at}
+use Rattle.clocks.specs.Clocks.{slot}
+use Rattle.clocks.specs.declared.clocks.Clocks.{Clocks}
+use Rattle.records.specs.declared.record.Observation.{Observation}
+use Rattle.records.proofs.RecordLaws.{blankObservation}
+use Rattle.wls.specs.Fix.{sigmaOf, sightAt, residualAt, rowAt, freedomOf, chiOf, chiAt, plainMatrix, pdopOf}
+use Rattle.wls.specs.declared.fix.Settings.{Settings}
 
 -- ---- the degrees of freedom
 
@@ -44,27 +53,52 @@ freedom-least count n h = let e : max 1 (count - n) ≡ 1 = omega arith in rw e 
 abbrev pub scaled : Row → Float
 scaled r = square (bits (r .residual) ⊘ r .sigma)
 
-module _ (sigma : List Float) (residual : List ℕ) where
-  -- the sum over the first k rows
+-- of the observations os at the state s, with these sigmas
+module _ (k : Clocks) (os : List Observation) (sigma s : List Float) where
+  -- what observation j adds
+  abbrev pub adds : ℕ → Float
+  adds j =
+      let o = getD os j blankObservation in
+      square ((o .pseudorange ⊖ (sightAt s o .range ⊕ at s (slot k (o .constellation)))) ⊘ getD sigma j nan)
+
+  -- the sum over the first j of them
   pub squares : ℕ → Float
-  squares k = sumTo (λ k. square (bits (getD residual k 0) ⊘ getD sigma k nan)) k
+  squares j = sumTo adds j
 
   pub squares-zero : +0 ≡ squares 0
   unfolding squares
-  squares-zero = sym (sumTo-zero _)
+  squares-zero = sym (sumTo-zero adds)
 
-  pub squares-next : (k : ℕ) (s y z : Float) → s ≡ squares k → y ≡ bits (getD residual k 0) → z ≡ square (y ⊘ getD sigma k nan) → s ⊕ z ≡ squares (k + 1)
+  pub squares-next : (j : ℕ) (t q : Float) → t ≡ squares j → q ≡ adds j → t ⊕ q ≡ squares (j + 1)
   unfolding squares
-  squares-next k s y z h y-is z-is = rw (sumTo-next, h, z-is, y-is)
+  squares-next j t q h e = ap₂ _⊕_ h e ∙ sym (sumTo-next adds j)
 
-  pub chi-is : (n k : ℕ) (s f r : Float) → k ≡ length residual → s ≡ squares k → f ≡ freedomOf (length residual) n → r ≡ rootOf (s ⊘ f)
-      → (x y z : List Float) (clock : List ℕ) → r ≡ chiOf n (rowsIn (columns x y z clock sigma residual))
-  unfolding chiOf squares
-  chi-is n k s f r last s-is f-is r-is x y z clock =
-      let c = columns x y z clock sigma residual in
-      let sum : s ≡ total scaled (rowsIn c) = s-is ∙ ap squares last ∙ sum-places scaled (rowIn c) (length residual) in
-      let all : f ≡ freedomOf (length (rowsIn c)) n = f-is ∙ ap (λ (m : ℕ). freedomOf m n) (sym (places-length (rowIn c) (length residual))) in
-      r-is ∙ ap₂ (λ (a b : Float). rootOf (a ⊘ b)) sum all
+  module _ (settings : Settings) (n : ℕ) (fits : n ≤ length os) (sigmas : take n sigma ≡ map (sigmaOf settings) (take n os)) where
+    abbrev row : ℕ → Row
+    row j = rowAt settings k s (getD os j blankObservation)
+
+    adds-is : (j : ℕ) → j < n → adds j ≡ scaled (row j)
+    unfolding rowAt residualAt
+    adds-is j h =
+        let o = getD os j blankObservation in
+        let e = filled-at (sigmaOf settings) os sigma n j blankObservation nan fits h sigmas in
+        let r = pattern-back (o .pseudorange ⊖ (sightAt s o .range ⊕ at s (slot k (o .constellation)))) (sub-fits binary64 _ _) in
+        rw (e, r)
+
+    sums-same : (m : ℕ) → m ≤ n → sumTo adds m ≡ sumTo (λ j. scaled (row j)) m
+    unfolding sumTo
+    sums-same zero h = refl
+    sums-same (suc m) h = ap₂ _⊕_ (sums-same m (omega arith)) (adds-is m (omega arith))
+
+    rows-same : places row n ≡ map (rowAt settings k s) (take n os)
+    rows-same = sym (places-map (rowAt settings k s) (λ j. getD os j blankObservation) n) ∙ ap (map (rowAt settings k s)) (places-take os blankObservation n fits)
+
+    pub chi-is : {t f r : Float} → t ≡ squares n → f ≡ freedomOf n (3 + k .count) → r ≡ rootOf (t ⊘ f) → r ≡ chiAt settings k (take n os) s
+    unfolding chiAt chiOf squares
+    chi-is t-is f-is r-is =
+        let sum = t-is ∙ sums-same n (omega arith) ∙ sum-places scaled row n ∙ ap (total scaled) rows-same in
+        let count : n ≡ length (map (rowAt settings k s) (take n os)) = sym (length-map (take n os) (rowAt settings k s) ∙ length-take-le n os fits) in
+        r-is ∙ ap₂ (λ (a b : Float). rootOf (a ⊘ b)) sum (f-is ∙ ap (λ (m : ℕ). freedomOf m (3 + k .count)) count)
 
 -- ---- the unweighted matrix
 

@@ -2,7 +2,7 @@
 use mathlib.Core.Path.{_≡_}
 use Prim.Native.Nat.{ℕ, _+_, _-_, _<_, max}
 use mathlib.Core.Bool.{true, not, cond, _&&_}
-use mathlib.Core.List.{List, [], _∷_, map}
+use mathlib.Core.List.{List, [], _∷_, _++_, map}
 use lib.Dec.{eqb}
 use lib.ListN.{length, take, replicate}
 use lib.Dec.{T}
@@ -16,17 +16,19 @@ use Rattle.cholesky.specs.Answer.{rowsAfter}
 use Rattle.cholesky.specs.Answer as factor
 use Rattle.numeric.specs.Order.{patternOf}
 use Rattle.numeric.specs.Real.{square}
-use Rattle.numeric.specs.Sight.{geometry}
+use Rattle.numeric.specs.Sight.{sightOf, onReceiver}
 use Rattle.numeric.specs.Refusal.{numberOf}
 use Rattle.numeric.specs.declared.sight.Sight.{Sight}
 use Rattle.numeric.specs.declared.vec3.Vec3.{Vec3}
-use Rattle.numeric.specs.declared.refusal.Refusal.the-variants.{FitFailed, QualityNotFinite}
+use Rattle.numeric.specs.declared.refusal.Refusal.the-variants.{FitFailed, QualityNotFinite, OnReceiver}
 use Rattle.robust.specs.Nine.{nine}
-use Rattle.robust.specs.Round.{wide, total, triangleOf, Round, Outcome, roundOf, Sound, FiniteResiduals}
+use Rattle.robust.specs.Round.{wide, total, triangleOf, Round, Outcome, Refused as NoRound, roundOf, Sound, FiniteResiduals}
 use Rattle.robust.specs.Sigma.{elevationSigma}
 use Rattle.robust.specs.declared.row.Row.{Row}
 use Rattle.clocks.specs.Clocks.{slot, clocksOf}
 use Rattle.estimator.specs.Rules.{Rule, rule, ruled}
+use Rattle.estimator.specs.declared.rules.Check.{Check}
+use Rattle.estimator.specs.declared.rules.Check.the-variants as Check
 use Rattle.records.specs.Mask.{constellations}
 use Rattle.wls.specs.Front.{fixRows, fixRules}
 use Rattle.clocks.specs.declared.clocks.Clocks.{Clocks}
@@ -37,6 +39,8 @@ use Rattle.estimator.specs.Rounds.{Fit, fitFrom, lastRows, vector, finiteAt, co
 use Rattle.wls.specs.declared.fix.Solution.{Solution}
 use Rattle.wls.specs.declared.fix.Fix.{Fix}
 use Rattle.wls.specs.declared.fix.Fix.the-variants.{Refused, At}
+use Rattle.wls.specs.declared.quality.Chi.{Chi}
+use Rattle.wls.specs.declared.quality.Chi.the-variants.{Refused as NoChi, Of as ChiOf}
 use Rattle.wls.specs.declared.fix.Position.{Position}
 use Rattle.wls.specs.declared.fix.Position.the-variants.{Refused as NoPosition, At as PositionAt}
 
@@ -53,7 +57,7 @@ sigmaOf settings o = elevationSigma (o .elevation) (settings .«sigma_a») (sett
 
 -- the line of sight of an observation at the state x
 abbrev pub sightAt : List Float → Observation → Sight
-sightAt x o = geometry (o .satellite) (vector x)
+sightAt x o = sightOf (o .satellite) (vector x)
 
 -- what was measured, less what the state x predicts
 unfoldable pub residualAt : Clocks → List Float → Observation → ℕ
@@ -69,9 +73,13 @@ rowAt settings k x o =
       sigma = sigmaOf settings o;
     }
 
--- the round at the state x over the observations os, with the clocks k
+-- 15, of the rows in order at the state x
+unfoldable pub sightRules : List Observation → List Float → List Rule
+sightRules os x = map (λ (o : Observation). rule OnReceiver (onReceiver (sightAt x o .range))) os
+
+-- the round at the state x over the observations os, with the clocks k: 15 before anything is factored
 unfoldable pub roundAt : Settings → Clocks → List Observation → List Float → Outcome
-roundAt settings k os x = roundOf (map (rowAt settings k x) os) (3 + k .count) (settings .huber)
+roundAt settings k os x = ruled NoRound (sightRules os x) (roundOf (map (rowAt settings k x) os) (3 + k .count) (settings .huber))
 
 -- stop after a step shorter than 1e-3 m
 abbrev pub limit : Float
@@ -127,21 +135,24 @@ dilutionOf n rows = pdopOf (rowsAfter (factorOf (plainMatrix n rows)) [])
 unfoldable pub chiAt : Settings → Clocks → List Observation → List Float → Float
 chiAt settings k os x = chiOf (3 + k .count) (map (rowAt settings k x) os)
 
--- ---- the answer, at the state x that the rounds reach with these rows in the last one, of n unknowns, and with chi at x
+-- ---- the answer, at the state x that the rounds reach with these rows in the last one, of n unknowns, with 15 of the rows at x and chi there
 
--- 10: the position is not finite, or a pivot of the unweighted matrix is refused; 14: chi or pdop is not finite
-unfoldable pub endRules : ℕ → List Row → Float → List Float → List Rule
-endRules n rows chi x =
+-- 15 at the returned position, and 14: chi or pdop is not finite
+unfoldable pub qualityRules : List Rule → Float → Float → List Rule
+qualityRules sights chi pdop = sights ++ (rule QualityNotFinite (not (finite chi && finite pdop)) ∷ [])
+
+-- 10: the position is not finite, or a pivot of the unweighted matrix is refused; and then those
+unfoldable pub endRules : ℕ → List Row → List Rule → Float → List Float → List Rule
+endRules n rows sights chi x =
     rule FitFailed (not (finiteAt x))
     ∷ rule FitFailed (not (factor.accepted (factorOf (plainMatrix n rows))))
-    ∷ rule QualityNotFinite (not (finite chi && finite (dilutionOf n rows)))
-    ∷ []
+    ∷ qualityRules sights chi (dilutionOf n rows)
 
 abbrev pub solutionAt : ℕ → List Row → Float → List Float → Solution
 solutionAt n rows chi x = record { position = vector x; used = length rows; chi = chi; pdop = dilutionOf n rows }
 
-abbrev pub concludedAt : ℕ → List Row → Float → List Float → Fix
-concludedAt n rows chi x = ruled Refused (endRules n rows chi x) (At (solutionAt n rows chi x))
+abbrev pub concludedAt : ℕ → List Row → List Rule → Float → List Float → Fix
+concludedAt n rows sights chi x = ruled Refused (endRules n rows sights chi x) (At (solutionAt n rows chi x))
 
 -- what the rounds over the observations os come to, with the clocks k
 unfoldable pub foundOver : Settings → Clocks → List Observation → Vec3 → Fix
@@ -149,7 +160,7 @@ foundOver settings k os guess =
     let f = fitOver settings k os guess in
     let n = 3 + k .count in
     let rows = lastRows [] (f .rounds) in
-    concluded Refused (λ x. endRules n rows (chiAt settings k os x) x) (λ x. At (solutionAt n rows (chiAt settings k os x) x)) (f .end)
+    concluded Refused (λ x. endRules n rows (sightRules os x) (chiAt settings k os x) x) (λ x. At (solutionAt n rows (chiAt settings k os x) x)) (f .end)
 
 -- 2 to 9, and then what the rounds come to
 unfoldable pub fixOf : Input → Fix
@@ -226,3 +237,17 @@ pub record RowsAt (k : Clocks) (n : ℕ) (os : List Observation) (s x y z : List
   pub zs : take n z ≡ map (λ (o : Observation). sightAt s o .z) (take n os)
   pub clocks-are : take n clock ≡ map (λ (o : Observation). slot k (o .constellation)) (take n os)
   pub residuals : take n residual ≡ map (residualAt k s) (take n os)
+
+-- the code's answer of the rows at the state s, and the rows where 15 lets them pass
+pub record Rowed (k : Clocks) (n : ℕ) (os : List Observation) (s : List Float) (r : Check) (x y z : List Float) (clock residual : List ℕ) : Type 0 where
+  pub answer : r ≡ ruled Check.Refused (sightRules (take n os) s) Check.Passed
+  pub rows : r ≡ Check.Passed → RowsAt k n os s x y z clock residual
+
+-- ---- chi as the code has it: 15 at the state x, or chi there
+abbrev pub chiFound : Settings → Clocks → List Observation → List Float → Chi
+chiFound settings k os x = ruled NoChi (sightRules os x) (ChiOf (chiAt settings k os x))
+
+-- and what a fit comes to with it that 10 lets pass
+abbrev pub ratedBy : Vec3 → ℕ → Float → Chi → Fix
+ratedBy position used pdop (NoChi r) = Refused r
+ratedBy position used pdop (ChiOf c) = ruled Refused (rule QualityNotFinite (not (finite c && finite pdop)) ∷ []) (At (record { position = position; used = used; chi = c; pdop = pdop }))

@@ -1,11 +1,14 @@
 // The position from one epoch.
 ghost use mathlib.Core.Path.{_≡_};
-ghost use mathlib.Core.List.{map};
+ghost use mathlib.Core.List.{List, map};
 ghost use lib.ListN.{length, take};
 ghost use Prim.Native.Nat.{ℕ, _≤_};
+ghost use lib.Ieee.{Float};
 ghost use Rattle.robust.specs.Columns.{columns, rowsIn};
+ghost use Rattle.estimator.specs.Rules.{Rule, ruled};
 ghost use Rattle.wls.specs.Fix as spec;
-use crate::quality::chi_of;
+use crate::quality::Chi;
+use crate::quality::chi_at;
 use crate::quality::pdop_of;
 use crate::quality::plain_matrix;
 use crate::valid::check_fix;
@@ -19,6 +22,7 @@ use estimator::rules::check_rows;
 use numeric::order::pattern;
 use numeric::real::is_finite;
 use numeric::refusal::Refusal;
+use numeric::sight::Sighting;
 use numeric::sight::geometry;
 use numeric::vec3::Vec3;
 use records::mask::above_mask;
@@ -71,7 +75,7 @@ pub(crate) fn sigmas_of(settings: Settings, sky: Observations) -> [f64; 64]
     sigma
 }
 
-// The rows of the observations at the state s, but for their sigmas: lines of sight, clocks and residuals.
+// The rows of the observations at the state s, but for their sigmas: lines of sight, clocks and residuals. 15 of the first whose line of sight is refused.
 pub(crate) fn rows_at(
     k: Clocks,
     sky: Observations,
@@ -81,9 +85,9 @@ pub(crate) fn rows_at(
     z: &mut [f64; 64],
     clock: &mut [usize; 64],
     residual: &mut [u64; 64],
-)
+) -> Check
     requires { ⌜ (sky .count ≤ 64) × spec.Long (now x) (now y) (now z) (now clock) (now residual) ⌝ }
-    ensures { λ _. ⌜ spec.RowsAt k (sky .count) (sky .observation) s (now (x .exit)) (now (y .exit)) (now (z .exit)) (now (clock .exit)) (now (residual .exit)) ⌝ }
+    ensures { λ r. ⌜ spec.Rowed k (sky .count) (sky .observation) s r (now (x .exit)) (now (y .exit)) (now (z .exit)) (now (clock .exit)) (now (residual .exit)) ⌝ }
 {
     let count = sky.count;
     let at = Vec3 {
@@ -93,7 +97,10 @@ pub(crate) fn rows_at(
     };
     for j in 0..count {
         let o = sky.observation[j];
-        let g = geometry(o.satellite, at);
+        let seen = geometry(o.satellite, at);
+        let Sighting::Seen(g) = seen else {
+            return Check::Refused(Refusal::OnReceiver);
+        };
         let q = k.slot(o.constellation);
         let r = pattern(o.pseudorange - (g.range + state_at(s, q)));
         x[j] = g.x;
@@ -102,6 +109,7 @@ pub(crate) fn rows_at(
         clock[j] = q;
         residual[j] = r;
     }
+    Check::Passed
 }
 
 // The rounds over the observations from the guess on, and what they come to.
@@ -124,7 +132,7 @@ pub(crate) fn fit_sky(settings: Settings, k: Clocks, sky: Observations, guess: V
     state[2] = guess.z;
     let mut i: u32 = 0;
     while i < settings.rounds {
-        rows_at(
+        if let Check::Refused(r) = rows_at(
             k,
             sky,
             state,
@@ -133,7 +141,9 @@ pub(crate) fn fit_sky(settings: Settings, k: Clocks, sky: Observations, guess: V
             &mut z,
             &mut clock,
             &mut residual,
-        );
+        ) {
+            return Fix::Refused(r);
+        }
         used = count;
         let mut dx = [0.0; 9];
         if let Stepping::Refused(r) = round_step(
@@ -152,7 +162,7 @@ pub(crate) fn fit_sky(settings: Settings, k: Clocks, sky: Observations, guess: V
         let next = move_by(n, dx, state);
         state = next;
         if is_short(1e-3, dx) {
-            let chi = chi_at(settings, k, sky, state);
+            let chi = chi_at(k, sky, &sigma, state);
             return found_at(
                 &x,
                 &y,
@@ -167,28 +177,11 @@ pub(crate) fn fit_sky(settings: Settings, k: Clocks, sky: Observations, guess: V
         }
         i += 1;
     }
-    let chi = chi_at(settings, k, sky, state);
+    let chi = chi_at(k, sky, &sigma, state);
     found_at(&x, &y, &z, &clock, &sigma, &residual[..used], n, state, chi)
 }
 
-// chi at the state s, where the residuals are worked out anew.
-pub(crate) fn chi_at(settings: Settings, k: Clocks, sky: Observations, s: [f64; 9]) -> f64
-    requires { ⌜ (sky .count ≤ 64) × (k .count ≤ 6) ⌝ }
-    ensures { λ r. ⌜ r ≡ spec.chiAt settings k (take (sky .count) (sky .observation)) s ⌝ }
-{
-    let count = sky.count;
-    let sigma = sigmas_of(settings, sky);
-    let mut x = [0.0; 64];
-    let mut y = [0.0; 64];
-    let mut z = [0.0; 64];
-    let mut clock = [0usize; 64];
-    let mut residual = [0u64; 64];
-    rows_at(k, sky, s, &mut x, &mut y, &mut z, &mut clock, &mut residual);
-    chi_of(&sigma, &residual[..count], 3 + k.count)
-}
-
-// The answer at the state s that the rows of n unknowns lead to, with chi there: 10 where it is not finite or the unweighted matrix is refused, 14 where chi or
-// pdop is not finite.
+// The answer at the state s that the rows of n unknowns lead to, with chi there: 10 where it is not finite or the unweighted matrix is refused.
 fn found_at(
     x: &[f64; 64],
     y: &[f64; 64],
@@ -198,10 +191,10 @@ fn found_at(
     residual: &[u64],
     n: usize,
     s: [f64; 9],
-    chi: f64,
+    chi: Chi,
 ) -> Fix
     requires { ⌜ (length (now residual) ≤ 64) × (n ≤ 9) ⌝ }
-    ensures { λ r. ⌜ r ≡ spec.concludedAt n (rowsIn (columns (now (x .entry)) (now (y .entry)) (now (z .entry)) (now (clock .entry)) (now (sigma .entry)) (now (residual .entry)))) chi s ⌝ }
+    ensures { λ r. ⌜ ((sights : List Rule) (c : Float) → chi ≡ ruled Chi.Refused sights (Chi.Of c) → r ≡ spec.concludedAt n (rowsIn (columns (now (x .entry)) (now (y .entry)) (now (z .entry)) (now (clock .entry)) (now (sigma .entry)) (now (residual .entry)))) sights c s) ⌝ }
 {
     let position = Vec3 {
         x: s[0],
@@ -215,18 +208,30 @@ fn found_at(
         if factor_into(&a, &mut l) {
             let used = residual.len();
             let pdop = pdop_of(&l);
-            if is_finite(chi) & is_finite(pdop) {
-                return Fix::At(Solution {
-                    position: position,
-                    used: used,
-                    chi: chi,
-                    pdop: pdop,
-                });
-            }
-            return Fix::Refused(Refusal::QualityNotFinite);
+            return rated(position, used, chi, pdop);
         }
     }
     Fix::Refused(Refusal::FitFailed)
+}
+
+// What a fit that 10 lets pass comes to: 15 at the returned position, 14 where chi or pdop is not finite, or the solution.
+fn rated(position: Vec3, used: usize, chi: Chi, pdop: f64) -> Fix
+    ensures { λ r. ⌜ r ≡ spec.ratedBy position used pdop chi ⌝ }
+{
+    match chi {
+        Chi::Refused(r) => Fix::Refused(r),
+        Chi::Of(c) => {
+            if is_finite(c) & is_finite(pdop) {
+                return Fix::At(Solution {
+                    position: position,
+                    used: used,
+                    chi: c,
+                    pdop: pdop,
+                });
+            }
+            Fix::Refused(Refusal::QualityNotFinite)
+        }
+    }
 }
 
 // The receiver's position from one epoch, with what the fit says of itself. The first round begins at the guess.

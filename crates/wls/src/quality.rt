@@ -1,15 +1,20 @@
-// What a fit says of itself, from the last round's rows.
+// What a fit says of itself: chi at the point handed out, and pdop from the last round's rows.
 ghost use mathlib.Core.Path.{_≡_};
-ghost use mathlib.Core.List.{List};
-ghost use Prim.Native.Nat.{ℕ, _≤_};
-ghost use lib.ListN.{length};
-ghost use lib.Ieee.{Float};
+ghost use mathlib.Core.List.{map};
+ghost use Prim.Native.Nat.{_≤_};
+ghost use lib.ListN.{length, take};
 ghost use Rattle.robust.specs.Columns.{columns, rowsIn};
+ghost use Rattle.wls.specs.declared.fix.Settings.{Settings};
 ghost use Rattle.wls.specs.Fix as spec;
 use cholesky::factor::solve_lent;
-use numeric::order::float;
+use clocks::clocks::Clocks;
+use estimator::rounds::state_at;
 use numeric::real::square;
+use numeric::refusal::Refusal;
+use numeric::sight::Sighting;
+use numeric::sight::geometry;
 use numeric::vec3::Vec3;
+use records::record::Observations;
 use robust::round::unused;
 use robust::row::Row;
 use robust::row::wide;
@@ -27,19 +32,36 @@ fn freedom_of(count: usize, n: usize) -> f64
     }
 }
 
-// The root of the reduced chi-squared of the rows with these sigmas and residuals, and n unknowns.
-pub(crate) fn chi_of(sigma: &[f64; 64], residual: &[u64], n: usize) -> f64
-    requires { ⌜ length (now residual) ≤ 64 ⌝ }
-    ensures { λ r. ⌜ ((x y z : List Float) (clock : List ℕ) → r ≡ spec.chiOf n (rowsIn (columns x y z clock (now (sigma .entry)) (now (residual .entry))))) ⌝ }
+// chi at a state, or why a line of sight there is refused.
+pub enum Chi {
+    Refused(Refusal),
+    Of(f64),
+}
+
+// chi of the observations with these sigmas at the state s, where lines of sight and residuals are worked out anew: the root of the reduced chi-squared.
+pub(crate) fn chi_at(k: Clocks, sky: Observations, sigma: &[f64; 64], s: [f64; 9]) -> Chi
+    requires { ⌜ (sky .count ≤ 64) × (k .count ≤ 6) ⌝ }
+    ensures { λ r. ⌜ ((settings : Settings) → take (sky .count) (now (sigma .entry)) ≡ map (spec.sigmaOf settings) (take (sky .count) (sky .observation)) → r ≡ spec.chiFound settings k (take (sky .count) (sky .observation)) s) ⌝ }
 {
-    let count = residual.len();
+    let count = sky.count;
+    let at = Vec3 {
+        x: s[0],
+        y: s[1],
+        z: s[2],
+    };
     let mut t = 0.0;
-    for k in 0..count {
-        let p = residual[k];
-        let s = sigma[k];
-        t = t + square(float(p) / s);
+    for j in 0..count {
+        let o = sky.observation[j];
+        let seen = geometry(o.satellite, at);
+        let Sighting::Seen(g) = seen else {
+            return Chi::Refused(Refusal::OnReceiver);
+        };
+        let q = k.slot(o.constellation);
+        let e = o.pseudorange - (g.range + state_at(s, q));
+        let w = sigma[j];
+        t = t + square(e / w);
     }
-    sqrt(t / freedom_of(count, n))
+    Chi::Of(sqrt(t / freedom_of(count, 3 + k.count)))
 }
 
 // Makes a the normal equations of the rows without weights, by their lower triangle.

@@ -1,46 +1,21 @@
--- Arrays that are filled place by place from columns, and columns that are long enough. Assumes nothing.
-use mathlib.Core.Path.{_≡_, refl, sym, _∙_}
+-- Arrays that were filled place by place from columns, and columns that are long enough. Assumes nothing.
+use mathlib.Core.Path.{_≡_, sym, _∙_}
 use mathlib.Core.Bool.{true}
 use mathlib.Core.List.{List}
-use Prim.Native.Nat.{ℕ, _+_, _*_, _≤_, _<_}
-use native.Mathlib.Numerals.{add-one}
+use Prim.Native.Nat.{ℕ, _*_, _≤_}
 use native.Mathlib.Omega.{arith}
-use lib.ListN.{length, take, set, length-set}
-use lib.Seq.{take-all, take-suc-set}
+use lib.ListN.{length, take}
+use lib.Seq.{take-all}
 use borrow.Author.Tests.{leb-true}
 use Rattle.walk.proofs.Walk.{places-length, and-both}
 use Rattle.walk.specs.Walk.{places}
 use Rattle.records.specs.Record.{Holds}
+use Rattle.epoch_columns.proofs.ColumnLaws.{Filling, filled}
 use Rattle.zaqnuti.specs.Columns.{RowColumns, rowsFit, ObservationColumns, observationsFit}
 
--- an array of 64 of which the first i of n places have been stored, and its count
-pub record Filling {A : Type 0} (f : ℕ → A) (n : ℕ) (array : List A) (count i : ℕ) : Type 0 where
-  pub within : i ≤ n
-  pub long : length array ≡ 64
-  pub count-is : count ≡ n
-  pub so-far : take i array ≡ places f i
-
-module _ {A : Type 0} (f : ℕ → A) (n : ℕ) (array : List A) where
-  pub filling-start : length array ≡ 64 → Filling f n array n 0
-  unfolding places
-  filling-start long = record { within = omega arith; long = long; count-is = refl; so-far = refl }
-
-  pub filled : {count i : ℕ} → Filling f n array count i → n ≤ i → take n array ≡ places f n
-  filled {count} {i} h t = let q : i ≡ n = omega (arith, h .within) in rw q at (h .so-far)
-
-  module _ (few : n ≤ 64) {count i : ℕ} (h : Filling f n array count i) where
-    pub filling-next : i < n → Filling f n (set array i (f i)) count (i + 1)
-    unfolding places
-    filling-next t =
-        record {
-          within = omega arith;
-          long = length-set array i (f i) ∙ h .long;
-          count-is = h .count-is;
-          so-far = rw (add-one, take-suc-set array i (f i) (omega (arith, h .long)), h .so-far);
-        }
-
-    pub filling-end : n ≤ i → Holds count array (places f n)
-    filling-end t = rw (h .count-is) (record { room = few; count = sym (places-length f n); all = filled h t })
+module _ {A : Type 0} (f : ℕ → A) (n : ℕ) (array : List A) (few : n ≤ 64) {count i : ℕ} (h : Filling f n array count i) where
+  pub filling-end : n ≤ i → Holds count array (places f n)
+  filling-end t = rw (h .count-is) (record { room = few; count = sym (places-length f n); all = filled f n array h t })
 
 -- an array that holds the first n places counts what the list of them counts
 module _ {A : Type 0} (f : ℕ → A) (n : ℕ) {count : ℕ} {array : List A} (h : Holds count array (places f n)) where

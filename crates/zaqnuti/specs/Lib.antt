@@ -2,6 +2,5 @@ pub mod Columns
 pub mod Numbers
 pub mod Estimates
 pub mod Track
-pub mod Corrections
 pub mod Times
 pub mod Between

@@ -2,12 +2,14 @@
 use Prim.Native.Nat.{ℕ}
 use mathlib.Core.Path.{_≡_}
 use mathlib.Core.Bool.{cond}
-use mathlib.Core.List.{List, [], _∷_}
+use mathlib.Core.List.{List, [], _∷_, map}
 use lib.Ieee.{Float}
 use Rattle.numeric.specs.Refusal.{numberOf}
 use Rattle.numeric.specs.declared.refusal.Refusal.the-variants.{TooMany, FitFailed}
 use Rattle.cholesky.specs.Factor.{Factored, Refused, Lower}
-use Rattle.numeric.specs.declared.sight.Sight.{Sight}
+use Rattle.numeric.specs.Order.{patternOf}
+use Rattle.numeric.specs.declared.sight.Sighting.{Sighting}
+use Rattle.numeric.specs.declared.sight.Sighting.the-variants.{Refused as NotSeen, Seen}
 use Rattle.robust.specs.Step.{Stepped, refused, stepOf}
 use Rattle.robust.specs.declared.round.Stepping.{Stepping}
 use Rattle.robust.specs.declared.round.Stepping.the-variants as Stepping
@@ -36,5 +38,7 @@ columnStepOf c n unknowns huber dx = cond (rowsFit c n) (stepOf (rowsFrom c n) u
 abbrev pub clocksFrom : List ℕ → ℕ → Clocks
 clocksFrom slot count = record { slot = slot; count = count }
 
-abbrev pub sightAfter : Sight → List Float
-sightAfter s = s .x ∷ s .y ∷ s .z ∷ s .range ∷ []
+-- the patterns of the unit vector and the range; a refusal leaves them as they were, to the last bit
+abbrev pub sightAfter : Sighting → List ℕ → List ℕ
+sightAfter (NotSeen r) before = before
+sightAfter (Seen s) before = map patternOf (s .x ∷ s .y ∷ s .z ∷ s .range ∷ [])

@@ -2,7 +2,9 @@
 pub mod between;
 mod columns;
 pub mod corrections;
+pub mod directions;
 pub mod estimates;
+pub mod firmware;
 pub mod line;
 pub mod matrix;
 pub mod numbers;
@@ -11,3 +13,4 @@ pub mod round;
 pub mod slots;
 pub mod times;
 pub mod track;
+pub mod trips;

@@ -11,7 +11,9 @@ use crate::columns::rows_of;
 use crate::columns::vector;
 use median::centre::Centre;
 use median::centre::centre_scale;
+use numeric::order::pattern;
 use numeric::refusal::Refusal;
+use numeric::sight::Sighting;
 use numeric::sight::geometry;
 use robust::round::Stepping;
 use robust::round::step;
@@ -32,15 +34,25 @@ pub extern "C" fn zaqnuti_centre(residuals: &[u64], out: &mut [f64; 2]) -> u8
     }
 }
 
-// The unit vector from the satellite to the receiver and the range, in out.
+// The unit vector from the satellite to the receiver and the range in out and 0, or 15 where the range is zero or not finite, which leaves out as it was.
 #[no_mangle]
-pub extern "C" fn zaqnuti_geometry(satellite: &[f64; 3], receiver: &[f64; 3], out: &mut [f64; 4])
-    ensures { λ _. ⌜ now (out .exit) ≡ sightAfter (sight.geometry (vectorAt (now (satellite .entry)) 0) (vectorAt (now (receiver .entry)) 0)) ⌝ }
+pub extern "C" fn zaqnuti_geometry(
+    satellite: &[f64; 3],
+    receiver: &[f64; 3],
+    out: &mut [u64; 4],
+) -> u8
+    ensures { λ r. ⌜ (r ≡ sight.sightingNumber (sight.geometry (vectorAt (now (satellite .entry)) 0) (vectorAt (now (receiver .entry)) 0))) × (now (out .exit) ≡ sightAfter (sight.geometry (vectorAt (now (satellite .entry)) 0) (vectorAt (now (receiver .entry)) 0)) (now (out .entry))) ⌝ }
 {
     let s = vector(satellite);
     let at = vector(receiver);
-    let g = geometry(s, at);
-    *out = [g.x, g.y, g.z, g.range];
+    let seen = geometry(s, at);
+    match seen {
+        Sighting::Refused(r) => r.number(),
+        Sighting::Seen(g) => {
+            *out = [pattern(g.x), pattern(g.y), pattern(g.z), pattern(g.range)];
+            0
+        }
+    }
 }
 
 // The one-sigma of an elevation in degrees.

@@ -1,6 +1,7 @@
-// Not published; the modules that are, and what keeps a call's rounds.
+// Not published; the modules that are, and what keeps a call's rounds and passes.
 
 pub mod differential;
+pub mod passes;
 pub mod record;
 pub mod rinex;
 pub mod robust;

@@ -68,13 +68,11 @@ pub fn elevation_sigma(elevation: f64, a: f64, b: f64) -> f64 {
     unsafe { zaqnuti_elevation_sigma(elevation, a, b) }
 }
 
-/// The unit vector from satellite to receiver, and the range.
+/// The unit vector from satellite to receiver and the range in out and 0, or 15 and out untouched.
 #[inline]
-pub fn geometry(satellite: &[f64; 3], receiver: &[f64; 3]) -> [f64; 4] {
-    let mut out = [0.0; 4];
+pub fn geometry(satellite: &[f64; 3], receiver: &[f64; 3], out: &mut [f64; 4]) -> u8 {
     // SAFETY: each points to as many floats as its type says, and the last is ours alone.
-    unsafe { zaqnuti_geometry(satellite, receiver, &mut out) };
-    out
+    unsafe { zaqnuti_geometry(satellite, receiver, out) }
 }
 
 /// The step in dx and 0, or the number and dx untouched.

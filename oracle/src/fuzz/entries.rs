@@ -1,12 +1,15 @@
 //! One function for each entry point: decode, lend, call, compare.
 
 mod corrections;
+mod directions;
 mod displacement;
 mod fix;
 mod line;
 mod pieces;
 mod times;
 mod track;
+mod trips;
+mod wire;
 
 use super::Bytes;
 use crate::random::pattern;
@@ -15,18 +18,23 @@ use zaqnuti::sys;
 /// The name of an entry point, and its call.
 type Entry = (&'static str, fn(&mut Bytes));
 
-/// Every entry point; times, clocks and numbers together.
+/// Every entry point; times, those of a trip, clocks and numbers together.
 pub const ENTRIES: &[Entry] = &[
     ("fix", fix::fix),
     ("displacement", displacement::displacement),
     ("between", displacement::between),
     ("line", line::line),
+    ("read_records", wire::read_records),
+    ("write_records", wire::write_records),
+    ("records", wire::displacement_records),
     ("add_epoch", corrections::add_epoch),
     ("query", corrections::query),
     ("queries", corrections::queries),
     ("widen_bands", corrections::widen_bands),
     ("smooth", track::smooth),
     ("times", times::times),
+    ("trip", trips::trip),
+    ("directions", directions::directions),
     ("round", pieces::a_round),
     ("centre", pieces::centre),
     ("geometry", pieces::geometry),

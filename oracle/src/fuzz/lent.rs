@@ -95,6 +95,11 @@ impl<T: Copy> Lent<T> {
         self.given.len()
     }
 
+    /// What the buffer was lent with.
+    pub fn given(&self) -> &[T] {
+        &self.given
+    }
+
     fn bytes(elements: &[T]) -> &[u8] {
         // SAFETY: numbers have no padding.
         unsafe {

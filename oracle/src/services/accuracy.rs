@@ -18,16 +18,16 @@ pub const SERVICE: Service = Service {
 };
 
 /// 1 in units of 2^-1074.
-const ONE: usize = 1074;
+pub const ONE: usize = 1074;
 
 /// A finite double in units of 2^-1074: its sign, and m times 2 to the power `shift`.
-struct Units {
-    negative: bool,
-    m: u64,
-    shift: usize,
+pub struct Units {
+    pub negative: bool,
+    pub m: u64,
+    pub shift: usize,
 }
 
-fn units(x: f64) -> Units {
+pub fn units(x: f64) -> Units {
     let bits = x.to_bits();
     let exponent = (bits >> 52 & 0x7FF) as usize;
     let fraction = bits & ((1 << 52) - 1);
@@ -43,7 +43,7 @@ fn units(x: f64) -> Units {
 }
 
 /// The sum of magnitudes, and 1, in units of 2^-1074.
-fn one_and_sum(xs: impl Iterator<Item = f64>) -> Big {
+pub fn one_and_sum(xs: impl Iterator<Item = f64>) -> Big {
     let mut sum = Big::from(1, ONE);
     for x in xs.map(units) {
         sum.add_small(x.m.into(), x.shift);

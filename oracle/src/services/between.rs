@@ -145,6 +145,7 @@ pub fn vectors(random: &mut Random) -> Vectors {
         (9, 1),
         (10, 1),
         (13, 4),
+        (15, 2),
     ];
     Vectors::of(of_each(&wanted, || case(random)))
 }

@@ -167,6 +167,7 @@ pub fn vectors(random: &mut Random) -> Vectors {
         (8, 3),
         (9, 2),
         (10, 3),
+        (15, 4),
     ];
     Vectors::of(of_each(&wanted, || case(random)))
 }

@@ -5,7 +5,9 @@ pub mod between;
 mod centre;
 mod clocks;
 pub mod corrections;
+pub mod directions;
 mod displacement;
+mod equations;
 mod estimator;
 pub mod factor;
 mod fix;
@@ -19,7 +21,11 @@ pub mod solve;
 mod soundness;
 mod standins;
 pub mod time;
+mod top;
 pub mod track;
+pub mod trip;
+pub mod wire;
+pub mod wire_tdcp;
 
 use crate::random::Random;
 use crate::tally::Tally;
@@ -63,6 +69,11 @@ pub const KINDS: &[(u64, &str, Make)] = &[
     (21, "since", time::since),
     (22, "between", between::vectors),
     (23, "widen", corrections::stored::widen),
+    (27, "trip", trip::vectors),
+    (40, "read", wire::read),
+    (41, "write", wire::write),
+    (42, "records", wire_tdcp::vectors),
+    (31, "directions", directions::vectors),
 ];
 
 /// Every service, lowest first.
@@ -80,10 +91,17 @@ pub const SERVICES: &[Service] = &[
     round::SERVICE,
     displacement::SERVICE,
     time::SERVICE,
+    directions::SERVICE,
     between::SERVICE,
+    trip::SERVICE,
+    wire::SERVICE,
+    wire_tdcp::SERVICE,
     fix::SERVICE,
+    top::DISPLACEMENT,
+    top::FIX,
     soundness::SERVICE,
     track::SERVICE,
+    equations::SERVICE,
     corrections::SERVICE,
     line::SERVICE,
 ];

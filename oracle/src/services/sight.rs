@@ -1,11 +1,12 @@
-//! The sight line: unit vector and range, against the `geometry` of wls.rs and that of tdcp.rs.
+//! The sight line: unit vector and range, against the `geometry` of wls.rs and that of tdcp.rs where
+//! their range is neither zero nor not finite, and 15 where it is.
 
 use super::Service;
 use crate::random::{exp2, pattern, Random};
 use crate::sky;
 use crate::tally::{hex, Tally};
-use crate::vectors::{raw, Vectors};
-use crate::{bench, ffi};
+use crate::vectors::{of_each, raw, Vectors};
+use crate::{bench, ffi, rules};
 use drifters_core::frames::Ecef;
 use drifters_gnss::wls::Observation;
 use drifters_gnss::{tdcp, wls};
@@ -85,25 +86,37 @@ fn by_wls(satellite: [f64; 3], at: [f64; 3]) -> [f64; 4] {
 }
 
 fn compare(tally: &mut Tally, random: &mut Random, count: u64) {
-    let mut finite = 0u64;
+    let (mut zero, mut odd) = (0u64, 0u64);
     for _ in 0..count {
         let (satellite, at) = pair(random);
-        let ours = ffi::geometry(&satellite, &at).map(pattern);
+        let lent: [f64; 4] = std::array::from_fn(|_| random.float());
+        let mut ours = lent;
+        let number = ffi::geometry(&satellite, &at, &mut ours);
         let fix = by_wls(satellite, at).map(pattern);
         let displacement = by_tdcp(satellite, at).map(pattern);
-        finite += u64::from(fix.iter().all(|&p| f64::from_bits(p).is_finite()));
-        tally.judge(ours == fix && ours == displacement, || {
+        let range = f64::from_bits(fix[3]);
+        zero += u64::from(range == 0.0);
+        odd += u64::from(!range.is_finite());
+        // A refusal keeps every bit.
+        let same = if rules::on_receiver(range) {
+            number == 15 && ours.map(f64::to_bits) == lent.map(f64::to_bits)
+        } else {
+            number == 0 && ours.map(f64::to_bits) == fix
+        };
+        tally.judge(same && fix == displacement, || {
             format!(
-                "of {} from {}: ours {}, wls.rs {}, tdcp.rs {}",
+                "of {} from {}: ours {number}, {}, wls.rs {}, tdcp.rs {}",
                 hex(satellite.map(f64::to_bits)),
                 hex(at.map(f64::to_bits)),
-                hex(ours),
+                hex(ours.map(f64::to_bits)),
                 hex(fix),
                 hex(displacement)
             )
         });
     }
-    tally.note(format!("{finite} finite"));
+    tally.note(format!(
+        "refused with a range of zero {zero}, with one that is not finite {odd}"
+    ));
 }
 
 fn time(random: &mut Random) {
@@ -113,13 +126,15 @@ fn time(random: &mut Random) {
             (place.satellite(random).0, place.at)
         })
         .collect();
+    let mut lent = [0.0; 4];
     bench::row(
         "sight",
         1,
         pairs.len(),
         || {
             for (s, at) in &pairs {
-                black_box(ffi::geometry(black_box(s), at));
+                black_box(ffi::geometry(black_box(s), at, &mut lent));
+                black_box(&lent);
             }
         },
         || {
@@ -130,12 +145,19 @@ fn time(random: &mut Random) {
     );
 }
 
-/// Satellite 3, receiver 3, unit vector 3, range.
+/// Satellite 3, receiver 3; number, unit vector 3, range (zeros where refused).
 pub fn vectors(random: &mut Random) -> Vectors {
-    let one = |_| {
+    let wanted = [(0, 48), (15, 12)];
+    let next = || {
         let (satellite, at) = pair(random);
         let given = raw(&satellite).chain(raw(&at)).collect();
-        (given, by_wls(satellite, at).map(pattern).to_vec())
+        let sight = by_wls(satellite, at);
+        let (number, sight) = match rules::on_receiver(sight[3]) {
+            true => (15, [0.0; 4]),
+            false => (0, sight),
+        };
+        let stored = [vec![u64::from(number)], sight.map(pattern).to_vec()].concat();
+        Some((number, (given, stored)))
     };
-    Vectors::of((0..60).map(one).collect())
+    Vectors::of(of_each(&wanted, next))
 }

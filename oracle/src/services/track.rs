@@ -29,7 +29,7 @@ pub struct Columns {
 }
 
 impl Columns {
-    fn push(&mut self, index: usize, value: [f64; 3], sigma: [f64; 3]) {
+    pub fn push(&mut self, index: usize, value: [f64; 3], sigma: [f64; 3]) {
         self.count += 1;
         self.index.push(index);
         self.value.extend(value);
@@ -66,7 +66,7 @@ pub struct Input {
 
 impl Input {
     /// The floats of work that the call needs.
-    fn need(&self) -> usize {
+    pub fn need(&self) -> usize {
         9 * self.n + self.anchors.count + self.links.count
     }
 
@@ -169,12 +169,12 @@ fn sigma(random: &mut Random, size: Size) -> f64 {
     }
 }
 
-fn three(f: impl Fn(&mut Random) -> f64, random: &mut Random) -> [f64; 3] {
+pub fn three(f: impl Fn(&mut Random) -> f64, random: &mut Random) -> [f64; 3] {
     std::array::from_fn(|_| f(random))
 }
 
 /// A sound input of n epochs: anchors anywhere, links along the whole track or anywhere.
-fn sound(random: &mut Random, n: usize) -> Input {
+pub fn sound(random: &mut Random, n: usize) -> Input {
     let size = random.pick(&[
         Size::Ordinary,
         Size::Huge,

@@ -1,7 +1,7 @@
 //! Inputs of the displacement: drives under a sky, and the edges that only they have.
 
 use super::turns::{next_to, Beside, Floats, Input};
-use super::{along, direction, Place, Plan};
+use super::{along, direction, top, Place, Plan};
 use crate::estimate::Displacement;
 use crate::random::Random;
 use crate::rules;
@@ -179,7 +179,7 @@ fn equal_pairs(random: &mut Random, input: &mut Displacement) {
 }
 
 impl Input for Displacement {
-    const EDGES: u64 = 9;
+    const EDGES: u64 = 10;
 
     fn under(random: &mut Random, plan: &Plan) -> Self {
         drive(random, plan)
@@ -233,6 +233,7 @@ impl Input for Displacement {
             4 | 5 => repeat_one(random, self),
             6 => lose_one(random, self),
             7 => equal_pairs(random, self),
+            8 => top::on_receiver(random, self),
             // Previous carriers below the mask, which nothing tests.
             _ => {
                 for p in &mut self.previous {

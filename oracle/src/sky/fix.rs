@@ -55,7 +55,7 @@ fn standing(random: &mut Random, plan: &Plan) -> Fix {
 }
 
 impl Input for Fix {
-    const EDGES: u64 = 2;
+    const EDGES: u64 = 3;
 
     fn under(random: &mut Random, plan: &Plan) -> Self {
         standing(random, plan)
@@ -107,13 +107,19 @@ impl Input for Fix {
         let Some(&last) = self.observations.last() else {
             return;
         };
-        if which == 0 {
+        match which {
             // About 64 observations.
-            self.observations.resize(63 + random.place(4), last);
-        } else {
+            0 => self.observations.resize(63 + random.place(4), last),
+            // A satellite on the guess.
+            1 => {
+                let k = random.place(self.observations.len());
+                self.observations[k].satellite = self.guess;
+            }
             // Satellites at one place.
-            for o in &mut self.observations {
-                o.satellite = last.satellite;
+            _ => {
+                for o in &mut self.observations {
+                    o.satellite = last.satellite;
+                }
             }
         }
     }

@@ -4,6 +4,7 @@ use super::{bits, count, patterns, sys, turn_length};
 use crate::fuzz::lent::Lender;
 use crate::fuzz::Bytes;
 use crate::random::pattern;
+use crate::rules::on_receiver;
 use crate::services::{factor, round, solve};
 use drifters_core::frames::Ecef;
 use drifters_gnss::robust::{centre_scale, elevation_sigma, Clocks};
@@ -106,10 +107,15 @@ pub fn geometry(b: &mut Bytes) {
         lender.lend(&[0.5; 4]),
     );
     // SAFETY: each pointer leads to as many floats as its type says.
-    unsafe { sys::zaqnuti_geometry(s.at().cast(), r.at().cast(), out.at().cast()) };
+    let number = unsafe { sys::zaqnuti_geometry(s.at().cast(), r.at().cast(), out.at().cast()) };
     s.kept();
     r.kept();
     let (u, range) = tdcp::geometry(satellite, Ecef::new(at[0], at[1], at[2]));
+    if on_receiver(range) {
+        assert_eq!(number, 15);
+        return out.kept();
+    }
+    assert_eq!(number, 0);
     assert_eq!(patterns(out.now()), patterns(&[u[0], u[1], u[2], range]));
 }
 

@@ -15,7 +15,7 @@ const LONGEST: u64 = 65_536;
 /// for; a name that is none of these is most likely misspelt.
 const KNOWN: &str = "week tow constellation svid band pseudorange carrier adr state \
     x y z vx vy vz clock modelled ionosphere correction elevation rate rx ry rz \
-    dt dx dy dz true_dx true_dy true_dz sigma_x sigma_y sigma_z \
+    dt dx dy dz north east down true_dx true_dy true_dz sigma_x sigma_y sigma_z \
     pair line screen sigma_a sigma_b huber mask rounds used screened chi pdop refusal satellites";
 
 /// A column of a table by its place.

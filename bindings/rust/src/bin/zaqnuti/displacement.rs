@@ -1,7 +1,8 @@
 //! `zaqnuti displacement`: how far the receiver moved between two epochs of carrier phases.
 
+use zaqnuti::frames::{north_east_down, Ned};
 use zaqnuti::tdcp::Delta;
-use zaqnuti::Refusal;
+use zaqnuti::{Ecef, Refusal};
 
 use crate::answer::{Answers, FLAGS, OPTIONS};
 use crate::args::Args;
@@ -12,35 +13,71 @@ use crate::pairs::{Pair, Pairs, VALUED};
 pub const HELP: &str = "\
 zaqnuti displacement [OPTIONS] [FILE..]: how far the receiver moved between two
 epochs of carrier phases; a file is a series of epochs, or pairs
+  --compass           along north, east and down at the receiver's place
 ";
 
-fn tell(answers: &mut Answers, pair: &Pair, found: Result<Delta, Refusal>) -> Run<()> {
+/// The flag that asks for compass directions.
+const COMPASS: &str = "--compass";
+
+/// The displacement of a pair, and along north, east and down where that is asked for.
+fn solve(pair: &Pair, compass: bool) -> Result<(Delta, Option<Ned>), Refusal> {
+    let moved = pair.solve()?;
+    let [x, y, z] = pair.at;
+    let ned = compass.then(|| north_east_down(Ecef::new(x, y, z), moved.delta));
+    Ok((moved, ned.transpose()?))
+}
+
+/// Metres in one of two directions.
+fn along(x: f64, above: &str, below: &str) -> String {
+    let word = if x < 0.0 { below } else { above };
+    format!("{} m {word}", metres(x.abs()))
+}
+
+/// The way in words: along x, y and z, or by compass.
+fn way(moved: &Delta, ned: Option<Ned>) -> String {
+    match ned {
+        None => {
+            let [x, y, z] = [moved.delta.x, moved.delta.y, moved.delta.z].map(metres);
+            format!("{x} {y} {z} m")
+        }
+        Some(ned) => {
+            let n = along(ned.n, "north", "south");
+            let e = along(ned.e, "east", "west");
+            let d = along(ned.d, "down", "up");
+            format!("{n}, {e}, {d}")
+        }
+    }
+}
+
+fn tell(answers: &mut Answers, pair: &Pair, compass: bool) -> Run<()> {
     let start = || match pair.time {
         Some(time) => format!("{},,{}", time.fields(), written(pair.dt)),
         None => format!(",,{},{}", pair.name, written(pair.dt)),
     };
     let name = &pair.name;
-    match found {
-        Ok(d) => answers.tell(
+    match solve(pair, compass) {
+        Ok((d, ned)) => answers.tell(
             || {
                 let [x, y, z] = [d.delta.x, d.delta.y, d.delta.z];
                 let length = metres((x * x + y * y + z * z).sqrt());
-                let [x, y, z] = [x, y, z].map(metres);
-                let (used, screened) = (d.used, d.screened);
-                format!(
-                    "{name}: {x} {y} {z} m, {length} m in all; {used} used, {screened} screened"
-                )
+                let (way, used, screened) = (way(&d, ned), d.used, d.screened);
+                format!("{name}: {way}, {length} m in all; {used} used, {screened} screened")
             },
             || {
                 let [x, y, z] = [d.delta.x, d.delta.y, d.delta.z].map(written);
-                format!("{},{x},{y},{z},{},{},0", start(), d.used, d.screened)
+                let more = ned.map_or(String::new(), |v| {
+                    let [n, e, d] = [v.n, v.e, v.d].map(written);
+                    format!(",{n},{e},{d}")
+                });
+                format!("{},{x},{y},{z},{},{},0{more}", start(), d.used, d.screened)
             },
         ),
         Err(why) => {
             let words = answers.refused(why);
+            let more = if compass { ",,," } else { "" };
             answers.tell(
                 || format!("{name}: {words}"),
-                || format!("{},,,,,,{}", start(), why.number()),
+                || format!("{},,,,,,{}{more}", start(), why.number()),
             )
         }
     }
@@ -48,13 +85,16 @@ fn tell(answers: &mut Answers, pair: &Pair, found: Result<Delta, Refusal>) -> Ru
 
 /// Answers each pair; true where none is refused.
 pub fn run(words: &[String]) -> Run<bool> {
-    let args = Args::parse(words, &[&VALUED[..], &OPTIONS].concat(), &FLAGS)?;
-    let header = "week,tow,pair,dt,dx,dy,dz,used,screened,refusal";
-    let mut answers = Answers::open(&args, header)?;
+    let flags = [&FLAGS[..], &[COMPASS]].concat();
+    let args = Args::parse(words, &[&VALUED[..], &OPTIONS].concat(), &flags)?;
+    let compass = args.has(COMPASS);
+    let more = if compass { ",north,east,down" } else { "" };
+    let header = format!("week,tow,pair,dt,dx,dy,dz,used,screened,refusal{more}");
+    let mut answers = Answers::open(&args, &header)?;
     for source in args.sources() {
         let mut pairs = Pairs::open(source, &args)?;
         while let Some(pair) = pairs.next()? {
-            tell(&mut answers, &pair, pair.solve())?;
+            tell(&mut answers, &pair, compass)?;
         }
     }
     answers.close()

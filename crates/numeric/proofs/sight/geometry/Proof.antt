@@ -1,30 +1,21 @@
 -- `numeric::sight::geometry` meets its contract. Assumes nothing.
-use Rattle.numeric.proofs.SightLaws.{sight-is}
+use mathlib.Core.Path.{sym, _∙_}
+use Rattle.numeric.proofs.SightLaws.{not-given, given}
 use borrow.Author.Needs.{needs}
 use Rattle.numeric.proofs.sight.geometry.Statement.{statement}
 use Rattle.numeric.proofs.sight.geometry.Tie as tie
 
-sub-requires : tie.Need-sub-requires
-sub-requires c κs = search needs
+sight-of-requires : tie.Need-sight-of-requires
+sight-of-requires c κs = search needs
 
-norm-requires : tie.Need-norm-requires
-norm-requires c κs = search needs
-
-gap-requires : tie.Need-gap-requires
-gap-requires c κs = search needs
-
-norm-beside-requires : tie.Need-norm-beside-requires
-norm-beside-requires c κs = search needs
-
-along-requires : tie.Need-along-requires
-along-requires c κs = search needs
+is-on-receiver-requires : tie.Need-is-on-receiver-requires
+is-on-receiver-requires c κs = search needs
 
 returns : tie.Need-returns
-returns c =
-    let d = c .before .before in
-    sight-is _ _ (d .before .before .sub .ensures) (d .before .norm .ensures) (d .gap .ensures) (c .before .norm-beside .ensures) (c .along .ensures)
+returns c = not-given _ _ (c .before .before .sight-of .ensures) (sym (c .before .is-on-receiver .ensures) ∙ c .if1 .taken)
+
+returns-2 : tie.Need-returns-2
+returns-2 c = given _ _ (c .before .before .sight-of .ensures) (sym (c .before .is-on-receiver .ensures) ∙ c .if1 .left)
 
 pub geometry-spec : {M : Type 1} → statement M
-geometry-spec =
-    tie.close
-    (tie.spec sub-requires norm-requires gap-requires norm-beside-requires along-requires returns)
+geometry-spec = tie.close (tie.spec sight-of-requires is-on-receiver-requires returns returns-2)

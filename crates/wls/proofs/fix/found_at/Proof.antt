@@ -1,9 +1,9 @@
 -- `wls::fix::found_at` meets its contract. Assumes nothing.
-use mathlib.Core.Path.{sym}
+use mathlib.Core.Path.{sym, _∙_}
 use lib.ListN.{length}
 use Rattle.walk.proofs.Walk.{places-length}
 use Rattle.robust.specs.Columns.{Columns, columns, rowIn, rowsIn}
-use Rattle.wls.proofs.FixCall.{found-no, found-refused, found-unfit, found-yes}
+use Rattle.wls.proofs.FixCall.{found-no, found-refused, found-rated}
 use borrow.Author.Needs.{needs}
 use Rattle.wls.proofs.fix.found_at.Statement.{statement}
 use Rattle.wls.proofs.fix.found_at.Tie as tie
@@ -38,34 +38,25 @@ factor-into-requires c κs = search needs
 pdop-of-requires : tie.Need-pdop-of-requires
 pdop-of-requires c κs = search needs
 
-is-finite-requires-4 : tie.Need-is-finite-requires-4
-is-finite-requires-4 c κs = search needs
-
-is-finite-requires-5 : tie.Need-is-finite-requires-5
-is-finite-requires-5 c κs = search needs
+rated-requires : tie.Need-rated-requires
+rated-requires c κs = search needs
 
 returns : tie.Need-returns
 returns c =
-    let s = c .before .before .before .before .before .before .before .before .before .before .before .before .before .before .before .before in
-    let f = c .before .before .before .before .before .before .factor-into in
-    found-yes (s .args .n) (rowsIn (given s)) (s .args .chi) (s .args .t8) _ _ _ (c .before .before .before .before .before .before .before .before .before .before .before .before .before .before .is-finite .ensures) (c .before .before .before .before .before .before .before .before .before .before .before .before .before .is-finite2 .ensures) (c .before .before .before .before .before .before .before .before .before .before .before .before .is-finite3 .ensures) (c .before .before .before .before .before .before .before .before .before .before .before .if1 .taken) _ (c .before .before .before .before .before .before .before .before .before .plain-matrix .ensures) (f .result) (f .ensures .0) _ _ (f .ensures .1) (c .before .before .before .before .before .if2 .taken) _ (c .before .before .before .pdop-of .ensures) _ _ (c .before .before .is-finite4 .ensures) (c .before .is-finite5 .ensures) (c .if3 .taken) _ (sym (places-length (rowIn (given s)) (length (s .args .residual .now))))
+    let s = c .before .before .before .before .before .before .before .before .before .before .before .before .before .before in
+    let f = c .before .before .before .before .factor-into in
+    λ sights chi e. c .rated .ensures ∙ found-rated (s .args .n) (rowsIn (given s)) sights chi (s .args .t8) _ _ _ (c .before .before .before .before .before .before .before .before .before .before .before .before .is-finite .ensures) (c .before .before .before .before .before .before .before .before .before .before .before .is-finite2 .ensures) (c .before .before .before .before .before .before .before .before .before .before .is-finite3 .ensures) (c .before .before .before .before .before .before .before .before .before .if1 .taken) _ (c .before .before .before .before .before .before .before .plain-matrix .ensures) (f .result) (f .ensures .0) _ _ (f .ensures .1) (c .before .before .before .if2 .taken) _ (c .before .pdop-of .ensures) _ (sym (places-length (rowIn (given s)) (length (s .args .residual .now)))) e
 
 returns-2 : tie.Need-returns-2
 returns-2 c =
-    let s = c .before .before .before .before .before .before .before .before .before .before .before .before .before .before .before .before in
-    let f = c .before .before .before .before .before .before .factor-into in
-    found-unfit (s .args .n) (rowsIn (given s)) (s .args .chi) (s .args .t8) _ _ _ (c .before .before .before .before .before .before .before .before .before .before .before .before .before .before .is-finite .ensures) (c .before .before .before .before .before .before .before .before .before .before .before .before .before .is-finite2 .ensures) (c .before .before .before .before .before .before .before .before .before .before .before .before .is-finite3 .ensures) (c .before .before .before .before .before .before .before .before .before .before .before .if1 .taken) _ (c .before .before .before .before .before .before .before .before .before .plain-matrix .ensures) (f .result) (f .ensures .0) _ _ (f .ensures .1) (c .before .before .before .before .before .if2 .taken) _ (c .before .before .before .pdop-of .ensures) _ _ (c .before .before .is-finite4 .ensures) (c .before .is-finite5 .ensures) (c .if3 .left)
+    let s = c .before .before .before .before .before .before .before .before .before .before .before in
+    let f = c .before .factor-into in
+    λ sights chi e. found-refused (s .args .n) (rowsIn (given s)) sights chi (s .args .t8) _ _ _ (c .before .before .before .before .before .before .before .before .before .is-finite .ensures) (c .before .before .before .before .before .before .before .before .is-finite2 .ensures) (c .before .before .before .before .before .before .before .is-finite3 .ensures) (c .before .before .before .before .before .before .if1 .taken) _ (c .before .before .before .before .plain-matrix .ensures) (f .result) (f .ensures .0) (c .if2 .left)
 
 returns-3 : tie.Need-returns-3
 returns-3 c =
-    let s = c .before .before .before .before .before .before .before .before .before .before .before in
-    let f = c .before .factor-into in
-    found-refused (s .args .n) (rowsIn (given s)) (s .args .chi) (s .args .t8) _ _ _ (c .before .before .before .before .before .before .before .before .before .is-finite .ensures) (c .before .before .before .before .before .before .before .before .is-finite2 .ensures) (c .before .before .before .before .before .before .before .is-finite3 .ensures) (c .before .before .before .before .before .before .if1 .taken) _ (c .before .before .before .before .plain-matrix .ensures) (f .result) (f .ensures .0) (c .if2 .left)
-
-returns-4 : tie.Need-returns-4
-returns-4 c =
     let s = c .before .before .before .before .before in
-    found-no (s .args .n) (rowsIn (given s)) (s .args .chi) (s .args .t8) _ _ _ (c .before .before .before .is-finite .ensures) (c .before .before .is-finite2 .ensures) (c .before .is-finite3 .ensures) (c .if1 .left)
+    λ sights chi e. found-no (s .args .n) (rowsIn (given s)) sights chi (s .args .t8) _ _ _ (c .before .before .before .is-finite .ensures) (c .before .before .is-finite2 .ensures) (c .before .is-finite3 .ensures) (c .if1 .left)
 
 pub found-at-spec : {M : Type 1} → statement M
 found-at-spec =
@@ -80,9 +71,7 @@ found-at-spec =
     plain-matrix-requires
     factor-into-requires
     pdop-of-requires
-    is-finite-requires-4
-    is-finite-requires-5
+    rated-requires
     returns
     returns-2
-    returns-3
-    returns-4)
+    returns-3)

@@ -3,7 +3,8 @@ use mathlib.Core.Path.{refl}
 use Prim.Native.Nat.{_-_}
 use borrow.Author.Needs.{needs}
 use Rattle.zaqnuti.specs.Columns.{RowColumns, rowColumns, rowFrom}
-use Rattle.zaqnuti.proofs.ColumnLaws.{RowRoom, rows-room, Filling, filling-start, filling-next, filling-end}
+use Rattle.epoch_columns.proofs.ColumnLaws.{Filling, filling-start, filling-next}
+use Rattle.zaqnuti.proofs.ColumnLaws.{RowRoom, rows-room, filling-end}
 use Rattle.zaqnuti.proofs.columns.rows_of.Statement.{statement}
 use Rattle.zaqnuti.proofs.columns.rows_of.Tie as tie
 

@@ -1,0 +1,3 @@
+-- What the proofs of more than one function use, and the theorems.
+pub mod ColumnLaws
+pub mod EpochLaws

@@ -1,0 +1,25 @@
+-- `rearrange::directory_of::entry_room` meets its contract. Assumes nothing.
+use Rattle.directory.proofs.ColumnLaws.{entries-length}
+use borrow.Author.Needs.{needs}
+use Rattle.rearrange.proofs.directory_of.entry_room.Statement.{statement}
+use Rattle.rearrange.proofs.directory_of.entry_room.Tie as tie
+
+lesser-requires : tie.Need-lesser-requires
+lesser-requires c κs = search needs
+
+lesser-requires-2 : tie.Need-lesser-requires-2
+lesser-requires-2 c κs = search needs
+
+lesser-requires-3 : tie.Need-lesser-requires-3
+lesser-requires-3 c κs = search needs
+
+lesser-requires-4 : tie.Need-lesser-requires-4
+lesser-requires-4 c κs = search needs
+
+returns : tie.Need-returns
+returns c = let a = c .before .before .before .before .before .before .before .before .before .args in cc (entries-length (a .dc .now) (a .dv .now) (a .db .now) (a .df .now) (a .dn .now))
+
+pub entry-room-spec : {M : Type 1} → statement M
+entry-room-spec =
+    tie.close
+    (tie.spec lesser-requires lesser-requires-2 lesser-requires-3 lesser-requires-4 returns)

@@ -1,0 +1,115 @@
+-- Rule 15 of a displacement: pair after pair, as the geometry of the two satellites has it, and for whom nothing changed with request (v). Assumes nothing.
+use mathlib.Core.Path.{_≡_, refl, ap, ap₂, _∙_}
+use mathlib.Core.Bool.{Bool, true, false, not, cond, _&&_}
+use mathlib.Core.List.{List, [], _∷_}
+use Prim.Native.Nat.{ℕ, _+_, _-_, _≤_, _<_}
+use lib.ListN.{length, getD, take, drop}
+use lib.Ieee.{Float}
+use Rattle.walk.specs.Walk.{every, collect}
+use Rattle.walk.proofs.Walk.{left-end, left-at}
+use Rattle.numeric.specs.Sight.{sightOf, onReceiver, geometry}
+use Rattle.numeric.specs.declared.vec3.Vec3.{Vec3}
+use Rattle.numeric.specs.declared.refusal.Refusal.{Refusal}
+use Rattle.numeric.specs.declared.refusal.Refusal.the-variants.{OnReceiver}
+use Rattle.numeric.specs.declared.sight.Sighting.{Sighting}
+use Rattle.numeric.specs.declared.sight.Sighting.the-variants.{Refused as NotSeen, Seen}
+use Rattle.records.specs.Pair.{pairOf}
+use Rattle.records.specs.Screen.{keptOf}
+use Rattle.records.specs.declared.record.Carrier.{Carrier}
+use Rattle.records.specs.declared.pair.Pair.{Pair}
+use Rattle.records.proofs.PairLaws.{blankPair}
+use Rattle.estimator.specs.Rules.{Rule, rule, ruled}
+use Rattle.estimator.specs.Rounds.{concluded}
+use Rattle.estimator.specs.declared.rules.Check.the-variants.{Refused as Stops, Passed}
+use Rattle.estimator.proofs.RulesLaws.{checked, ruled-append}
+use Rattle.tdcp.specs.Valid.{epochRules, intervalRules}
+use Rattle.tdcp.specs.Front.{rangeRules, sightRules, countRules, pairRules}
+use Rattle.tdcp.specs.Displacement.{Input, fitBy, pairs, deltaAt, endRules, movedBy, movedIn, displacementOf}
+use Rattle.tdcp.specs.declared.displacement.Settings.{Settings}
+use Rattle.tdcp.specs.declared.displacement.Displacement.{Displacement}
+use Rattle.tdcp.specs.declared.displacement.Displacement.the-variants.{Refused, Moved}
+
+-- ---- the code's loop: what is left to test after j of the first n pairs
+pub record Sights (ps : List Pair) (n j : ℕ) : Type 0 where
+  pub left : checked (sightRules (drop j (take n ps))) ≡ checked (sightRules (take n ps))
+
+module _ (ps : List Pair) (n : ℕ) where
+  pub sights-start : Sights ps n 0
+  sights-start = record { left = refl }
+
+  module _ (fits : n ≤ length ps) (j : ℕ) (h : Sights ps n j) where
+    pub sights-end : n ≤ j → Passed ≡ checked (sightRules (take n ps))
+    unfolding sightRules collect ruled
+    sights-end l = rw (left-end ps n fits j l) at (h .left)
+
+    module _ (l : j < n) where
+      abbrev here : Pair
+      here = getD ps j blankPair
+
+      turn : cond (onReceiver (here .range)) (Stops OnReceiver) (cond (onReceiver (here .«previous_range»)) (Stops OnReceiver) (checked (sightRules (drop (j + 1) (take n ps))))) ≡ checked (sightRules (take n ps))
+      unfolding sightRules collect ruled
+      turn = rw (left-at ps n fits j blankPair l) at (h .left)
+
+      pub current-stops : onReceiver (here .range) ≡ true → Stops OnReceiver ≡ checked (sightRules (take n ps))
+      current-stops a = rw a at turn
+
+      pub previous-stops : onReceiver (here .range) ≡ false → onReceiver (here .«previous_range») ≡ true → Stops OnReceiver ≡ checked (sightRules (take n ps))
+      previous-stops a b = rw (a, b) at turn
+
+      pub sights-next : onReceiver (here .range) ≡ false → onReceiver (here .«previous_range») ≡ false → Sights ps n (j + 1)
+      sights-next a b = record { left = rw (a, b) at turn }
+
+-- ---- the rules of a pair are what the geometry of its current satellite and then that of the previous pass on
+
+abbrev pub passedOn : Sighting → Rule
+passedOn (NotSeen r) = rule r true
+passedOn (Seen s) = rule OnReceiver false
+
+one-on : (satellite receiver : Vec3) → rule OnReceiver (onReceiver (sightOf satellite receiver .range)) ≡ passedOn (geometry satellite receiver)
+unfolding geometry
+one-on satellite receiver = go (onReceiver (sightOf satellite receiver .range))
+  where
+    go : (b : Bool) → rule OnReceiver b ≡ passedOn (cond b (NotSeen OnReceiver) (Seen (sightOf satellite receiver)))
+    go true = refl
+    go false = refl
+
+pub passed-on : (receiver : Vec3) (dt : Float) (c p : Carrier) → rangeRules (pairOf receiver dt c p) ≡ passedOn (geometry (c .satellite) receiver) ∷ passedOn (geometry (p .satellite) receiver) ∷ []
+unfolding pairOf
+passed-on receiver dt c p = ap₂ (λ (a b : Rule). a ∷ b ∷ []) (one-on (c .satellite) receiver) (one-on (p .satellite) receiver)
+
+-- ---- THE LAW of request (v): where no range of a pair is zero or not finite the displacement is the one from before, and else, behind 2 to 5, it is refused by 15
+
+-- neither range of the pair is zero or not finite
+abbrev pub seen : Pair → Bool
+seen p = not (onReceiver (p .range)) && not (onReceiver (p .«previous_range»))
+
+-- what the pairs came to before the request: 7 to 9, the rounds, and 10
+abbrev pub movedBefore : Settings → List Pair → Displacement
+movedBefore settings ps =
+    let used = length (keptOf (settings .screen) ps) in
+    ruled Refused (countRules settings ps) (concluded Refused endRules (λ x. Moved (deltaAt used (length ps - used) x)) (fitBy settings ps .end))
+
+abbrev pub displacementBefore : Input → Displacement
+displacementBefore i = ruled Refused (epochRules (i .previous) (i .current) (i .receiver) (i .settings)) (ruled Refused (intervalRules (i .dt)) (movedBefore (i .settings) (pairs i)))
+
+module _ {A : Type 0} (f : Refusal → A) (a : A) where
+  sights-are : (ps : List Pair) → ruled f (sightRules ps) a ≡ cond (every seen ps) a (f OnReceiver)
+  unfolding sightRules collect every ruled
+  sights-are [] = refl
+  sights-are (p ∷ ps) = go (onReceiver (p .range)) (onReceiver (p .«previous_range»)) (sights-are ps)
+    where
+      go : (x y : Bool) → ruled f (sightRules ps) a ≡ cond (every seen ps) a (f OnReceiver)
+          → cond x (f OnReceiver) (cond y (f OnReceiver) (ruled f (sightRules ps) a)) ≡ cond ((not x && not y) && every seen ps) a (f OnReceiver)
+      go true y e = refl
+      go false true e = refl
+      go false false e = e
+
+pub moved-is : (settings : Settings) (ps : List Pair) → movedBy settings ps ≡ cond (every seen ps) (movedBefore settings ps) (Refused OnReceiver)
+unfolding movedBy pairRules
+moved-is settings ps = ruled-append Refused _ (sightRules ps) (countRules settings ps) ∙ sights-are Refused (movedBefore settings ps) ps
+
+pub as-before : (i : Input) → every seen (pairs i) ≡ true → displacementOf i ≡ displacementBefore i
+unfolding displacementOf movedIn
+as-before i e =
+    ap (λ (d : Displacement). ruled Refused (epochRules (i .previous) (i .current) (i .receiver) (i .settings)) (ruled Refused (intervalRules (i .dt)) d))
+    (moved-is (i .settings) (pairs i) ∙ ap (λ (b : Bool). cond b (movedBefore (i .settings) (pairs i)) (Refused OnReceiver)) e)

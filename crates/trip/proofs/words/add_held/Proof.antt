@@ -1,0 +1,35 @@
+-- `trip::words::add_held` meets its contract. Assumes nothing.
+use mathlib.Core.Path.{sym, _∙_}
+use borrow.Author.Needs.{needs}
+use Rattle.trip.proofs.WordLaws.{add-refused, add-goes}
+use Rattle.trip.proofs.words.add_held.Statement.{statement}
+use Rattle.trip.proofs.words.add_held.Tie as tie
+
+held-requires : tie.Need-held-requires
+held-requires c κs = search needs
+
+enum-known-before : tie.Need-enum-known-before
+enum-known-before c = search needs
+
+enum-known-before-2 : tie.Need-enum-known-before-2
+enum-known-before-2 c = search needs
+
+add-length-requires : tie.Need-add-length-requires
+add-length-requires c κs = search needs
+
+returns : tie.Need-returns
+returns c = let b = c .before in λ d e. add-refused _ _ _ _ (sym (b .before2 .given .1) ∙ b .before .before .held .ensures)
+
+returns-2 : tie.Need-returns-2
+returns-2 c = let b = c .before .before in λ d e. add-goes _ _ _ _ (c .add-length .ensures d e .is) (sym (b .before3 .given .1) ∙ b .before .before .held .ensures)
+
+pub add-held-spec : {M : Type 1} → statement M
+add-held-spec =
+    tie.close
+    (tie.spec
+    held-requires
+    enum-known-before
+    enum-known-before-2
+    add-length-requires
+    returns
+    returns-2)

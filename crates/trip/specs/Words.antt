@@ -1,0 +1,93 @@
+-- A trip as six words (docs/SCOPE.md, "Trip"): pulses per kilometre, epochs, carrier millimetres, pulses, greatest difference, its epoch. What the calls on them
+-- answer, and what lent words hold afterwards. Definitions only.
+use Prim.Native.Nat.{ℕ}
+use mathlib.Core.Bool.{Bool, cond, _||_}
+use mathlib.Core.List.{List, [], _∷_}
+use lib.Dec.{ltb}
+use lib.ListN.{getD}
+use lib.Ieee.{Float, nan}
+use Rattle.numeric.specs.Refusal.{numberOf}
+use Rattle.numeric.specs.declared.refusal.Refusal.the-variants.{BadTrip}
+use Rattle.numeric.specs.declared.vec3.Vec3.{Vec3}
+use Rattle.trip.specs.Trip.{Leg, added, reported, fuelled}
+use Rattle.trip.specs.declared.trip.Trip.{Trip}
+use Rattle.trip.specs.declared.trip.Step.{Step}
+use Rattle.trip.specs.declared.trip.Step.the-variants as Step
+use Rattle.trip.specs.declared.trip.Reported.{Reported}
+use Rattle.trip.specs.declared.trip.Reported.the-variants as Reported
+use Rattle.trip.specs.declared.trip.Fuel.{Fuel}
+use Rattle.trip.specs.declared.trip.Fuel.the-variants as Fuel
+
+-- ---- words and trips
+
+-- a word that its field cannot hold: a rate above 16 bits, or a count of epochs above 32
+unfoldable pub tooWide : List ℕ → Bool
+tooWide w = ltb 65535 (getD w 0 0) || ltb 4294967295 (getD w 1 0) || ltb 4294967295 (getD w 5 0)
+
+abbrev pub tripFrom : List ℕ → Trip
+tripFrom w = record { rate = getD w 0 0; epochs = getD w 1 0; carrier = getD w 2 0; pulses = getD w 3 0; greatest = getD w 4 0; reached = getD w 5 0 }
+
+-- the trip that the words hold; 16 where one is too wide
+unfoldable pub heldOf : List ℕ → Step
+heldOf w = cond (tooWide w) (Step.Refused BadTrip) (Step.Goes (tripFrom w))
+
+abbrev pub wordsOf : Trip → List ℕ
+wordsOf t = t .rate ∷ t .epochs ∷ t .carrier ∷ t .pulses ∷ t .greatest ∷ t .reached ∷ []
+
+-- ---- the calls on the trip that words hold
+
+abbrev pub vectorOf : List Float → Vec3
+vectorOf d = record { x = getD d 0 nan; y = getD d 1 nan; z = getD d 2 nan }
+
+unfoldable pub addedHeld : Step → Vec3 → ℕ → Step
+addedHeld (Step.Refused r) d pulses = Step.Refused r
+addedHeld (Step.Goes t) d pulses = added t d pulses
+
+abbrev pub addedWords : List ℕ → List Float → ℕ → Step
+addedWords w d pulses = addedHeld (heldOf w) (vectorOf d) pulses
+
+unfoldable pub reportedHeld : Step → Reported
+reportedHeld (Step.Refused r) = Reported.Refused r
+reportedHeld (Step.Goes t) = reported t
+
+abbrev pub reportedWords : List ℕ → Reported
+reportedWords w = reportedHeld (heldOf w)
+
+unfoldable pub fuelledHeld : Step → ℕ → Fuel
+fuelledHeld (Step.Refused r) millilitres = Fuel.Refused r
+fuelledHeld (Step.Goes t) millilitres = fuelled t millilitres
+
+abbrev pub fuelledWords : List ℕ → ℕ → Fuel
+fuelledWords w millilitres = fuelledHeld (heldOf w) millilitres
+
+-- ---- the number, and what the lent words hold afterwards: a refusal leaves them as they were
+
+abbrev pub stepNumber : Step → ℕ
+stepNumber (Step.Refused r) = numberOf r
+stepNumber (Step.Goes t) = 0
+
+abbrev pub wordsAfter : Step → List ℕ → List ℕ
+wordsAfter (Step.Refused r) before = before
+wordsAfter (Step.Goes t) before = wordsOf t
+
+abbrev pub reportNumber : Reported → ℕ
+reportNumber (Reported.Refused r) = numberOf r
+reportNumber (Reported.Totals p) = 0
+
+abbrev pub reportAfter : Reported → List ℕ → List ℕ
+reportAfter (Reported.Refused r) before = before
+reportAfter (Reported.Totals p) before = p .carrier ∷ p .odometer ∷ p .greatest ∷ p .reached ∷ []
+
+abbrev pub fuelNumber : Fuel → ℕ
+fuelNumber (Fuel.Refused r) = numberOf r
+fuelNumber (Fuel.PerKilometre m) = 0
+
+abbrev pub fuelAfter : Fuel → ℕ → ℕ
+fuelAfter (Fuel.Refused r) before = before
+fuelAfter (Fuel.PerKilometre m) before = m
+
+-- ---- calls one after the other
+
+-- the words that an addition leaves
+unfoldable pub wordsNext : List ℕ → Leg → List ℕ
+wordsNext w l = wordsAfter (addedHeld (heldOf w) (l .displacement) (l .pulses)) w

@@ -1,0 +1,152 @@
+// A trip that the caller holds as six words: pulses per kilometre, epochs, carrier millimetres, pulses, greatest difference, its epoch.
+ghost use mathlib.Core.Path.{_≡_};
+ghost use mathlib.Core.Bool.{true};
+ghost use lib.Ieee.{le};
+ghost use Rattle.exact.specs.Float.{+0, whole};
+ghost use Rattle.numeric.specs.Vec3.{norm};
+ghost use Rattle.numeric.specs.declared.vec3.Vec3.{Vec3};
+ghost use Rattle.trip.specs.Trip.{started};
+ghost use Rattle.trip.specs.Words as spec;
+use crate::trip::Fuel;
+use crate::trip::Reported;
+use crate::trip::Step;
+use crate::trip::Trip;
+use numeric::refusal::Refusal;
+use numeric::vec3::Vec3;
+
+// The trip that the words hold.
+pub fn held(w: [u64; 6]) -> Step
+    ensures { λ r. ⌜ r ≡ spec.heldOf w ⌝ }
+{
+    let rate = w[0];
+    let epochs = w[1];
+    let reached = w[5];
+    if (65535 < rate) | (4294967295 < epochs) | (4294967295 < reached) {
+        return Step::Refused(Refusal::BadTrip);
+    }
+    Step::Goes(Trip {
+        rate: rate as u16,
+        epochs: epochs as u32,
+        carrier: w[2],
+        pulses: w[3],
+        greatest: w[4],
+        reached: reached as u32,
+    })
+}
+
+// The six words of a trip.
+pub fn words(t: Trip) -> [u64; 6]
+    ensures { λ r. ⌜ r ≡ spec.wordsOf t ⌝ }
+{
+    [
+        t.rate as u64,
+        t.epochs as u64,
+        t.carrier,
+        t.pulses,
+        t.greatest,
+        t.reached as u64,
+    ]
+}
+
+// One epoch more for the trip that the words hold, of a displacement of this length.
+pub(crate) fn add_held(w: [u64; 6], length: f64, pulses: u16) -> Step
+    requires { ⌜ (le length (whole 1000) ≡ true → le +0 length ≡ true) ⌝ }
+    ensures { λ r. ⌜ ((d : Vec3) → length ≡ norm d → r ≡ spec.addedHeld (spec.heldOf w) d pulses) ⌝ }
+{
+    let before = held(w);
+    match before {
+        Step::Refused(r) => Step::Refused(r),
+        Step::Goes(t) => t.add_length(length, pulses),
+    }
+}
+
+// Its report.
+pub(crate) fn report_held(w: [u64; 6]) -> Reported
+    ensures { λ r. ⌜ r ≡ spec.reportedWords w ⌝ }
+{
+    let before = held(w);
+    match before {
+        Step::Refused(r) => Reported::Refused(r),
+        Step::Goes(t) => t.report(),
+    }
+}
+
+// Its fuel for a kilometre.
+pub(crate) fn fuel_held(w: [u64; 6], millilitres: u32) -> Fuel
+    ensures { λ r. ⌜ r ≡ spec.fuelledWords w millilitres ⌝ }
+{
+    let before = held(w);
+    match before {
+        Step::Refused(r) => Fuel::Refused(r),
+        Step::Goes(t) => t.fuel(millilitres),
+    }
+}
+
+// A trip just started in the lent words and 0, or 16, which leaves them as they were.
+pub fn start_in(per_km: u16, trip: &mut [u64; 6]) -> u8
+    ensures { λ r. ⌜ (let s = started «per_km» in (r ≡ spec.stepNumber s) × (now (trip .exit) ≡ spec.wordsAfter s (now (trip .entry)))) ⌝ }
+{
+    let answer = Trip::start(per_km);
+    match answer {
+        Step::Refused(r) => r.number(),
+        Step::Goes(t) => {
+            *trip = words(t);
+            0
+        }
+    }
+}
+
+// One epoch more in the lent words and 0, or 16, which leaves them as they were.
+pub fn add_in(trip: &mut [u64; 6], delta: &[f64; 3], pulses: u16) -> u8
+    ensures { λ r. ⌜ (let s = spec.addedWords (now (trip .entry)) (now (delta .entry)) pulses in
+        (r ≡ spec.stepNumber s) × (now (trip .exit) ≡ spec.wordsAfter s (now (trip .entry)))) ⌝ }
+{
+    // The length first: its root is a call, over which no word has to be kept.
+    let d = Vec3 {
+        x: delta[0],
+        y: delta[1],
+        z: delta[2],
+    };
+    let length = d.norm();
+    let w = *trip;
+    let answer = add_held(w, length, pulses);
+    match answer {
+        Step::Refused(r) => r.number(),
+        Step::Goes(t) => {
+            *trip = words(t);
+            0
+        }
+    }
+}
+
+// Carrier millimetres, odometer millimetres, the greatest difference and its epoch in the lent report and 0, or 16, which leaves it as it was.
+pub fn report_in(trip: &[u64; 6], report: &mut [u64; 4]) -> u8
+    ensures { λ r. ⌜ (let q = spec.reportedWords (now (trip .entry)) in
+        (r ≡ spec.reportNumber q) × (now (report .exit) ≡ spec.reportAfter q (now (report .entry)))) ⌝ }
+{
+    let w = *trip;
+    let answer = report_held(w);
+    match answer {
+        Reported::Refused(r) => r.number(),
+        Reported::Totals(p) => {
+            *report = [p.carrier, p.odometer, p.greatest, p.reached as u64];
+            0
+        }
+    }
+}
+
+// The millilitres for a kilometre in the lent number and 0, or 16 or 17, which leave it as it was.
+pub fn fuel_in(trip: &[u64; 6], millilitres: u32, per_km: &mut u64) -> u8
+    ensures { λ r. ⌜ (let f = spec.fuelledWords (now (trip .entry)) millilitres in
+        (r ≡ spec.fuelNumber f) × (now («per_km» .exit) ≡ spec.fuelAfter f (now («per_km» .entry)))) ⌝ }
+{
+    let w = *trip;
+    let answer = fuel_held(w, millilitres);
+    match answer {
+        Fuel::Refused(r) => r.number(),
+        Fuel::PerKilometre(m) => {
+            *per_km = m;
+            0
+        }
+    }
+}

@@ -1,0 +1,5 @@
+pub mod NumberLaws
+pub mod RecordLaws
+pub mod ColumnLaws
+pub mod LentLaws
+pub mod Values

@@ -1,0 +1,4 @@
+pub mod Number
+pub mod Record
+pub mod Columns
+pub mod Lent

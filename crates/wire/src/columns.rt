@@ -1,0 +1,167 @@
+// Carrier records in columns that a caller lends.
+ghost use mathlib.Core.Path.{_≡_};
+ghost use mathlib.Core.Bool.{true};
+ghost use Prim.Native.Nat.{_+_, _*_, _≤_, _<_};
+ghost use lib.ListN.{length};
+ghost use Rattle.wire.specs.Record.{recordsIn, epochBytes};
+ghost use Rattle.wire.specs.Columns as spec;
+ghost use Rattle.wire.specs.Lent.{ReadAnswers, WriteAnswers};
+use crate::record::CarrierRecord;
+use crate::record::put_record;
+use crate::record::record_of;
+use numeric::refusal::Refusal;
+
+// Whether there are at most 64 records and no column is shorter than they need.
+fn columns_fit(
+    constellation: &[u8],
+    svid: &[u16],
+    band: &[u32],
+    state: &[i32],
+    floats: &[u64],
+    n: usize,
+) -> bool
+    ensures { λ r. ⌜ r ≡ spec.columnsFit (spec.recordColumns (now (constellation .entry)) (now (svid .entry)) (now (band .entry)) (now (state .entry)) (now (floats .entry))) n ⌝ }
+{
+    if n > 64 {
+        return false;
+    }
+    (n <= constellation.len())
+        & (n <= svid.len())
+        & (n <= band.len())
+        & (n <= state.len())
+        & (6 * n <= floats.len())
+}
+
+// Writes the first n records of s into the columns.
+fn fill(
+    s: &[u8],
+    n: usize,
+    constellation: &mut [u8],
+    svid: &mut [u16],
+    band: &mut [u32],
+    state: &mut [i32],
+    floats: &mut [u64],
+)
+    requires { ⌜ spec.columnsFit (spec.recordColumns (now constellation) (now svid) (now band) (now state) (now floats)) n ≡ true ⌝ }
+    requires { ⌜ 59 * n ≤ length (now s) ⌝ }
+    ensures { λ _. ⌜ spec.recordColumns (now (constellation .exit)) (now (svid .exit)) (now (band .exit)) (now (state .exit)) (now (floats .exit)) ≡ spec.columnsWith (recordsIn (now (s .entry)) n) (spec.recordColumns (now (constellation .entry)) (now (svid .entry)) (now (band .entry)) (now (state .entry)) (now (floats .entry))) ⌝ }
+{
+    let mut i: usize = 0;
+    while i < n {
+        let r = record_of(s, 59 * i);
+        let bits = r.state;
+        let at = 6 * i;
+        constellation[i] = r.constellation;
+        svid[i] = r.svid;
+        band[i] = r.band;
+        state[i] = bits;
+        floats[at] = r.adr;
+        floats[at + 1] = r.x;
+        floats[at + 2] = r.y;
+        floats[at + 3] = r.z;
+        floats[at + 4] = r.elevation;
+        floats[at + 5] = r.rate;
+        i += 1;
+    }
+}
+
+// Reads the records of s into the columns and their count into count. 0; or 21 where s is no whole records, then 2 where there are more than 64
+// or a column is too short, which leave every lent place.
+pub fn read_records(
+    s: &[u8],
+    constellation: &mut [u8],
+    svid: &mut [u16],
+    band: &mut [u32],
+    state: &mut [i32],
+    floats: &mut [u64],
+    count: &mut usize,
+) -> u8
+    ensures { λ r. ⌜ ReadAnswers (now (s .entry)) r
+        (spec.recordColumns (now (constellation .entry)) (now (svid .entry)) (now (band .entry)) (now (state .entry)) (now (floats .entry)))
+        (spec.recordColumns (now (constellation .exit)) (now (svid .exit)) (now (band .exit)) (now (state .exit)) (now (floats .exit)))
+        (now (count .entry)) (now (count .exit)) ⌝ }
+{
+    if s.len() % 59 != 0 {
+        return Refusal::BrokenRecords.number();
+    }
+    let n = s.len() / 59;
+    if !columns_fit(constellation, svid, band, state, floats, n) {
+        return Refusal::TooMany.number();
+    }
+    fill(s, n, constellation, svid, band, state, floats);
+    *count = n;
+    0
+}
+
+// The record at place i of the columns.
+fn column_record(
+    constellation: &[u8],
+    svid: &[u16],
+    band: &[u32],
+    state: &[i32],
+    floats: &[u64],
+    i: usize,
+) -> CarrierRecord
+    requires { ⌜ (i < length (now constellation)) × (i < length (now svid)) × (i < length (now band)) × (i < length (now state)) ⌝ }
+    requires { ⌜ 6 * i + 5 < length (now floats) ⌝ }
+    ensures { λ r. ⌜ r ≡ spec.columnRecord (spec.recordColumns (now (constellation .entry)) (now (svid .entry)) (now (band .entry)) (now (state .entry)) (now (floats .entry))) i ⌝ }
+{
+    let at = 6 * i;
+    let bits = state[i];
+    CarrierRecord {
+        constellation: constellation[i],
+        svid: svid[i],
+        band: band[i],
+        adr: floats[at],
+        state: bits,
+        x: floats[at + 1],
+        y: floats[at + 2],
+        z: floats[at + 3],
+        elevation: floats[at + 4],
+        rate: floats[at + 5],
+    }
+}
+
+// Writes the first n records of the columns into out.
+fn put_records(
+    constellation: &[u8],
+    svid: &[u16],
+    band: &[u32],
+    state: &[i32],
+    floats: &[u64],
+    n: usize,
+    out: &mut [u8],
+)
+    requires { ⌜ spec.columnsFit (spec.recordColumns (now constellation) (now svid) (now band) (now state) (now floats)) n ≡ true ⌝ }
+    requires { ⌜ 59 * n ≤ length (now out) ⌝ }
+    ensures { λ _. ⌜ now (out .exit) ≡ spec.over (epochBytes (spec.columnRecords (spec.recordColumns (now (constellation .entry)) (now (svid .entry)) (now (band .entry)) (now (state .entry)) (now (floats .entry))) n)) (now (out .entry)) ⌝ }
+{
+    let mut i: usize = 0;
+    while i < n {
+        let r = column_record(constellation, svid, band, state, floats, i);
+        put_record(out, 59 * i, r);
+        i += 1;
+    }
+}
+
+// Writes the first n records of the columns into out. 0; or 2 where there are more than 64, a column is too short or out is, which leaves out as it was.
+pub fn write_records(
+    constellation: &[u8],
+    svid: &[u16],
+    band: &[u32],
+    state: &[i32],
+    floats: &[u64],
+    n: usize,
+    out: &mut [u8],
+) -> u8
+    ensures { λ r. ⌜ WriteAnswers (spec.recordColumns (now (constellation .entry)) (now (svid .entry)) (now (band .entry)) (now (state .entry)) (now (floats .entry))) n r (now (out .entry)) (now (out .exit)) ⌝ }
+{
+    if !columns_fit(constellation, svid, band, state, floats, n) {
+        return Refusal::TooMany.number();
+    }
+    if 59 * n > out.len() {
+        return Refusal::TooMany.number();
+    }
+    put_records(constellation, svid, band, state, floats, n, out);
+    0
+}

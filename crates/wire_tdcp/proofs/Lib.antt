@@ -1,0 +1,3 @@
+pub mod DisplacementLaws
+pub mod ColumnLaws
+pub mod Values

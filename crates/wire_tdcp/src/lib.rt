@@ -1,0 +1,2 @@
+// The displacement between two epochs that are handed over as bytes.
+pub mod displacement;

@@ -1,0 +1,79 @@
+-- THE LAW of request (iii) for a fix, over the fix from before request (v): a refusal stays, and a fix keeps position, count and pdop; its chi is another, and where
+-- chi or pdop is not finite it is 14. Assumes nothing.
+use mathlib.Core.Bool.{Bool, true, false, not, cond, _&&_}
+use mathlib.Core.List.{List, [], _∷_}
+use Prim.Native.Nat.{ℕ, _+_}
+use lib.Ieee.{Float}
+use lib.Ieee.Scale.{finite}
+use Rattle.cholesky.specs.Factor.{factorOf}
+use Rattle.cholesky.specs.Answer as factor
+use Rattle.numeric.specs.declared.vec3.Vec3.{Vec3}
+use Rattle.numeric.specs.declared.refusal.Refusal.{Refusal}
+use Rattle.numeric.specs.declared.refusal.Refusal.the-variants.{FitFailed, QualityNotFinite}
+use Rattle.robust.specs.declared.row.Row.{Row}
+use Rattle.clocks.specs.declared.clocks.Clocks.{Clocks}
+use Rattle.records.specs.declared.record.Observation.{Observation}
+use Rattle.estimator.specs.Rules.{Rule, rule, ruled}
+use Rattle.estimator.specs.Rounds.{End, Stopped, Reached, lastRows, finiteAt, concluded}
+use Rattle.wls.specs.Front.{fixRules}
+use Rattle.wls.specs.Fix.{Input, kept, clocks, plainMatrix, dilutionOf, chiOf, chiAt, solutionAt}
+use Rattle.wls.specs.declared.fix.Settings.{Settings}
+use Rattle.wls.specs.declared.fix.Solution.{Solution}
+use Rattle.wls.specs.declared.fix.Fix.{Fix}
+use Rattle.wls.specs.declared.fix.Fix.the-variants.{Refused, At}
+use Rattle.wls.proofs.BeforeLaws.{fitBefore, rulesBefore, answerBefore, foundBefore, fixBefore}
+
+-- 14, of the figures
+abbrev pub figureRules : Float → Float → List Rule
+figureRules chi pdop = rule QualityNotFinite (not (finite chi && finite pdop)) ∷ []
+
+abbrev pub withChi : Float → Solution → Solution
+withChi chi s = record { position = s .position; used = s .used; chi = chi; pdop = s .pdop }
+
+-- what an answer from before the request became
+pub data Became : Fix → Fix → Type 0 where
+  Same : (r : Refusal) → Became (Refused r) (Refused r)
+  Anew : (s : Solution) (chi : Float) → Became (At s) (ruled Refused (figureRules chi (s .pdop)) (At (withChi chi s)))
+
+-- ---- the fix before the request: 10 alone at the end, and chi of the last round's rows
+module _ (settings : Settings) (k : Clocks) (os : List Observation) (guess : Vec3) where
+  abbrev n : ℕ
+  n = 3 + k .count
+
+  abbrev rulesFirst : List Row → List Float → List Rule
+  rulesFirst rows x = rule FitFailed (not (finiteAt x)) ∷ rule FitFailed (not (factor.accepted (factorOf (plainMatrix n rows)))) ∷ []
+
+  abbrev answerFirst : List Row → List Float → Fix
+  answerFirst rows x = At (solutionAt n rows (chiOf n rows) x)
+
+  abbrev pub foundFirst : Fix
+  foundFirst = let f = fitBefore settings k os guess in let rows = lastRows [] (f .rounds) in concluded Refused (rulesFirst rows) (answerFirst rows) (f .end)
+
+  end-became : (rows : List Row) (e : End) → Became (concluded Refused (rulesFirst rows) (answerFirst rows) e) (concluded Refused (rulesBefore settings k os guess rows) (answerBefore settings k os guess rows) e)
+  unfolding ruled
+  end-became rows (Stopped r) = Same r
+  end-became rows (Reached x) = go (not (finiteAt x)) (not (factor.accepted (factorOf (plainMatrix n rows))))
+    where
+      go : (a b : Bool) → Became (cond a (Refused FitFailed) (cond b (Refused FitFailed) (answerFirst rows x)))
+          (cond a (Refused FitFailed) (cond b (Refused FitFailed) (ruled Refused (figureRules (chiAt settings k os x) (dilutionOf n rows)) (answerBefore settings k os guess rows x))))
+      go true b = Same FitFailed
+      go false true = Same FitFailed
+      go false false = Anew (solutionAt n rows (chiOf n rows) x) (chiAt settings k os x)
+
+abbrev pub fixFirst : Input → Fix
+fixFirst i = ruled Refused (fixRules (i .observations) (i .guess) (i .settings)) (foundFirst (i .settings) (clocks i) (kept i) (i .guess))
+
+-- rules that come first refuse both alike
+behind : (rs : List Rule) {a b : Fix} → Became a b → Became (ruled Refused rs a) (ruled Refused rs b)
+unfolding ruled
+behind [] h = h
+behind (r ∷ rs) {a} {b} h = go (r .applies) (behind rs h)
+  where
+    go : (c : Bool) → Became (ruled Refused rs a) (ruled Refused rs b) → Became (cond c (Refused (r .refusal)) (ruled Refused rs a)) (cond c (Refused (r .refusal)) (ruled Refused rs b))
+    go true h = Same (r .refusal)
+    go false h = h
+
+pub became : (i : Input) → Became (fixFirst i) (fixBefore i)
+became i =
+    let f = fitBefore (i .settings) (clocks i) (kept i) (i .guess) in
+    behind (fixRules (i .observations) (i .guess) (i .settings)) (end-became (i .settings) (clocks i) (kept i) (i .guess) (lastRows [] (f .rounds)) (f .end))
