@@ -162,7 +162,7 @@ history-length t (drop time ∷ es) q r a =
     let e = forget-history time t es r (and-left _ _ (and-right (not (lt q time)) _ a)) in
     rw e (le-trans (forget-length time (history t es)) (history-length t es q r (and-right (every (notBefore time) es) _ (and-right (not (lt q time)) _ a))))
 
-undropped-ranged : (es : List Event) → every inRangeAll es ≡ true → every inRangeAll (undropped es) ≡ true
+pub undropped-ranged : (es : List Event) → every inRangeAll es ≡ true → every inRangeAll (undropped es) ≡ true
 unfolding every inRangeAll undropped
 undropped-ranged [] r = refl
 undropped-ranged (add ss ∷ es) r = rw (and-left (every ranged ss) _ r) (undropped-ranged es (and-right (every ranged ss) _ r))

@@ -7,3 +7,5 @@ pub mod LayoutLaws
 pub mod MoveLaws
 pub mod TrimLaws
 pub mod CallLaws
+pub mod FormLaws
+pub mod Values
