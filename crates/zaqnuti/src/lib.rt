@@ -6,6 +6,7 @@ pub mod directions;
 pub mod estimates;
 pub mod firmware;
 pub mod forget;
+pub mod forms;
 pub mod line;
 pub mod matrix;
 pub mod numbers;
