@@ -5,7 +5,7 @@ pub mod corrections;
 pub mod directions;
 pub mod estimates;
 pub mod firmware;
-pub mod forget;
+pub mod forgetting;
 pub mod forms;
 pub mod line;
 pub mod matrix;

@@ -4,6 +4,7 @@ mod corrections;
 mod directions;
 mod displacement;
 mod fix;
+mod forget;
 mod line;
 mod pieces;
 mod times;
@@ -31,6 +32,7 @@ pub const ENTRIES: &[Entry] = &[
     ("query", corrections::query),
     ("queries", corrections::queries),
     ("widen_bands", corrections::widen_bands),
+    ("forget", forget::forget),
     ("smooth", track::smooth),
     ("times", times::times),
     ("trip", trips::trip),
