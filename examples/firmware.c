@@ -2,13 +2,15 @@
  * One of each service as firmware would call it: a fix, times, a displacement,
  * its compass directions, the same of epochs that are kept and sent as bytes,
  * a text in the line form, a day's trip, new settings during another, two
- * epochs of corrections with a query, and a track.
+ * epochs of corrections with a query, a day of them with a drop an hour, and a
+ * track.
  * The sky is made up, so the answers are known: the program prints them and
  * exits with 1 where one is not as expected.
  *
  *     rt staticlib zaqnuti
  *     cc -std=c99 -Iinclude examples/firmware.c target/staticlib/libzaqnuti.a -o firmware
  */
+#include <math.h>
 #include <stdio.h>
 #include <string.h>
 
@@ -436,6 +438,100 @@ static void corrections(void)
     expect("at 30 s, m", each[2], 4.0, 1e-6);
 }
 
+/* Twelve signals of a base station that reports every 30 s, and a day of it. */
+#define SIGNALS 12
+#define INTERVAL 30
+#define DAY 86400
+
+/* What the base station's range to its first signal is too long by, m: a metre more every half a day. */
+static double drift(double time)
+{
+    return 2.0 + time / 43200.0;
+}
+
+static uint8_t report_base(struct table *t, double time)
+{
+    static const bool on[8] = {false, true, false, false, false, false, true, false};
+    uint8_t constellation[SIGNALS];
+    uint16_t svid[SIGNALS];
+    uint32_t band[SIGNALS];
+    double range[SIGNALS];
+    double states[8 * SIGNALS];
+    size_t i;
+
+    memset(states, 0, sizeof states);
+    for (i = 0; i < SIGNALS; i++) {
+        const struct satellite *s = &sky[i % SATELLITES];
+        constellation[i] = 1;
+        svid[i] = (uint16_t)(1 + i);
+        band[i] = 1;
+        range[i] = range_to(s->place, receiver) + 250.0 + (i == 0 ? drift(time) : 0.0);
+        memcpy(&states[8 * i], s->place, sizeof s->place);
+    }
+    return zaqnuti_add_epoch(
+        t->constellation, ZAQNUTI_SAMPLES, t->svid, ZAQNUTI_SAMPLES, t->band, ZAQNUTI_SAMPLES,
+        t->first, ZAQNUTI_SAMPLES, t->samples, ZAQNUTI_SAMPLES, &t->blocks,
+        t->time, ZAQNUTI_SAMPLES, t->metres, ZAQNUTI_SAMPLES, &t->count,
+        time, SIGNALS, constellation, SIGNALS, svid, SIGNALS, band, SIGNALS, range, SIGNALS,
+        true, SIGNALS, constellation, SIGNALS, svid, SIGNALS, band, SIGNALS, states, 8 * SIGNALS,
+        receiver, receiver, 90.0, 100.0, on);
+}
+
+static uint8_t ask_first(const struct table *t, double time, double *metres)
+{
+    return zaqnuti_query(
+        t->constellation, ZAQNUTI_SAMPLES, t->svid, ZAQNUTI_SAMPLES, t->band, ZAQNUTI_SAMPLES,
+        t->first, ZAQNUTI_SAMPLES, t->samples, ZAQNUTI_SAMPLES, t->blocks,
+        t->time, ZAQNUTI_SAMPLES, t->metres, ZAQNUTI_SAMPLES, t->count,
+        90.0, 1, 1, 1, time, metres);
+}
+
+static uint8_t forget_before(struct table *t, double time)
+{
+    return zaqnuti_forget(
+        t->constellation, ZAQNUTI_SAMPLES, t->svid, ZAQNUTI_SAMPLES, t->band, ZAQNUTI_SAMPLES,
+        t->first, ZAQNUTI_SAMPLES, t->samples, ZAQNUTI_SAMPLES, t->blocks,
+        t->time, ZAQNUTI_SAMPLES, t->metres, ZAQNUTI_SAMPLES, &t->count, time);
+}
+
+/* Alone, a table of 2,048 samples is full before noon; with a drop an hour, of what is older than a minute, it lasts the day. */
+static void morning(void)
+{
+    static struct table alone, kept;
+    double before = 0.0;
+    double after = 0.0;
+    double metres = 0.0;
+    size_t most = 0;
+    unsigned refused = 0;
+    unsigned changed = 0;
+    unsigned full_at = 0;
+    unsigned at;
+
+    printf("forgetting the morning\n");
+    while (report_base(&alone, full_at) == 0) {
+        full_at += INTERVAL;
+    }
+    expect_number("full before noon", full_at < DAY / 2, 1);
+    expect_number("full", report_base(&alone, full_at), ZAQNUTI_TABLE_FULL);
+    for (at = 0; at < DAY; at += INTERVAL) {
+        refused += report_base(&kept, at) != 0;
+        if (at % 3600 == 0 && at > 0) {
+            /* A query after the drop's time answers as before the drop. */
+            refused += ask_first(&kept, at - 45.0, &before) != 0;
+            refused += forget_before(&kept, at - 60.0) != 0;
+            refused += ask_first(&kept, at - 45.0, &after) != 0;
+            changed += memcmp(&before, &after, sizeof before) != 0;
+        }
+        most = kept.count > most ? kept.count : most;
+    }
+    expect_number("refused in the day", refused, 0);
+    expect_number("answers changed by a drop", changed, 0);
+    expect_number("query at the day's end", ask_first(&kept, DAY - INTERVAL - 15.0, &metres), 0);
+    expect("correction, m", metres, drift(DAY - INTERVAL - 15.0), 1e-6);
+    expect_number("no finite time", forget_before(&kept, HUGE_VAL), ZAQNUTI_BAD_DROP_TIME);
+    printf("  Alone the table is full after %u s; with a drop an hour it never holds more than %lu samples.\n", full_at, (unsigned long)most);
+}
+
 /* Three epochs, the first and the last anchored, with a link of a metre between neighbours. */
 static void track(void)
 {
@@ -603,6 +699,7 @@ int main(void)
     trip();
     new_settings();
     corrections();
+    morning();
     track();
     printf("%d not as expected\n", failures);
     return failures == 0 ? 0 : 1;

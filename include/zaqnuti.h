@@ -134,6 +134,7 @@ enum zaqnuti_refusal {
     ZAQNUTI_ON_RECEIVER = 15,          /* the range of a satellite is zero or not finite */
     ZAQNUTI_BAD_TRIP = 16,             /* a trip, its pulse rate or a displacement for it is out of its limits */
     ZAQNUTI_NO_DISTANCE = 17,          /* fuel per kilometre is wanted at zero carrier distance */
+    ZAQNUTI_BAD_DROP_TIME = 18,        /* the time to drop before is not finite */
     ZAQNUTI_NOT_TURNED = 19,           /* a vector cannot be turned to north, east and down */
     ZAQNUTI_BROKEN_RECORDS = 21        /* the bytes of carrier records are no multiple of 59 */
 };
@@ -720,6 +721,33 @@ uint8_t zaqnuti_queries(
     size_t count,
     uint8_t *numbers, size_t numbers_length,
     double *metres, size_t metres_length);
+
+/*
+ * Forgetting what came before a time (s of the week), so that a table lasts:
+ * of each signal's samples earlier than that time only the last is kept, and
+ * the others make room. Every query at or after that time answers as if
+ * nothing had been dropped, also after epochs that are added later and are
+ * not earlier than it; for an earlier query the answer is that of the samples
+ * that were kept.
+ *
+ * The directory keeps its blocks: a block never empties. block_first,
+ * block_samples, the two columns of samples and table_count hold the table
+ * with what is kept; the places from the new count on keep their bytes and
+ * are used again by zaqnuti_add_epoch. Where it is refused every byte is as
+ * it was. Refuses by 2 (table_count or blocks above the capacity), 4 (a float
+ * of the table, or its directory, as above) and 18.
+ */
+uint8_t zaqnuti_forget(
+    const uint8_t *block_constellation, size_t block_constellation_length,
+    const uint16_t *block_svid, size_t block_svid_length,
+    const uint32_t *block_band, size_t block_band_length,
+    size_t *block_first, size_t block_first_length,
+    size_t *block_samples, size_t block_samples_length,
+    size_t blocks,
+    double *table_time, size_t table_time_length,
+    double *table_metres, size_t table_metres_length,
+    size_t *table_count,
+    double time);
 
 /*
  * The bands of a table that was written before 0.3.0, when a band had 8 bits,

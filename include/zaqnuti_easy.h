@@ -71,6 +71,7 @@ static inline const char *zaqnuti_refusal_text(uint8_t number)
     case ZAQNUTI_ON_RECEIVER: return "the range of a satellite is zero or not finite";
     case ZAQNUTI_BAD_TRIP: return "a displacement not finite or longer than 1,000 m, a full trip, a pulse rate of 0, or a trip out of its limits";
     case ZAQNUTI_NO_DISTANCE: return "fuel per kilometre at zero carrier distance";
+    case ZAQNUTI_BAD_DROP_TIME: return "the time to drop samples before is not finite";
     case ZAQNUTI_BROKEN_RECORDS: return "the bytes of carrier records are no multiple of 59";
     case ZAQNUTI_NOT_TURNED: return "a coordinate is not finite or above 1e9, or there is no north, east and down at the place";
     default: return "no such number";
@@ -752,6 +753,16 @@ static inline uint8_t zaqnuti_easy_queries(
         settings->max_gap,
         constellation, count, svid, count, band, count, times, count, count,
         numbers, count, metres, count);
+}
+
+/* Of each signal's samples before a time (s of the week) only the last is kept, so that the table lasts the day. */
+static inline uint8_t zaqnuti_easy_forget(zaqnuti_table *table, double time)
+{
+    return zaqnuti_forget(
+        table->constellation, ZAQNUTI_EASY_SAMPLES, table->svid, ZAQNUTI_EASY_SAMPLES,
+        table->band, ZAQNUTI_EASY_SAMPLES, table->first, ZAQNUTI_EASY_SAMPLES,
+        table->samples, ZAQNUTI_EASY_SAMPLES, table->blocks,
+        table->time, ZAQNUTI_EASY_SAMPLES, table->metres, ZAQNUTI_EASY_SAMPLES, &table->count, time);
 }
 
 /* ---- the track */

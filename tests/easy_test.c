@@ -558,6 +558,18 @@ static void query_both(const zaqnuti_signal *signals, size_t count, double time,
     same(memcmp(metres, easy_metres, sizeof metres) == 0, "queries, the metres");
 }
 
+static void forget_both(double time)
+{
+    const uint8_t easy_number = zaqnuti_easy_forget(&easy_table, time);
+    const uint8_t number = zaqnuti_forget(
+        plain_table.constellation, ZAQNUTI_SAMPLES, plain_table.svid, ZAQNUTI_SAMPLES, plain_table.band, ZAQNUTI_SAMPLES,
+        plain_table.first, ZAQNUTI_SAMPLES, plain_table.samples, ZAQNUTI_SAMPLES, plain_table.blocks,
+        plain_table.time, ZAQNUTI_SAMPLES, plain_table.metres, ZAQNUTI_SAMPLES, &plain_table.count, time);
+
+    same(easy_number == number, "forgetting, its number");
+    tables_same("forgetting, the table after it");
+}
+
 /* The bands of a table of 8 bits each, in columns that may be too short. */
 static void widen_both(size_t count, size_t length)
 {
@@ -1010,6 +1022,12 @@ static void corrections(void)
         alter(&time, 8);
         alter(&set.max_gap, 8);
         query_both(signals, count, time, &set);
+    }
+    for (k = 0; k < 8; k++) {
+        double time = rover.epoch[k].tow - (double)chance(60);
+        alter(&time, 4);
+        forget_both(time);
+        query_both(signals, 3, rover.epoch[k].tow, &plain);
     }
     /* A table that is not sorted, one that is full, and the bands of old ones. */
     easy_table.time[1] = plain_table.time[1] = -easy_table.time[1];

@@ -59,6 +59,7 @@ static const struct kind kinds[] = {
     {22, "between", same_between},
     {23, "widen", same_widen},
     {27, "trip", same_trip},
+    {35, "forget", same_forget},
     {40, "read", same_read},
     {41, "write", same_write},
     {42, "records", same_records},

@@ -71,6 +71,7 @@ bool same_time(struct stored *s);
 bool same_since(struct stored *s);
 bool same_between(struct stored *s);
 bool same_widen(struct stored *s);
+bool same_forget(struct stored *s);
 bool same_trip(struct stored *s);
 bool same_read(struct stored *s);
 bool same_write(struct stored *s);

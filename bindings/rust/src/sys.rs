@@ -321,6 +321,26 @@ extern "C" {
         metres: *mut f64,
         metres_length: usize,
     ) -> u8;
+    /// Of each signal's samples before a time only the last is kept.
+    pub fn zaqnuti_forget(
+        dc: *const u8,
+        dc_length: usize,
+        dv: *const u16,
+        dv_length: usize,
+        db: *const u32,
+        db_length: usize,
+        df: *mut usize,
+        df_length: usize,
+        dn: *mut usize,
+        dn_length: usize,
+        m: usize,
+        ts: *mut f64,
+        ts_length: usize,
+        xs: *mut f64,
+        xs_length: usize,
+        n: *mut usize,
+        time: f64,
+    ) -> u8;
     /// The bands of a table that was written with 8 bits for each.
     pub fn zaqnuti_widen_bands(
         narrow: *const u8,

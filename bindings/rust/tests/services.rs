@@ -559,6 +559,32 @@ fn corrections() {
 }
 
 #[test]
+fn corrections_forget() {
+    let set = differential::Settings::default();
+    let place = AT.coordinates();
+    let mut c = Corrections::with_capacity(24, &set);
+    let (_, states) = epoch(0.0, 0.0, 8);
+    let mut add = |c: &mut Corrections, tow: f64| c.add(&epoch(tow, tow / 30.0, 8).0, Some(&states), place, place);
+    for tow in [0.0, 30.0, 60.0] {
+        assert_eq!(add(&mut c, tow), Ok(()));
+    }
+    assert_eq!(add(&mut c, 90.0), Err(Refusal::TableFull));
+    let before = [45.0, 60.0, 50.5].map(|t| c.at(1, 0, 1, t));
+    assert_eq!(c.forget(f64::NAN), Err(Refusal::BadDropTime));
+    assert_eq!(c.forget(f64::INFINITY), Err(Refusal::BadDropTime));
+    assert_eq!(c.samples(), 24);
+    assert_eq!(c.forget(45.0), Ok(()));
+    assert_eq!((c.samples(), c.satellites()), (16, 8));
+    assert_eq!([45.0, 60.0, 50.5].map(|t| c.at(1, 0, 1, t)), before);
+    assert_eq!(c.at(1, 0, 1, 15.0), Err(Refusal::NoCorrection));
+    assert_eq!(add(&mut c, 90.0), Ok(()));
+    assert_eq!([45.0, 60.0, 50.5].map(|t| c.at(1, 0, 1, t)), before);
+    assert_eq!(add(&mut c, 120.0), Err(Refusal::TableFull));
+    assert_eq!(c.forget(1e300), Ok(()));
+    assert_eq!(c.samples(), 8);
+}
+
+#[test]
 fn corrections_refuse() {
     let set = differential::Settings::default();
     let place = AT.coordinates();

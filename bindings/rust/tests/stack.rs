@@ -560,6 +560,40 @@ fn query(n: usize, time: f64) -> usize {
     })
 }
 
+fn forget(n: usize, time: f64) -> usize {
+    let (cs, vs, bs) = (vec![1u8; 2048], vec![1u16; 2048], vec![1u32; 2048]);
+    let (mut df, mut dn) = (vec![0usize; 2048], vec![n; 2048]);
+    let mut ts: Vec<f64> = (0..2048).map(f64::from).collect();
+    let mut xs = vec![1.0; 2048];
+    let mut count = n;
+    measured(move || {
+        let frame = top();
+        // SAFETY: each column has its length beside it, and those that are written are ours alone.
+        unsafe {
+            sys::zaqnuti_forget(
+                cs.as_ptr(),
+                2048,
+                vs.as_ptr(),
+                2048,
+                bs.as_ptr(),
+                2048,
+                df.as_mut_ptr(),
+                2048,
+                dn.as_mut_ptr(),
+                2048,
+                n.min(1),
+                ts.as_mut_ptr(),
+                2048,
+                xs.as_mut_ptr(),
+                2048,
+                &mut count,
+                time,
+            );
+        }
+        frame
+    })
+}
+
 fn queries(n: usize, count: usize) -> usize {
     let (cs, vs, bs) = (vec![1u8; 2048], vec![1u16; 2048], vec![1u32; 2048]);
     let (df, dn) = (vec![0usize; 2048], vec![n; 2048]);
@@ -892,6 +926,16 @@ fn no_more_than_the_header_says() {
                 queries(2049, 64),
                 queries(0, 64),
                 queries(2048, 0),
+            ]),
+        ),
+        (
+            "forget",
+            most([
+                forget(2048, 1000.5),
+                forget(2048, -1.0),
+                forget(2049, 1.0),
+                forget(0, 1.0),
+                forget(1000, f64::NAN),
             ]),
         ),
         (

@@ -86,10 +86,12 @@ fn answer_in(
     let end = start + count;
     let r = front_of(ts, start, end, t);
     if near_since(ts, r, end, t) {
-        return Correction::Metres(xs[r]);
+        let value = xs[r];
+        return Correction::Metres(value);
     }
     if near_before(ts, start, r, t) {
-        return Correction::Metres(xs[r - 1]);
+        let value = xs[r - 1];
+        return Correction::Metres(value);
     }
     if !((r < end) & (start < r)) {
         return Correction::Refused(Refusal::NoCorrection);

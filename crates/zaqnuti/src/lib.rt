@@ -6,6 +6,7 @@ pub mod directions;
 pub mod drives;
 pub mod estimates;
 pub mod firmware;
+pub mod forgetting;
 pub mod forms;
 pub mod line;
 pub mod matrix;

@@ -5,6 +5,7 @@ mod directions;
 mod displacement;
 mod drives;
 mod fix;
+mod forget;
 mod line;
 mod pieces;
 mod times;
@@ -32,6 +33,7 @@ pub const ENTRIES: &[Entry] = &[
     ("query", corrections::query),
     ("queries", corrections::queries),
     ("widen_bands", corrections::widen_bands),
+    ("forget", forget::forget),
     ("smooth", track::smooth),
     ("times", times::times),
     ("trip", trips::trip),

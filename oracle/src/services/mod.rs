@@ -72,6 +72,7 @@ pub const KINDS: &[(u64, &str, Make)] = &[
     (22, "between", between::vectors),
     (23, "widen", corrections::stored::widen),
     (27, "trip", trip::vectors),
+    (35, "forget", corrections::forget::vectors),
     (40, "read", wire::read),
     (41, "write", wire::write),
     (42, "records", wire_tdcp::vectors),
@@ -109,5 +110,6 @@ pub const SERVICES: &[Service] = &[
     equations::SERVICE,
     corrections::SERVICE,
     rearrange::SERVICE,
+    corrections::forget::SERVICE,
     line::SERVICE,
 ];

@@ -93,11 +93,11 @@ front-of-requires c κs =
 near-since-requires : tie.Need-near-since-requires
 near-since-requires c κs = whole (c .before) .0
 
-mul-t26 : tie.Need-mul-t26
-mul-t26 c = let w = whole (c .before .before .before) in let r = c .before .before .front-of .ensures .within in let b = since (c) in omega (arith, w, r, b)
+mul-value : tie.Need-mul-value
+mul-value c = let w = whole (c .before .before .before) in let r = c .before .before .front-of .ensures .within in let b = since (c) in omega (arith, w, r, b)
 
-shared-slice-read-t28 : tie.Need-shared-slice-read-t28
-shared-slice-read-t28 c = let w = whole (c .before .before .before .before) in let r = c .before .before .before .front-of .ensures .within in let b = since (c .before) in omega (arith, w, r, b)
+shared-slice-read-value : tie.Need-shared-slice-read-value
+shared-slice-read-value c = let w = whole (c .before .before .before .before) in let r = c .before .before .before .front-of .ensures .within in let b = since (c .before) in omega (arith, w, r, b)
 
 returns : tie.Need-returns
 returns c = answer-since _ _ _ _ _ (lying (c .before .before .before .before)) (c .before .before .before .before .before .before .before .before .before .before .before .before .before .args .gap) (c .before .before .before .before .before .before .before .before .before .before .before .before .before .args .t) (c .before .before .before .front-of .result) (c .before .before .before .front-of .ensures) (c .before .before .near-since .ensures) (c .before .if1 .taken)
@@ -105,14 +105,14 @@ returns c = answer-since _ _ _ _ _ (lying (c .before .before .before .before)) (
 near-before-requires : tie.Need-near-before-requires
 near-before-requires c κs = let w = whole (c .before .before .before) in let r = c .before .before .front-of .ensures .within in omega (arith, w, r)
 
-sub-t30 : tie.Need-sub-t30
-sub-t30 c = let w = whole (c .before .before .before .before .before) in let r = c .before .before .before .before .front-of .ensures .within in let b = ahead (c) in omega (arith, w, r, b)
+sub-value : tie.Need-sub-value
+sub-value c = let w = whole (c .before .before .before .before .before) in let r = c .before .before .before .before .front-of .ensures .within in let b = ahead (c) in omega (arith, w, r, b)
 
-mul-t31 : tie.Need-mul-t31
-mul-t31 c = let w = whole (c .before .before .before .before .before) in let r = c .before .before .before .before .front-of .ensures .within in let b = ahead (c) in omega (arith, w, r, b)
+mul-value-2 : tie.Need-mul-value-2
+mul-value-2 c = let w = whole (c .before .before .before .before .before) in let r = c .before .before .before .before .front-of .ensures .within in let b = ahead (c) in omega (arith, w, r, b)
 
-shared-slice-read-t33 : tie.Need-shared-slice-read-t33
-shared-slice-read-t33 c = let w = whole (c .before .before .before .before .before .before) in let r = c .before .before .before .before .before .front-of .ensures .within in let b = ahead (c .before) in omega (arith, w, r, b)
+shared-slice-read-value-2 : tie.Need-shared-slice-read-value-2
+shared-slice-read-value-2 c = let w = whole (c .before .before .before .before .before .before) in let r = c .before .before .before .before .before .front-of .ensures .within in let b = ahead (c .before) in omega (arith, w, r, b)
 
 returns-2 : tie.Need-returns-2
 returns-2 c = answer-before _ _ _ _ _ (lying (c .before .before .before .before .before .before)) (c .before .before .before .before .before .before .before .before .before .before .before .before .before .before .before .args .gap) (c .before .before .before .before .before .before .before .before .before .before .before .before .before .before .before .args .t) (c .before .before .before .before .before .front-of .result) (c .before .before .before .before .before .front-of .ensures) (c .before .before .before .before .near-since .ensures) (c .before .before .before .if1 .left) (c .before .before .near-before .ensures) (c .before .if2 .taken)
@@ -170,13 +170,13 @@ answer-in-spec =
     add-end
     front-of-requires
     near-since-requires
-    mul-t26
-    shared-slice-read-t28
+    mul-value
+    shared-slice-read-value
     returns
     near-before-requires
-    sub-t30
-    mul-t31
-    shared-slice-read-t33
+    sub-value
+    mul-value-2
+    shared-slice-read-value-2
     returns-2
     returns-3
     sub-a
