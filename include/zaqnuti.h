@@ -67,6 +67,7 @@
  *     add_epoch       18,688
  *     query              512
  *     queries            768
+ *     forget             512
  *     widen_bands        256
  *     smooth             768
  *     times              256
