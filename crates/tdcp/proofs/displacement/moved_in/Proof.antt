@@ -9,7 +9,7 @@ is-bad-interval-requires : tie.Need-is-bad-interval-requires
 is-bad-interval-requires c κs = search needs
 
 returns : tie.Need-returns
-returns c = refused-interval _ (sym (c .before .is-bad-interval .ensures) ∙ c .if1 .taken)
+returns c = refused-interval _ _ _ (sym (c .before .is-bad-interval .ensures) ∙ c .if1 .taken)
 
 pairs-in-requires : tie.Need-pairs-in-requires
 pairs-in-requires c κs = (c .before .before .before .before .before .before .before .before .before .before .pre .0, c .before .before .before .before .before .before .before .before .before .before .pre .1)
@@ -18,7 +18,7 @@ moved-by-requires : tie.Need-moved-by-requires
 moved-by-requires c κs = c .pairs-in .ensures .room
 
 returns-2 : tie.Need-returns-2
-returns-2 c = c .moved-by .ensures ∙ paired _ (sym (c .before .before .before .is-bad-interval .ensures) ∙ c .before .before .if1 .left) (c .before .pairs-in .ensures)
+returns-2 c = c .moved-by .ensures ∙ paired _ _ _ (sym (c .before .before .before .is-bad-interval .ensures) ∙ c .before .before .if1 .left) (c .before .pairs-in .ensures)
 
 pub moved-in-spec : {M : Type 1} → statement M
 moved-in-spec = tie.close (tie.spec is-bad-interval-requires returns pairs-in-requires moved-by-requires returns-2)
