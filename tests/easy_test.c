@@ -927,12 +927,12 @@ static void texts(void)
 {
     unsigned a;
     unsigned b;
-    for (a = 0; a <= 15; a++) {
+    for (a = 0; a <= 16; a++) {
         for (b = 0; b < a; b++) {
             same(strcmp(zaqnuti_refusal_text((uint8_t)a), zaqnuti_refusal_text((uint8_t)b)) != 0, "texts of two numbers");
         }
     }
-    for (a = 15; a < 256; a++) {
+    for (a = 16; a < 256; a++) {
         same(strcmp(zaqnuti_refusal_text((uint8_t)a), "no such number") == 0, "the text of no number");
     }
 }

@@ -71,7 +71,7 @@ fn rusty(text: &str, mark: &str, parameter: impl Fn(&str) -> Vec<String>) -> Sig
 }
 
 /// What a caller lends as doubles and the sources take as their patterns, so that what a refusal leaves is promised to the last bit.
-const PATTERNS: [&str; 5] = ["delta", "solution", "position", "metres", "seconds"];
+const PATTERNS: [&str; 6] = ["delta", "solution", "position", "metres", "seconds", "out"];
 
 fn rattle() -> Signatures {
     let mut out = Signatures::new();

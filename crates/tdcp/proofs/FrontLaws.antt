@@ -1,9 +1,10 @@
 -- The rules on the pairs of a displacement. Assumes nothing.
-use mathlib.Core.Path.{_≡_, refl, sym, ap, _∙_}
-use mathlib.Core.Bool.{Bool, true, false, _||_}
+use mathlib.Core.Path.{_≡_, refl, sym, ap, ap₂, _∙_}
+use mathlib.Core.Bool.{Bool, true, false, not, _&&_, _||_}
 use mathlib.Core.List.{List, [], _∷_, _++_}
 use Prim.Native.Nat.{ℕ, _+_, _≤_, _<_}
 use native.Mathlib.Numerals.{add-one}
+use native.Mathlib.Omega.{arith}
 use lib.Dec.{eqb, ltb}
 use lib.Seq.{drop-cons}
 use borrow.Author.Tests.{ltb-false}
@@ -50,12 +51,18 @@ module _ (pairs kept slots : ℕ) (twenty : Bool) where
       rest = sym (passed-by Stops _ (rowRules kept slots) enough) ∙ sym rows-left
 
       pub counts-twenty : twenty ≡ true → Stops NotCertified ≡ checked rules
-      unfolding ruled
-      counts-twenty e = rw e at rest
+      counts-twenty e = alone e ∙ rest
+        where
+          alone : twenty ≡ true → Stops NotCertified ≡ checked (rule NotCertified twenty ∷ [])
+          unfolding ruled
+          alone e = rw e
 
       pub counts-all : twenty ≡ false → Passed ≡ checked rules
-      unfolding ruled
-      counts-all e = rw e at rest
+      counts-all e = alone e ∙ rest
+        where
+          alone : twenty ≡ false → Passed ≡ checked (rule NotCertified twenty ∷ [])
+          unfolding ruled
+          alone e = rw e
 
 -- no more pairs are kept than there are
 pub kept-few : (screen : Float) (ps : List Pair) → length (keptOf screen ps) ≤ length ps
@@ -68,7 +75,16 @@ pub pairs-enough : (city : Bool) (settings : Settings) (ps : List Pair) → Pass
 unfolding pairRules countRules
 pairs-enough city settings ps e = counts-passed _ _ _ (append-first (countRules settings ps) _ (append-passed (sightRules ps) _ e)) .1
 
--- ---- 20: a loop that asks whether p stands among xs, with what it has seen before place i
+-- ---- 20, of the city profile: the code's two ways
+pub uncertified-no : (city b : Bool) → not city ≡ true → false ≡ (city && b)
+uncertified-no true b e = absurd (let z : _≡_ {A = ℕ} 0 1 = cc in omega arith)
+uncertified-no false b e = refl
+
+pub uncertified-is : (city : Bool) {a b x y : Bool} → not city ≡ false → a ≡ x → b ≡ y → not (a && b) ≡ (city && not (x && y))
+uncertified-is true e g h = ap₂ (λ (p q : Bool). not (p && q)) g h
+uncertified-is false e g h = absurd (let z : _≡_ {A = ℕ} 0 1 = cc in omega arith)
+
+-- a loop that asks whether p stands among xs, with what it has seen before place i
 pub record Seeking (xs : List ℕ) (p i : ℕ) (seen : Bool) : Type 0 where
   pub left : (seen || has (drop i xs) p) ≡ has xs p
 

@@ -45,4 +45,4 @@ cityRules city kept = rule NotCertified (city && not (has (constellations kept) 
 
 -- 15, ahead of 7, and 20 after 9
 unfoldable pub pairRules : Bool → Settings → List Pair → List Rule
-pairRules city settings ps = sightRules ps ++ countRules settings ps ++ cityRules city (keptOf (settings .screen) ps)
+pairRules city settings ps = sightRules ps ++ (countRules settings ps ++ cityRules city (keptOf (settings .screen) ps))

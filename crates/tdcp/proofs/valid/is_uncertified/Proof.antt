@@ -1,11 +1,7 @@
 -- `tdcp::valid::is_uncertified` meets its contract. Assumes nothing.
-use mathlib.Core.Path.{_≡_, ap₂}
-use mathlib.Core.Bool.{Bool, not, _&&_}
 use Prim.Native.Nat.{_≤_, _-_}
-use native.Mathlib.Omega.{arith}
-use borrow.Author.Tests.{not-true, not-false}
 use borrow.Author.Needs.{needs}
-use Rattle.tdcp.proofs.FrontLaws.{Seeking, seeking-start, seeking-next, seeking-end}
+use Rattle.tdcp.proofs.FrontLaws.{uncertified-no, uncertified-is, Seeking, seeking-start, seeking-next, seeking-end}
 use Rattle.tdcp.proofs.valid.is_uncertified.Statement.{statement}
 use Rattle.tdcp.proofs.valid.is_uncertified.Tie as tie
 
@@ -16,7 +12,7 @@ abbrev μ-loop : tie.MeasureT-loop
 μ-loop city constellation n gps₀ galileo₀ i₀ gps galileo i = n - i
 
 returns : tie.Need-returns Inv-loop μ-loop
-returns c = rw (not-true _ (c .if1 .taken))
+returns c = uncertified-no _ _ (c .if1 .taken)
 
 loop-holds : tie.Need-loop-holds Inv-loop μ-loop
 loop-holds c = (search needs, seeking-start _ 1, seeking-start _ 6)
@@ -32,13 +28,13 @@ loop-less c = search needs
 
 loop-again : tie.Need-loop-again Inv-loop μ-loop
 loop-again c =
-    let h = c .before .loop in
-    (search needs, seeking-next _ 1 (h .i) (h .inv .1) (c .loop-test .taken), seeking-next _ 6 (h .i) (h .inv .2) (c .loop-test .taken))
+    let h = c .before .before .loop in
+    (search needs, seeking-next _ 1 (h .i) (h .inv .1) (c .before .loop-test .taken), seeking-next _ 6 (h .i) (h .inv .2) (c .before .loop-test .taken))
 
 returns-2 : tie.Need-returns-2 Inv-loop μ-loop
 returns-2 c =
     let h = c .before .loop in
-    rw (not-false _ (c .before .before .if1 .left)) (ap₂ (λ (a b : Bool). not (a && b)) (seeking-end _ 1 _ (h .inv .1) (c .loop-test .left)) (seeking-end _ 6 _ (h .inv .2) (c .loop-test .left)))
+    uncertified-is _ (c .before .before .if1 .left) (seeking-end _ 1 _ (h .inv .1) (c .loop-test .left)) (seeking-end _ 6 _ (h .inv .2) (c .loop-test .left))
 
 pub is-uncertified-spec : {M : Type 1} → statement M
 is-uncertified-spec =

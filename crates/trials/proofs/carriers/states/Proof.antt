@@ -2,7 +2,10 @@ use mathlib.Core.Path.{_≡_, refl, _∙_}
 use lib.IntN.{pos, negsuc}
 use lib.Ieee.{ofInt, ofBits, toBits, neg, add, sub, mul, div, le, lt, eq, isNan}
 use Rattle.walk.specs.Walk.{every, first, collect}
-use Rattle.numeric.specs.Real.{abs, inRange}
+use Rattle.root.specs.Root.{rootOf}
+use Rattle.numeric.specs.Real.{travelSine, travelCosine, abs, inRange}
+use Rattle.numeric.specs.Vec3.{sub as vec-minus, norm}
+use Rattle.numeric.specs.Sight.{travelAngle, turned, gap, along, sightOf, onReceiver}
 use Rattle.exact.specs.Pattern.{sign, exponent, digits}
 use Rattle.numeric.specs.Order.{isNanPattern, isQuiet, payload, payloadOrder, unordered, totalOrder, patternOf}
 use Rattle.median.specs.Sorted.{insertBy, sortedBy, medianOf}
@@ -13,7 +16,7 @@ use Rattle.clocks.specs.Clocks.{has, appearing, slotFrom, clocksIn, clocksOf}
 use Rattle.records.specs.Pair.{pairOf, firstPair, pairAt, pairsOf}
 use Rattle.records.specs.Screen.{centre, within, keptOf}
 use Rattle.tdcp.specs.Valid.{settingsPass, badInterval, epochRules, intervalRules, displacementCounts}
-use Rattle.tdcp.specs.Front.{pairRules}
+use Rattle.tdcp.specs.Front.{sightRules, countRules, pairRules}
 use Rattle.estimator.specs.Rounds.{fitFrom, finiteAt}
 use Rattle.tdcp.specs.Displacement.{fitOver, fitBy, endRules, movedBy, movedIn, displacementOf}
 use Rattle.trials.specs.Carriers.{sixIn, usedOf}
@@ -30,7 +33,7 @@ record Used : Type 0 where
   in-minus-1 : usedOf (displacementOf (sixIn (negsuc 0))) ≡ 0
 
 used : Used
-unfolding displacementOf movedIn movedBy endRules finiteAt fitBy fitOver fitFrom ruled every first collect abs inRange placeable isElevation sound unsigned bitSet usable same has appearing slotFrom clocksIn clocksOf pairOf firstPair pairAt pairsOf centre within keptOf settingsPass badInterval epochRules intervalRules displacementCounts rowRules pairRules sign exponent digits isNanPattern isQuiet payload payloadOrder unordered totalOrder patternOf insertBy sortedBy medianOf centreOf ofInt ofBits toBits neg add sub mul div le lt eq isNan
+unfolding displacementOf movedIn movedBy endRules finiteAt fitBy fitOver fitFrom ruled every first collect abs inRange placeable isElevation sound unsigned bitSet usable same has appearing slotFrom clocksIn clocksOf pairOf firstPair pairAt pairsOf centre within keptOf settingsPass badInterval epochRules intervalRules displacementCounts rowRules pairRules sightRules countRules onReceiver sightOf gap along turned travelAngle travelSine travelCosine norm vec-minus rootOf sign exponent digits isNanPattern isQuiet payload payloadOrder unordered totalOrder patternOf insertBy sortedBy medianOf centreOf ofInt ofBits toBits neg add sub mul div le lt eq isNan
 used = record { in-1 = refl; in-0 = refl; in-3 = refl; in-5 = refl; in-minus-1 = refl }
 
 used-in-requires : tie.Need-used-in-requires

@@ -1,6 +1,7 @@
 -- `zaqnuti::round::zaqnuti_geometry` meets its contract. Assumes nothing.
-use mathlib.Core.Path.{sym, _∙_}
+use mathlib.Core.Path.{sym, ap₂, _∙_}
 use borrow.Author.Needs.{needs}
+use Rattle.numeric.specs.Sight.{geometry}
 use Rattle.zaqnuti.proofs.SightNumber.{sight-refused, sight-seen}
 use Rattle.zaqnuti.proofs.round.zaqnuti_geometry.Statement.{statement}
 use Rattle.zaqnuti.proofs.round.zaqnuti_geometry.Tie as tie
@@ -38,14 +39,14 @@ pattern-requires-4 c κs = search needs
 returns : tie.Need-returns
 returns c =
     let g = c .before .before .before .before in
-    sight-refused _ _ _ (c .number .ensures) (sym (c .before .before .seen .given .1) ∙ g .geometry .ensures ∙ rw (g .before .vector2 .ensures, g .before .before .vector .ensures))
+    sight-refused _ _ _ (c .number .ensures) (sym (c .before .before .seen .given .1) ∙ g .geometry .ensures ∙ ap₂ geometry (g .before .before .vector .ensures) (g .before .vector2 .ensures))
 
 returns-2 : tie.Need-returns-2
 returns-2 c =
     let p = c .before in
     let q = p .before .before .before .before .before in
     let g = q .before .before in
-    sight-seen _ _ _ (p .before .before .before .pattern .ensures) (p .before .before .pattern2 .ensures) (p .before .pattern3 .ensures) (p .pattern4 .ensures) (sym (q .seen2 .given .1) ∙ g .geometry .ensures ∙ rw (g .before .vector2 .ensures, g .before .before .vector .ensures))
+    sight-seen _ _ _ (p .before .before .before .pattern .ensures) (p .before .before .pattern2 .ensures) (p .before .pattern3 .ensures) (p .pattern4 .ensures) (sym (q .seen2 .given .1) ∙ g .geometry .ensures ∙ ap₂ geometry (g .before .before .vector .ensures) (g .before .vector2 .ensures))
 
 pub zaqnuti-geometry-spec : {M : Type 1} → statement M
 zaqnuti-geometry-spec =
