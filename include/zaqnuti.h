@@ -52,11 +52,11 @@
  * recurses. Each page is touched in order, so that a stack that is too small
  * ends at its guard page.
  *
- *     fix             26,112
- *     position        26,112
- *     displacement    16,640
- *     between         16,128
- *     line            40,704
+ *     fix             25,088
+ *     position        25,088
+ *     displacement    21,760
+ *     between         21,248
+ *     line            45,824
  *     add_epoch       17,920
  *     query              512
  *     queries            512
