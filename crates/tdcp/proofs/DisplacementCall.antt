@@ -5,7 +5,7 @@ use native.Mathlib.Omega.{arith}
 use mathlib.Core.Bool.{Bool, true, false, not, _&&_, _||_}
 use mathlib.Core.List.{List, [], _∷_, _++_}
 use lib.Dec.{ltb}
-use lib.ListN.{length, take}
+use lib.ListN.{length, take, length-take}
 use lib.Ieee.{Float}
 use Rattle.numeric.specs.declared.refusal.Refusal.{Refusal}
 use Rattle.numeric.specs.declared.refusal.Refusal.the-variants.{TooMany, BadInterval, NotCertified}
@@ -97,6 +97,10 @@ module _ (city : Bool) (settings : Settings) (ps : List Pair) (n : ℕ) (all : n
           ap₂ (λ (u s : ℕ). concludedAt u s b) (h .count) (ap₂ _-_ all (h .count))
           ∙ ended-reached Refused endRules answer (fitBy settings ps .end) (subst (λ (f : Fit). Ended (f .end) Passed a b) fit-is e) ∙ answered
 
+-- the pairs that the code has are in its array
+pub held-fits : {n : ℕ} {array xs : List Pair} → Holds n array xs → n ≤ length array
+held-fits {n} {array} h = omega (arith, h .count, simp length-take at (ap length (h .all)))
+
 -- ---- the call
 module _ (i : Input) where
   abbrev epochs : List Rule
@@ -127,3 +131,7 @@ module _ (i : Input) where
     pub paired : badInterval (i .dt) ≡ false → {n : ℕ} {array : List Pair} → Holds n array (pairsFor city band i) → movedBy city (i .settings) (take n array) ≡ movedFor city band i
     unfolding movedFor intervalRules ruled
     paired e h = rw (e, h .all)
+
+    -- 15 refuses a pair
+    pub unseen : badInterval (i .dt) ≡ false → {n : ℕ} {array : List Pair} → Holds n array (pairsFor city band i) → {r : Refusal} → Stops r ≡ checked (sightRules (take n array)) → Refused r ≡ movedFor city band i
+    unseen e {n} {array} h t = refused-sights city (i .settings) (take n array) t ∙ paired e h

@@ -50,19 +50,19 @@ module _ (pairs kept slots : ℕ) (twenty : Bool) where
       rest : checked (rule NotCertified twenty ∷ []) ≡ checked rules
       rest = sym (passed-by Stops _ (rowRules kept slots) enough) ∙ sym rows-left
 
+      applies : twenty ≡ true → Stops NotCertified ≡ checked (rule NotCertified twenty ∷ [])
+      unfolding ruled
+      applies e = rw e
+
+      not-applies : twenty ≡ false → Passed ≡ checked (rule NotCertified twenty ∷ [])
+      unfolding ruled
+      not-applies e = rw e
+
       pub counts-twenty : twenty ≡ true → Stops NotCertified ≡ checked rules
-      counts-twenty e = alone e ∙ rest
-        where
-          alone : twenty ≡ true → Stops NotCertified ≡ checked (rule NotCertified twenty ∷ [])
-          unfolding ruled
-          alone e = rw e
+      counts-twenty e = applies e ∙ rest
 
       pub counts-all : twenty ≡ false → Passed ≡ checked rules
-      counts-all e = alone e ∙ rest
-        where
-          alone : twenty ≡ false → Passed ≡ checked (rule NotCertified twenty ∷ [])
-          unfolding ruled
-          alone e = rw e
+      counts-all e = not-applies e ∙ rest
 
 -- no more pairs are kept than there are
 pub kept-few : (screen : Float) (ps : List Pair) → length (keptOf screen ps) ≤ length ps

@@ -8,7 +8,9 @@ ghost use Rattle.cholesky.specs.Factor.{at};
 ghost use Rattle.numeric.specs.Order.{patternOf};
 ghost use Rattle.records.specs.Carriers.{carrierColumns, epochOf, epochFits};
 ghost use Rattle.records.specs.Kept.{pairsIn};
+ghost use Rattle.estimator.specs.Rules.{ruled};
 ghost use Rattle.estimator.specs.Rounds.{Ended};
+ghost use Rattle.tdcp.specs.Front.{sightRules};
 ghost use Rattle.tdcp.specs.Displacement as spec;
 use crate::valid::check_in;
 use crate::valid::check_pairs;
@@ -149,24 +151,12 @@ fn moved_to(x: [f64; 9], used: usize, screened: usize) -> Displacement
     Displacement::Refused(Refusal::FitFailed)
 }
 
-// What every displacement shares, from its pairs on: rule 15, for each pair in order the current satellite before the previous, the screen, rules 7 to 9 and in the city
-// profile 20, the rounds, and 10. The pairs are tested here and not in a function of its own, which would be handed a copy of them.
+// What every displacement shares, from the pairs on that 15 lets pass: the screen, rules 7 to 9 and in the city profile 20, the rounds, and 10.
 pub(crate) fn moved_by(settings: Settings, all: Pairs, city: bool) -> Displacement
-    requires { ⌜ all .count ≤ 64 ⌝ }
+    requires { ⌜ (all .count ≤ 64) × (Check.Passed ≡ ruled Check.Refused (sightRules (take (all .count) (all .pair))) Check.Passed) ⌝ }
     ensures { λ r. ⌜ r ≡ spec.movedBy city settings (take (all .count) (all .pair)) ⌝ }
 {
     let pairs = all.count;
-    let mut i: usize = 0;
-    while i < pairs {
-        let q = all.pair[i];
-        if is_on_receiver(q.range) {
-            return Displacement::Refused(Refusal::OnReceiver);
-        }
-        if is_on_receiver(q.previous_range) {
-            return Displacement::Refused(Refusal::OnReceiver);
-        }
-        i += 1;
-    }
     let mut x = [0.0; 64];
     let mut y = [0.0; 64];
     let mut z = [0.0; 64];
@@ -267,8 +257,9 @@ pub fn delta_position(
     )
 }
 
-// What every displacement of two epochs' columns shares once 2 to 4 have passed: rule 5, the pairs, in the city profile those of the carriers that it certifies,
-// and what they come to.
+// What every displacement of two epochs' columns shares once 2 to 4 have passed: rule 5, the pairs, in the city profile those of the carriers that it certifies, rule 15
+// of each pair in order, the current satellite before the previous, and what they come to. The pairs are tested where they stand: a function that reads the array of
+// a parameter has a copy of it.
 pub fn moved_in(
     previous_constellation: &[u8],
     previous_svid: &[u16],
@@ -314,6 +305,17 @@ pub fn moved_in(
         city,
         band,
     );
+    let mut i: usize = 0;
+    while i < all.count {
+        let q = all.pair[i];
+        if is_on_receiver(q.range) {
+            return Displacement::Refused(Refusal::OnReceiver);
+        }
+        if is_on_receiver(q.previous_range) {
+            return Displacement::Refused(Refusal::OnReceiver);
+        }
+        i += 1;
+    }
     moved_by(settings, all, city)
 }
 

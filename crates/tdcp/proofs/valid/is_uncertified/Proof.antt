@@ -1,5 +1,7 @@
 -- `tdcp::valid::is_uncertified` meets its contract. Assumes nothing.
+use mathlib.Core.Bool.{not, _&&_}
 use Prim.Native.Nat.{_≤_, _-_}
+use Rattle.clocks.specs.Clocks.{has}
 use borrow.Author.Needs.{needs}
 use Rattle.tdcp.proofs.FrontLaws.{uncertified-no, uncertified-is, Seeking, seeking-start, seeking-next, seeking-end}
 use Rattle.tdcp.proofs.valid.is_uncertified.Statement.{statement}
@@ -12,7 +14,7 @@ abbrev μ-loop : tie.MeasureT-loop
 μ-loop city constellation n gps₀ galileo₀ i₀ gps galileo i = n - i
 
 returns : tie.Need-returns Inv-loop μ-loop
-returns c = uncertified-no _ _ (c .if1 .taken)
+returns c = let a = c .before .args in uncertified-no (a .city) (not (has (a .constellation .now) 1 && has (a .constellation .now) 6)) (c .if1 .taken)
 
 loop-holds : tie.Need-loop-holds Inv-loop μ-loop
 loop-holds c = (search needs, seeking-start _ 1, seeking-start _ 6)
@@ -34,7 +36,7 @@ loop-again c =
 returns-2 : tie.Need-returns-2 Inv-loop μ-loop
 returns-2 c =
     let h = c .before .loop in
-    uncertified-is _ (c .before .before .if1 .left) (seeking-end _ 1 _ (h .inv .1) (c .loop-test .left)) (seeking-end _ 6 _ (h .inv .2) (c .loop-test .left))
+    uncertified-is (c .before .before .before .args .city) (c .before .before .if1 .left) (seeking-end _ 1 _ (h .inv .1) (c .loop-test .left)) (seeking-end _ 6 _ (h .inv .2) (c .loop-test .left))
 
 pub is-uncertified-spec : {M : Type 1} → statement M
 is-uncertified-spec =
