@@ -56,6 +56,7 @@
  *     position        25,088
  *     displacement    21,760
  *     between         21,248
+ *     city            21,760
  *     line            45,824
  *     add_epoch       17,920
  *     query              512
@@ -98,7 +99,7 @@ extern "C" {
 #define ZAQNUTI_TEXT 32768       /* bytes of a text in the line form */
 #define ZAQNUTI_LINE 59          /* bytes that are always enough for its answer */
 
-/* Why a call turns back, in checking order, but that 13 is tested between 4 and 5, and 15 before 7 and before 10. */
+/* Why a call turns back, in checking order, but that 13 is tested between 4 and 5, 15 before 7 and before 10, and 20 before 10. */
 enum zaqnuti_refusal {
     ZAQNUTI_BROKEN_FORM = 1,           /* a text is too long or breaks the line form */
     ZAQNUTI_TOO_MANY = 2,              /* too many records, or too short a buffer */
@@ -114,7 +115,8 @@ enum zaqnuti_refusal {
     ZAQNUTI_NO_CORRECTION = 12,        /* the table gives no correction for the query */
     ZAQNUTI_BAD_TIME = 13,             /* a week, a time of week or a time in nanoseconds is out of range */
     ZAQNUTI_QUALITY_NOT_FINITE = 14,   /* chi or pdop of a fix is not finite */
-    ZAQNUTI_ON_RECEIVER = 15           /* the range of a satellite is zero or not finite */
+    ZAQNUTI_ON_RECEIVER = 15,          /* the range of a satellite is zero or not finite */
+    ZAQNUTI_NOT_CERTIFIED = 20         /* GPS or Galileo is absent among the pairs kept of a city displacement */
 };
 
 /*
@@ -311,6 +313,37 @@ uint8_t zaqnuti_displacement_between(
     size_t current_count,
     uint64_t previous_time,
     uint64_t current_time,
+    const double receiver[3],
+    const double settings[5],
+    size_t rounds,
+    double delta[3],
+    size_t counts[2]);
+
+/*
+ * The displacement of the city profile: by GPS (1) and Galileo (6) on one band.
+ *
+ * band           the band (MHz) whose carriers count; 2 and 4 look at every
+ *                carrier given
+ *
+ * The answer is that of zaqnuti_displacement with all other carriers taken out
+ * of both epochs. Refuses by 2, 3, 4, 5, 15, 7, 8, 9, 20 (GPS or Galileo is
+ * absent among the pairs kept) and 10, in this order.
+ */
+uint8_t zaqnuti_city_displacement(
+    const uint8_t *previous_constellation, size_t previous_constellation_length,
+    const uint16_t *previous_svid, size_t previous_svid_length,
+    const uint32_t *previous_band, size_t previous_band_length,
+    const int32_t *previous_state, size_t previous_state_length,
+    const double *previous_floats, size_t previous_floats_length,
+    size_t previous_count,
+    const uint8_t *current_constellation, size_t current_constellation_length,
+    const uint16_t *current_svid, size_t current_svid_length,
+    const uint32_t *current_band, size_t current_band_length,
+    const int32_t *current_state, size_t current_state_length,
+    const double *current_floats, size_t current_floats_length,
+    size_t current_count,
+    double dt,
+    uint32_t band,
     const double receiver[3],
     const double settings[5],
     size_t rounds,

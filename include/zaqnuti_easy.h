@@ -67,6 +67,7 @@ static inline const char *zaqnuti_refusal_text(uint8_t number)
     case ZAQNUTI_BAD_TIME: return "a week is above 15,000, a time of week is not in 0 to below 604,800 s, or a time is past the start of week 15,001";
     case ZAQNUTI_QUALITY_NOT_FINITE: return "chi or pdop of the fix is not finite";
     case ZAQNUTI_ON_RECEIVER: return "the range of a satellite is zero or not finite";
+    case ZAQNUTI_NOT_CERTIFIED: return "GPS or Galileo is absent among the pairs kept";
     default: return "no such number";
     }
 }
@@ -307,6 +308,37 @@ static inline uint8_t zaqnuti_easy_displacement_between(
         current->constellation, ZAQNUTI_RECORDS, current->svid, ZAQNUTI_RECORDS, current->band, ZAQNUTI_RECORDS,
         current->state, ZAQNUTI_RECORDS, current->floats, 6 * ZAQNUTI_RECORDS, current->count,
         previous_time.nanos, current_time.nanos, from, set, settings->rounds, delta, counts);
+
+    if (number == 0) {
+        moved->delta.x = delta[0];
+        moved->delta.y = delta[1];
+        moved->delta.z = delta[2];
+        moved->used = counts[0];
+        moved->screened = counts[1];
+    }
+    return number;
+}
+
+/* How the receiver moved in `dt` seconds by GPS and Galileo on one band (MHz) alone; `receiver` is where it was at the previous epoch. */
+static inline uint8_t zaqnuti_easy_city_displacement(
+    const zaqnuti_epoch *previous,
+    const zaqnuti_epoch *current,
+    double dt,
+    uint32_t band,
+    zaqnuti_vector receiver,
+    const zaqnuti_displacement_settings *settings,
+    zaqnuti_moved *moved)
+{
+    const double from[3] = {receiver.x, receiver.y, receiver.z};
+    const double set[5] = {settings->screen, settings->sigma_a, settings->sigma_b, settings->huber, settings->mask};
+    double delta[3] = {0.0, 0.0, 0.0};
+    size_t counts[2] = {0, 0};
+    uint8_t number = zaqnuti_city_displacement(
+        previous->constellation, ZAQNUTI_RECORDS, previous->svid, ZAQNUTI_RECORDS, previous->band, ZAQNUTI_RECORDS,
+        previous->state, ZAQNUTI_RECORDS, previous->floats, 6 * ZAQNUTI_RECORDS, previous->count,
+        current->constellation, ZAQNUTI_RECORDS, current->svid, ZAQNUTI_RECORDS, current->band, ZAQNUTI_RECORDS,
+        current->state, ZAQNUTI_RECORDS, current->floats, 6 * ZAQNUTI_RECORDS, current->count,
+        dt, band, from, set, settings->rounds, delta, counts);
 
     if (number == 0) {
         moved->delta.x = delta[0];

@@ -5,3 +5,4 @@ pub mod Track
 pub mod Corrections
 pub mod Times
 pub mod Between
+pub mod City

@@ -6,6 +6,7 @@ pub mod estimates;
 pub mod line;
 pub mod matrix;
 pub mod numbers;
+pub mod profile;
 pub mod round;
 pub mod slots;
 pub mod times;

@@ -20,6 +20,7 @@ pub const ENTRIES: &[Entry] = &[
     ("fix", fix::fix),
     ("displacement", displacement::displacement),
     ("between", displacement::between),
+    ("city", displacement::city),
     ("line", line::line),
     ("add_epoch", corrections::add_epoch),
     ("query", corrections::query),

@@ -3,6 +3,7 @@
 mod accuracy;
 pub mod between;
 mod centre;
+mod city;
 mod clocks;
 pub mod corrections;
 mod displacement;
@@ -64,6 +65,7 @@ pub const KINDS: &[(u64, &str, Make)] = &[
     (21, "since", time::since),
     (22, "between", between::vectors),
     (23, "widen", corrections::stored::widen),
+    (30, "city", city::vectors),
 ];
 
 /// Every service, lowest first.
@@ -82,6 +84,7 @@ pub const SERVICES: &[Service] = &[
     displacement::SERVICE,
     time::SERVICE,
     between::SERVICE,
+    city::SERVICE,
     fix::SERVICE,
     top::DISPLACEMENT,
     top::FIX,
