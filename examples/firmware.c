@@ -184,6 +184,18 @@ static uint8_t displace_between(const struct epoch *p, const struct epoch *c, ui
         before, now, receiver, settings, 4, delta, counts);
 }
 
+/* The same by GPS and Galileo on one band alone. */
+static uint8_t displace_city(const struct epoch *p, const struct epoch *c, uint32_t band, double delta[3], size_t counts[2])
+{
+    const double settings[5] = {0.5, 0.008, 0.002, 1.5, 10.0};
+    return zaqnuti_city_displacement(
+        p->constellation, SATELLITES, p->svid, SATELLITES, p->band, SATELLITES,
+        p->state, SATELLITES, p->floats, 6 * SATELLITES, SATELLITES,
+        c->constellation, SATELLITES, c->svid, SATELLITES, c->band, SATELLITES,
+        c->state, SATELLITES, c->floats, 6 * SATELLITES, SATELLITES,
+        1.0, band, receiver, settings, 4, delta, counts);
+}
+
 /* Two epochs a second and a few metres apart; one carrier slips. */
 static const double moved[3] = {4.0, -2.5, 1.5};
 static struct epoch previous;
@@ -234,6 +246,10 @@ static void displacement(void)
     expect_number("the later time first", number, ZAQNUTI_BAD_INTERVAL);
     number = displace_between(&previous, &current, before_midnight, UINT64_MAX, across, counts);
     expect_number("no such time", number, ZAQNUTI_BAD_TIME);
+    number = displace_city(&previous, &current, 1575, across, counts);
+    expect_number("displacement of the city", number, 0);
+    number = displace_city(&previous, &current, 1176, across, counts);
+    expect_number("nothing on the band", number, ZAQNUTI_TOO_FEW_PAIRS);
 }
 
 #define EPOCH_BYTES (SATELLITES * ZAQNUTI_RECORD)

@@ -60,6 +60,7 @@
  *     position        25,088
  *     displacement    21,760
  *     between         21,248
+ *     city            21,760
  *     line            45,824
  *     records         29,184
  *     read_records       256
@@ -114,8 +115,8 @@ extern "C" {
 
 /*
  * Why a call turns back, in checking order, but that 13 is tested between 4 and 5,
- * 15 before 7 and before 10, 19 in place of 4, and
- * 21 before 2.
+ * 15 before 7 and before 10, 19 in place of 4, 20
+ * between 9 and 10, and 21 before 2.
  */
 enum zaqnuti_refusal {
     ZAQNUTI_BROKEN_FORM = 1,           /* a text is too long or breaks the line form */
@@ -137,6 +138,7 @@ enum zaqnuti_refusal {
     ZAQNUTI_NO_DISTANCE = 17,          /* fuel per kilometre is wanted at zero carrier distance */
     ZAQNUTI_BAD_DROP_TIME = 18,        /* the time to drop before is not finite */
     ZAQNUTI_NOT_TURNED = 19,           /* a vector cannot be turned to north, east and down */
+    ZAQNUTI_NOT_CERTIFIED = 20,        /* GPS or Galileo is absent among the pairs kept of a city displacement */
     ZAQNUTI_BROKEN_RECORDS = 21        /* the bytes of carrier records are no multiple of 59 */
 };
 
@@ -334,6 +336,37 @@ uint8_t zaqnuti_displacement_between(
     size_t current_count,
     uint64_t previous_time,
     uint64_t current_time,
+    const double receiver[3],
+    const double settings[5],
+    size_t rounds,
+    double delta[3],
+    size_t counts[2]);
+
+/*
+ * The displacement of the city profile: by GPS (1) and Galileo (6) on one band.
+ *
+ * band           the band (MHz) whose carriers count; 2 and 4 look at every
+ *                carrier given
+ *
+ * The answer is that of zaqnuti_displacement with all other carriers taken out
+ * of both epochs. Refuses by 2, 3, 4, 5, 15, 7, 8, 9, 20 (GPS or Galileo is
+ * absent among the pairs kept) and 10, in this order.
+ */
+uint8_t zaqnuti_city_displacement(
+    const uint8_t *previous_constellation, size_t previous_constellation_length,
+    const uint16_t *previous_svid, size_t previous_svid_length,
+    const uint32_t *previous_band, size_t previous_band_length,
+    const int32_t *previous_state, size_t previous_state_length,
+    const double *previous_floats, size_t previous_floats_length,
+    size_t previous_count,
+    const uint8_t *current_constellation, size_t current_constellation_length,
+    const uint16_t *current_svid, size_t current_svid_length,
+    const uint32_t *current_band, size_t current_band_length,
+    const int32_t *current_state, size_t current_state_length,
+    const double *current_floats, size_t current_floats_length,
+    size_t current_count,
+    double dt,
+    uint32_t band,
     const double receiver[3],
     const double settings[5],
     size_t rounds,

@@ -167,6 +167,28 @@ static uint8_t plain_displacement(
         time[0].nanos, time[1].nanos, from, settings, rounds, delta, counts);
 }
 
+/* The same in the city profile, on the band of the first carrier. */
+static void city_both(
+    const struct columns *p, const struct columns *c, const zaqnuti_epoch *previous, const zaqnuti_epoch *current,
+    double dt, zaqnuti_vector receiver, const zaqnuti_displacement_settings *set)
+{
+    const double from[3] = {receiver.x, receiver.y, receiver.z};
+    const double settings[5] = {set->screen, set->sigma_a, set->sigma_b, set->huber, set->mask};
+    const uint32_t band = c->count > 0 ? c->band[0] : 1575;
+    double delta[3] = {0.25, 0.25, 0.25};
+    size_t counts[2] = {7, 7};
+    zaqnuti_moved moved = {{0.25, 0.25, 0.25}, 7, 7};
+    uint8_t number = zaqnuti_city_displacement(
+        p->constellation, p->count, p->svid, p->count, p->band, p->count, p->state, p->count, p->floats, 6 * p->count, p->count,
+        c->constellation, c->count, c->svid, c->count, c->band, c->count, c->state, c->count, c->floats, 6 * c->count, c->count,
+        dt, band, from, settings, set->rounds, delta, counts);
+
+    met[number] += 1;
+    same(zaqnuti_easy_city_displacement(previous, current, dt, band, receiver, set, &moved) == number, "city displacement, its number");
+    same(memcmp(&moved.delta, delta, sizeof delta) == 0, "city displacement, its vector");
+    same(moved.used == counts[0] && moved.screened == counts[1], "city displacement, its counts");
+}
+
 /* Gives the number, and the displacement in `easy`; between two times where there are any, else by the interval. */
 static uint8_t displacement_both(
     const zaqnuti_carrier *before, size_t before_count, const zaqnuti_carrier *after, size_t after_count,
@@ -197,6 +219,9 @@ static uint8_t displacement_both(
         easy_number = zaqnuti_easy_displacement(&previous, &current, dt, receiver, set, easy);
     } else if (easy_number == 0) {
         easy_number = zaqnuti_easy_displacement_between(&previous, &current, time[0], time[1], receiver, set, easy);
+    }
+    if (easy_number == 0 && time == NULL) {
+        city_both(&p, &c, &previous, &current, dt, receiver, set);
     }
     met[plain_number] += 1;
     same(plain_number == easy_number, "displacement, its number");

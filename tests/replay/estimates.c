@@ -78,6 +78,28 @@ bool same_between(struct stored *s)
     return is_moved(s, number, delta, counts);
 }
 
+/* dt, the band and a drive; number, used, screened, displacement 3. */
+bool same_city(struct stored *s)
+{
+    struct drive d;
+    double delta[3 + MARGIN / 8];
+    size_t counts[2 + MARGIN / sizeof(size_t)];
+    double dt = next_float(s);
+    uint32_t band = (uint32_t)next_number(s);
+    size_t n, m;
+    uint8_t number;
+    next_drive(s, &d);
+    n = least(d.counts[0], ROOM);
+    m = least(d.counts[1], ROOM);
+    lend(delta, 3 * sizeof *delta);
+    lend(counts, 2 * sizeof *counts);
+    number = zaqnuti_city_displacement(
+        d.before.constellation, n, d.before.svid, n, d.before.band, n, d.before.state, n, d.before.floats, 6 * n, d.counts[0],
+        d.now.constellation, m, d.now.svid, m, d.now.band, m, d.now.state, m, d.now.floats, 6 * m, d.counts[1],
+        dt, band, d.receiver, d.settings, d.rounds, delta, counts);
+    return is_moved(s, number, delta, counts);
+}
+
 /* What is handed to a fix. */
 struct sky {
     uint8_t constellation[ROOM];

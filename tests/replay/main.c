@@ -57,6 +57,7 @@ static const struct kind kinds[] = {
     {20, "time", same_time},
     {21, "since", same_since},
     {22, "between", same_between},
+    {30, "city", same_city},
     {23, "widen", same_widen},
     {27, "trip", same_trip},
     {35, "forget", same_forget},

@@ -70,6 +70,7 @@ bool same_queries(struct stored *s);
 bool same_time(struct stored *s);
 bool same_since(struct stored *s);
 bool same_between(struct stored *s);
+bool same_city(struct stored *s);
 bool same_widen(struct stored *s);
 bool same_forget(struct stored *s);
 bool same_trip(struct stored *s);

@@ -161,6 +161,38 @@ extern "C" {
         delta: *mut [f64; 3],
         counts: *mut [usize; 2],
     ) -> u8;
+    /// The displacement by GPS and Galileo on one band.
+    pub fn zaqnuti_city_displacement(
+        previous_constellation: *const u8,
+        previous_constellation_length: usize,
+        previous_svid: *const u16,
+        previous_svid_length: usize,
+        previous_band: *const u32,
+        previous_band_length: usize,
+        previous_state: *const i32,
+        previous_state_length: usize,
+        previous_floats: *const f64,
+        previous_floats_length: usize,
+        previous_count: usize,
+        current_constellation: *const u8,
+        current_constellation_length: usize,
+        current_svid: *const u16,
+        current_svid_length: usize,
+        current_band: *const u32,
+        current_band_length: usize,
+        current_state: *const i32,
+        current_state_length: usize,
+        current_floats: *const f64,
+        current_floats_length: usize,
+        current_count: usize,
+        dt: f64,
+        band: u32,
+        receiver: *const [f64; 3],
+        settings: *const [f64; 5],
+        rounds: usize,
+        delta: *mut [f64; 3],
+        counts: *mut [usize; 2],
+    ) -> u8;
     /// The displacement of a text in the line form.
     pub fn zaqnuti_line(
         text: *const u8,

@@ -327,3 +327,56 @@ pub fn delta_position_between(
     };
     lent.answer(number)
 }
+
+/// The receiver's position change of the city profile: that of [`delta_position`] with all carriers
+/// but those of GPS (1) and Galileo (6) on one band taken out of both epochs, in their order.
+///
+/// Refused by [`Refusal::NotCertified`] where one of the two is absent among the pairs kept. Every
+/// carrier given is tested, taken out or not.
+pub fn city_displacement(
+    previous: &[Carrier],
+    current: &[Carrier],
+    dt: f64,
+    band: u32,
+    at: Ecef,
+    set: &Settings,
+) -> Result<Delta, Refusal> {
+    let (p, c) = (Columns::of(previous), Columns::of(current));
+    let (pf, cf) = (p.floats.as_flattened(), c.floats.as_flattened());
+    let mut lent = Lent::default();
+    // SAFETY: each column has its length beside it, and the last two are ours alone.
+    let number = unsafe {
+        sys::zaqnuti_city_displacement(
+            p.constellation.as_ptr(),
+            p.constellation.len(),
+            p.svid.as_ptr(),
+            p.svid.len(),
+            p.band.as_ptr(),
+            p.band.len(),
+            p.state.as_ptr(),
+            p.state.len(),
+            pf.as_ptr(),
+            pf.len(),
+            previous.len(),
+            c.constellation.as_ptr(),
+            c.constellation.len(),
+            c.svid.as_ptr(),
+            c.svid.len(),
+            c.band.as_ptr(),
+            c.band.len(),
+            c.state.as_ptr(),
+            c.state.len(),
+            cf.as_ptr(),
+            cf.len(),
+            current.len(),
+            dt,
+            band,
+            &at.coordinates(),
+            &set.floats(),
+            set.iterations,
+            &mut lent.delta,
+            &mut lent.counts,
+        )
+    };
+    lent.answer(number)
+}

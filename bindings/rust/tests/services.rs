@@ -172,6 +172,50 @@ fn a_satellite_on_the_receiver() {
 }
 
 #[test]
+fn a_city_displacement() {
+    let set = tdcp::Settings {
+        screen: 1e3,
+        ..tdcp::Settings::default()
+    };
+    let moved = Ecef::new(AT.x + 3.0, AT.y - 2.0, AT.z + 0.5);
+    let sky = |at| {
+        let mut all = carriers(30, at);
+        for (k, c) in all.iter_mut().enumerate() {
+            (c.constellation, c.band) = match k % 5 {
+                0 | 1 => (1, 1575),
+                2 | 3 => (6, 1575),
+                _ => (3, 1602),
+            };
+        }
+        all
+    };
+    let certified = |all: Vec<tdcp::Carrier>| -> Vec<_> {
+        all.into_iter().filter(|c| c.band == 1575).collect()
+    };
+    let (before, after) = (sky(AT), sky(moved));
+    let city = tdcp::city_displacement(&before, &after, 1.0, 1575, AT, &set).unwrap();
+    let (p, c) = (certified(before.clone()), certified(after.clone()));
+    assert_eq!(city, tdcp::delta_position(&p, &c, 1.0, AT, &set).unwrap());
+    assert_eq!(city.used + city.screened, 24);
+    let why = |p: &[tdcp::Carrier], c: &[tdcp::Carrier], band| {
+        tdcp::city_displacement(p, c, 1.0, band, AT, &set).unwrap_err()
+    };
+    assert_eq!(why(&before, &after, 1176), Refusal::TooFewPairs);
+    // One of the two is there, and the screen drops it.
+    let mut gps = after.clone();
+    for (k, c) in gps.iter_mut().enumerate() {
+        if c.constellation == 6 {
+            c.adr += 1e5 * (k + 1) as f64;
+        }
+    }
+    assert_eq!(why(&before, &gps, 1575), Refusal::NotCertified);
+    // A carrier that is taken out is tested all the same.
+    let mut odd = after;
+    odd[4].rate = f64::NAN;
+    assert_eq!(why(&before, &odd, 1575), Refusal::RecordOutOfRange);
+}
+
+#[test]
 fn times() {
     let at = |week, tow| GpsTime::new(week, tow).unwrap();
     let (before, now) = (at(1316, 604_799.5), at(1317, 0.5));

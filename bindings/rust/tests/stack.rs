@@ -156,7 +156,15 @@ fn epochs() -> (Vec<Carrier>, Vec<Carrier>) {
 }
 
 /// A displacement over a second, or between two times.
-fn displacement(count: usize, rounds: usize, screen: f64, times: Option<[u64; 2]>) -> usize {
+/// Which of the displacement's entry points is called.
+#[derive(Clone, Copy)]
+enum Way {
+    Plain,
+    Between([u64; 2]),
+    City(u32),
+}
+
+fn displacement(count: usize, rounds: usize, screen: f64, way: Way) -> usize {
     let floats = |c: &[Carrier]| -> Vec<f64> {
         c.iter()
             .flat_map(|c| {
@@ -173,7 +181,11 @@ fn displacement(count: usize, rounds: usize, screen: f64, times: Option<[u64; 2]
     };
     let (before, after) = epochs();
     let (pf, cf) = (floats(&before), floats(&after));
-    let constellation: Vec<u8> = before.iter().map(|c| c.constellation).collect();
+    let mut constellation: Vec<u8> = before.iter().map(|c| c.constellation).collect();
+    if let Way::City(_) = way {
+        let both = constellation.iter_mut().enumerate();
+        both.for_each(|(k, c)| *c = if k % 2 == 0 { 1 } else { 6 });
+    }
     let svid: Vec<u16> = before.iter().map(|c| c.svid).collect();
     let (band, state) = (vec![1575u32; 64], vec![1i32; 64]);
     let (mut delta, mut counts) = ([0.0; 3], [0; 2]);
@@ -215,9 +227,10 @@ fn displacement(count: usize, rounds: usize, screen: f64, times: Option<[u64; 2]
         let frame = top();
         // SAFETY: each column has its length beside it, and the last two are ours alone.
         unsafe {
-            match times {
-                None => call!(zaqnuti_displacement, 1.0),
-                Some([before, now]) => call!(zaqnuti_displacement_between, before, now),
+            match way {
+                Way::Plain => call!(zaqnuti_displacement, 1.0),
+                Way::Between([before, now]) => call!(zaqnuti_displacement_between, before, now),
+                Way::City(chosen) => call!(zaqnuti_city_displacement, 1.0, chosen),
             }
         };
         frame
@@ -840,23 +853,33 @@ fn no_more_than_the_header_says() {
         (
             "displacement",
             most([
-                displacement(64, 50, 1e9, None),
-                displacement(64, 50, 4.0, None),
-                displacement(64, 0, 1e9, None),
-                displacement(65, 4, 1.0, None),
-                displacement(5, 4, 1.0, None),
+                displacement(64, 50, 1e9, Way::Plain),
+                displacement(64, 50, 4.0, Way::Plain),
+                displacement(64, 0, 1e9, Way::Plain),
+                displacement(65, 4, 1.0, Way::Plain),
+                displacement(5, 4, 1.0, Way::Plain),
             ]),
         ),
         (
             "between",
             most([
-                displacement(64, 50, 1e9, Some([1, 1_000_000_001])),
-                displacement(64, 50, 4.0, Some([1, 1_000_000_001])),
-                displacement(64, 0, 1e9, Some([1, 1_000_000_001])),
-                displacement(65, 4, 1.0, Some([1, 1_000_000_001])),
-                displacement(5, 4, 1.0, Some([1, 1_000_000_001])),
-                displacement(64, 50, 1e9, Some([1, u64::MAX])),
-                displacement(64, 50, 1e9, Some([1, 1])),
+                displacement(64, 50, 1e9, Way::Between([1, 1_000_000_001])),
+                displacement(64, 50, 4.0, Way::Between([1, 1_000_000_001])),
+                displacement(64, 0, 1e9, Way::Between([1, 1_000_000_001])),
+                displacement(65, 4, 1.0, Way::Between([1, 1_000_000_001])),
+                displacement(5, 4, 1.0, Way::Between([1, 1_000_000_001])),
+                displacement(64, 50, 1e9, Way::Between([1, u64::MAX])),
+                displacement(64, 50, 1e9, Way::Between([1, 1])),
+            ]),
+        ),
+        (
+            "city",
+            most([
+                displacement(64, 50, 1e9, Way::City(1575)),
+                displacement(64, 50, 4.0, Way::City(1575)),
+                displacement(64, 0, 1e9, Way::City(1575)),
+                displacement(65, 4, 1.0, Way::City(1575)),
+                displacement(64, 4, 1.0, Way::City(1)),
             ]),
         ),
         (

@@ -11,6 +11,7 @@ pub mod forms;
 pub mod line;
 pub mod matrix;
 pub mod numbers;
+pub mod profile;
 pub mod queries;
 pub mod round;
 pub mod slots;

@@ -25,6 +25,7 @@ pub const ENTRIES: &[Entry] = &[
     ("fix", fix::fix),
     ("displacement", displacement::displacement),
     ("between", displacement::between),
+    ("city", displacement::city),
     ("line", line::line),
     ("read_records", wire::read_records),
     ("write_records", wire::write_records),

@@ -3,6 +3,7 @@
 mod accuracy;
 pub mod between;
 mod centre;
+mod city;
 mod clocks;
 pub mod corrections;
 pub mod directions;
@@ -79,6 +80,7 @@ pub const KINDS: &[(u64, &str, Make)] = &[
     (31, "directions", directions::vectors),
     (28, "drive", drive::vectors),
     (38, "settings", drive::settings_vectors),
+    (30, "city", city::vectors),
 ];
 
 /// Every service, lowest first.
@@ -102,6 +104,7 @@ pub const SERVICES: &[Service] = &[
     wire::SERVICE,
     wire_tdcp::SERVICE,
     drive::SERVICE,
+    city::SERVICE,
     fix::SERVICE,
     top::DISPLACEMENT,
     top::FIX,

@@ -2,7 +2,7 @@
 
 use super::times::nanos;
 use super::{column, count, floats, signal, sys};
-use crate::estimate::{Between, Displacement};
+use crate::estimate::{Between, City, Displacement};
 use crate::fuzz::lent::{Lender, Lent};
 use crate::fuzz::Bytes;
 use crate::random::Random;
@@ -221,6 +221,17 @@ macro_rules! compared {
 pub fn displacement(b: &mut Bytes) {
     let mut input = displacement_input(b);
     compared!(b, input, zaqnuti_displacement, input.dt; input.answer());
+}
+
+pub fn city(b: &mut Bytes) {
+    let mut input = displacement_input(b);
+    let band = match b.byte() {
+        0..=199 => 1575,
+        _ => b.u64() as u32,
+    };
+    compared!(b, input, zaqnuti_city_displacement, input.dt, band; {
+        City { displacement: input, band }.answer()
+    });
 }
 
 pub fn between(b: &mut Bytes) {
