@@ -72,9 +72,9 @@ static inline const char *zaqnuti_refusal_text(uint8_t number)
     case ZAQNUTI_BAD_TRIP: return "a displacement not finite or longer than 1,000 m, a full trip, a pulse rate of 0, or a trip out of its limits";
     case ZAQNUTI_NO_DISTANCE: return "fuel per kilometre at zero carrier distance";
     case ZAQNUTI_BAD_DROP_TIME: return "the time to drop samples before is not finite";
+    case ZAQNUTI_NOT_CERTIFIED: return "GPS or Galileo is absent among the pairs kept";
     case ZAQNUTI_BROKEN_RECORDS: return "the bytes of carrier records are no multiple of 59";
     case ZAQNUTI_NOT_TURNED: return "a coordinate is not finite or above 1e9, or there is no north, east and down at the place";
-    case ZAQNUTI_NOT_CERTIFIED: return "GPS or Galileo is absent among the pairs kept";
     default: return "no such number";
     }
 }
@@ -326,6 +326,37 @@ static inline uint8_t zaqnuti_easy_displacement_between(
     return number;
 }
 
+/* How the receiver moved in `dt` seconds by GPS and Galileo on one band (MHz) alone; `receiver` is where it was at the previous epoch. */
+static inline uint8_t zaqnuti_easy_city_displacement(
+    const zaqnuti_epoch *previous,
+    const zaqnuti_epoch *current,
+    double dt,
+    uint32_t band,
+    zaqnuti_vector receiver,
+    const zaqnuti_displacement_settings *settings,
+    zaqnuti_moved *moved)
+{
+    const double from[3] = {receiver.x, receiver.y, receiver.z};
+    const double set[5] = {settings->screen, settings->sigma_a, settings->sigma_b, settings->huber, settings->mask};
+    double delta[3] = {0.0, 0.0, 0.0};
+    size_t counts[2] = {0, 0};
+    uint8_t number = zaqnuti_city_displacement(
+        previous->constellation, ZAQNUTI_RECORDS, previous->svid, ZAQNUTI_RECORDS, previous->band, ZAQNUTI_RECORDS,
+        previous->state, ZAQNUTI_RECORDS, previous->floats, 6 * ZAQNUTI_RECORDS, previous->count,
+        current->constellation, ZAQNUTI_RECORDS, current->svid, ZAQNUTI_RECORDS, current->band, ZAQNUTI_RECORDS,
+        current->state, ZAQNUTI_RECORDS, current->floats, 6 * ZAQNUTI_RECORDS, current->count,
+        dt, band, from, set, settings->rounds, delta, counts);
+
+    if (number == 0) {
+        moved->delta.x = delta[0];
+        moved->delta.y = delta[1];
+        moved->delta.z = delta[2];
+        moved->used = counts[0];
+        moved->screened = counts[1];
+    }
+    return number;
+}
+
 /* ---- the trip */
 
 /* A trip, which its calls alone write. */
@@ -443,16 +474,6 @@ static inline uint8_t zaqnuti_easy_displacement_records(
     zaqnuti_vector receiver,
     const zaqnuti_displacement_settings *settings,
     zaqnuti_moved *moved)
-
-/* How the receiver moved in `dt` seconds by GPS and Galileo on one band (MHz) alone; `receiver` is where it was at the previous epoch. */
-static inline uint8_t zaqnuti_easy_city_displacement(
-    const zaqnuti_epoch *previous,
-    const zaqnuti_epoch *current,
-    double dt,
-    uint32_t band,
-    zaqnuti_vector receiver,
-    const zaqnuti_displacement_settings *settings,
-    zaqnuti_moved *moved)
 {
     uint8_t result[ZAQNUTI_RESULT] = {0};
     /* Every count above 50 is refused alike. */
@@ -543,15 +564,7 @@ static inline uint8_t zaqnuti_easy_drive_displacement(
         previous->state, ZAQNUTI_RECORDS, previous->floats, 6 * ZAQNUTI_RECORDS, previous->count,
         current->constellation, ZAQNUTI_RECORDS, current->svid, ZAQNUTI_RECORDS, current->band, ZAQNUTI_RECORDS,
         current->state, ZAQNUTI_RECORDS, current->floats, 6 * ZAQNUTI_RECORDS, current->count,
-<<<<<<< HEAD
         dt, from, pulses, delta, counts);
-    uint8_t number = zaqnuti_city_displacement(
-        previous->constellation, ZAQNUTI_RECORDS, previous->svid, ZAQNUTI_RECORDS, previous->band, ZAQNUTI_RECORDS,
-        previous->state, ZAQNUTI_RECORDS, previous->floats, 6 * ZAQNUTI_RECORDS, previous->count,
-        current->constellation, ZAQNUTI_RECORDS, current->svid, ZAQNUTI_RECORDS, current->band, ZAQNUTI_RECORDS,
-        current->state, ZAQNUTI_RECORDS, current->floats, 6 * ZAQNUTI_RECORDS, current->count,
-        dt, from, pulses, delta, counts);
-        dt, band, from, set, settings->rounds, delta, counts);
 
     if (number == 0) {
         moved->delta.x = delta[0];
