@@ -95,11 +95,11 @@ extern "C" {
 #endif
 
 /* The version of this header and its library: 10000 major + 100 minor + patch in the last. */
-#define ZAQNUTI_VERSION "0.4.0"
+#define ZAQNUTI_VERSION "0.5.0"
 #define ZAQNUTI_VERSION_MAJOR 0
-#define ZAQNUTI_VERSION_MINOR 4
+#define ZAQNUTI_VERSION_MINOR 5
 #define ZAQNUTI_VERSION_PATCH 0
-#define ZAQNUTI_VERSION_NUMBER 400
+#define ZAQNUTI_VERSION_NUMBER 500
 
 /* Limits. */
 #define ZAQNUTI_RECORDS 64       /* records of an epoch, states beside it, rows, residuals */
