@@ -14,7 +14,11 @@ pub fn forget(b: &mut Bytes) {
         _ => b.float(),
     };
     let number = t.forget_number(time);
-    let after = if number == 0 { t.forgotten(time) } else { t.clone() };
+    let after = if number == 0 {
+        t.forgotten(time)
+    } else {
+        t.clone()
+    };
     let mut lender = Lender::new();
     let cols = Columns::lend(&mut lender, &t);
     let n = lender.lend(&[t.n]);

@@ -195,7 +195,10 @@ impl Session {
         seen.epochs += u64::from(number == 0);
         let same = ours == number && self.table.bits() == expected.bits();
         tally.judge(same, || {
-            format!("an epoch at {} to {before} samples: our number {ours}, expected {number}", e.time)
+            format!(
+                "an epoch at {} to {before} samples: our number {ours}, expected {number}",
+                e.time
+            )
         });
     }
 
@@ -211,7 +214,11 @@ impl Session {
             _ => {}
         }
         let whole = self.table.bits() == sound.bits();
-        let at = if sound.n > 0 { sound.ts[random.place(sound.n)] } else { 0.0 };
+        let at = if sound.n > 0 {
+            sound.ts[random.place(sound.n)]
+        } else {
+            0.0
+        };
         let time = match random.below(12) {
             0 => random.pick(&[f64::NAN, f64::INFINITY, f64::NEG_INFINITY]),
             1 => random.pick(&[0.0, -0.0, 1e300, -1e300, f64::MAX, 1e9]),
@@ -240,7 +247,11 @@ impl Session {
                 *series = retained(series, time);
             }
             expected = expected.with(&self.left.series, self.naming);
-            self.latest = if self.latest < time { time } else { self.latest };
+            self.latest = if self.latest < time {
+                time
+            } else {
+                self.latest
+            };
             seen.dropped += (sound.n - expected.n) as u64;
         }
         let ours = self.table.forget(time);
@@ -260,7 +271,12 @@ impl Session {
         for _ in 0..16 {
             let (key, mut time, gap) = question(random, &self.table);
             if random.below(4) == 0 && self.latest.is_finite() {
-                time = random.pick(&[self.latest, self.latest.next_up(), self.latest + 5e-7, self.latest + 15.0]);
+                time = random.pick(&[
+                    self.latest,
+                    self.latest.next_up(),
+                    self.latest + 5e-7,
+                    self.latest + 15.0,
+                ]);
             }
             let since = self.whole && !(time < self.latest);
             let known = if since { &mut self.all } else { &mut self.left };
@@ -279,7 +295,11 @@ impl Session {
             seen.number(number);
             seen.found += u64::from(number == 0);
             if self.latest > f64::NEG_INFINITY {
-                *(if since { &mut seen.since } else { &mut seen.before }) += 1;
+                *(if since {
+                    &mut seen.since
+                } else {
+                    &mut seen.before
+                }) += 1;
             }
             let same = ours == number
                 && match theirs {
@@ -318,7 +338,11 @@ fn case(random: &mut Random) -> Option<(u8, Case)> {
     if random.below(6) == 0 {
         spoil(random, &mut table);
     }
-    let at = if (1..=32).contains(&table.n) { table.ts[random.place(table.n)] } else { 0.0 };
+    let at = if (1..=32).contains(&table.n) {
+        table.ts[random.place(table.n)]
+    } else {
+        0.0
+    };
     let time = match random.below(8) {
         0 => random.pick(&[f64::NAN, f64::INFINITY, f64::NEG_INFINITY]),
         1 => at,
@@ -327,7 +351,11 @@ fn case(random: &mut Random) -> Option<(u8, Case)> {
         _ => at + random.unit() * 100.0,
     };
     let number = table.forget_number(time);
-    let after = if number == 0 { table.forgotten(time) } else { table.clone() };
+    let after = if number == 0 {
+        table.forgotten(time)
+    } else {
+        table.clone()
+    };
     let mut given = samples(&table);
     given.push(time.to_bits());
     let mut answer = vec![u64::from(number)];
@@ -348,7 +376,14 @@ pub fn vectors(random: &mut Random) -> Vectors {
 /// A full table of 32 signals, from which nothing goes: the test and the one pass; beside it the same of series by themselves.
 fn time(_random: &mut Random) {
     let mut series: Series = (0..32)
-        .map(|v| ((1, v, 1), (0..64).map(|i| (f64::from(i) * 30.0, f64::from(i))).collect()))
+        .map(|v| {
+            (
+                (1, v, 1),
+                (0..64)
+                    .map(|i| (f64::from(i) * 30.0, f64::from(i)))
+                    .collect(),
+            )
+        })
         .collect();
     let mut table = Table::lent([2048; 7]).with(&series, Naming::PLAIN);
     bench::row(
