@@ -182,8 +182,8 @@ fn a_city_displacement() {
         let mut all = carriers(30, at);
         for (k, c) in all.iter_mut().enumerate() {
             (c.constellation, c.band) = match k % 5 {
-                0 | 1 => (1, 1575),
-                2 | 3 => (6, 1575),
+                0..=2 => (1, 1575),
+                3 => (6, 1575),
                 _ => (3, 1602),
             };
         }
