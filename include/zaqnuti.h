@@ -58,11 +58,11 @@
  *
  *     fix             25,088
  *     position        25,088
- *     displacement    21,760
- *     between         21,248
- *     city            21,760
- *     line            45,824
- *     records         29,184
+ *     displacement    25,856
+ *     between         25,344
+ *     city            25,344
+ *     line            49,920
+ *     records         33,536
  *     read_records       256
  *     write_records      256
  *     add_epoch       18,688
@@ -74,7 +74,7 @@
  *     times              256
  *     trip               256
  *     north_east_down    256
- *     trip_displacement 21,760
+ *     trip_displacement 25,856
  *     round            8,704
  *     centre             768
  *     geometry           256
