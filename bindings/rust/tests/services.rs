@@ -608,7 +608,7 @@ fn corrections_forget() {
     let place = AT.coordinates();
     let mut c = Corrections::with_capacity(24, &set);
     let (_, states) = epoch(0.0, 0.0, 8);
-    let mut add = |c: &mut Corrections, tow: f64| {
+    let add = |c: &mut Corrections, tow: f64| {
         c.add(&epoch(tow, tow / 30.0, 8).0, Some(&states), place, place)
     };
     for tow in [0.0, 30.0, 60.0] {
