@@ -52,17 +52,17 @@
  * recurses. Each page is touched in order, so that a stack that is too small
  * ends at its guard page.
  *
- *     fix             26,112
- *     position        26,112
- *     displacement    16,640
- *     between         16,128
- *     line            40,704
- *     records         24,064
+ *     fix             25,088
+ *     position        25,088
+ *     displacement    21,760
+ *     between         21,248
+ *     line            45,824
+ *     records         29,184
  *     read_records       256
  *     write_records      256
- *     add_epoch       17,920
+ *     add_epoch       18,432
  *     query              512
- *     queries            512
+ *     queries            768
  *     widen_bands        256
  *     smooth             768
  *     times              256
@@ -662,6 +662,62 @@ uint8_t zaqnuti_widen_bands(
     const uint8_t *narrow, size_t narrow_length,
     size_t count,
     uint32_t *wide, size_t wide_length);
+
+/*
+ * The directory of a table that was stored before 0.5.0, with a constellation,
+ * svid and band for each sample and no directory: the calls above take it with
+ * that directory. Times and corrections stay as they are, and so do the
+ * samples and their order.
+ *
+ * constellation, svid, band, table_time, table_metres
+ *                the old columns, sorted by constellation, svid, band and time
+ * table_count    how many samples the table has
+ * block_..       the directory's columns; past the entries written they stay
+ *                as they were
+ * blocks         how many entries there are now
+ *
+ * With a directory as long as the columns every query, every epoch added and
+ * every refusal is what the old form gave.
+ * Refuses by 2 (table_count above 2,048 or a column shorter than it) and 4 (a
+ * float of the table out of range, or samples out of order); then the
+ * directory and its count are as they were.
+ */
+uint8_t zaqnuti_directory_of(
+    const uint8_t *constellation, size_t constellation_length,
+    const uint16_t *svid, size_t svid_length,
+    const uint32_t *band, size_t band_length,
+    const double *table_time, size_t table_time_length,
+    const double *table_metres, size_t table_metres_length,
+    size_t table_count,
+    uint8_t *block_constellation, size_t block_constellation_length,
+    uint16_t *block_svid, size_t block_svid_length,
+    uint32_t *block_band, size_t block_band_length,
+    size_t *block_first, size_t block_first_length,
+    size_t *block_samples, size_t block_samples_length,
+    size_t *blocks);
+
+/*
+ * The way back: the constellation, svid and band of each sample of a table
+ * with a directory. What is past table_count in the three columns stays as it
+ * was.
+ *
+ * Refuses by 2 (table_count or blocks above the capacity, or one of the three
+ * columns shorter than either) and 4 (a float of the table, or its directory,
+ * as in zaqnuti_add_epoch); then the three columns are as they were.
+ */
+uint8_t zaqnuti_signals_of(
+    const uint8_t *block_constellation, size_t block_constellation_length,
+    const uint16_t *block_svid, size_t block_svid_length,
+    const uint32_t *block_band, size_t block_band_length,
+    const size_t *block_first, size_t block_first_length,
+    const size_t *block_samples, size_t block_samples_length,
+    size_t blocks,
+    const double *table_time, size_t table_time_length,
+    const double *table_metres, size_t table_metres_length,
+    size_t table_count,
+    uint8_t *constellation, size_t constellation_length,
+    uint16_t *svid, size_t svid_length,
+    uint32_t *band, size_t band_length);
 
 /* ---- the track */
 

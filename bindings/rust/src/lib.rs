@@ -44,6 +44,7 @@
 extern crate alloc;
 
 pub mod differential;
+pub mod forms;
 pub mod frames;
 pub mod line;
 pub mod math;

@@ -140,6 +140,38 @@ fn a_displacement_refuses() {
 }
 
 #[test]
+fn a_satellite_on_the_receiver() {
+    let here = AT.coordinates();
+    assert_eq!(geometry(here, AT), Err(Refusal::OnReceiver));
+    let sky = observations(20);
+    let on = |mut sky: Vec<wls::Observation>, mask| {
+        sky[3].satellite = here;
+        sky[3].elevation = 5.0;
+        let set = wls::Settings {
+            mask,
+            ..wls::Settings::default()
+        };
+        wls::solve(&sky, AT, &set).err()
+    };
+    assert_eq!(on(sky.clone(), 5.0), Some(Refusal::OnReceiver));
+    assert_eq!(on(sky, 6.0), None);
+    let moved = |then: usize, now: usize| {
+        let (mut previous, mut current) = (carriers(20, AT), carriers(20, AT));
+        if let Some(c) = previous.get_mut(then) {
+            c.satellite = here;
+        }
+        if let Some(c) = current.get_mut(now) {
+            c.satellite = here;
+        }
+        let set = tdcp::Settings::default();
+        tdcp::delta_position(&previous, &current, 1.0, AT, &set).err()
+    };
+    assert_eq!(moved(20, 20), None);
+    assert_eq!(moved(3, 20), Some(Refusal::OnReceiver));
+    assert_eq!(moved(20, 3), Some(Refusal::OnReceiver));
+}
+
+#[test]
 fn times() {
     let at = |week, tow| GpsTime::new(week, tow).unwrap();
     let (before, now) = (at(1316, 604_799.5), at(1317, 0.5));
@@ -296,6 +328,7 @@ fn a_trip_refuses() {
     }
 }
 
+#[test]
 fn carrier_records() {
     let mut epoch = carriers(64, AT);
     // NaNs of either sign, quiet and signalling, and the ends of each field.

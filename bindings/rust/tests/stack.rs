@@ -877,6 +877,9 @@ fn no_more_than_the_header_says() {
                 trip([1000, 65_535, 0, 8, 2000, 2], 3.0),
                 trip([0; 6], f64::NAN),
                 trip([u64::MAX; 6], 1e300),
+            ]),
+        ),
+        (
             "north_east_down",
             most([
                 directions([3782970.0, 902155.0, 5038376.0], [10.0, -20.0, 30.0]),

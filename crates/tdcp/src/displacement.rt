@@ -12,7 +12,6 @@ ghost use Rattle.estimator.specs.Rounds.{Ended};
 ghost use Rattle.tdcp.specs.Displacement as spec;
 use crate::valid::check_in;
 use crate::valid::check_pairs;
-use crate::valid::check_sights;
 use crate::valid::is_bad_interval;
 use clocks::clocks::Clocks;
 use estimator::rounds::is_short;
@@ -22,6 +21,7 @@ use estimator::rules::Check;
 use numeric::order::pattern;
 use numeric::real::is_finite;
 use numeric::refusal::Refusal;
+use numeric::sight::is_on_receiver;
 use numeric::vec3::Vec3;
 use records::carriers::columns_into;
 use records::pair::Pairs;
@@ -148,13 +148,23 @@ fn moved_to(x: [f64; 9], used: usize, screened: usize) -> Displacement
     Displacement::Refused(Refusal::FitFailed)
 }
 
-// What every displacement shares, from its pairs on: rule 15, the screen, rules 7 to 9, the rounds, and 10.
+// What every displacement shares, from its pairs on: rule 15, for each pair in order the current satellite before the previous, the screen, rules 7 to 9, the rounds,
+// and 10. The pairs are tested here and not in a function of its own, which would be handed a copy of them.
 pub(crate) fn moved_by(settings: Settings, all: Pairs) -> Displacement
     requires { ⌜ all .count ≤ 64 ⌝ }
     ensures { λ r. ⌜ r ≡ spec.movedBy settings (take (all .count) (all .pair)) ⌝ }
 {
-    if let Check::Refused(r) = check_sights(all) {
-        return Displacement::Refused(r);
+    let pairs = all.count;
+    let mut i: usize = 0;
+    while i < pairs {
+        let q = all.pair[i];
+        if is_on_receiver(q.range) {
+            return Displacement::Refused(Refusal::OnReceiver);
+        }
+        if is_on_receiver(q.previous_range) {
+            return Displacement::Refused(Refusal::OnReceiver);
+        }
+        i += 1;
     }
     let mut x = [0.0; 64];
     let mut y = [0.0; 64];
@@ -173,7 +183,6 @@ pub(crate) fn moved_by(settings: Settings, all: Pairs) -> Displacement
         &mut observed,
     );
     let clocks = clocks_of(&constellation[..used]);
-    let pairs = all.count;
     if let Check::Refused(r) = check_pairs(pairs, used, clocks.count) {
         return Displacement::Refused(r);
     }

@@ -1,11 +1,8 @@
 // The rules on what is handed over for a displacement, and on its pairs.
 ghost use mathlib.Core.Path.{_≡_};
 ghost use mathlib.Core.Bool.{true};
-ghost use lib.ListN.{take};
-ghost use Prim.Native.Nat.{_≤_};
 ghost use Rattle.records.specs.Carriers.{carrierColumns, epochOf, epochFits};
 ghost use Rattle.estimator.specs.Rules.{ruled};
-ghost use Rattle.tdcp.specs.Front.{sightRules};
 ghost use Rattle.tdcp.specs.Valid as spec;
 use crate::displacement::Settings;
 use estimator::rules::Check;
@@ -13,10 +10,8 @@ use estimator::rules::check_rows;
 use numeric::real::in_range;
 use numeric::real::is_finite;
 use numeric::refusal::Refusal;
-use numeric::sight::is_on_receiver;
 use numeric::vec3::Vec3;
 use records::carriers::sound_in;
-use records::pair::Pairs;
 use records::record::is_placeable;
 
 // Rule 3 of a displacement.
@@ -80,26 +75,6 @@ pub(crate) fn check_in(
         )
         & is_placeable(receiver)) {
         return Check::Refused(Refusal::RecordOutOfRange);
-    }
-    Check::Passed
-}
-
-// Rule 15 of a displacement: each pair in order, the current satellite before the previous.
-pub(crate) fn check_sights(all: Pairs) -> Check
-    requires { ⌜ all .count ≤ 64 ⌝ }
-    ensures { λ r. ⌜ r ≡ ruled Check.Refused (sightRules (take (all .count) (all .pair))) Check.Passed ⌝ }
-{
-    let n = all.count;
-    let mut i: usize = 0;
-    while i < n {
-        let p = all.pair[i];
-        if is_on_receiver(p.range) {
-            return Check::Refused(Refusal::OnReceiver);
-        }
-        if is_on_receiver(p.previous_range) {
-            return Check::Refused(Refusal::OnReceiver);
-        }
-        i += 1;
     }
     Check::Passed
 }

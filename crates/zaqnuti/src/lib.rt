@@ -5,6 +5,7 @@ pub mod corrections;
 pub mod directions;
 pub mod estimates;
 pub mod firmware;
+pub mod forms;
 pub mod line;
 pub mod matrix;
 pub mod numbers;

@@ -65,7 +65,7 @@ pub fn refusal(t: &Table, e: &Epoch, base: &[f64; 3], rover: &[f64; 3], set: &Se
 }
 
 /// A float that numbers 3 and 4 refuse, or that stands at their edge.
-fn odd(random: &mut Random) -> f64 {
+pub fn odd(random: &mut Random) -> f64 {
     random.pick(&[
         f64::NAN,
         f64::INFINITY,

@@ -13,6 +13,7 @@ pub mod factor;
 mod fix;
 pub mod line;
 mod order;
+mod rearrange;
 mod root;
 pub mod round;
 mod sight;
@@ -103,5 +104,6 @@ pub const SERVICES: &[Service] = &[
     track::SERVICE,
     equations::SERVICE,
     corrections::SERVICE,
+    rearrange::SERVICE,
     line::SERVICE,
 ];

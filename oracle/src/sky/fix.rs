@@ -55,7 +55,7 @@ fn standing(random: &mut Random, plan: &Plan) -> Fix {
 }
 
 impl Input for Fix {
-    const EDGES: u64 = 3;
+    const EDGES: u64 = 4;
 
     fn under(random: &mut Random, plan: &Plan) -> Self {
         standing(random, plan)
@@ -114,6 +114,11 @@ impl Input for Fix {
             1 => {
                 let k = random.place(self.observations.len());
                 self.observations[k].satellite = self.guess;
+            }
+            // Sigmas so small that a weight is finite and the square of a residual by its sigma is not.
+            2 => {
+                self.settings.sigma_a = exp2(random.between(-512, -500));
+                self.settings.sigma_b = 0.0;
             }
             // Satellites at one place.
             _ => {

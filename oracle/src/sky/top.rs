@@ -3,6 +3,7 @@
 use super::{Input, Plan};
 use crate::estimate::{Displacement, Fix};
 use crate::random::Random;
+use crate::rules;
 use drifters_gnss::tdcp::Carrier;
 
 /// One of the carriers, if there are any.
@@ -83,6 +84,9 @@ pub fn fix(random: &mut Random) -> Fix {
 fn ends_on(random: &mut Random, input: &mut Fix, k: usize) {
     input.settings.iterations = random.pick(&[1, 1, 2, 25]);
     input.settings.mask = -90.0;
+    if rules::fix(input).is_some() {
+        return;
+    }
     for _ in 0..12 {
         let Some(found) = input.rust() else {
             return;

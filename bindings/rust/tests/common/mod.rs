@@ -35,7 +35,7 @@ pub fn observations(n: usize) -> Vec<Observation> {
             band: 1,
             svid: i as u16,
             modelled: f64::NAN,
-            pseudorange: geometry(satellite, AT).1 + 40.0 * f64::from(constellation),
+            pseudorange: geometry(satellite, AT).expect("it is seen").1 + 40.0 * f64::from(constellation),
             satellite,
             elevation,
         }
@@ -51,7 +51,7 @@ pub fn carriers(n: usize, at: Ecef) -> Vec<Carrier> {
             constellation,
             svid: i as u16,
             band: 1575,
-            adr: geometry(satellite, at).1,
+            adr: geometry(satellite, at).expect("it is seen").1,
             state: 1,
             satellite,
             elevation,
