@@ -200,10 +200,10 @@ fn table(random: &mut Random) -> (Signals, Table) {
         }
     }
     if random.below(4) == 0 && n > 1 && s.shortest() >= n && t.capacity() >= n.min(2048) {
-        let (i, j) = (random.place(n), random.place(n));
+        let (i, j) = (random.place(n.min(2048)), random.place(n.min(2048)));
         match random.below(5) {
-            0 => t.ts[i.min(t.ts.len() - 1)] = odd(random),
-            1 => t.xs[i.min(t.xs.len() - 1)] = odd(random),
+            0 => t.ts[i] = odd(random),
+            1 => t.xs[i] = odd(random),
             2 => s.cs.swap(i, j),
             3 => s.vs.swap(i, j),
             _ => s.bs.swap(i, j),
