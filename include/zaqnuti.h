@@ -61,8 +61,8 @@
  *     read_records       256
  *     write_records      256
  *     add_epoch       18,432
- *     query              512
- *     queries            768
+ *     query            1,024
+ *     queries          1,024
  *     widen_bands        256
  *     smooth             768
  *     times              256
