@@ -1,14 +1,16 @@
 /*
  * One of each service as firmware would call it: a fix, times, a displacement,
  * its compass directions, the same of epochs that are kept and sent as bytes,
- * a text in the line form, a day's trip, two epochs of corrections with a
- * query, and a track.
+ * a text in the line form, a day's trip, new settings during another, two
+ * epochs of corrections with a query, a day of them with a drop an hour, and a
+ * track.
  * The sky is made up, so the answers are known: the program prints them and
  * exits with 1 where one is not as expected.
  *
  *     rt staticlib zaqnuti
  *     cc -std=c99 -Iinclude examples/firmware.c target/staticlib/libzaqnuti.a -o firmware
  */
+#include <math.h>
 #include <stdio.h>
 #include <string.h>
 
@@ -182,6 +184,18 @@ static uint8_t displace_between(const struct epoch *p, const struct epoch *c, ui
         before, now, receiver, settings, 4, delta, counts);
 }
 
+/* The same by GPS and Galileo on one band alone. */
+static uint8_t displace_city(const struct epoch *p, const struct epoch *c, uint32_t band, double delta[3], size_t counts[2])
+{
+    const double settings[5] = {0.5, 0.008, 0.002, 1.5, 10.0};
+    return zaqnuti_city_displacement(
+        p->constellation, SATELLITES, p->svid, SATELLITES, p->band, SATELLITES,
+        p->state, SATELLITES, p->floats, 6 * SATELLITES, SATELLITES,
+        c->constellation, SATELLITES, c->svid, SATELLITES, c->band, SATELLITES,
+        c->state, SATELLITES, c->floats, 6 * SATELLITES, SATELLITES,
+        1.0, band, receiver, settings, 4, delta, counts);
+}
+
 /* Two epochs a second and a few metres apart; one carrier slips. */
 static const double moved[3] = {4.0, -2.5, 1.5};
 static struct epoch previous;
@@ -232,6 +246,10 @@ static void displacement(void)
     expect_number("the later time first", number, ZAQNUTI_BAD_INTERVAL);
     number = displace_between(&previous, &current, before_midnight, UINT64_MAX, across, counts);
     expect_number("no such time", number, ZAQNUTI_BAD_TIME);
+    number = displace_city(&previous, &current, 1575, across, counts);
+    expect_number("displacement of the city", number, 0);
+    number = displace_city(&previous, &current, 1176, across, counts);
+    expect_number("nothing on the band", number, ZAQNUTI_TOO_FEW_PAIRS);
 }
 
 #define EPOCH_BYTES (SATELLITES * ZAQNUTI_RECORD)
@@ -436,6 +454,100 @@ static void corrections(void)
     expect("at 30 s, m", each[2], 4.0, 1e-6);
 }
 
+/* Twelve signals of a base station that reports every 30 s, and a day of it. */
+#define SIGNALS 12
+#define INTERVAL 30
+#define DAY 86400
+
+/* What the base station's range to its first signal is too long by, m: a metre more every half a day. */
+static double drift(double time)
+{
+    return 2.0 + time / 43200.0;
+}
+
+static uint8_t report_base(struct table *t, double time)
+{
+    static const bool on[8] = {false, true, false, false, false, false, true, false};
+    uint8_t constellation[SIGNALS];
+    uint16_t svid[SIGNALS];
+    uint32_t band[SIGNALS];
+    double range[SIGNALS];
+    double states[8 * SIGNALS];
+    size_t i;
+
+    memset(states, 0, sizeof states);
+    for (i = 0; i < SIGNALS; i++) {
+        const struct satellite *s = &sky[i % SATELLITES];
+        constellation[i] = 1;
+        svid[i] = (uint16_t)(1 + i);
+        band[i] = 1;
+        range[i] = range_to(s->place, receiver) + 250.0 + (i == 0 ? drift(time) : 0.0);
+        memcpy(&states[8 * i], s->place, sizeof s->place);
+    }
+    return zaqnuti_add_epoch(
+        t->constellation, ZAQNUTI_SAMPLES, t->svid, ZAQNUTI_SAMPLES, t->band, ZAQNUTI_SAMPLES,
+        t->first, ZAQNUTI_SAMPLES, t->samples, ZAQNUTI_SAMPLES, &t->blocks,
+        t->time, ZAQNUTI_SAMPLES, t->metres, ZAQNUTI_SAMPLES, &t->count,
+        time, SIGNALS, constellation, SIGNALS, svid, SIGNALS, band, SIGNALS, range, SIGNALS,
+        true, SIGNALS, constellation, SIGNALS, svid, SIGNALS, band, SIGNALS, states, 8 * SIGNALS,
+        receiver, receiver, 90.0, 100.0, on);
+}
+
+static uint8_t ask_first(const struct table *t, double time, double *metres)
+{
+    return zaqnuti_query(
+        t->constellation, ZAQNUTI_SAMPLES, t->svid, ZAQNUTI_SAMPLES, t->band, ZAQNUTI_SAMPLES,
+        t->first, ZAQNUTI_SAMPLES, t->samples, ZAQNUTI_SAMPLES, t->blocks,
+        t->time, ZAQNUTI_SAMPLES, t->metres, ZAQNUTI_SAMPLES, t->count,
+        90.0, 1, 1, 1, time, metres);
+}
+
+static uint8_t forget_before(struct table *t, double time)
+{
+    return zaqnuti_forget(
+        t->constellation, ZAQNUTI_SAMPLES, t->svid, ZAQNUTI_SAMPLES, t->band, ZAQNUTI_SAMPLES,
+        t->first, ZAQNUTI_SAMPLES, t->samples, ZAQNUTI_SAMPLES, t->blocks,
+        t->time, ZAQNUTI_SAMPLES, t->metres, ZAQNUTI_SAMPLES, &t->count, time);
+}
+
+/* Alone, a table of 2,048 samples is full before noon; with a drop an hour, of what is older than a minute, it lasts the day. */
+static void morning(void)
+{
+    static struct table alone, kept;
+    double before = 0.0;
+    double after = 0.0;
+    double metres = 0.0;
+    size_t most = 0;
+    unsigned refused = 0;
+    unsigned changed = 0;
+    unsigned full_at = 0;
+    unsigned at;
+
+    printf("forgetting the morning\n");
+    while (report_base(&alone, full_at) == 0) {
+        full_at += INTERVAL;
+    }
+    expect_number("full before noon", full_at < DAY / 2, 1);
+    expect_number("full", report_base(&alone, full_at), ZAQNUTI_TABLE_FULL);
+    for (at = 0; at < DAY; at += INTERVAL) {
+        refused += report_base(&kept, at) != 0;
+        if (at % 3600 == 0 && at > 0) {
+            /* A query after the drop's time answers as before the drop. */
+            refused += ask_first(&kept, at - 45.0, &before) != 0;
+            refused += forget_before(&kept, at - 60.0) != 0;
+            refused += ask_first(&kept, at - 45.0, &after) != 0;
+            changed += memcmp(&before, &after, sizeof before) != 0;
+        }
+        most = kept.count > most ? kept.count : most;
+    }
+    expect_number("refused in the day", refused, 0);
+    expect_number("answers changed by a drop", changed, 0);
+    expect_number("query at the day's end", ask_first(&kept, DAY - INTERVAL - 15.0, &metres), 0);
+    expect("correction, m", metres, drift(DAY - INTERVAL - 15.0), 1e-6);
+    expect_number("no finite time", forget_before(&kept, HUGE_VAL), ZAQNUTI_BAD_DROP_TIME);
+    printf("  Alone the table is full after %u s; with a drop an hour it never holds more than %lu samples.\n", full_at, (unsigned long)most);
+}
+
 /* Three epochs, the first and the last anchored, with a link of a metre between neighbours. */
 static void track(void)
 {
@@ -528,6 +640,69 @@ static void directions(void)
     expect("result kept, m", ned[0], 3.0, 0.0);
 }
 
+/* The trip's next epoch: one second under the settings in force. */
+static uint8_t travel(uint64_t day[6], const double in_force[5], size_t rounds, const struct epoch *p, const struct epoch *c, size_t count, double delta[3], size_t counts[2])
+{
+    return zaqnuti_trip_displacement(
+        day, in_force, rounds,
+        p->constellation, SATELLITES, p->svid, SATELLITES, p->band, SATELLITES,
+        p->state, SATELLITES, p->floats, 6 * SATELLITES, count,
+        c->constellation, SATELLITES, c->svid, SATELLITES, c->band, SATELLITES,
+        c->state, SATELLITES, c->floats, 6 * SATELLITES, count,
+        1.0, receiver, 10, delta, counts);
+}
+
+/* A day of 2,000 seconds, of which head office raises the mask at noon; the van moves 2.5 m in each. */
+static void new_settings(void)
+{
+    const double morning[5] = {0.5, 0.008, 0.002, 1.5, 10.0};
+    const double noon[5] = {0.5, 0.008, 0.002, 1.5, 30.0};
+    const double no_mask[5] = {0.5, 0.008, 0.002, 1.5, 2e9};
+    const double moved[3] = {receiver[0] + 1.5, receiver[1] - 2.0, receiver[2]};
+    double rate[SATELLITES];
+    struct epoch previous;
+    struct epoch current;
+    uint64_t day[6] = {0, 0, 0, 0, 0, 0};
+    uint64_t report[4] = {0, 0, 0, 0};
+    double in_force[5] = {0.0, 0.0, 0.0, 0.0, 0.0};
+    double delta[3] = {0.0, 0.0, 0.0};
+    size_t counts[2] = {0, 0};
+    size_t rounds = 0;
+    size_t used[2] = {0, 0};
+    unsigned refused = 0;
+    unsigned i;
+
+    printf("new settings at noon\n");
+    for (i = 0; i < SATELLITES; i++) {
+        rate[i] = range_to(sky[i].place, moved) - range_to(sky[i].place, receiver);
+    }
+    measure(&previous, receiver, 0.0, rate);
+    measure(&current, moved, 30.0, rate);
+    expect_number("begin", zaqnuti_trip_begin(morning, 4, 4000, day, in_force, &rounds), 0);
+    for (i = 0; i < 2000; i++) {
+        if (i == 1000) {
+            /* A mask that is none is refused, and the morning's settings stay; the noon's are taken. */
+            expect_number("a mask of 2e9", zaqnuti_trip_settings(day, no_mask, 4, in_force, &rounds), ZAQNUTI_SETTING_OUT_OF_RANGE);
+            expect("mask in force", in_force[4], 10.0, 0.0);
+            expect_number("a mask of 30", zaqnuti_trip_settings(day, noon, 4, in_force, &rounds), 0);
+        }
+        refused += travel(day, in_force, rounds, &previous, &current, SATELLITES, delta, counts) != 0;
+        used[i / 1000] = counts[0];
+        /* Five carriers are too few: the epoch and its pulses are not counted. */
+        refused += travel(day, in_force, rounds, &previous, &current, 5, delta, counts) != ZAQNUTI_TOO_FEW_PAIRS;
+    }
+    expect_number("other answers", refused, 0);
+    expect_number("carriers in the morning", (unsigned)used[0], 10);
+    expect_number("and after noon", (unsigned)used[1], 8);
+    expect_number("report", zaqnuti_trip_report(day, report), 0);
+    expect_number("epochs", (unsigned)day[1], 2000);
+    expect("carrier distance, m", (double)report[0] / 1000.0, 5000.0, 2.1);
+    expect_number("odometer, mm", (unsigned)report[1], 5000000);
+    printf("  In %lu epochs the van went %lu m by its carriers, with %lu satellites before noon and %lu after it,\n"
+           "  and %lu m by its odometer.\n",
+           (unsigned long)day[1], metres(report[0]), (unsigned long)used[0], (unsigned long)used[1], metres(report[1]));
+}
+
 int main(void)
 {
     fix();
@@ -538,7 +713,9 @@ int main(void)
     directions();
     line_form();
     trip();
+    new_settings();
     corrections();
+    morning();
     track();
     printf("%d not as expected\n", failures);
     return failures == 0 ? 0 : 1;

@@ -4,7 +4,10 @@
  * trip, base-station corrections and a smoothed track.
  *
  * Link libzaqnuti.a (`./run` leaves it in target/staticlib): Linux on x86-64,
- * System V calling convention. Of other libraries it needs memcpy and memset,
+ * System V calling convention. For ARM boxes `make arm` leaves another one in
+ * target/aarch64: Linux on aarch64, AAPCS64. Nothing of this interface differs
+ * between the two, and no bit of an answer; a size_t has 64 bits in both, so
+ * that 32-bit ARM is not served. Of other libraries it needs memcpy and memset,
  * which every C library has and a program without one supplies. It allocates
  * nothing, reads no clock or file, and prints nothing.
  *
@@ -37,8 +40,8 @@
  * handed. It takes no locks.
  *
  * Floats. IEEE 754 binary64 in the default environment: rounding to nearest,
- * subnormal numbers neither flushed nor taken as zero (MXCSR as a process
- * starts with it). A call may raise the exception flags. Results are equal to
+ * subnormal numbers neither flushed nor taken as zero (MXCSR, and FPCR on ARM,
+ * as a process starts with it). A call may raise the exception flags. Results are equal to
  * the last bit on every machine; of a NaN, no bit but its being one counts.
  *
  * Units. Metres, seconds, metres per second and degrees. Positions are
@@ -50,24 +53,28 @@
  * arguments on the stack included, rounded up to 256: measured over full
  * epochs, all rounds and refusals (bindings/rust/tests/stack.rs). No call
  * recurses. Each page is touched in order, so that a stack that is too small
- * ends at its guard page.
+ * ends at its guard page. These are of x86-64; `packaging/aarch64 stack` prints
+ * those of aarch64, and docs/TIMES.md has them.
  *
  *     fix             25,088
  *     position        25,088
- *     displacement    21,760
- *     between         21,248
- *     line            45,824
- *     records         29,184
+ *     displacement    25,856
+ *     between         25,344
+ *     city            25,344
+ *     line            49,920
+ *     records         33,536
  *     read_records       256
  *     write_records      256
- *     add_epoch       18,432
+ *     add_epoch       18,688
  *     query            1,024
  *     queries          1,024
+ *     forget             512
  *     widen_bands        256
  *     smooth             768
  *     times              256
  *     trip               256
  *     north_east_down    256
+ *     trip_displacement 25,856
  *     round            8,704
  *     centre             768
  *     geometry           256
@@ -88,11 +95,11 @@ extern "C" {
 #endif
 
 /* The version of this header and its library: 10000 major + 100 minor + patch in the last. */
-#define ZAQNUTI_VERSION "0.4.0"
+#define ZAQNUTI_VERSION "0.5.0"
 #define ZAQNUTI_VERSION_MAJOR 0
-#define ZAQNUTI_VERSION_MINOR 4
+#define ZAQNUTI_VERSION_MINOR 5
 #define ZAQNUTI_VERSION_PATCH 0
-#define ZAQNUTI_VERSION_NUMBER 400
+#define ZAQNUTI_VERSION_NUMBER 500
 
 /* Limits. */
 #define ZAQNUTI_RECORDS 64       /* records of an epoch, states beside it, rows, residuals */
@@ -108,8 +115,8 @@ extern "C" {
 
 /*
  * Why a call turns back, in checking order, but that 13 is tested between 4 and 5,
- * 15 before 7 and before 10, 19 in place of 4, and
- * 21 before 2.
+ * 15 before 7 and before 10, 19 in place of 4, 20
+ * between 9 and 10, and 21 before 2.
  */
 enum zaqnuti_refusal {
     ZAQNUTI_BROKEN_FORM = 1,           /* a text is too long or breaks the line form */
@@ -129,7 +136,9 @@ enum zaqnuti_refusal {
     ZAQNUTI_ON_RECEIVER = 15,          /* the range of a satellite is zero or not finite */
     ZAQNUTI_BAD_TRIP = 16,             /* a trip, its pulse rate or a displacement for it is out of its limits */
     ZAQNUTI_NO_DISTANCE = 17,          /* fuel per kilometre is wanted at zero carrier distance */
+    ZAQNUTI_BAD_DROP_TIME = 18,        /* the time to drop before is not finite */
     ZAQNUTI_NOT_TURNED = 19,           /* a vector cannot be turned to north, east and down */
+    ZAQNUTI_NOT_CERTIFIED = 20,        /* GPS or Galileo is absent among the pairs kept of a city displacement */
     ZAQNUTI_BROKEN_RECORDS = 21        /* the bytes of carrier records are no multiple of 59 */
 };
 
@@ -334,6 +343,37 @@ uint8_t zaqnuti_displacement_between(
     size_t counts[2]);
 
 /*
+ * The displacement of the city profile: by GPS (1) and Galileo (6) on one band.
+ *
+ * band           the band (MHz) whose carriers count; 2 and 4 look at every
+ *                carrier given
+ *
+ * The answer is that of zaqnuti_displacement with all other carriers taken out
+ * of both epochs. Refuses by 2, 3, 4, 5, 15, 7, 8, 9, 20 (GPS or Galileo is
+ * absent among the pairs kept) and 10, in this order.
+ */
+uint8_t zaqnuti_city_displacement(
+    const uint8_t *previous_constellation, size_t previous_constellation_length,
+    const uint16_t *previous_svid, size_t previous_svid_length,
+    const uint32_t *previous_band, size_t previous_band_length,
+    const int32_t *previous_state, size_t previous_state_length,
+    const double *previous_floats, size_t previous_floats_length,
+    size_t previous_count,
+    const uint8_t *current_constellation, size_t current_constellation_length,
+    const uint16_t *current_svid, size_t current_svid_length,
+    const uint32_t *current_band, size_t current_band_length,
+    const int32_t *current_state, size_t current_state_length,
+    const double *current_floats, size_t current_floats_length,
+    size_t current_count,
+    double dt,
+    uint32_t band,
+    const double receiver[3],
+    const double settings[5],
+    size_t rounds,
+    double delta[3],
+    size_t counts[2]);
+
+/*
  * The displacement of a text in the line form, `S`, `P` and `C` lines: writes
  * the answer line with its LF, `A,used,screened,dx,dy,dz` or `R,number`, and
  * gives its length. Where the buffer is shorter than the answer it writes
@@ -511,6 +551,79 @@ uint8_t zaqnuti_displacement_records(
  */
 uint8_t zaqnuti_north_east_down(const double position[3], const double displacement[3], double ned[3]);
 
+/*
+ * A trip whose displacements are worked out here, under settings that may
+ * change between two epochs. The caller holds the settings in force beside the
+ * trip: five doubles and the rounds, as zaqnuti_displacement takes them.
+ *
+ *     uint64_t trip[6];
+ *     double in_force[5];
+ *     size_t rounds;
+ *     zaqnuti_trip_begin(morning, 4, 4000, trip, in_force, &rounds);
+ *     zaqnuti_trip_displacement(trip, in_force, rounds, ..);   for each epoch
+ *     zaqnuti_trip_settings(trip, afternoon, 4, in_force, &rounds);
+ *     zaqnuti_trip_displacement(trip, in_force, rounds, ..);   for each epoch
+ *     zaqnuti_trip_report(trip, report);
+ *
+ * The report is that of the displacements worked out under the old settings up
+ * to the change and under the new ones after it.
+ */
+
+/*
+ * A trip just started, with these settings in force. Refuses by 3 (of the
+ * settings), then 16 (a rate of 0), and leaves trip and settings as they were.
+ */
+uint8_t zaqnuti_trip_begin(
+    const double settings[5],
+    size_t rounds,
+    uint16_t per_km,
+    uint64_t trip[6],
+    double in_force[5],
+    size_t *in_force_rounds);
+
+/*
+ * New settings between two epochs. Refuses by 3 (of the new settings; those in
+ * force are not tested), then 16 (of the trip), and leaves the settings in
+ * force as they were.
+ */
+uint8_t zaqnuti_trip_settings(
+    const uint64_t trip[6],
+    const double settings[5],
+    size_t rounds,
+    double in_force[5],
+    size_t *in_force_rounds);
+
+/*
+ * The displacement between two epochs under the settings in force, added to
+ * the trip with its pulses. Columns, dt, receiver, delta and counts are those
+ * of zaqnuti_displacement.
+ *
+ * Refuses by 2, 3, 4, 5, 15, 7, 8, 9, 10 as that does, then by 16 as
+ * zaqnuti_trip_add does. A refusal leaves the trip as it was, with that epoch
+ * and its pulses uncounted, and delta and counts too.
+ */
+uint8_t zaqnuti_trip_displacement(
+    uint64_t trip[6],
+    const double in_force[5],
+    size_t in_force_rounds,
+    const uint8_t *previous_constellation, size_t previous_constellation_length,
+    const uint16_t *previous_svid, size_t previous_svid_length,
+    const uint32_t *previous_band, size_t previous_band_length,
+    const int32_t *previous_state, size_t previous_state_length,
+    const double *previous_floats, size_t previous_floats_length,
+    size_t previous_count,
+    const uint8_t *current_constellation, size_t current_constellation_length,
+    const uint16_t *current_svid, size_t current_svid_length,
+    const uint32_t *current_band, size_t current_band_length,
+    const int32_t *current_state, size_t current_state_length,
+    const double *current_floats, size_t current_floats_length,
+    size_t current_count,
+    double dt,
+    const double receiver[3],
+    uint16_t pulses,
+    double delta[3],
+    size_t counts[2]);
+
 /* ---- the corrections */
 
 /*
@@ -642,6 +755,33 @@ uint8_t zaqnuti_queries(
     size_t count,
     uint8_t *numbers, size_t numbers_length,
     double *metres, size_t metres_length);
+
+/*
+ * Forgetting what came before a time (s of the week), so that a table lasts:
+ * of each signal's samples earlier than that time only the last is kept, and
+ * the others make room. Every query at or after that time answers as if
+ * nothing had been dropped, also after epochs that are added later and are
+ * not earlier than it; for an earlier query the answer is that of the samples
+ * that were kept.
+ *
+ * The directory keeps its blocks: a block never empties. block_first,
+ * block_samples, the two columns of samples and table_count hold the table
+ * with what is kept; the places from the new count on keep their bytes and
+ * are used again by zaqnuti_add_epoch. Where it is refused every byte is as
+ * it was. Refuses by 2 (table_count or blocks above the capacity), 4 (a float
+ * of the table, or its directory, as above) and 18.
+ */
+uint8_t zaqnuti_forget(
+    const uint8_t *block_constellation, size_t block_constellation_length,
+    const uint16_t *block_svid, size_t block_svid_length,
+    const uint32_t *block_band, size_t block_band_length,
+    size_t *block_first, size_t block_first_length,
+    size_t *block_samples, size_t block_samples_length,
+    size_t blocks,
+    double *table_time, size_t table_time_length,
+    double *table_metres, size_t table_metres_length,
+    size_t *table_count,
+    double time);
 
 /*
  * The bands of a table that was written before 0.3.0, when a band had 8 bits,

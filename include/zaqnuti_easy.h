@@ -71,6 +71,8 @@ static inline const char *zaqnuti_refusal_text(uint8_t number)
     case ZAQNUTI_ON_RECEIVER: return "the range of a satellite is zero or not finite";
     case ZAQNUTI_BAD_TRIP: return "a displacement not finite or longer than 1,000 m, a full trip, a pulse rate of 0, or a trip out of its limits";
     case ZAQNUTI_NO_DISTANCE: return "fuel per kilometre at zero carrier distance";
+    case ZAQNUTI_BAD_DROP_TIME: return "the time to drop samples before is not finite";
+    case ZAQNUTI_NOT_CERTIFIED: return "GPS or Galileo is absent among the pairs kept";
     case ZAQNUTI_BROKEN_RECORDS: return "the bytes of carrier records are no multiple of 59";
     case ZAQNUTI_NOT_TURNED: return "a coordinate is not finite or above 1e9, or there is no north, east and down at the place";
     default: return "no such number";
@@ -324,6 +326,37 @@ static inline uint8_t zaqnuti_easy_displacement_between(
     return number;
 }
 
+/* How the receiver moved in `dt` seconds by GPS and Galileo on one band (MHz) alone; `receiver` is where it was at the previous epoch. */
+static inline uint8_t zaqnuti_easy_city_displacement(
+    const zaqnuti_epoch *previous,
+    const zaqnuti_epoch *current,
+    double dt,
+    uint32_t band,
+    zaqnuti_vector receiver,
+    const zaqnuti_displacement_settings *settings,
+    zaqnuti_moved *moved)
+{
+    const double from[3] = {receiver.x, receiver.y, receiver.z};
+    const double set[5] = {settings->screen, settings->sigma_a, settings->sigma_b, settings->huber, settings->mask};
+    double delta[3] = {0.0, 0.0, 0.0};
+    size_t counts[2] = {0, 0};
+    uint8_t number = zaqnuti_city_displacement(
+        previous->constellation, ZAQNUTI_RECORDS, previous->svid, ZAQNUTI_RECORDS, previous->band, ZAQNUTI_RECORDS,
+        previous->state, ZAQNUTI_RECORDS, previous->floats, 6 * ZAQNUTI_RECORDS, previous->count,
+        current->constellation, ZAQNUTI_RECORDS, current->svid, ZAQNUTI_RECORDS, current->band, ZAQNUTI_RECORDS,
+        current->state, ZAQNUTI_RECORDS, current->floats, 6 * ZAQNUTI_RECORDS, current->count,
+        dt, band, from, set, settings->rounds, delta, counts);
+
+    if (number == 0) {
+        moved->delta.x = delta[0];
+        moved->delta.y = delta[1];
+        moved->delta.z = delta[2];
+        moved->used = counts[0];
+        moved->screened = counts[1];
+    }
+    return number;
+}
+
 /* ---- the trip */
 
 /* A trip, which its calls alone write. */
@@ -465,6 +498,82 @@ static inline uint8_t zaqnuti_easy_displacement_records(
 static inline uint8_t zaqnuti_easy_trip_fuel(const zaqnuti_trip *trip, uint32_t millilitres, uint64_t *per_km)
 {
     return zaqnuti_trip_fuel(trip->word, millilitres, per_km);
+}
+
+/* A trip whose displacements are worked out under the settings in force, which may change between two epochs. */
+typedef struct zaqnuti_drive {
+    zaqnuti_trip trip;
+    zaqnuti_displacement_settings in_force;
+} zaqnuti_drive;
+
+/* The settings of five floats, as a call has left them. */
+static inline void zaqnuti_drive_settings(zaqnuti_drive *drive, const double set[5], size_t rounds)
+{
+    drive->in_force.screen = set[0];
+    drive->in_force.sigma_a = set[1];
+    drive->in_force.sigma_b = set[2];
+    drive->in_force.huber = set[3];
+    drive->in_force.mask = set[4];
+    drive->in_force.rounds = rounds;
+}
+
+/* A trip just started, with these settings in force; a refusal leaves the drive as it was. */
+static inline uint8_t zaqnuti_easy_drive_begin(const zaqnuti_displacement_settings *settings, uint16_t per_km, zaqnuti_drive *drive)
+{
+    const double set[5] = {settings->screen, settings->sigma_a, settings->sigma_b, settings->huber, settings->mask};
+    double in_force[5] = {0.0, 0.0, 0.0, 0.0, 0.0};
+    size_t rounds = 0;
+    const uint8_t number = zaqnuti_trip_begin(set, settings->rounds, per_km, drive->trip.word, in_force, &rounds);
+    if (number == 0) {
+        zaqnuti_drive_settings(drive, in_force, rounds);
+    }
+    return number;
+}
+
+/* New settings between two epochs; a refused change leaves those in force. */
+static inline uint8_t zaqnuti_easy_drive_settings(zaqnuti_drive *drive, const zaqnuti_displacement_settings *settings)
+{
+    const double set[5] = {settings->screen, settings->sigma_a, settings->sigma_b, settings->huber, settings->mask};
+    double in_force[5] = {0.0, 0.0, 0.0, 0.0, 0.0};
+    size_t rounds = 0;
+    const uint8_t number = zaqnuti_trip_settings(drive->trip.word, set, settings->rounds, in_force, &rounds);
+    if (number == 0) {
+        zaqnuti_drive_settings(drive, in_force, rounds);
+    }
+    return number;
+}
+
+/* How the receiver moved in `dt` seconds under the settings in force, added to the trip with its pulses; a refused one leaves the trip as it was. */
+static inline uint8_t zaqnuti_easy_drive_displacement(
+    zaqnuti_drive *drive,
+    const zaqnuti_epoch *previous,
+    const zaqnuti_epoch *current,
+    double dt,
+    zaqnuti_vector receiver,
+    uint16_t pulses,
+    zaqnuti_moved *moved)
+{
+    const zaqnuti_displacement_settings *settings = &drive->in_force;
+    const double from[3] = {receiver.x, receiver.y, receiver.z};
+    const double set[5] = {settings->screen, settings->sigma_a, settings->sigma_b, settings->huber, settings->mask};
+    double delta[3] = {0.0, 0.0, 0.0};
+    size_t counts[2] = {0, 0};
+    uint8_t number = zaqnuti_trip_displacement(
+        drive->trip.word, set, settings->rounds,
+        previous->constellation, ZAQNUTI_RECORDS, previous->svid, ZAQNUTI_RECORDS, previous->band, ZAQNUTI_RECORDS,
+        previous->state, ZAQNUTI_RECORDS, previous->floats, 6 * ZAQNUTI_RECORDS, previous->count,
+        current->constellation, ZAQNUTI_RECORDS, current->svid, ZAQNUTI_RECORDS, current->band, ZAQNUTI_RECORDS,
+        current->state, ZAQNUTI_RECORDS, current->floats, 6 * ZAQNUTI_RECORDS, current->count,
+        dt, from, pulses, delta, counts);
+
+    if (number == 0) {
+        moved->delta.x = delta[0];
+        moved->delta.y = delta[1];
+        moved->delta.z = delta[2];
+        moved->used = counts[0];
+        moved->screened = counts[1];
+    }
+    return number;
 }
 
 /* ---- the corrections */
@@ -676,6 +785,16 @@ static inline uint8_t zaqnuti_easy_queries(
         settings->max_gap,
         constellation, count, svid, count, band, count, times, count, count,
         numbers, count, metres, count);
+}
+
+/* Of each signal's samples before a time (s of the week) only the last is kept, so that the table lasts the day. */
+static inline uint8_t zaqnuti_easy_forget(zaqnuti_table *table, double time)
+{
+    return zaqnuti_forget(
+        table->constellation, ZAQNUTI_EASY_SAMPLES, table->svid, ZAQNUTI_EASY_SAMPLES,
+        table->band, ZAQNUTI_EASY_SAMPLES, table->first, ZAQNUTI_EASY_SAMPLES,
+        table->samples, ZAQNUTI_EASY_SAMPLES, table->blocks,
+        table->time, ZAQNUTI_EASY_SAMPLES, table->metres, ZAQNUTI_EASY_SAMPLES, &table->count, time);
 }
 
 /* ---- the track */

@@ -167,6 +167,28 @@ static uint8_t plain_displacement(
         time[0].nanos, time[1].nanos, from, settings, rounds, delta, counts);
 }
 
+/* The same in the city profile, on the band of the first carrier. */
+static void city_both(
+    const struct columns *p, const struct columns *c, const zaqnuti_epoch *previous, const zaqnuti_epoch *current,
+    double dt, zaqnuti_vector receiver, const zaqnuti_displacement_settings *set)
+{
+    const double from[3] = {receiver.x, receiver.y, receiver.z};
+    const double settings[5] = {set->screen, set->sigma_a, set->sigma_b, set->huber, set->mask};
+    const uint32_t band = c->count > 0 ? c->band[0] : 1575;
+    double delta[3] = {0.25, 0.25, 0.25};
+    size_t counts[2] = {7, 7};
+    zaqnuti_moved moved = {{0.25, 0.25, 0.25}, 7, 7};
+    uint8_t number = zaqnuti_city_displacement(
+        p->constellation, p->count, p->svid, p->count, p->band, p->count, p->state, p->count, p->floats, 6 * p->count, p->count,
+        c->constellation, c->count, c->svid, c->count, c->band, c->count, c->state, c->count, c->floats, 6 * c->count, c->count,
+        dt, band, from, settings, set->rounds, delta, counts);
+
+    met[number] += 1;
+    same(zaqnuti_easy_city_displacement(previous, current, dt, band, receiver, set, &moved) == number, "city displacement, its number");
+    same(memcmp(&moved.delta, delta, sizeof delta) == 0, "city displacement, its vector");
+    same(moved.used == counts[0] && moved.screened == counts[1], "city displacement, its counts");
+}
+
 /* Gives the number, and the displacement in `easy`; between two times where there are any, else by the interval. */
 static uint8_t displacement_both(
     const zaqnuti_carrier *before, size_t before_count, const zaqnuti_carrier *after, size_t after_count,
@@ -198,6 +220,9 @@ static uint8_t displacement_both(
     } else if (easy_number == 0) {
         easy_number = zaqnuti_easy_displacement_between(&previous, &current, time[0], time[1], receiver, set, easy);
     }
+    if (easy_number == 0 && time == NULL) {
+        city_both(&p, &c, &previous, &current, dt, receiver, set);
+    }
     met[plain_number] += 1;
     same(plain_number == easy_number, "displacement, its number");
     if (plain_number != 0) {
@@ -207,6 +232,57 @@ static uint8_t displacement_both(
         same(easy->used == counts[0] && easy->screened == counts[1], "displacement, its counts");
     }
     return plain_number;
+}
+
+/* ---- a trip with settings */
+
+/* New settings and a displacement under those in force, by both calls on the same trip; at first it is begun. */
+static void drive_both(
+    const zaqnuti_carrier *before, size_t before_count, const zaqnuti_carrier *after, size_t after_count,
+    double dt, zaqnuti_vector receiver, const zaqnuti_displacement_settings *set)
+{
+    static zaqnuti_drive easy;
+    static struct columns p;
+    static struct columns c;
+    const double from[3] = {receiver.x, receiver.y, receiver.z};
+    const double settings[5] = {set->screen, set->sigma_a, set->sigma_b, set->huber, set->mask};
+    const uint16_t pulses = (uint16_t)chance(65536);
+    double in_force[5] = {easy.in_force.screen, easy.in_force.sigma_a, easy.in_force.sigma_b, easy.in_force.huber, easy.in_force.mask};
+    size_t rounds = easy.in_force.rounds;
+    uint64_t word[6];
+    double delta[3] = {1.0, 2.0, 3.0};
+    size_t counts[2] = {4, 5};
+    zaqnuti_moved moved = {{1.0, 2.0, 3.0}, 4, 5};
+    zaqnuti_epoch previous;
+    zaqnuti_epoch current;
+    uint8_t number;
+
+    memcpy(word, easy.trip.word, sizeof word);
+    if (word[0] == 0 || chance(40) == 0) {
+        const uint16_t per_km = (uint16_t)chance(3);
+        number = zaqnuti_trip_begin(settings, set->rounds, per_km, word, in_force, &rounds);
+        same(zaqnuti_easy_drive_begin(set, per_km, &easy) == number, "a trip begun with settings, its number");
+    } else {
+        number = zaqnuti_trip_settings(word, settings, set->rounds, in_force, &rounds);
+        same(zaqnuti_easy_drive_settings(&easy, set) == number, "new settings of a trip, their number");
+    }
+    met[number] += 1;
+    same(memcmp(easy.trip.word, word, sizeof word) == 0 && memcmp(&easy.in_force, in_force, sizeof in_force) == 0 && easy.in_force.rounds == rounds,
+         "a trip and its settings in force");
+    if (epoch_of(&previous, before, before_count) != 0 || epoch_of(&current, after, after_count) != 0) {
+        return;
+    }
+    columns_of(&p, before, before_count);
+    columns_of(&c, after, after_count);
+    number = zaqnuti_trip_displacement(
+        word, in_force, rounds,
+        p.constellation, MOST, p.svid, MOST, p.band, MOST, p.state, MOST, p.floats, 6 * MOST, before_count,
+        c.constellation, MOST, c.svid, MOST, c.band, MOST, c.state, MOST, c.floats, 6 * MOST, after_count,
+        dt, from, pulses, delta, counts);
+    met[number] += 1;
+    same(zaqnuti_easy_drive_displacement(&easy, &previous, &current, dt, receiver, pulses, &moved) == number, "a displacement of a trip, its number");
+    same(memcmp(easy.trip.word, word, sizeof word) == 0, "a displacement of a trip, the trip");
+    same(memcmp(&moved.delta, delta, sizeof delta) == 0 && moved.used == counts[0] && moved.screened == counts[1], "a displacement of a trip");
 }
 
 /* ---- the trip */
@@ -507,6 +583,18 @@ static void query_both(const zaqnuti_signal *signals, size_t count, double time,
     same(memcmp(metres, easy_metres, sizeof metres) == 0, "queries, the metres");
 }
 
+static void forget_both(double time)
+{
+    const uint8_t easy_number = zaqnuti_easy_forget(&easy_table, time);
+    const uint8_t number = zaqnuti_forget(
+        plain_table.constellation, ZAQNUTI_SAMPLES, plain_table.svid, ZAQNUTI_SAMPLES, plain_table.band, ZAQNUTI_SAMPLES,
+        plain_table.first, ZAQNUTI_SAMPLES, plain_table.samples, ZAQNUTI_SAMPLES, plain_table.blocks,
+        plain_table.time, ZAQNUTI_SAMPLES, plain_table.metres, ZAQNUTI_SAMPLES, &plain_table.count, time);
+
+    same(easy_number == number, "forgetting, its number");
+    tables_same("forgetting, the table after it");
+}
+
 /* The bands of a table of 8 bits each, in columns that may be too short. */
 static void widen_both(size_t count, size_t length)
 {
@@ -689,11 +777,14 @@ static void times_of(zaqnuti_gps_time time[2], double dt)
 
     time[0].nanos = end - apart / 2;
     time[1].nanos = time[0].nanos + apart;
+    /* A statement asks chance once, so that every compiler has the same run. */
     if (chance(12) == 0) {
-        time[chance(2)].nanos = 9072604800000000000u + chance(3) - 1;
+        const size_t k = (size_t)chance(2);
+        time[k].nanos = 9072604800000000000u + chance(3) - 1;
     }
     if (chance(12) == 0) {
-        time[chance(2)].nanos = end + chance(3) - 1;
+        const size_t k = (size_t)chance(2);
+        time[k].nanos = end + chance(3) - 1;
     }
 }
 
@@ -742,6 +833,7 @@ static void alter_displacements(const struct text *t, size_t times)
         }
         number = displacement_both(a.carrier[0], a.count[0], a.carrier[1], a.count[1], a.dt, NULL, a.receiver, &a.settings, &moved);
         records_both(a.carrier[0], a.count[0], a.carrier[1], a.count[1], a.dt, a.receiver, &a.settings, number, &moved);
+        drive_both(a.carrier[0], a.count[0], a.carrier[1], a.count[1], a.dt, a.receiver, &a.settings);
         /* Between two times: the number and the bytes of the call with their interval. */
         times_of(time, a.dt);
         number = displacement_both(a.carrier[0], a.count[0], a.carrier[1], a.count[1], 0.0, time, a.receiver, &a.settings, &between);
@@ -956,6 +1048,12 @@ static void corrections(void)
         alter(&set.max_gap, 8);
         query_both(signals, count, time, &set);
     }
+    for (k = 0; k < 8; k++) {
+        double time = rover.epoch[k].tow - (double)chance(60);
+        alter(&time, 4);
+        forget_both(time);
+        query_both(signals, 3, rover.epoch[k].tow, &plain);
+    }
     /* A table that is not sorted, one that is full, and the bands of old ones. */
     easy_table.time[1] = plain_table.time[1] = -easy_table.time[1];
     query_both(signals, 3, 0.0, &plain);
@@ -967,7 +1065,8 @@ static void corrections(void)
         add_both(&e, base_place, rover_place, &plain);
     }
     for (k = 0; k < 40; k++) {
-        widen_both((size_t)chance(50), (size_t)chance(60));
+        const size_t samples = (size_t)chance(50);
+        widen_both(samples, (size_t)chance(60));
     }
     widen_both(ZAQNUTI_SAMPLES, ZAQNUTI_SAMPLES);
     widen_both(ZAQNUTI_SAMPLES + 1, ZAQNUTI_SAMPLES + 1);

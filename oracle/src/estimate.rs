@@ -33,6 +33,12 @@ pub struct Between {
     pub times: [u64; 2],
 }
 
+/// Input of a city displacement, with the band that is certified.
+pub struct City {
+    pub displacement: Displacement,
+    pub band: u32,
+}
+
 /// Input of a fix.
 pub struct Fix {
     pub observations: Vec<Observation>,
@@ -94,6 +100,33 @@ impl Between {
             // Added.
             Some(13) => Err(13),
             _ => self.displacement.answer(),
+        }
+    }
+}
+
+impl City {
+    /// The input with all other carriers taken out.
+    pub fn left(&self) -> Displacement {
+        let of = |epoch: &[Carrier]| {
+            let all = epoch.iter().copied();
+            all.filter(|c| matches!(c.constellation, 1 | 6) && c.band == self.band)
+                .collect()
+        };
+        let d = &self.displacement;
+        Displacement {
+            previous: of(&d.previous),
+            current: of(&d.current),
+            ..*d
+        }
+    }
+
+    /// The Rust's answer of what is left, or the number of the refusal.
+    pub fn answer(&self) -> Result<Delta, u8> {
+        let left = self.left();
+        match rules::city(&self.displacement, &left) {
+            // 2 to 4 of every carrier, and 20.
+            Some(n @ (2..=4 | 20)) => Err(n),
+            _ => left.answer(),
         }
     }
 }

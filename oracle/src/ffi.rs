@@ -3,6 +3,7 @@
 mod columns;
 mod directions;
 mod displacement;
+mod drives;
 mod fix;
 mod line;
 mod robust;
@@ -13,6 +14,7 @@ mod wire;
 pub use columns::Columns;
 pub use directions::*;
 pub use displacement::*;
+pub use drives::*;
 pub use fix::*;
 pub use line::*;
 pub use robust::*;

@@ -22,13 +22,14 @@ mod vectors;
 use random::Random;
 use services::{Service, KINDS, SERVICES};
 use std::process::ExitCode;
+use std::sync::atomic::Ordering;
 use tally::Tally;
-use vectors::Stream;
+use vectors::{Stream, AS_THEY_COME};
 
 const USAGE: &str = "oracle compare [--seed S] [--count N] [SERVICE..]
 oracle bench [--instructions] [SERVICE..]
 oracle accuracy [--seed S] [--count N]
-oracle vectors [--seed S] [FILE]";
+oracle vectors [--seed S] [--count N] [FILE]";
 
 /// What the command line says.
 struct Arguments {
@@ -120,16 +121,32 @@ fn vectors(given: &Arguments) -> Result<bool, String> {
         [file] => file,
         _ => return Err("vectors takes one file".to_string()),
     };
-    let bytes = stream(given.seed, |name, cases| println!("{name}: {cases} cases"));
+    let count = given.count.unwrap_or(0) as usize;
+    if count > 0 && given.words.is_empty() {
+        return Err(
+            "vectors --count takes a file: the stored answers have their own counts".to_string(),
+        );
+    }
+    AS_THEY_COME.store(count, Ordering::Relaxed);
+    let bytes = stream(given.seed, count, |name, cases| {
+        println!("{name}: {cases} cases")
+    });
     std::fs::write(file, bytes).map_err(|e| format!("{file}: {e}"))?;
     Ok(true)
 }
 
-/// The bytes of the stored answers; each kind is told with how many cases it has.
-fn stream(seed: u64, mut told: impl FnMut(&str, usize)) -> Vec<u8> {
+/// The bytes of the stored answers, or of at least so many cases of each kind; each kind is told with how many it has.
+fn stream(seed: u64, count: usize, mut told: impl FnMut(&str, usize)) -> Vec<u8> {
     let mut stream = Stream::default();
     for (kind, name, make) in KINDS {
-        let made = make(&mut Random::new(seed, name));
+        let mut made = make(&mut Random::new(seed, name));
+        for more in 1.. {
+            if made.cases.len() >= count {
+                break;
+            }
+            let next = make(&mut Random::new(seed ^ more << 32, name));
+            made.cases.extend(next.cases);
+        }
         stream.add(*kind, &made);
         told(name, made.cases.len());
     }
@@ -174,6 +191,6 @@ mod tests {
     #[test]
     fn the_stored_answers_are_those_of_the_rust() {
         let stored = std::fs::read(ANSWERS).expect("tests/answers.bin");
-        assert!(stored == stream(1, |_, _| {}));
+        assert!(stored == stream(1, 0, |_, _| {}));
     }
 }

@@ -135,15 +135,20 @@ fn unmoved(input: &Displacement) -> Option<u8> {
     if met(input) {
         return Some(15);
     }
-    let pairs = pairs(input);
-    if pairs.len() < 6 {
+    if pairs(input).len() < 6 {
         return Some(7);
     }
+    slots(kept(input).into_iter())
+}
+
+/// The constellations of the pairs that the screen keeps; there is at least one pair.
+fn kept(input: &Displacement) -> Vec<u8> {
+    let pairs = pairs(input);
     let centre = centre(&pairs);
     let kept = pairs
         .iter()
         .filter(|p| (p.1 - centre).abs() < input.settings.screen);
-    slots(kept.map(|p| p.0))
+    kept.map(|p| p.0).collect()
 }
 
 /// The number of a displacement, but for 10.
@@ -156,6 +161,15 @@ pub fn between(input: &Between) -> Option<u8> {
     let undated = !input.times.iter().all(|&t| is_dated(t));
     let first = refused(&input.displacement).or(undated.then_some(13));
     first.or_else(|| unmoved(&input.displacement))
+}
+
+/// The number of a city displacement of which `left` is left, but for 10.
+pub fn city(given: &Displacement, left: &Displacement) -> Option<u8> {
+    let first = refused(given).or_else(|| unmoved(left));
+    first.or_else(|| {
+        let kept = kept(left);
+        (!kept.contains(&1) || !kept.contains(&6)).then_some(20)
+    })
 }
 
 /// The number of a fix, but for 10, 14 and 15.

@@ -175,6 +175,24 @@ bool same_query(struct stored *s)
     return given(number, metres, sizeof *metres) && is_number(s, number) && is_float(s, metres[0]);
 }
 
+/* A table, the time; number, the table afterwards. */
+bool same_forget(struct stored *s)
+{
+    struct table t;
+    struct table before;
+    double time;
+    uint8_t number;
+    next_table(s, &t);
+    memcpy(&before, &t, sizeof before);
+    time = next_float(s);
+    number = zaqnuti_forget(
+        t.dc, TABLE, t.dv, TABLE, t.db, TABLE, t.df, TABLE, t.dn, TABLE, t.m, t.ts, TABLE, t.xs, TABLE, &t.n, time);
+    if (number != 0 && memcmp(&t, &before, sizeof t) != 0) {
+        return false;
+    }
+    return is_number(s, number) && is_table(s, &t, &before);
+}
+
 /* The columns of the queries and of their answers. */
 struct queries {
     uint8_t c[QUERIES];

@@ -1,19 +1,7 @@
 /* The cases of the displacement, by its interval and between two times, the line form and the fix. */
 #include <string.h>
 
-#include "replay.h"
-
-/* More than the 64 that are allowed; of these, 64 are stored. */
-#define ROOM 65
-
-/* The columns of one epoch's carriers. */
-struct carriers {
-    uint8_t constellation[ROOM];
-    uint16_t svid[ROOM];
-    uint32_t band[ROOM];
-    int32_t state[ROOM];
-    double floats[6 * ROOM];
-};
+#include "carriers.h"
 
 /* Of each carrier constellation, svid, band, state and six floats. */
 static void next_carriers(struct stored *s, struct carriers *e, size_t count)
@@ -29,18 +17,7 @@ static void next_carriers(struct stored *s, struct carriers *e, size_t count)
     }
 }
 
-/* What is handed to a displacement beside the interval or the times. */
-struct drive {
-    struct carriers before;
-    struct carriers now;
-    size_t counts[2];
-    double receiver[3];
-    double settings[5];
-    size_t rounds;
-};
-
-/* Receiver 3, settings 5, rounds, how many carriers before and how many now; each of them. */
-static void next_drive(struct stored *s, struct drive *d)
+void next_drive(struct stored *s, struct drive *d)
 {
     next_floats(s, d->receiver, 3);
     next_floats(s, d->settings, 5);
@@ -98,6 +75,28 @@ bool same_between(struct stored *s)
         d.before.constellation, n, d.before.svid, n, d.before.band, n, d.before.state, n, d.before.floats, 6 * n, d.counts[0],
         d.now.constellation, m, d.now.svid, m, d.now.band, m, d.now.state, m, d.now.floats, 6 * m, d.counts[1],
         before, now, d.receiver, d.settings, d.rounds, delta, counts);
+    return is_moved(s, number, delta, counts);
+}
+
+/* dt, the band and a drive; number, used, screened, displacement 3. */
+bool same_city(struct stored *s)
+{
+    struct drive d;
+    double delta[3 + MARGIN / 8];
+    size_t counts[2 + MARGIN / sizeof(size_t)];
+    double dt = next_float(s);
+    uint32_t band = (uint32_t)next_number(s);
+    size_t n, m;
+    uint8_t number;
+    next_drive(s, &d);
+    n = least(d.counts[0], ROOM);
+    m = least(d.counts[1], ROOM);
+    lend(delta, 3 * sizeof *delta);
+    lend(counts, 2 * sizeof *counts);
+    number = zaqnuti_city_displacement(
+        d.before.constellation, n, d.before.svid, n, d.before.band, n, d.before.state, n, d.before.floats, 6 * n, d.counts[0],
+        d.now.constellation, m, d.now.svid, m, d.now.band, m, d.now.state, m, d.now.floats, 6 * m, d.counts[1],
+        dt, band, d.receiver, d.settings, d.rounds, delta, counts);
     return is_moved(s, number, delta, counts);
 }
 

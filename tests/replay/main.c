@@ -57,12 +57,16 @@ static const struct kind kinds[] = {
     {20, "time", same_time},
     {21, "since", same_since},
     {22, "between", same_between},
+    {30, "city", same_city},
     {23, "widen", same_widen},
     {27, "trip", same_trip},
+    {35, "forget", same_forget},
     {40, "read", same_read},
     {41, "write", same_write},
     {42, "records", same_records},
     {31, "directions", same_directions},
+    {28, "drive", same_drive},
+    {38, "settings", same_settings},
 };
 
 #define KINDS (sizeof kinds / sizeof *kinds)

@@ -70,11 +70,15 @@ bool same_queries(struct stored *s);
 bool same_time(struct stored *s);
 bool same_since(struct stored *s);
 bool same_between(struct stored *s);
+bool same_city(struct stored *s);
 bool same_widen(struct stored *s);
+bool same_forget(struct stored *s);
 bool same_trip(struct stored *s);
 bool same_read(struct stored *s);
 bool same_write(struct stored *s);
 bool same_records(struct stored *s);
 bool same_directions(struct stored *s);
+bool same_drive(struct stored *s);
+bool same_settings(struct stored *s);
 
 #endif

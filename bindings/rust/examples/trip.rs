@@ -34,7 +34,10 @@ fn main() -> Result<(), Refusal> {
         metres(report.greatest),
         report.reached
     );
-    println!("The day took {} ml of fuel for a kilometre.", day.fuel(41_288)?);
+    println!(
+        "The day took {} ml of fuel for a kilometre.",
+        day.fuel(41_288)?
+    );
     // The trip is full: one epoch more is refused, and the report stays.
     if let Err(why) = day.add(steps[2].0, 0) {
         println!("One epoch more: {why}.");

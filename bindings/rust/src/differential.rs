@@ -326,6 +326,36 @@ impl Corrections {
         Ok(places.map(|(n, x)| answered(n).map(|()| x)).collect())
     }
 
+    /// Of each signal's samples before a time of week only the last is kept, so that the table
+    /// lasts: [`Corrections::at`] that time or later answers as if nothing had been dropped.
+    ///
+    /// [`Refusal::BadDropTime`] where the time is not finite.
+    pub fn forget(&mut self, tow: f64) -> Result<(), Refusal> {
+        // SAFETY: each column has its length beside it, and the table is ours alone.
+        let number = unsafe {
+            sys::zaqnuti_forget(
+                self.constellation.as_ptr(),
+                self.constellation.len(),
+                self.svid.as_ptr(),
+                self.svid.len(),
+                self.band.as_ptr(),
+                self.band.len(),
+                self.first.as_mut_ptr(),
+                self.first.len(),
+                self.count.as_mut_ptr(),
+                self.count.len(),
+                self.blocks,
+                self.time.as_mut_ptr(),
+                self.time.len(),
+                self.correction.as_mut_ptr(),
+                self.correction.len(),
+                &mut self.samples,
+                tow,
+            )
+        };
+        answered(number)
+    }
+
     /// How many correction samples in total.
     pub fn samples(&self) -> usize {
         self.samples

@@ -2,7 +2,7 @@ use core::fmt;
 
 /// Why a call turns back, each number under its one name.
 ///
-/// The library of today gives 1 to 17 and 21. The others have their names already, so that a caller who
+/// The library of today gives 1 to 21. The others have their names already, so that a caller who
 /// writes them down needs no change later; a `match` has an arm for what is not named here yet.
 #[derive(Clone, Copy, Debug, PartialEq, Eq, PartialOrd, Ord, Hash)]
 #[repr(u8)]

@@ -23,6 +23,56 @@ extern "C" {
         displacement: *const [f64; 3],
         ned: *mut [f64; 3],
     ) -> u8;
+    /// A trip just started, with settings in force.
+    pub fn zaqnuti_trip_begin(
+        settings: *const [f64; 5],
+        rounds: usize,
+        per_km: u16,
+        trip: *mut [u64; 6],
+        in_force: *mut [f64; 5],
+        in_force_rounds: *mut usize,
+    ) -> u8;
+    /// New settings during a trip.
+    pub fn zaqnuti_trip_settings(
+        trip: *const [u64; 6],
+        settings: *const [f64; 5],
+        rounds: usize,
+        in_force: *mut [f64; 5],
+        in_force_rounds: *mut usize,
+    ) -> u8;
+    /// A displacement under the settings in force, added to a trip.
+    pub fn zaqnuti_trip_displacement(
+        trip: *mut [u64; 6],
+        in_force: *const [f64; 5],
+        in_force_rounds: usize,
+        previous_constellation: *const u8,
+        previous_constellation_length: usize,
+        previous_svid: *const u16,
+        previous_svid_length: usize,
+        previous_band: *const u32,
+        previous_band_length: usize,
+        previous_state: *const i32,
+        previous_state_length: usize,
+        previous_floats: *const f64,
+        previous_floats_length: usize,
+        previous_count: usize,
+        current_constellation: *const u8,
+        current_constellation_length: usize,
+        current_svid: *const u16,
+        current_svid_length: usize,
+        current_band: *const u32,
+        current_band_length: usize,
+        current_state: *const i32,
+        current_state_length: usize,
+        current_floats: *const f64,
+        current_floats_length: usize,
+        current_count: usize,
+        dt: f64,
+        receiver: *const [f64; 3],
+        pulses: u16,
+        delta: *mut [f64; 3],
+        counts: *mut [usize; 2],
+    ) -> u8;
     /// The receiver's position from one epoch, with what the fit says of itself.
     pub fn zaqnuti_fix(
         constellation: *const u8,
@@ -105,6 +155,38 @@ extern "C" {
         current_count: usize,
         previous_time: u64,
         current_time: u64,
+        receiver: *const [f64; 3],
+        settings: *const [f64; 5],
+        rounds: usize,
+        delta: *mut [f64; 3],
+        counts: *mut [usize; 2],
+    ) -> u8;
+    /// The displacement by GPS and Galileo on one band.
+    pub fn zaqnuti_city_displacement(
+        previous_constellation: *const u8,
+        previous_constellation_length: usize,
+        previous_svid: *const u16,
+        previous_svid_length: usize,
+        previous_band: *const u32,
+        previous_band_length: usize,
+        previous_state: *const i32,
+        previous_state_length: usize,
+        previous_floats: *const f64,
+        previous_floats_length: usize,
+        previous_count: usize,
+        current_constellation: *const u8,
+        current_constellation_length: usize,
+        current_svid: *const u16,
+        current_svid_length: usize,
+        current_band: *const u32,
+        current_band_length: usize,
+        current_state: *const i32,
+        current_state_length: usize,
+        current_floats: *const f64,
+        current_floats_length: usize,
+        current_count: usize,
+        dt: f64,
+        band: u32,
         receiver: *const [f64; 3],
         settings: *const [f64; 5],
         rounds: usize,
@@ -270,6 +352,26 @@ extern "C" {
         numbers_length: usize,
         metres: *mut f64,
         metres_length: usize,
+    ) -> u8;
+    /// Of each signal's samples before a time only the last is kept.
+    pub fn zaqnuti_forget(
+        dc: *const u8,
+        dc_length: usize,
+        dv: *const u16,
+        dv_length: usize,
+        db: *const u32,
+        db_length: usize,
+        df: *mut usize,
+        df_length: usize,
+        dn: *mut usize,
+        dn_length: usize,
+        m: usize,
+        ts: *mut f64,
+        ts_length: usize,
+        xs: *mut f64,
+        xs_length: usize,
+        n: *mut usize,
+        time: f64,
     ) -> u8;
     /// The bands of a table that was written with 8 bits for each.
     pub fn zaqnuti_widen_bands(

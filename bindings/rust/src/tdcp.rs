@@ -74,7 +74,7 @@ impl Settings {
     }
 
     /// Its floats, as the entry points take them.
-    const fn floats(&self) -> [f64; 5] {
+    pub(crate) const fn floats(&self) -> [f64; 5] {
         [
             self.screen,
             self.sigma_a,
@@ -98,13 +98,13 @@ pub struct Delta {
 
 /// What a call writes.
 #[derive(Default)]
-struct Lent {
-    delta: [f64; 3],
-    counts: [usize; 2],
+pub(crate) struct Lent {
+    pub(crate) delta: [f64; 3],
+    pub(crate) counts: [usize; 2],
 }
 
 impl Lent {
-    fn answer(self, number: u8) -> Result<Delta, Refusal> {
+    pub(crate) fn answer(self, number: u8) -> Result<Delta, Refusal> {
         answered(number)?;
         let ([x, y, z], [used, screened]) = (self.delta, self.counts);
         Ok(Delta {
@@ -116,16 +116,16 @@ impl Lent {
 }
 
 /// The columns of an epoch.
-struct Columns {
-    constellation: [u8; RECORDS],
-    svid: [u16; RECORDS],
-    band: [u32; RECORDS],
-    state: [i32; RECORDS],
-    floats: [[f64; 6]; RECORDS],
+pub(crate) struct Columns {
+    pub(crate) constellation: [u8; RECORDS],
+    pub(crate) svid: [u16; RECORDS],
+    pub(crate) band: [u32; RECORDS],
+    pub(crate) state: [i32; RECORDS],
+    pub(crate) floats: [[f64; 6]; RECORDS],
 }
 
 impl Columns {
-    fn of(carriers: &[Carrier]) -> Self {
+    pub(crate) fn of(carriers: &[Carrier]) -> Self {
         Self {
             constellation: column(carriers, |c| c.constellation),
             svid: column(carriers, |c| c.svid),
@@ -318,6 +318,59 @@ pub fn delta_position_between(
             current.len(),
             previous_time.nanos(),
             current_time.nanos(),
+            &at.coordinates(),
+            &set.floats(),
+            set.iterations,
+            &mut lent.delta,
+            &mut lent.counts,
+        )
+    };
+    lent.answer(number)
+}
+
+/// The receiver's position change of the city profile: that of [`delta_position`] with all carriers
+/// but those of GPS (1) and Galileo (6) on one band taken out of both epochs, in their order.
+///
+/// Refused by [`Refusal::NotCertified`] where one of the two is absent among the pairs kept. Every
+/// carrier given is tested, taken out or not.
+pub fn city_displacement(
+    previous: &[Carrier],
+    current: &[Carrier],
+    dt: f64,
+    band: u32,
+    at: Ecef,
+    set: &Settings,
+) -> Result<Delta, Refusal> {
+    let (p, c) = (Columns::of(previous), Columns::of(current));
+    let (pf, cf) = (p.floats.as_flattened(), c.floats.as_flattened());
+    let mut lent = Lent::default();
+    // SAFETY: each column has its length beside it, and the last two are ours alone.
+    let number = unsafe {
+        sys::zaqnuti_city_displacement(
+            p.constellation.as_ptr(),
+            p.constellation.len(),
+            p.svid.as_ptr(),
+            p.svid.len(),
+            p.band.as_ptr(),
+            p.band.len(),
+            p.state.as_ptr(),
+            p.state.len(),
+            pf.as_ptr(),
+            pf.len(),
+            previous.len(),
+            c.constellation.as_ptr(),
+            c.constellation.len(),
+            c.svid.as_ptr(),
+            c.svid.len(),
+            c.band.as_ptr(),
+            c.band.len(),
+            c.state.as_ptr(),
+            c.state.len(),
+            cf.as_ptr(),
+            cf.len(),
+            current.len(),
+            dt,
+            band,
             &at.coordinates(),
             &set.floats(),
             set.iterations,

@@ -4,7 +4,8 @@
 //! millimetres; every call refuses a trip that no calls can have left.
 
 use crate::refusal::answered;
-use crate::{sys, Refusal, Vec3};
+use crate::tdcp::{Carrier, Columns, Delta, Lent, Settings};
+use crate::{sys, Ecef, Refusal, Vec3};
 
 /// The most epochs of a trip.
 pub const EPOCHS: u64 = 65_535;
@@ -111,5 +112,167 @@ impl Trip {
         // SAFETY: the first is read, and the last is ours alone.
         answered(unsafe { sys::zaqnuti_trip_fuel(&self.words, millilitres, &mut per_km) })?;
         Ok(per_km)
+    }
+}
+
+/// A trip whose displacements are worked out here, under settings that may change between two epochs.
+///
+/// Its report is that of the displacements worked out under the old settings up to the change and
+/// under the new ones after it.
+///
+/// ```
+/// use zaqnuti::tdcp::Settings;
+/// use zaqnuti::trip::Drive;
+/// use zaqnuti::{Ecef, Refusal};
+///
+/// let mut drive = Drive::begin(&Settings::default(), 4000)?;
+/// // Head office raises the mask; a mask that is no number is refused, and the old one stays.
+/// drive.change(&Settings { mask: 15.0, ..Settings::default() })?;
+/// let odd = Settings { mask: f64::NAN, ..Settings::default() };
+/// assert_eq!(drive.change(&odd), Err(Refusal::SettingOutOfRange));
+/// assert_eq!(drive.in_force().mask, 15.0);
+///
+/// // An epoch without enough carriers is refused, and its pulses are not counted.
+/// let at = Ecef::new(-2694045.0, -4266427.0, 3888311.0);
+/// assert_eq!(drive.travel(&[], &[], 1.0, at, 40), Err(Refusal::TooFewPairs));
+/// assert_eq!(drive.trip().report()?.odometer, 0);
+/// # Ok::<(), Refusal>(())
+/// ```
+#[derive(Clone, Copy, Debug, PartialEq)]
+pub struct Drive {
+    trip: Trip,
+    in_force: Settings,
+}
+
+impl Drive {
+    /// A trip just started, with these settings in force and so many odometer pulses to the kilometre.
+    ///
+    /// # Errors
+    ///
+    /// [`Refusal::SettingOutOfRange`] for the settings, then [`Refusal::BadTrip`] for a rate of 0.
+    pub fn begin(settings: &Settings, per_km: u16) -> Result<Self, Refusal> {
+        let (mut words, mut floats, mut rounds) = ([0; 6], [0.0; 5], 0);
+        // SAFETY: the first is read, and the last three are ours alone.
+        answered(unsafe {
+            sys::zaqnuti_trip_begin(
+                &settings.floats(),
+                settings.iterations,
+                per_km,
+                &mut words,
+                &mut floats,
+                &mut rounds,
+            )
+        })?;
+        Ok(Self {
+            trip: Trip { words },
+            in_force: given(floats, rounds, settings.agreement),
+        })
+    }
+
+    /// From a trip and the settings in force: neither is tested before it is used.
+    pub const fn from_parts(trip: Trip, in_force: Settings) -> Self {
+        Self { trip, in_force }
+    }
+
+    /// The trip so far.
+    pub const fn trip(&self) -> Trip {
+        self.trip
+    }
+
+    /// The settings in force.
+    pub const fn in_force(&self) -> Settings {
+        self.in_force
+    }
+
+    /// New settings between two epochs.
+    ///
+    /// # Errors
+    ///
+    /// [`Refusal::SettingOutOfRange`] for the new settings, then [`Refusal::BadTrip`] for the trip.
+    /// Those in force then stay.
+    pub fn change(&mut self, settings: &Settings) -> Result<(), Refusal> {
+        let (mut floats, mut rounds) = ([0.0; 5], 0);
+        // SAFETY: the first two are read, and the last two are ours alone.
+        answered(unsafe {
+            sys::zaqnuti_trip_settings(
+                &self.trip.words,
+                &settings.floats(),
+                settings.iterations,
+                &mut floats,
+                &mut rounds,
+            )
+        })?;
+        self.in_force = given(floats, rounds, settings.agreement);
+        Ok(())
+    }
+
+    /// The displacement between two epochs, `dt` seconds apart, under the settings in force, added to
+    /// the trip with its pulses. `at` is where the receiver was at the earlier epoch.
+    ///
+    /// # Errors
+    ///
+    /// Those of [`delta_position`](crate::tdcp::delta_position), then those of [`Trip::add`]. The trip
+    /// is then as it was, with this epoch and its pulses uncounted.
+    pub fn travel(
+        &mut self,
+        previous: &[Carrier],
+        current: &[Carrier],
+        dt: f64,
+        at: Ecef,
+        pulses: u16,
+    ) -> Result<Delta, Refusal> {
+        let (p, c) = (Columns::of(previous), Columns::of(current));
+        let (pf, cf) = (p.floats.as_flattened(), c.floats.as_flattened());
+        let mut lent = Lent::default();
+        // SAFETY: each column has its length beside it, and the trip and the last two are ours alone.
+        let number = unsafe {
+            sys::zaqnuti_trip_displacement(
+                &mut self.trip.words,
+                &self.in_force.floats(),
+                self.in_force.iterations,
+                p.constellation.as_ptr(),
+                p.constellation.len(),
+                p.svid.as_ptr(),
+                p.svid.len(),
+                p.band.as_ptr(),
+                p.band.len(),
+                p.state.as_ptr(),
+                p.state.len(),
+                pf.as_ptr(),
+                pf.len(),
+                previous.len(),
+                c.constellation.as_ptr(),
+                c.constellation.len(),
+                c.svid.as_ptr(),
+                c.svid.len(),
+                c.band.as_ptr(),
+                c.band.len(),
+                c.state.as_ptr(),
+                c.state.len(),
+                cf.as_ptr(),
+                cf.len(),
+                current.len(),
+                dt,
+                &at.coordinates(),
+                pulses,
+                &mut lent.delta,
+                &mut lent.counts,
+            )
+        };
+        lent.answer(number)
+    }
+}
+
+/// The settings that a call has left.
+const fn given(floats: [f64; 5], iterations: usize, agreement: f64) -> Settings {
+    let [screen, sigma_a, sigma_b, huber, mask] = floats;
+    Settings {
+        screen,
+        sigma_a,
+        sigma_b,
+        huber,
+        mask,
+        iterations,
+        agreement,
     }
 }

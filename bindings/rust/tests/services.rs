@@ -11,7 +11,7 @@ use zaqnuti::math::{self, Cholesky};
 use zaqnuti::robust::{centre_scale, elevation_sigma, geometry, step, Clocks, Row};
 use zaqnuti::smooth::{smooth, Anchor, Link};
 use zaqnuti::time::{GpsTime, NANOS_PER_WEEK};
-use zaqnuti::trip::{Report, Trip};
+use zaqnuti::trip::{Drive, Report, Trip};
 use zaqnuti::{differential, line, smooth as track, tdcp, wire, wls, Ecef, Refusal, Vec3, TEXT};
 
 fn near(a: f64, b: f64, within: f64) -> bool {
@@ -172,6 +172,50 @@ fn a_satellite_on_the_receiver() {
 }
 
 #[test]
+fn a_city_displacement() {
+    let set = tdcp::Settings {
+        screen: 1e3,
+        ..tdcp::Settings::default()
+    };
+    let moved = Ecef::new(AT.x + 3.0, AT.y - 2.0, AT.z + 0.5);
+    let sky = |at| {
+        let mut all = carriers(30, at);
+        for (k, c) in all.iter_mut().enumerate() {
+            (c.constellation, c.band) = match k % 5 {
+                0..=2 => (1, 1575),
+                3 => (6, 1575),
+                _ => (3, 1602),
+            };
+        }
+        all
+    };
+    let certified = |all: Vec<tdcp::Carrier>| -> Vec<_> {
+        all.into_iter().filter(|c| c.band == 1575).collect()
+    };
+    let (before, after) = (sky(AT), sky(moved));
+    let city = tdcp::city_displacement(&before, &after, 1.0, 1575, AT, &set).unwrap();
+    let (p, c) = (certified(before.clone()), certified(after.clone()));
+    assert_eq!(city, tdcp::delta_position(&p, &c, 1.0, AT, &set).unwrap());
+    assert_eq!(city.used + city.screened, 24);
+    let why = |p: &[tdcp::Carrier], c: &[tdcp::Carrier], band| {
+        tdcp::city_displacement(p, c, 1.0, band, AT, &set).unwrap_err()
+    };
+    assert_eq!(why(&before, &after, 1176), Refusal::TooFewPairs);
+    // One of the two is there, and the screen drops it.
+    let mut gps = after.clone();
+    for (k, c) in gps.iter_mut().enumerate() {
+        if c.constellation == 6 {
+            c.adr += 1e5 * (k + 1) as f64;
+        }
+    }
+    assert_eq!(why(&before, &gps, 1575), Refusal::NotCertified);
+    // A carrier that is taken out is tested all the same.
+    let mut odd = after;
+    odd[4].rate = f64::NAN;
+    assert_eq!(why(&before, &odd, 1575), Refusal::RecordOutOfRange);
+}
+
+#[test]
 fn times() {
     let at = |week, tow| GpsTime::new(week, tow).unwrap();
     let (before, now) = (at(1316, 604_799.5), at(1317, 0.5));
@@ -284,7 +328,9 @@ fn a_trip() {
     assert_eq!(trip.fuel(850), Ok(85_000));
     // The double below 0.001 has no whole millimetre.
     let mut short = Trip::start(1).unwrap();
-    short.add(Vec3::new(0.001f64.next_down(), 0.0, 0.0), 0).unwrap();
+    short
+        .add(Vec3::new(0.001f64.next_down(), 0.0, 0.0), 0)
+        .unwrap();
     assert_eq!(short.words()[2], 0);
     assert_eq!(short.fuel(1), Err(Refusal::NoDistance));
     short.add(Vec3::new(0.001, 0.0, 0.0), 0).unwrap();
@@ -304,7 +350,13 @@ fn a_trip_refuses() {
     assert_eq!(full.report().unwrap().odometer, 4_294_836_225_000_000);
     assert_eq!(full.report().unwrap().reached, 4_294_967_295);
     let mut trip = Trip::start(65_535).unwrap();
-    for x in [f64::NAN, f64::INFINITY, -f64::INFINITY, 1000f64.next_up(), 1e200] {
+    for x in [
+        f64::NAN,
+        f64::INFINITY,
+        -f64::INFINITY,
+        1000f64.next_up(),
+        1e200,
+    ] {
         assert_eq!(trip.add(Vec3::new(0.0, x, 0.0), 65_535), bad, "{x}");
     }
     assert_eq!(trip.words(), [65_535, 0, 0, 0, 0, 0]);
@@ -379,6 +431,70 @@ fn a_displacement_of_records() {
     assert_eq!(why(&before, &now, 0.0, &odd), Refusal::SettingOutOfRange);
     assert_eq!(why(&before, &now, 0.0, &set), Refusal::BadInterval);
     assert_eq!(why(&[], &now, 1.0, &set), Refusal::TooFewPairs);
+}
+
+#[test]
+fn settings_during_a_trip() {
+    let morning = tdcp::Settings {
+        screen: 1e3,
+        ..tdcp::Settings::default()
+    };
+    let noon = tdcp::Settings {
+        mask: 40.0,
+        iterations: 7,
+        ..morning
+    };
+    let moved = Ecef::new(AT.x + 3.0, AT.y - 2.0, AT.z + 0.5);
+    let (p, c) = (carriers(40, AT), carriers(40, moved));
+    let mut drive = Drive::begin(&morning, 1000).unwrap();
+    assert_eq!(drive.in_force(), morning);
+    let before = drive.travel(&p, &c, 1.0, AT, 4).unwrap();
+    assert_eq!(Ok(before), tdcp::delta_position(&p, &c, 1.0, AT, &morning));
+    drive.change(&noon).unwrap();
+    assert_eq!(drive.in_force(), noon);
+    let after = drive.travel(&p, &c, 1.0, AT, 3).unwrap();
+    assert_eq!(Ok(after), tdcp::delta_position(&p, &c, 1.0, AT, &noon));
+    assert!(after.used < before.used);
+    // The trip is that of the two displacements.
+    let mut plain = Trip::start(1000).unwrap();
+    plain.add(before.delta, 4).unwrap();
+    plain.add(after.delta, 3).unwrap();
+    assert_eq!(drive.trip(), plain);
+    // What is refused leaves trip and settings.
+    let kept = drive;
+    let odd = tdcp::Settings {
+        huber: f64::INFINITY,
+        ..noon
+    };
+    let long = tdcp::Settings {
+        iterations: 51,
+        ..noon
+    };
+    for set in [odd, long] {
+        assert_eq!(drive.change(&set), Err(Refusal::SettingOutOfRange));
+        assert_eq!(Drive::begin(&set, 0), Err(Refusal::SettingOutOfRange));
+    }
+    assert_eq!(Drive::begin(&noon, 0), Err(Refusal::BadTrip));
+    let few = drive.travel(&p[..5], &c, 1.0, AT, 9);
+    assert_eq!(few, Err(Refusal::TooFewPairs));
+    assert_eq!(drive, kept);
+    // The numbers of settings and displacement come before 16; those in force are tested in a displacement only.
+    let bad = Trip::from_words([0; 6]);
+    let mut broken = Drive::from_parts(bad, odd);
+    let why = broken.travel(&p, &c, 1.0, AT, 9);
+    assert_eq!(why, Err(Refusal::SettingOutOfRange));
+    assert_eq!(broken.change(&odd), Err(Refusal::SettingOutOfRange));
+    assert_eq!(broken.change(&noon), Err(Refusal::BadTrip));
+    let mut broken = Drive::from_parts(bad, noon);
+    let why = broken.travel(&p, &c, f64::NAN, AT, 9);
+    assert_eq!(why, Err(Refusal::BadInterval));
+    let why = broken.travel(&p, &c, 1.0, AT, 9);
+    assert_eq!(why, Err(Refusal::BadTrip));
+    assert_eq!(broken, Drive::from_parts(bad, noon));
+    let mut full = Drive::from_parts(Trip::from_words([1, 65_535, 0, 0, 0, 1]), odd);
+    full.change(&noon).unwrap();
+    let why = full.travel(&p, &c, 1.0, AT, 9);
+    assert_eq!(why, Err(Refusal::BadTrip));
 }
 
 /// The example of docs/SCOPE.md, without its LF.
@@ -484,6 +600,34 @@ fn corrections() {
     assert_eq!(c.at_each(&[]), Ok(Vec::new()));
     let none = build(&base, place, |_| None, &set).unwrap();
     assert_eq!(none.samples(), 0);
+}
+
+#[test]
+fn corrections_forget() {
+    let set = differential::Settings::default();
+    let place = AT.coordinates();
+    let mut c = Corrections::with_capacity(24, &set);
+    let (_, states) = epoch(0.0, 0.0, 8);
+    let add = |c: &mut Corrections, tow: f64| {
+        c.add(&epoch(tow, tow / 30.0, 8).0, Some(&states), place, place)
+    };
+    for tow in [0.0, 30.0, 60.0] {
+        assert_eq!(add(&mut c, tow), Ok(()));
+    }
+    assert_eq!(add(&mut c, 90.0), Err(Refusal::TableFull));
+    let before = [45.0, 60.0, 50.5].map(|t| c.at(1, 0, 1, t));
+    assert_eq!(c.forget(f64::NAN), Err(Refusal::BadDropTime));
+    assert_eq!(c.forget(f64::INFINITY), Err(Refusal::BadDropTime));
+    assert_eq!(c.samples(), 24);
+    assert_eq!(c.forget(45.0), Ok(()));
+    assert_eq!((c.samples(), c.satellites()), (16, 8));
+    assert_eq!([45.0, 60.0, 50.5].map(|t| c.at(1, 0, 1, t)), before);
+    assert_eq!(c.at(1, 0, 1, 15.0), Err(Refusal::NoCorrection));
+    assert_eq!(add(&mut c, 90.0), Ok(()));
+    assert_eq!([45.0, 60.0, 50.5].map(|t| c.at(1, 0, 1, t)), before);
+    assert_eq!(add(&mut c, 120.0), Err(Refusal::TableFull));
+    assert_eq!(c.forget(1e300), Ok(()));
+    assert_eq!(c.samples(), 8);
 }
 
 #[test]

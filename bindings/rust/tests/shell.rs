@@ -93,7 +93,7 @@ fn rover(lines: usize) -> String {
 #[test]
 fn help() {
     assert!(answered(&["--help"], 0).contains("Exit status"));
-    assert_eq!(answered(&["--version"], 0), "zaqnuti 0.4.0\n");
+    assert_eq!(answered(&["--version"], 0), "zaqnuti 0.5.0\n");
     for name in [
         "fix",
         "displacement",

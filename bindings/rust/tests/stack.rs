@@ -156,7 +156,15 @@ fn epochs() -> (Vec<Carrier>, Vec<Carrier>) {
 }
 
 /// A displacement over a second, or between two times.
-fn displacement(count: usize, rounds: usize, screen: f64, times: Option<[u64; 2]>) -> usize {
+/// Which of the displacement's entry points is called.
+#[derive(Clone, Copy)]
+enum Way {
+    Plain,
+    Between([u64; 2]),
+    City(u32),
+}
+
+fn displacement(count: usize, rounds: usize, screen: f64, way: Way) -> usize {
     let floats = |c: &[Carrier]| -> Vec<f64> {
         c.iter()
             .flat_map(|c| {
@@ -173,7 +181,11 @@ fn displacement(count: usize, rounds: usize, screen: f64, times: Option<[u64; 2]
     };
     let (before, after) = epochs();
     let (pf, cf) = (floats(&before), floats(&after));
-    let constellation: Vec<u8> = before.iter().map(|c| c.constellation).collect();
+    let mut constellation: Vec<u8> = before.iter().map(|c| c.constellation).collect();
+    if let Way::City(_) = way {
+        let both = constellation.iter_mut().enumerate();
+        both.for_each(|(k, c)| *c = if k % 2 == 0 { 1 } else { 6 });
+    }
     let svid: Vec<u16> = before.iter().map(|c| c.svid).collect();
     let (band, state) = (vec![1575u32; 64], vec![1i32; 64]);
     let (mut delta, mut counts) = ([0.0; 3], [0; 2]);
@@ -215,11 +227,73 @@ fn displacement(count: usize, rounds: usize, screen: f64, times: Option<[u64; 2]
         let frame = top();
         // SAFETY: each column has its length beside it, and the last two are ours alone.
         unsafe {
-            match times {
-                None => call!(zaqnuti_displacement, 1.0),
-                Some([before, now]) => call!(zaqnuti_displacement_between, before, now),
+            match way {
+                Way::Plain => call!(zaqnuti_displacement, 1.0),
+                Way::Between([before, now]) => call!(zaqnuti_displacement_between, before, now),
+                Way::City(chosen) => call!(zaqnuti_city_displacement, 1.0, chosen),
             }
         };
+        frame
+    })
+}
+
+/// Both epochs under settings in force, added to a trip; the settings are begun with and changed.
+fn trip_displacement(count: usize, rounds: usize, screen: f64, words: [u64; 6]) -> usize {
+    let (before, after) = epochs();
+    let floats = |c: &[Carrier]| -> Vec<f64> {
+        let six = |c: &Carrier| {
+            let [x, y, z] = c.satellite;
+            [c.adr, x, y, z, c.elevation, c.rate]
+        };
+        c.iter().flat_map(six).collect()
+    };
+    let (pf, cf) = (floats(&before), floats(&after));
+    let constellation: Vec<u8> = before.iter().map(|c| c.constellation).collect();
+    let svid: Vec<u16> = before.iter().map(|c| c.svid).collect();
+    let (band, state) = (vec![1575u32; 64], vec![1i32; 64]);
+    let set = [screen, 0.008, 0.002, 1e-3, 10.0];
+    let (mut trip, mut force, mut force_rounds) = (words, [0.0; 5], 0);
+    let (mut delta, mut counts) = ([0.0; 3], [0; 2]);
+    measured(move || {
+        let frame = top();
+        // SAFETY: each column has its length beside it, and what is written is ours alone.
+        unsafe {
+            sys::zaqnuti_trip_begin(&set, rounds, 1, &mut trip, &mut force, &mut force_rounds);
+            trip = words;
+            sys::zaqnuti_trip_settings(&trip, &set, rounds, &mut force, &mut force_rounds);
+            sys::zaqnuti_trip_displacement(
+                &mut trip,
+                &set,
+                rounds,
+                constellation.as_ptr(),
+                64,
+                svid.as_ptr(),
+                64,
+                band.as_ptr(),
+                64,
+                state.as_ptr(),
+                64,
+                pf.as_ptr(),
+                pf.len(),
+                count,
+                constellation.as_ptr(),
+                64,
+                svid.as_ptr(),
+                64,
+                band.as_ptr(),
+                64,
+                state.as_ptr(),
+                64,
+                cf.as_ptr(),
+                cf.len(),
+                count,
+                1.0,
+                &AT.coordinates(),
+                7,
+                &mut delta,
+                &mut counts,
+            );
+        }
         frame
     })
 }
@@ -499,6 +573,40 @@ fn query(n: usize, time: f64) -> usize {
     })
 }
 
+fn forget(n: usize, time: f64) -> usize {
+    let (cs, vs, bs) = (vec![1u8; 2048], vec![1u16; 2048], vec![1u32; 2048]);
+    let (mut df, mut dn) = (vec![0usize; 2048], vec![n; 2048]);
+    let mut ts: Vec<f64> = (0..2048).map(f64::from).collect();
+    let mut xs = vec![1.0; 2048];
+    let mut count = n;
+    measured(move || {
+        let frame = top();
+        // SAFETY: each column has its length beside it, and those that are written are ours alone.
+        unsafe {
+            sys::zaqnuti_forget(
+                cs.as_ptr(),
+                2048,
+                vs.as_ptr(),
+                2048,
+                bs.as_ptr(),
+                2048,
+                df.as_mut_ptr(),
+                2048,
+                dn.as_mut_ptr(),
+                2048,
+                n.min(1),
+                ts.as_mut_ptr(),
+                2048,
+                xs.as_mut_ptr(),
+                2048,
+                &mut count,
+                time,
+            );
+        }
+        frame
+    })
+}
+
 fn queries(n: usize, count: usize) -> usize {
     let (cs, vs, bs) = (vec![1u8; 2048], vec![1u16; 2048], vec![1u32; 2048]);
     let (df, dn) = (vec![0usize; 2048], vec![n; 2048]);
@@ -745,23 +853,33 @@ fn no_more_than_the_header_says() {
         (
             "displacement",
             most([
-                displacement(64, 50, 1e9, None),
-                displacement(64, 50, 4.0, None),
-                displacement(64, 0, 1e9, None),
-                displacement(65, 4, 1.0, None),
-                displacement(5, 4, 1.0, None),
+                displacement(64, 50, 1e9, Way::Plain),
+                displacement(64, 50, 4.0, Way::Plain),
+                displacement(64, 0, 1e9, Way::Plain),
+                displacement(65, 4, 1.0, Way::Plain),
+                displacement(5, 4, 1.0, Way::Plain),
             ]),
         ),
         (
             "between",
             most([
-                displacement(64, 50, 1e9, Some([1, 1_000_000_001])),
-                displacement(64, 50, 4.0, Some([1, 1_000_000_001])),
-                displacement(64, 0, 1e9, Some([1, 1_000_000_001])),
-                displacement(65, 4, 1.0, Some([1, 1_000_000_001])),
-                displacement(5, 4, 1.0, Some([1, 1_000_000_001])),
-                displacement(64, 50, 1e9, Some([1, u64::MAX])),
-                displacement(64, 50, 1e9, Some([1, 1])),
+                displacement(64, 50, 1e9, Way::Between([1, 1_000_000_001])),
+                displacement(64, 50, 4.0, Way::Between([1, 1_000_000_001])),
+                displacement(64, 0, 1e9, Way::Between([1, 1_000_000_001])),
+                displacement(65, 4, 1.0, Way::Between([1, 1_000_000_001])),
+                displacement(5, 4, 1.0, Way::Between([1, 1_000_000_001])),
+                displacement(64, 50, 1e9, Way::Between([1, u64::MAX])),
+                displacement(64, 50, 1e9, Way::Between([1, 1])),
+            ]),
+        ),
+        (
+            "city",
+            most([
+                displacement(64, 50, 1e9, Way::City(1575)),
+                displacement(64, 50, 4.0, Way::City(1575)),
+                displacement(64, 0, 1e9, Way::City(1575)),
+                displacement(65, 4, 1.0, Way::City(1575)),
+                displacement(64, 4, 1.0, Way::City(1)),
             ]),
         ),
         (
@@ -834,6 +952,16 @@ fn no_more_than_the_header_says() {
             ]),
         ),
         (
+            "forget",
+            most([
+                forget(2048, 1000.5),
+                forget(2048, -1.0),
+                forget(2049, 1.0),
+                forget(0, 1.0),
+                forget(1000, f64::NAN),
+            ]),
+        ),
+        (
             "widen_bands",
             most([widen_bands(2048), widen_bands(2049), widen_bands(0)]),
         ),
@@ -877,6 +1005,16 @@ fn no_more_than_the_header_says() {
                 trip([1000, 65_535, 0, 8, 2000, 2], 3.0),
                 trip([0; 6], f64::NAN),
                 trip([u64::MAX; 6], 1e300),
+            ]),
+        ),
+        (
+            "trip_displacement",
+            most([
+                trip_displacement(64, 50, 1e9, [1000, 4, 10_000, 8, 2000, 2]),
+                trip_displacement(64, 50, 0.5, [1000, 4, 10_000, 8, 2000, 2]),
+                trip_displacement(65, 50, 1e9, [u64::MAX; 6]),
+                trip_displacement(64, 51, 1e9, [0; 6]),
+                trip_displacement(5, 4, f64::NAN, [1000, 65_535, 0, 8, 2000, 2]),
             ]),
         ),
         (

@@ -29,6 +29,16 @@ module _ {A : Type 0} (test : A → Bool) where
       go true ih = omega arith
       go false ih = omega arith
 
+-- what f gives of those that pass is what it gives of each, and none of the others
+pub collect-kept : {A B : Type 0} (f : A → List B) (test : A → Bool) (xs : List A) → collect f (collect (keep test) xs) ≡ collect (λ x. cond (test x) (f x) []) xs
+unfolding collect
+collect-kept f test [] = refl
+collect-kept f test (x ∷ xs) = go (test x) (collect-kept f test xs)
+  where
+    go : (b : Bool) → collect f (collect (keep test) xs) ≡ collect (λ x. cond (test x) (f x) []) xs → collect f (cond b (x ∷ []) [] ++ collect (keep test) xs) ≡ cond b (f x) [] ++ collect (λ x. cond (test x) (f x) []) xs
+    go true e = ap (λ ys. f x ++ ys) e
+    go false e = e
+
 -- ---- an array that is filled with what f gives of each element
 
 map-snoc : {A B : Type 0} (f : A → B) (xs : List A) (x : A) → map f (xs ++ (x ∷ [])) ≡ map f xs ++ (f x ∷ [])

@@ -1,4 +1,5 @@
 pub mod Record
+pub mod City
 pub mod Pair
 pub mod Screen
 pub mod Mask

@@ -1,8 +1,10 @@
 // The carrier pairs of two epochs.
 ghost use mathlib.Core.Path.{_≡_};
-ghost use mathlib.Core.Bool.{true, _&&_};
+ghost use mathlib.Core.Bool.{true, not, _&&_, _||_};
+ghost use lib.Ieee.{le};
 ghost use Rattle.records.specs.Record.{counted, same, usable, Holds};
 ghost use Rattle.records.specs.Carriers.{carrierColumns, epochOf, epochFits};
+ghost use Rattle.records.specs.City.{certified, looked};
 ghost use Rattle.records.specs.Pair as spec;
 use crate::carriers::carrier_at;
 use crate::record::Carrier;
@@ -64,6 +66,15 @@ pub fn is_partner(p: Carrier, c: Carrier) -> bool
     is_usable(p)
 }
 
+// Whether the current carrier c is looked at: usable, at or above the mask, and in the city profile GPS (1) or Galileo (6) on the chosen band.
+pub fn is_wanted(c: Carrier, mask: f64, city: bool, band: u32) -> bool
+    ensures { λ r. ⌜ r ≡ ((usable c && le mask (c .elevation)) && (not city || certified band c)) ⌝ }
+{
+    is_usable(c)
+        & (mask <= c.elevation)
+        & (!city | (((c.constellation == 1) | (c.constellation == 6)) & (c.band == band)))
+}
+
 // The pair of the current carrier c and the previous carrier p.
 pub fn pair_of(receiver: Vec3, dt: f64, c: Carrier, p: Carrier) -> Pair
     ensures { λ r. ⌜ r ≡ spec.pairOf receiver dt c p ⌝ }
@@ -88,7 +99,7 @@ pub fn pair_of(receiver: Vec3, dt: f64, c: Carrier, p: Carrier) -> Pair
     }
 }
 
-// The pairs of two epochs' columns.
+// The pairs of two epochs' columns, in the city profile those of the carriers that it certifies.
 pub fn pairs_in(
     previous_constellation: &[u8],
     previous_svid: &[u16],
@@ -105,10 +116,12 @@ pub fn pairs_in(
     receiver: Vec3,
     mask: f64,
     dt: f64,
+    city: bool,
+    band: u32,
 ) -> Pairs
     requires { ⌜ epochFits (carrierColumns (now «previous_constellation») (now «previous_svid») (now «previous_band») (now «previous_state») (now «previous_floats»)) «previous_count» ≡ true ⌝ }
     requires { ⌜ epochFits (carrierColumns (now «current_constellation») (now «current_svid») (now «current_band») (now «current_state») (now «current_floats»)) «current_count» ≡ true ⌝ }
-    ensures { λ r. ⌜ Holds (r .count) (r .pair) (spec.pairsOf receiver mask dt (counted (epochOf (carrierColumns (now («previous_constellation» .entry)) (now («previous_svid» .entry)) (now («previous_band» .entry)) (now («previous_state» .entry)) (now («previous_floats» .entry))) «previous_count»)) (counted (epochOf (carrierColumns (now («current_constellation» .entry)) (now («current_svid» .entry)) (now («current_band» .entry)) (now («current_state» .entry)) (now («current_floats» .entry))) «current_count»))) ⌝ }
+    ensures { λ r. ⌜ Holds (r .count) (r .pair) (spec.pairsOf receiver mask dt (counted (epochOf (carrierColumns (now («previous_constellation» .entry)) (now («previous_svid» .entry)) (now («previous_band» .entry)) (now («previous_state» .entry)) (now («previous_floats» .entry))) «previous_count»)) (looked city band (counted (epochOf (carrierColumns (now («current_constellation» .entry)) (now («current_svid» .entry)) (now («current_band» .entry)) (now («current_state» .entry)) (now («current_floats» .entry))) «current_count»)))) ⌝ }
 {
     let mut out = no_pairs();
     let mut i: usize = 0;
@@ -121,7 +134,7 @@ pub fn pairs_in(
             current_floats,
             i,
         );
-        if is_usable(c) & (mask <= c.elevation) {
+        if is_wanted(c, mask, city, band) {
             let mut j: usize = 0;
             while j < previous_count {
                 let p = carrier_at(

@@ -1,30 +1,30 @@
 -- The displacement as the public call works it out: the rules on what is handed over, and what its pairs come to. Assumes nothing.
-use mathlib.Core.Path.{_≡_, sym, ap, ap₂, _∙_, subst}
+use mathlib.Core.Path.{_≡_, refl, sym, ap, ap₂, _∙_, subst}
 use Prim.Native.Nat.{ℕ, _-_, _≤_}
 use native.Mathlib.Omega.{arith}
-use mathlib.Core.Bool.{true, false, _||_}
-use mathlib.Core.List.{List}
+use mathlib.Core.Bool.{Bool, true, false, not, _&&_, _||_}
+use mathlib.Core.List.{List, [], _∷_, _++_}
 use lib.Dec.{ltb}
-use lib.ListN.{length, take}
+use lib.ListN.{length, take, length-take}
 use lib.Ieee.{Float}
 use Rattle.numeric.specs.declared.refusal.Refusal.{Refusal}
-use Rattle.numeric.specs.declared.refusal.Refusal.the-variants.{TooMany, BadInterval}
+use Rattle.numeric.specs.declared.refusal.Refusal.the-variants.{TooMany, BadInterval, NotCertified}
 use Rattle.records.specs.Record.{Holds}
-use Rattle.clocks.specs.Clocks.{clocksOf}
+use Rattle.clocks.specs.Clocks.{has, clocksOf}
 use Rattle.records.specs.Screen.{keptOf, constellations}
 use Rattle.records.specs.Kept.{pairsIn, Kept}
-use Rattle.estimator.specs.Rules.{Rule, ruled}
+use Rattle.estimator.specs.Rules.{Rule, rule, ruled}
 use Rattle.tdcp.specs.Valid.{badInterval, epochRules, intervalRules, displacementCounts}
-use Rattle.tdcp.specs.Front.{sightRules, countRules, pairRules}
+use Rattle.tdcp.specs.Front.{sightRules, countRules, cityRules, pairRules}
 use Rattle.estimator.specs.Rounds.{End, Stopped, Reached, Fit, concluded, Ended}
-use Rattle.tdcp.specs.Displacement.{Input, fitOver, fitBy, pairs, deltaAt, endRules, concludedAt, movedBy, movedIn, displacementOf}
+use Rattle.tdcp.specs.Displacement.{Input, fitOver, fitBy, pairs, deltaAt, endRules, concludedAt, movedBy, movedIn, pairsFor, movedFor, displacementOf}
 use Rattle.clocks.specs.declared.clocks.Clocks.{Clocks}
 use Rattle.records.specs.declared.pair.Pair.{Pair}
 use Rattle.tdcp.specs.declared.displacement.Settings.{Settings}
 use Rattle.tdcp.specs.declared.displacement.Displacement.{Displacement}
 use Rattle.tdcp.specs.declared.displacement.Displacement.the-variants.{Refused, Moved}
 use Rattle.estimator.specs.declared.rules.Check.the-variants.{Refused as Stops, Passed}
-use Rattle.estimator.proofs.RulesLaws.{checked, ruled-append, refused-by, passed-by}
+use Rattle.estimator.proofs.RulesLaws.{checked, ruled-append, append-first, refused-by, passed-by}
 use Rattle.tdcp.proofs.DisplacementLaws.{fit-same}
 use Rattle.tdcp.proofs.FrontLaws.{counts-passed, kept-few}
 
@@ -37,13 +37,14 @@ ended-reached : {A : Type 0} (f : Refusal → A) (rules : List Float → List Ru
 ended-reached f rules answer (Stopped r) h = absurd (let q = h .answer-is in let z : _≡_ {A = ℕ} 0 1 = cc in omega arith)
 ended-reached f rules answer (Reached z) h = ap (λ (w : List Float). ruled f (rules w) (answer w)) (h .state-is)
 
-pub refused-sights : (settings : Settings) (ps : List Pair) {r : Refusal} → Stops r ≡ checked (sightRules ps) → Refused r ≡ movedBy settings ps
+pub refused-sights : (city : Bool) (settings : Settings) (ps : List Pair) {r : Refusal} → Stops r ≡ checked (sightRules ps) → Refused r ≡ movedBy city settings ps
 unfolding movedBy pairRules
-refused-sights settings ps e = refused-by Refused _ (sightRules ps) e ∙ sym (ruled-append Refused _ (sightRules ps) (countRules settings ps))
+refused-sights city settings ps e = refused-by Refused _ (sightRules ps) e ∙ sym (ruled-append Refused _ (sightRules ps) _)
 
 -- ---- what n pairs ps come to that 15 lets pass: what the code has once it has screened
-module _ (settings : Settings) (ps : List Pair) (n : ℕ) (all : n ≡ length ps) (seen : Passed ≡ checked (sightRules ps)) (k : Clocks) {used : ℕ} {x y z : List Float} {constellation : List ℕ} {elevation observed : List Float}
-    (h : Kept (keptOf (settings .screen) ps) used x y z constellation elevation observed) (clocks : k ≡ clocksOf (take used constellation)) where
+module _ (city : Bool) (settings : Settings) (ps : List Pair) (n : ℕ) (all : n ≡ length ps) (seen : Passed ≡ checked (sightRules ps)) (k : Clocks) {used : ℕ} {x y z : List Float} {constellation : List ℕ} {elevation observed : List Float}
+    (h : Kept (keptOf (settings .screen) ps) used x y z constellation elevation observed) (clocks : k ≡ clocksOf (take used constellation)) {uncertified : Bool}
+    (twenty : uncertified ≡ (city && not (has (take used constellation) 1 && has (take used constellation) 6))) where
   abbrev kept : List Pair
   kept = keptOf (settings .screen) ps
 
@@ -57,44 +58,48 @@ module _ (settings : Settings) (ps : List Pair) (n : ℕ) (all : n ≡ length ps
   no-more = omega (arith, h .count, kept-few (settings .screen) ps)
 
   abbrev counts : List Rule
-  counts = displacementCounts n used (k .count)
+  counts = displacementCounts n used (k .count) ++ (rule NotCertified uncertified ∷ [])
 
-  counts-are : counts ≡ countRules settings ps
-  unfolding countRules
-  counts-are = rw (all, h .count, slots)
+  counts-are : counts ≡ countRules settings ps ++ cityRules city kept
+  unfolding countRules cityRules
+  counts-are = rw (twenty, h .constellations, all, h .count, slots)
 
   abbrev answer : List Float → Displacement
   answer x = Moved (deltaAt (length kept) (length ps - length kept) x)
 
-  counted : ruled Refused counts (concluded Refused endRules answer (fitBy settings ps .end)) ≡ movedBy settings ps
+  counted : ruled Refused counts (concluded Refused endRules answer (fitBy settings ps .end)) ≡ movedBy city settings ps
   unfolding movedBy pairRules
   counted =
       ap (λ (rs : List Rule). ruled Refused rs (concluded Refused endRules answer (fitBy settings ps .end))) counts-are
-      ∙ sym (ruled-append Refused _ (sightRules ps) (countRules settings ps) ∙ passed-by Refused _ (sightRules ps) seen)
+      ∙ sym (ruled-append Refused _ (sightRules ps) _ ∙ passed-by Refused _ (sightRules ps) seen)
 
-  pub refused-counts : {r : Refusal} → Stops r ≡ checked counts → Refused r ≡ movedBy settings ps
+  pub refused-counts : {r : Refusal} → Stops r ≡ checked counts → Refused r ≡ movedBy city settings ps
   refused-counts e = refused-by Refused _ counts e ∙ counted
 
   -- rules 7 to 9 leave a fit of at most nine unknowns
   module _ (enough : Passed ≡ checked counts) where
     pub few-clocks : k .count ≤ 6
-    few-clocks = counts-passed _ _ _ enough .1 .few-slots
+    few-clocks = counts-passed _ _ _ (append-first (displacementCounts n used (k .count)) _ enough) .1 .few-slots
 
     fit-is : fitOver settings k (pairsIn x y z constellation elevation (take used observed)) ≡ fitBy settings ps
     unfolding fitBy
     fit-is = fit-same settings k h ∙ ap (λ (c : Clocks). fitOver settings c kept) clocks-are
 
-    answered : concluded Refused endRules answer (fitBy settings ps .end) ≡ movedBy settings ps
+    answered : concluded Refused endRules answer (fitBy settings ps .end) ≡ movedBy city settings ps
     answered = sym (passed-by Refused _ counts enough) ∙ counted
 
     module _ {a b : List Float} where
-      pub stopped : {r : Refusal} → Ended (fitOver settings k (pairsIn x y z constellation elevation (take used observed)) .end) (Stops r) a b → Refused r ≡ movedBy settings ps
+      pub stopped : {r : Refusal} → Ended (fitOver settings k (pairsIn x y z constellation elevation (take used observed)) .end) (Stops r) a b → Refused r ≡ movedBy city settings ps
       stopped {r} e = ended-refused Refused endRules answer (fitBy settings ps .end) (subst (λ (f : Fit). Ended (f .end) (Stops r) a b) fit-is e) ∙ answered
 
-      pub reached : Ended (fitOver settings k (pairsIn x y z constellation elevation (take used observed)) .end) Passed a b → concludedAt used (n - used) b ≡ movedBy settings ps
+      pub reached : Ended (fitOver settings k (pairsIn x y z constellation elevation (take used observed)) .end) Passed a b → concludedAt used (n - used) b ≡ movedBy city settings ps
       reached e =
           ap₂ (λ (u s : ℕ). concludedAt u s b) (h .count) (ap₂ _-_ all (h .count))
           ∙ ended-reached Refused endRules answer (fitBy settings ps .end) (subst (λ (f : Fit). Ended (f .end) Passed a b) fit-is e) ∙ answered
+
+-- the pairs that the code has are in its array
+pub held-fits : {n : ℕ} {array xs : List Pair} → Holds n array xs → n ≤ length array
+held-fits {n} {array} h = omega (arith, h .count, simp length-take at (ap length (h .all)))
 
 -- ---- the call
 module _ (i : Input) where
@@ -113,10 +118,20 @@ module _ (i : Input) where
   unfolding displacementOf
   passed-epochs e = sym (passed-by Refused _ epochs e)
 
-  pub refused-interval : badInterval (i .dt) ≡ true → Refused BadInterval ≡ movedIn i
-  unfolding movedIn intervalRules ruled
-  refused-interval e = rw e
+  -- outside the city profile it is every pair's
+  pub general : (band : ℕ) → movedFor false band i ≡ movedIn i
+  unfolding movedFor movedIn
+  general band = refl
 
-  pub paired : badInterval (i .dt) ≡ false → {n : ℕ} {array : List Pair} → Holds n array (pairs i) → movedBy (i .settings) (take n array) ≡ movedIn i
-  unfolding movedIn intervalRules ruled
-  paired e h = rw (e, h .all)
+  module _ (city : Bool) (band : ℕ) where
+    pub refused-interval : badInterval (i .dt) ≡ true → Refused BadInterval ≡ movedFor city band i
+    unfolding movedFor intervalRules ruled
+    refused-interval e = rw e
+
+    pub paired : badInterval (i .dt) ≡ false → {n : ℕ} {array : List Pair} → Holds n array (pairsFor city band i) → movedBy city (i .settings) (take n array) ≡ movedFor city band i
+    unfolding movedFor intervalRules ruled
+    paired e h = rw (e, h .all)
+
+    -- 15 refuses a pair
+    pub unseen : badInterval (i .dt) ≡ false → {n : ℕ} {array : List Pair} → Holds n array (pairsFor city band i) → {r : Refusal} → Stops r ≡ checked (sightRules (take n array)) → Refused r ≡ movedFor city band i
+    unseen e {n} {array} h t = refused-sights city (i .settings) (take n array) t ∙ paired e h

@@ -1,6 +1,6 @@
 -- What an accepted displacement has, DEMAND 3 over all of its rounds among it. Assumes nothing.
 use mathlib.Core.Path.{_≡_, refl, sym, _∙_, subst}
-use mathlib.Core.Bool.{true}
+use mathlib.Core.Bool.{Bool, true, false}
 use Prim.Native.Nat.{ℕ, _+_, _-_, _<_}
 use native.Mathlib.Omega.{arith}
 use mathlib.Core.List.{List, map}
@@ -43,7 +43,7 @@ unfolding roundAt
 one-finite settings k ps x = round-residuals (map (rowAt settings k x) ps) (3 + k .count) (settings .huber) (omega arith)
 
 -- what an accepted displacement of the pairs ps came from
-module _ (settings : Settings) (ps : List Pair) (d : Delta) (e : movedBy settings ps ≡ Moved d) where
+module _ (city : Bool) (settings : Settings) (ps : List Pair) (d : Delta) (e : movedBy city settings ps ≡ Moved d) where
   abbrev used : ℕ
   used = length (keptOf (settings .screen) ps)
 
@@ -53,13 +53,13 @@ module _ (settings : Settings) (ps : List Pair) (d : Delta) (e : movedBy setting
   abbrev fitted : Displacement
   fitted = concluded Refused endRules answer (fitBy settings ps .end)
 
-  counted : Passed ≡ checked (pairRules settings ps)
+  counted : Passed ≡ checked (pairRules city settings ps)
   unfolding movedBy
-  counted = passed-of Refused fitted (pairRules settings ps) e (never d)
+  counted = passed-of Refused fitted (pairRules city settings ps) e (never d)
 
   ended : Finished endRules answer (Moved d) (fitBy settings ps .end)
   unfolding movedBy
-  ended = finished Refused endRules answer (Moved d) (never d) (fitBy settings ps .end) (sym (passed-by Refused fitted (pairRules settings ps) counted) ∙ e)
+  ended = finished Refused endRules answer (Moved d) (never d) (fitBy settings ps .end) (sym (passed-by Refused fitted (pairRules city settings ps) counted) ∙ e)
 
   same : deltaAt used (length ps - used) (ended .x) ≡ d
   same = let h = ended .answer-is in cc
@@ -77,26 +77,32 @@ module _ (settings : Settings) (ps : List Pair) (d : Delta) (e : movedBy setting
         let k = clocksOf (constellations kept) in
         rounds-each P (roundAt settings k kept) (3 + k .count) limit (omega arith) (one k kept) (settings .rounds) zeros (ended .x) (ended .end-is) (place .first)
 
--- all that a displacement has which 5, its pairs and its rounds let pass
-pub moved-accepted : (i : Input) (d : Delta) → movedIn i ≡ Moved d → Accepted i d
-unfolding movedIn roundsOf fitOf
-moved-accepted i d e =
-    let rules = intervalRules (i .dt) in
+-- all that a displacement has which its pairs and its rounds let pass, in the city profile or not
+pub by-accepted : (city : Bool) (i : Input) (d : Delta) → movedBy city (i .settings) (pairs i) ≡ Moved d → Accepted i d
+unfolding roundsOf fitOf
+by-accepted city i d m =
     let s = i .settings in
     let ps = pairs i in
-    let m : movedBy s ps ≡ Moved d = sym (passed-by Refused (movedBy s ps) rules (passed-of Refused (movedBy s ps) rules e (never d))) ∙ e in
-    let p = place s ps d m in
-    let is = same s ps d m in
-    let many = pairs-enough s ps (counted s ps d m) in
+    let p = place city s ps d m in
+    let is = same city s ps d m in
+    let many = pairs-enough city s ps (counted city s ps d m) in
     record {
       x-finite = subst (λ (z : Delta). T (finite (z .delta .x))) is (p .first);
       y-finite = subst (λ (z : Delta). T (finite (z .delta .y))) is (p .second);
       z-finite = subst (λ (z : Delta). T (finite (z .delta .z))) is (p .third);
       pairs-counted = subst (λ (z : Delta). z .used + z .screened ≡ length (pairs i)) is (omega (arith, kept-few (i .settings .screen) (pairs i)));
       redundant = subst (λ (z : Delta). 3 + clocksOf (constellations (kept i)) .count < z .used) is (omega (arith, many .redundant));
-      sound-rounds = moved-each s ps d m Sound (one-sound s);
-      finite-residuals = moved-each s ps d m FiniteResiduals (one-finite s);
+      sound-rounds = moved-each city s ps d m Sound (one-sound s);
+      finite-residuals = moved-each city s ps d m FiniteResiduals (one-finite s);
     }
+
+-- and which 5 lets pass before them
+pub moved-accepted : (i : Input) (d : Delta) → movedIn i ≡ Moved d → Accepted i d
+unfolding movedIn
+moved-accepted i d e =
+    let rules = intervalRules (i .dt) in
+    let m = movedBy false (i .settings) (pairs i) in
+    by-accepted false i d (sym (passed-by Refused m rules (passed-of Refused m rules e (never d))) ∙ e)
 
 -- an accepted displacement is one that 2 to 4 let pass
 pub displacement-accepted : (i : Input) (d : Delta) → displacementOf i ≡ Moved d → Accepted i d

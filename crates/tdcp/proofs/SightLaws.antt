@@ -1,7 +1,7 @@
 -- Rule 15 of a displacement: pair after pair, as the geometry of the two satellites has it, and for whom nothing changed with request (v). Assumes nothing.
 use mathlib.Core.Path.{_≡_, refl, ap, ap₂, _∙_}
 use mathlib.Core.Bool.{Bool, true, false, not, cond, _&&_}
-use mathlib.Core.List.{List, [], _∷_}
+use mathlib.Core.List.{List, [], _∷_, _++_}
 use Prim.Native.Nat.{ℕ, _+_, _-_, _≤_, _<_}
 use lib.ListN.{length, getD, take, drop}
 use lib.Ieee.{Float}
@@ -23,7 +23,7 @@ use Rattle.estimator.specs.Rounds.{concluded}
 use Rattle.estimator.specs.declared.rules.Check.the-variants.{Refused as Stops, Passed}
 use Rattle.estimator.proofs.RulesLaws.{checked, ruled-append}
 use Rattle.tdcp.specs.Valid.{epochRules, intervalRules}
-use Rattle.tdcp.specs.Front.{rangeRules, sightRules, countRules, pairRules}
+use Rattle.tdcp.specs.Front.{rangeRules, sightRules, countRules, cityRules, pairRules}
 use Rattle.tdcp.specs.Displacement.{Input, fitBy, pairs, deltaAt, endRules, movedBy, movedIn, displacementOf}
 use Rattle.tdcp.specs.declared.displacement.Settings.{Settings}
 use Rattle.tdcp.specs.declared.displacement.Displacement.{Displacement}
@@ -104,9 +104,15 @@ module _ {A : Type 0} (f : Refusal → A) (a : A) where
       go false true e = refl
       go false false e = e
 
-pub moved-is : (settings : Settings) (ps : List Pair) → movedBy settings ps ≡ cond (every seen ps) (movedBefore settings ps) (Refused OnReceiver)
+-- 20 never applies outside the city profile
+counts-alone : (settings : Settings) (ps : List Pair) (a : Displacement) → ruled Refused (countRules settings ps ++ cityRules false (keptOf (settings .screen) ps)) a ≡ ruled Refused (countRules settings ps) a
+unfolding cityRules ruled
+counts-alone settings ps a = ruled-append Refused a (countRules settings ps) _
+
+pub moved-is : (settings : Settings) (ps : List Pair) → movedBy false settings ps ≡ cond (every seen ps) (movedBefore settings ps) (Refused OnReceiver)
 unfolding movedBy pairRules
-moved-is settings ps = ruled-append Refused _ (sightRules ps) (countRules settings ps) ∙ sights-are Refused (movedBefore settings ps) ps
+moved-is settings ps =
+    ruled-append Refused _ (sightRules ps) _ ∙ ap (ruled Refused (sightRules ps)) (counts-alone settings ps _) ∙ sights-are Refused (movedBefore settings ps) ps
 
 pub as-before : (i : Input) → every seen (pairs i) ≡ true → displacementOf i ≡ displacementBefore i
 unfolding displacementOf movedIn

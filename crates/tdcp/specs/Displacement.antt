@@ -1,7 +1,7 @@
 -- The displacement of a receiver between two epochs (docs/SCOPE.md, "Displacement"; tdcp.rs): its rounds, and the answer. Definitions only.
 use mathlib.Core.Path.{_≡_}
 use Prim.Native.Nat.{ℕ, _+_, _-_, _<_}
-use mathlib.Core.Bool.{true, not}
+use mathlib.Core.Bool.{Bool, true, false, not}
 use mathlib.Core.List.{List, [], _∷_, map}
 use lib.ListN.{length}
 use lib.Dec.{T}
@@ -19,6 +19,9 @@ use Rattle.robust.specs.Sigma.{elevationSigma}
 use Rattle.robust.specs.declared.row.Row.{Row}
 use Rattle.clocks.specs.Clocks.{slot, clocksOf}
 use Rattle.estimator.specs.Rules.{Rule, rule, ruled}
+use Rattle.records.specs.Record.{counted}
+use Rattle.records.specs.City.{looked}
+use Rattle.records.specs.Pair.{pairsOf}
 use Rattle.records.specs.Screen.{keptOf, constellations}
 use Rattle.tdcp.specs.Valid.{epochRules, intervalRules}
 use Rattle.tdcp.specs.Front.{allPairs, keptPairs, pairRules}
@@ -104,17 +107,25 @@ endRules x = rule FitFailed (not (finiteAt x)) ∷ []
 abbrev pub concludedAt : ℕ → ℕ → List Float → Displacement
 concludedAt used screened x = ruled Refused (endRules x) (Moved (deltaAt used screened x))
 
--- What every displacement shares, from its pairs on: 15 and 7 to 9, the rounds over those that the screen keeps, and 10. The screened are the pairs less those kept.
-unfoldable pub movedBy : Settings → List Pair → Displacement
-movedBy settings ps =
+-- What every displacement shares, from its pairs on: 15, 7 to 9 and in the city profile 20, the rounds over those that the screen keeps, and 10. The screened are
+-- the pairs less those kept.
+unfoldable pub movedBy : Bool → Settings → List Pair → Displacement
+movedBy city settings ps =
     let used = length (keptOf (settings .screen) ps) in
-    ruled Refused (pairRules settings ps) (concluded Refused endRules (λ x. Moved (deltaAt used (length ps - used) x)) (fitBy settings ps .end))
+    ruled Refused (pairRules city settings ps) (concluded Refused endRules (λ x. Moved (deltaAt used (length ps - used) x)) (fitBy settings ps .end))
 
 -- 5 on the interval, and then what its pairs come to
 unfoldable pub movedIn : Input → Displacement
-movedIn i = ruled Refused (intervalRules (i .dt)) (movedBy (i .settings) (pairs i))
+movedIn i = ruled Refused (intervalRules (i .dt)) (movedBy false (i .settings) (pairs i))
 
--- 2 to 4 on what is handed over, and then that
+-- the same in the city profile, of the pairs of the carriers that it certifies
+abbrev pub pairsFor : Bool → ℕ → Input → List Pair
+pairsFor city band i = pairsOf (i .receiver) (i .settings .mask) (i .dt) (counted (i .previous)) (looked city band (counted (i .current)))
+
+unfoldable pub movedFor : Bool → ℕ → Input → Displacement
+movedFor city band i = ruled Refused (intervalRules (i .dt)) (movedBy city (i .settings) (pairsFor city band i))
+
+-- 2 to 4 on what is handed over, and then 5 and what its pairs come to
 unfoldable pub displacementOf : Input → Displacement
 displacementOf i = ruled Refused (epochRules (i .previous) (i .current) (i .receiver) (i .settings)) (movedIn i)
 

@@ -1,14 +1,15 @@
 -- What comes before the rounds: the rows, and the rules on them in the order of docs/SCOPE.md, "Why a call turns back". Definitions only.
+use mathlib.Core.Bool.{Bool, not, _&&_}
 use mathlib.Core.List.{List, [], _∷_, _++_}
 use lib.ListN.{length}
 use lib.Ieee.{Float}
 use Rattle.numeric.specs.declared.vec3.Vec3.{Vec3}
 use Rattle.walk.specs.Walk.{collect}
 use Rattle.numeric.specs.Sight.{onReceiver}
-use Rattle.numeric.specs.declared.refusal.Refusal.the-variants.{OnReceiver}
+use Rattle.numeric.specs.declared.refusal.Refusal.the-variants.{OnReceiver, NotCertified}
 use Rattle.estimator.specs.Rules.{Rule, rule}
 use Rattle.records.specs.Record.{counted}
-use Rattle.clocks.specs.Clocks.{clocksOf}
+use Rattle.clocks.specs.Clocks.{has, clocksOf}
 use Rattle.records.specs.Pair.{pairsOf}
 use Rattle.records.specs.Screen.{keptOf, constellations}
 use Rattle.tdcp.specs.Valid.{displacementCounts}
@@ -38,6 +39,10 @@ countRules settings ps =
     let kept = keptOf (settings .screen) ps in
     displacementCounts (length ps) (length kept) (clocksOf (constellations kept) .count)
 
--- 15, ahead of 7
-unfoldable pub pairRules : Settings → List Pair → List Rule
-pairRules settings ps = sightRules ps ++ countRules settings ps
+-- 20, in the city profile alone: GPS (1) or Galileo (6) is absent among the pairs kept
+unfoldable pub cityRules : Bool → List Pair → List Rule
+cityRules city kept = rule NotCertified (city && not (has (constellations kept) 1 && has (constellations kept) 6)) ∷ []
+
+-- 15, ahead of 7, and 20 after 9
+unfoldable pub pairRules : Bool → Settings → List Pair → List Rule
+pairRules city settings ps = sightRules ps ++ (countRules settings ps ++ cityRules city (keptOf (settings .screen) ps))

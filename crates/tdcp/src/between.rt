@@ -75,6 +75,8 @@ pub fn between_in(
             dt,
             receiver,
             settings,
+            false,
+            0,
         ),
     }
 }

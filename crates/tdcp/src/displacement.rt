@@ -8,11 +8,14 @@ ghost use Rattle.cholesky.specs.Factor.{at};
 ghost use Rattle.numeric.specs.Order.{patternOf};
 ghost use Rattle.records.specs.Carriers.{carrierColumns, epochOf, epochFits};
 ghost use Rattle.records.specs.Kept.{pairsIn};
+ghost use Rattle.estimator.specs.Rules.{ruled};
 ghost use Rattle.estimator.specs.Rounds.{Ended};
+ghost use Rattle.tdcp.specs.Front.{sightRules};
 ghost use Rattle.tdcp.specs.Displacement as spec;
 use crate::valid::check_in;
 use crate::valid::check_pairs;
 use crate::valid::is_bad_interval;
+use crate::valid::is_uncertified;
 use clocks::clocks::Clocks;
 use estimator::rounds::is_short;
 use estimator::rounds::move_by;
@@ -148,24 +151,12 @@ fn moved_to(x: [f64; 9], used: usize, screened: usize) -> Displacement
     Displacement::Refused(Refusal::FitFailed)
 }
 
-// What every displacement shares, from its pairs on: rule 15, for each pair in order the current satellite before the previous, the screen, rules 7 to 9, the rounds,
-// and 10. The pairs are tested here and not in a function of its own, which would be handed a copy of them.
-pub(crate) fn moved_by(settings: Settings, all: Pairs) -> Displacement
-    requires { ⌜ all .count ≤ 64 ⌝ }
-    ensures { λ r. ⌜ r ≡ spec.movedBy settings (take (all .count) (all .pair)) ⌝ }
+// What every displacement shares, from the pairs on that 15 lets pass: the screen, rules 7 to 9 and in the city profile 20, the rounds, and 10.
+pub(crate) fn moved_by(settings: Settings, all: Pairs, city: bool) -> Displacement
+    requires { ⌜ (all .count ≤ 64) × (Check.Passed ≡ ruled Check.Refused (sightRules (take (all .count) (all .pair))) Check.Passed) ⌝ }
+    ensures { λ r. ⌜ r ≡ spec.movedBy city settings (take (all .count) (all .pair)) ⌝ }
 {
     let pairs = all.count;
-    let mut i: usize = 0;
-    while i < pairs {
-        let q = all.pair[i];
-        if is_on_receiver(q.range) {
-            return Displacement::Refused(Refusal::OnReceiver);
-        }
-        if is_on_receiver(q.previous_range) {
-            return Displacement::Refused(Refusal::OnReceiver);
-        }
-        i += 1;
-    }
     let mut x = [0.0; 64];
     let mut y = [0.0; 64];
     let mut z = [0.0; 64];
@@ -183,7 +174,8 @@ pub(crate) fn moved_by(settings: Settings, all: Pairs) -> Displacement
         &mut observed,
     );
     let clocks = clocks_of(&constellation[..used]);
-    if let Check::Refused(r) = check_pairs(pairs, used, clocks.count) {
+    let uncertified = is_uncertified(city, &constellation[..used]);
+    if let Check::Refused(r) = check_pairs(pairs, used, clocks.count, uncertified) {
         return Displacement::Refused(r);
     }
     let mut state = [0.0; 9];
@@ -265,8 +257,10 @@ pub fn delta_position(
     )
 }
 
-// What every displacement of two epochs' columns shares once 2 to 4 have passed: rule 5, the pairs, and what they come to.
-pub(crate) fn moved_in(
+// What every displacement of two epochs' columns shares once 2 to 4 have passed: rule 5, the pairs, in the city profile those of the carriers that it certifies, rule 15
+// of each pair in order, the current satellite before the previous, and what they come to. The pairs are tested where they stand: a function that reads the array of
+// a parameter has a copy of it.
+pub fn moved_in(
     previous_constellation: &[u8],
     previous_svid: &[u16],
     previous_band: &[u32],
@@ -282,10 +276,12 @@ pub(crate) fn moved_in(
     dt: f64,
     receiver: Vec3,
     settings: Settings,
+    city: bool,
+    band: u32,
 ) -> Displacement
     requires { ⌜ epochFits (carrierColumns (now «previous_constellation») (now «previous_svid») (now «previous_band») (now «previous_state») (now «previous_floats»)) «previous_count» ≡ true ⌝ }
     requires { ⌜ epochFits (carrierColumns (now «current_constellation») (now «current_svid») (now «current_band») (now «current_state») (now «current_floats»)) «current_count» ≡ true ⌝ }
-    ensures { λ r. ⌜ r ≡ spec.movedIn (spec.input (epochOf (carrierColumns (now («previous_constellation» .entry)) (now («previous_svid» .entry)) (now («previous_band» .entry)) (now («previous_state» .entry)) (now («previous_floats» .entry))) «previous_count») (epochOf (carrierColumns (now («current_constellation» .entry)) (now («current_svid» .entry)) (now («current_band» .entry)) (now («current_state» .entry)) (now («current_floats» .entry))) «current_count») dt receiver settings) ⌝ }
+    ensures { λ r. ⌜ r ≡ spec.movedFor city band (spec.input (epochOf (carrierColumns (now («previous_constellation» .entry)) (now («previous_svid» .entry)) (now («previous_band» .entry)) (now («previous_state» .entry)) (now («previous_floats» .entry))) «previous_count») (epochOf (carrierColumns (now («current_constellation» .entry)) (now («current_svid» .entry)) (now («current_band» .entry)) (now («current_state» .entry)) (now («current_floats» .entry))) «current_count») dt receiver settings) ⌝ }
 {
     if is_bad_interval(dt) {
         return Displacement::Refused(Refusal::BadInterval);
@@ -306,8 +302,21 @@ pub(crate) fn moved_in(
         receiver,
         settings.mask,
         dt,
+        city,
+        band,
     );
-    moved_by(settings, all)
+    let mut i: usize = 0;
+    while i < all.count {
+        let q = all.pair[i];
+        if is_on_receiver(q.range) {
+            return Displacement::Refused(Refusal::OnReceiver);
+        }
+        if is_on_receiver(q.previous_range) {
+            return Displacement::Refused(Refusal::OnReceiver);
+        }
+        i += 1;
+    }
+    moved_by(settings, all, city)
 }
 
 // The same of two epochs' columns: nothing of them is copied. Rules 2 to 4, and then 5 and what the pairs come to.
@@ -366,5 +375,7 @@ pub fn delta_in(
         dt,
         receiver,
         settings,
+        false,
+        0,
     )
 }

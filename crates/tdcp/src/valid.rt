@@ -1,8 +1,11 @@
 // The rules on what is handed over for a displacement, and on its pairs.
 ghost use mathlib.Core.Path.{_≡_};
-ghost use mathlib.Core.Bool.{true};
+ghost use mathlib.Core.Bool.{true, not, _&&_};
+ghost use mathlib.Core.List.{[], _∷_, _++_};
 ghost use Rattle.records.specs.Carriers.{carrierColumns, epochOf, epochFits};
-ghost use Rattle.estimator.specs.Rules.{ruled};
+ghost use Rattle.numeric.specs.declared.refusal.Refusal.the-variants.{NotCertified};
+ghost use Rattle.clocks.specs.Clocks.{has};
+ghost use Rattle.estimator.specs.Rules.{rule, ruled};
 ghost use Rattle.tdcp.specs.Valid as spec;
 use crate::displacement::Settings;
 use estimator::rules::Check;
@@ -34,7 +37,7 @@ pub(crate) fn is_bad_interval(dt: f64) -> bool
 }
 
 // Rules 2 to 4 of a displacement between two epochs' columns: they fit, so that 2 does not apply.
-pub(crate) fn check_in(
+pub fn check_in(
     previous_constellation: &[u8],
     previous_svid: &[u16],
     previous_band: &[u32],
@@ -79,12 +82,38 @@ pub(crate) fn check_in(
     Check::Passed
 }
 
-// Rules 7 to 9 of a displacement.
-pub(crate) fn check_pairs(pairs: usize, kept: usize, slots: usize) -> Check
-    ensures { λ r. ⌜ r ≡ ruled Check.Refused (spec.displacementCounts pairs kept slots) Check.Passed ⌝ }
+// Whether, in the city profile, GPS (1) or Galileo (6) is absent among these constellations.
+pub(crate) fn is_uncertified(city: bool, constellation: &[u8]) -> bool
+    ensures { λ r. ⌜ r ≡ (city && not (has (now (constellation .entry)) 1 && has (now (constellation .entry)) 6)) ⌝ }
+{
+    if !city {
+        return false;
+    }
+    let n = constellation.len();
+    let mut gps = false;
+    let mut galileo = false;
+    let mut i: usize = 0;
+    while i < n {
+        let c = constellation[i];
+        gps = gps | (c == 1);
+        galileo = galileo | (c == 6);
+        i += 1;
+    }
+    !(gps & galileo)
+}
+
+// Rules 7 to 9 of a displacement, and 20 where it applies.
+pub(crate) fn check_pairs(pairs: usize, kept: usize, slots: usize, uncertified: bool) -> Check
+    ensures { λ r. ⌜ r ≡ ruled Check.Refused (spec.displacementCounts pairs kept slots ++ (rule NotCertified uncertified ∷ [])) Check.Passed ⌝ }
 {
     if pairs < 6 {
         return Check::Refused(Refusal::TooFewPairs);
     }
-    check_rows(kept, slots)
+    if let Check::Refused(r) = check_rows(kept, slots) {
+        return Check::Refused(r);
+    }
+    if uncertified {
+        return Check::Refused(Refusal::NotCertified);
+    }
+    Check::Passed
 }

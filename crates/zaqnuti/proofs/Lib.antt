@@ -8,3 +8,4 @@ pub mod EstimateValues
 pub mod CorrectionLaws
 pub mod TimeLaws
 pub mod BetweenLaws
+pub mod CityLaws

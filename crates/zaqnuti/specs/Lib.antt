@@ -4,3 +4,4 @@ pub mod Estimates
 pub mod Track
 pub mod Times
 pub mod Between
+pub mod City

@@ -1,8 +1,10 @@
-//! The entry points of the displacement, by its interval and between two times.
+//! The entry points of the displacement, by its interval, between two times and in the city profile.
 
 use super::columns::{call, Columns};
 use drifters_gnss::tdcp::Carrier;
-use zaqnuti::sys::{zaqnuti_displacement, zaqnuti_displacement_between};
+use zaqnuti::sys::{
+    zaqnuti_city_displacement, zaqnuti_displacement, zaqnuti_displacement_between,
+};
 
 /// An epoch of carriers as the library takes it: its columns, of which each may be longer or shorter
 /// than the count needs.
@@ -81,5 +83,29 @@ pub fn displacement_between(
             [current.columns.constellation], [current.svid], [current.band], [current.state],
             [current.columns.floats], current.columns.count,
             before, now, receiver, settings, rounds, delta, counts,)
+    }
+}
+
+/// As `displacement`, in the city profile.
+#[inline]
+#[allow(clippy::too_many_arguments)]
+pub fn city_displacement(
+    previous: &Carriers,
+    current: &Carriers,
+    (dt, chosen): (f64, u32),
+    receiver: &[f64; 3],
+    settings: &[f64; 5],
+    rounds: usize,
+    delta: &mut [f64; 3],
+    counts: &mut [usize; 2],
+) -> u8 {
+    // SAFETY: as there.
+    unsafe {
+        call!(zaqnuti_city_displacement();
+            [previous.columns.constellation], [previous.svid], [previous.band], [previous.state],
+            [previous.columns.floats], previous.columns.count,
+            [current.columns.constellation], [current.svid], [current.band], [current.state],
+            [current.columns.floats], current.columns.count,
+            dt, chosen, receiver, settings, rounds, delta, counts,)
     }
 }

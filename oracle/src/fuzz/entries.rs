@@ -3,7 +3,9 @@
 mod corrections;
 mod directions;
 mod displacement;
+mod drives;
 mod fix;
+mod forget;
 mod line;
 mod pieces;
 mod times;
@@ -23,6 +25,7 @@ pub const ENTRIES: &[Entry] = &[
     ("fix", fix::fix),
     ("displacement", displacement::displacement),
     ("between", displacement::between),
+    ("city", displacement::city),
     ("line", line::line),
     ("read_records", wire::read_records),
     ("write_records", wire::write_records),
@@ -31,10 +34,12 @@ pub const ENTRIES: &[Entry] = &[
     ("query", corrections::query),
     ("queries", corrections::queries),
     ("widen_bands", corrections::widen_bands),
+    ("forget", forget::forget),
     ("smooth", track::smooth),
     ("times", times::times),
     ("trip", trips::trip),
     ("directions", directions::directions),
+    ("drive", drives::drive),
     ("round", pieces::a_round),
     ("centre", pieces::centre),
     ("geometry", pieces::geometry),

@@ -2,6 +2,7 @@
 //! to 255; in half of the sessions they stand for bands past it.
 
 pub mod damaged;
+pub mod forget;
 pub mod lent;
 pub mod naming;
 pub mod past;

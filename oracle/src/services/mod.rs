@@ -3,11 +3,13 @@
 mod accuracy;
 pub mod between;
 mod centre;
+mod city;
 mod clocks;
 pub mod corrections;
 pub mod directions;
 mod displacement;
 mod equations;
+pub mod drive;
 mod estimator;
 pub mod factor;
 mod fix;
@@ -71,10 +73,14 @@ pub const KINDS: &[(u64, &str, Make)] = &[
     (22, "between", between::vectors),
     (23, "widen", corrections::stored::widen),
     (27, "trip", trip::vectors),
+    (35, "forget", corrections::forget::vectors),
     (40, "read", wire::read),
     (41, "write", wire::write),
     (42, "records", wire_tdcp::vectors),
     (31, "directions", directions::vectors),
+    (28, "drive", drive::vectors),
+    (38, "settings", drive::settings_vectors),
+    (30, "city", city::vectors),
 ];
 
 /// Every service, lowest first.
@@ -97,6 +103,8 @@ pub const SERVICES: &[Service] = &[
     trip::SERVICE,
     wire::SERVICE,
     wire_tdcp::SERVICE,
+    drive::SERVICE,
+    city::SERVICE,
     fix::SERVICE,
     top::DISPLACEMENT,
     top::FIX,
@@ -105,5 +113,6 @@ pub const SERVICES: &[Service] = &[
     equations::SERVICE,
     corrections::SERVICE,
     rearrange::SERVICE,
+    corrections::forget::SERVICE,
     line::SERVICE,
 ];

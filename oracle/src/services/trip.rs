@@ -43,7 +43,7 @@ const LENGTHS: [f64; 16] = [
 ];
 
 /// The length by the rounded squares, summed in the order x, y, z, and the root.
-fn length([x, y, z]: &[f64; 3]) -> f64 {
+pub fn length([x, y, z]: &[f64; 3]) -> f64 {
     (x * x + y * y + z * z).sqrt()
 }
 
@@ -66,7 +66,7 @@ fn odometer(rate: u128, pulses: u128) -> u128 {
 }
 
 /// Whether 16 lets a trip pass.
-fn is_sound(trip: &Words) -> bool {
+pub fn is_sound(trip: &Words) -> bool {
     let [rate, epochs, carrier, pulses, _, reached] = trip.map(u128::from);
     (1..=65_535).contains(&rate)
         && epochs <= 65_535
@@ -122,7 +122,7 @@ pub fn fuelled(trip: &Words, millilitres: u32) -> Result<u64, u8> {
 }
 
 /// The report of a list of epochs, from the list alone: the totals after each, the greatest difference, and the first epoch with it.
-fn report_of(rate: u64, epochs: &[(u64, u16)]) -> [u64; 4] {
+pub fn report_of(rate: u64, epochs: &[(u64, u16)]) -> [u64; 4] {
     let totals = |n: usize| {
         let (mm, pulses) = epochs[..n].iter().fold((0, 0), |(a, b), e| {
             (a + u128::from(e.0), b + u128::from(e.1))
@@ -187,7 +187,7 @@ fn displacement(random: &mut Random) -> [f64; 3] {
     })
 }
 
-fn rate(random: &mut Random) -> u16 {
+pub fn rate(random: &mut Random) -> u16 {
     match random.below(16) {
         0 => 0,
         1..=4 => 1,
@@ -196,7 +196,7 @@ fn rate(random: &mut Random) -> u16 {
     }
 }
 
-fn pulses(random: &mut Random) -> u16 {
+pub fn pulses(random: &mut Random) -> u16 {
     match random.below(4) {
         0 => random.pick(&[0, 1, 65_534, 65_535]),
         _ => (random.bits() as u16) >> random.below(16),
@@ -209,7 +209,7 @@ fn at(random: &mut Random, limit: u64) -> u64 {
 }
 
 /// A made-up trip: each of its numbers at a limit, beside it, within it, or any.
-fn made_up(random: &mut Random) -> Words {
+pub fn made_up(random: &mut Random) -> Words {
     let within = |random: &mut Random, limit: u64| match random.below(8) {
         0..=2 => at(random, limit),
         3 => random.bits() >> random.below(64),

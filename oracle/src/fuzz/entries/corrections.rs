@@ -18,13 +18,13 @@ fn order(a: &Sample, b: &Sample) -> std::cmp::Ordering {
 }
 
 /// How bands are named.
-fn naming(b: &mut Bytes) -> Naming {
+pub(super) fn naming(b: &mut Bytes) -> Naming {
     let far = usize::from(b.byte());
     *Naming::FAR.get(far % 8).unwrap_or(&Naming::PLAIN)
 }
 
 /// A table of few samples, sorted or not, in columns that may be longer or shorter.
-fn table(b: &mut Bytes, naming: Naming) -> base::Table {
+pub(super) fn table(b: &mut Bytes, naming: Naming) -> base::Table {
     let n = b.below(40);
     let sorted = b.byte() > 20;
     b.plain_above(40);
@@ -96,18 +96,18 @@ fn samples(t: &base::Table) -> Vec<Sample> {
 }
 
 /// The table's columns, lent.
-struct Columns {
-    dc: Lent<u8>,
-    dv: Lent<u16>,
-    db: Lent<u32>,
-    df: Lent<usize>,
-    dn: Lent<usize>,
-    ts: Lent<f64>,
-    xs: Lent<f64>,
+pub(super) struct Columns {
+    pub(super) dc: Lent<u8>,
+    pub(super) dv: Lent<u16>,
+    pub(super) db: Lent<u32>,
+    pub(super) df: Lent<usize>,
+    pub(super) dn: Lent<usize>,
+    pub(super) ts: Lent<f64>,
+    pub(super) xs: Lent<f64>,
 }
 
 impl Columns {
-    fn lend(lender: &mut Lender, t: &base::Table) -> Self {
+    pub(super) fn lend(lender: &mut Lender, t: &base::Table) -> Self {
         Self {
             dc: lender.lend(&t.dc),
             dv: lender.lend(&t.dv),
@@ -120,7 +120,7 @@ impl Columns {
     }
 
     /// They must hold what the table has, to the last bit.
-    fn hold(&self, t: &base::Table) {
+    pub(super) fn hold(&self, t: &base::Table) {
         self.dc.holds(&t.dc);
         self.dv.holds(&t.dv);
         self.db.holds(&t.db);

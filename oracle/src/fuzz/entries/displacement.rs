@@ -2,7 +2,7 @@
 
 use super::times::nanos;
 use super::{column, count, floats, signal, sys};
-use crate::estimate::{Between, Displacement};
+use crate::estimate::{Between, City, Displacement};
 use crate::fuzz::lent::{Lender, Lent};
 use crate::fuzz::Bytes;
 use crate::random::Random;
@@ -96,18 +96,18 @@ pub fn displacement_input(b: &mut Bytes) -> Displacement {
 }
 
 /// An epoch of carriers, lent.
-struct Epoch {
-    constellation: Lent<u8>,
-    svid: Lent<u16>,
-    band: Lent<u32>,
-    state: Lent<i32>,
-    floats: Lent<f64>,
-    count: usize,
-    fits: bool,
+pub struct Epoch {
+    pub constellation: Lent<u8>,
+    pub svid: Lent<u16>,
+    pub band: Lent<u32>,
+    pub state: Lent<i32>,
+    pub floats: Lent<f64>,
+    pub count: usize,
+    pub fits: bool,
 }
 
 impl Epoch {
-    fn lend(b: &mut Bytes, lender: &mut Lender, records: &[Carrier]) -> Self {
+    pub fn lend(b: &mut Bytes, lender: &mut Lender, records: &[Carrier]) -> Self {
         let constellation = column(b, records, |c| c.constellation);
         let svid = column(b, records, |c| c.svid);
         let band = column(b, records, |c| c.band);
@@ -135,7 +135,7 @@ impl Epoch {
         }
     }
 
-    fn kept(&self) {
+    pub fn kept(&self) {
         self.constellation.kept();
         self.svid.kept();
         self.band.kept();
@@ -221,6 +221,17 @@ macro_rules! compared {
 pub fn displacement(b: &mut Bytes) {
     let mut input = displacement_input(b);
     compared!(b, input, zaqnuti_displacement, input.dt; input.answer());
+}
+
+pub fn city(b: &mut Bytes) {
+    let mut input = displacement_input(b);
+    let band = match b.byte() {
+        0..=199 => 1575,
+        _ => b.u64() as u32,
+    };
+    compared!(b, input, zaqnuti_city_displacement, input.dt, band; {
+        City { displacement: input, band }.answer()
+    });
 }
 
 pub fn between(b: &mut Bytes) {

@@ -6,7 +6,7 @@ use crate::fuzz::Bytes;
 use crate::services::trip::{added, fuelled, reported, started, Words};
 
 /// A made-up trip: of small numbers, at the limits of its epochs, or of any.
-fn made_up(b: &mut Bytes) -> Words {
+pub fn made_up(b: &mut Bytes) -> Words {
     match b.byte() {
         0..=99 => {
             let epochs = u64::from(b.byte());

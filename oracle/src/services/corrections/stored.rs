@@ -30,9 +30,9 @@ fn readings(t: &Table) -> Vec<u64> {
 }
 
 /// A base, a rover, settings, how bands are named, and a table of what some epochs gave, zeros past its samples.
-type Session = ([f64; 3], [f64; 3], Settings, Naming, Vec<Epoch>, Table);
+pub(super) type Session = ([f64; 3], [f64; 3], Settings, Naming, Vec<Epoch>, Table);
 
-fn session(random: &mut Random) -> Option<Session> {
+pub(super) fn session(random: &mut Random) -> Option<Session> {
     let base: [f64; 3] = [-2.7e6 + random.unit() * 1e5, -4.3e6, 3.85e6];
     let rover: [f64; 3] = std::array::from_fn(|i| base[i] + random.unit() * 1e4);
     let set = settings(random);
@@ -62,7 +62,7 @@ fn session(random: &mut Random) -> Option<Session> {
 }
 
 /// A fault of the table, or one block or sample more than there is room for.
-fn spoil(random: &mut Random, t: &mut Table) {
+pub(super) fn spoil(random: &mut Random, t: &mut Table) {
     match random.below(4) {
         0 => t.n = ROOM + 1,
         1 => t.m = ROOM + 1,
@@ -71,7 +71,7 @@ fn spoil(random: &mut Random, t: &mut Table) {
 }
 
 /// How many blocks, and each of them; how many samples, and each of them.
-fn samples(t: &Table) -> Vec<u64> {
+pub(super) fn samples(t: &Table) -> Vec<u64> {
     let mut out = vec![t.m as u64];
     out.extend(blocks(t));
     out.push(t.n as u64);

@@ -5,9 +5,10 @@ use crate::estimate::Displacement;
 use crate::line_form::{answer, carrier_line, line, lines, settings_line, text as text_of, BYTES};
 use crate::random::Random;
 use crate::sky::Input;
-use crate::vectors::{packed, Vectors};
+use crate::vectors::{packed, Vectors, AS_THEY_COME};
 use drifters_gnss::tdcp::Settings;
 use std::collections::BTreeMap;
+use std::sync::atomic::Ordering;
 
 /// How many texts of the comparison have each answer: acceptance, and each number.
 const EACH: usize = 4;
@@ -88,8 +89,16 @@ fn six_equal_pairs(good: &Displacement) -> Displacement {
     }
 }
 
-/// Texts as the comparison has them, the same number for each answer.
+/// Texts as the comparison has them, the same number for each answer; at scale so many as they come.
 fn of_each(random: &mut Random) -> Vec<Vec<u8>> {
+    let many = AS_THEY_COME.load(Ordering::Relaxed);
+    if many > 0 {
+        let short = |t: &Vec<u8>| t.len() <= SHORT;
+        return std::iter::repeat_with(|| text(random))
+            .filter(short)
+            .take(many)
+            .collect();
+    }
     let mut found: BTreeMap<u8, usize> = NUMBERS.map(|n| (n, 0)).into();
     let mut out = Vec::new();
     while found.values().any(|&k| k < EACH) {

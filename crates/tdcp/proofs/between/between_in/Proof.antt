@@ -4,6 +4,7 @@ use Rattle.records.specs.Carriers.{CarrierColumns, carrierColumns, epochOf}
 use Rattle.estimator.specs.declared.rules.Check.the-variants.{Passed}
 use Rattle.estimator.proofs.RulesLaws.{checked}
 use Rattle.tdcp.specs.Valid.{epochRules}
+use Rattle.tdcp.proofs.DisplacementCall.{general}
 use Rattle.tdcp.proofs.BetweenLaws.{refused-epochs, passed-epochs, promised}
 use borrow.Author.Needs.{needs}
 use Rattle.tdcp.proofs.between.between_in.Statement.{statement}
@@ -47,7 +48,7 @@ returns-2 : tie.Need-returns-2
 returns-2 c = promised _ _ (passed-epochs _ (passed (c .before .before .before .before)) (sym (c .before .since .given .1) ∙ c .before .before .before .seconds-since .ensures))
 
 returns-3 : tie.Need-returns-3
-returns-3 c = promised _ _ (c .moved-in .ensures ∙ passed-epochs _ (passed (c .before .before .before .before .before)) (sym (c .before .before .since2 .given .1) ∙ c .before .before .before .before .seconds-since .ensures))
+returns-3 c = promised _ _ (c .moved-in .ensures ∙ general _ 0 ∙ passed-epochs _ (passed (c .before .before .before .before .before)) (sym (c .before .before .since2 .given .1) ∙ c .before .before .before .before .seconds-since .ensures))
 
 pub between-in-spec : {M : Type 1} → statement M
 between-in-spec =

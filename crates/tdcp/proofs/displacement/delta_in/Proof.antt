@@ -5,7 +5,7 @@ use Rattle.tdcp.specs.Valid.{epochRules}
 use Rattle.estimator.specs.declared.rules.Check.the-variants.{Passed}
 use Rattle.estimator.proofs.RulesLaws.{checked}
 use Rattle.tdcp.proofs.DisplacementSound.{promised}
-use Rattle.tdcp.proofs.DisplacementCall.{refused-epochs, passed-epochs}
+use Rattle.tdcp.proofs.DisplacementCall.{refused-epochs, passed-epochs, general}
 use borrow.Author.Needs.{needs}
 use Rattle.tdcp.proofs.displacement.delta_in.Statement.{statement}
 use Rattle.tdcp.proofs.displacement.delta_in.Tie as tie
@@ -36,7 +36,7 @@ moved-in-requires : tie.Need-moved-in-requires
 moved-in-requires c κs = (c .before .before .before .before .before .before .before .before .before .before .before .pre .0, c .before .before .before .before .before .before .before .before .before .before .before .pre .1)
 
 returns-2 : tie.Need-returns-2
-returns-2 c = promised _ _ (c .moved-in .ensures ∙ passed-epochs _ (passed (c .before)))
+returns-2 c = promised _ _ (c .moved-in .ensures ∙ general _ 0 ∙ passed-epochs _ (passed (c .before)))
 
 pub delta-in-spec : {M : Type 1} → statement M
 delta-in-spec = tie.close (tie.spec check-in-requires enum-known-r returns enum-told moved-in-requires returns-2)

@@ -1,0 +1,2 @@
+// The displacement of the city profile.
+pub mod city;

@@ -1,0 +1,4 @@
+-- What the proofs of more than one function use, and the theorems.
+pub mod DriveLaws
+pub mod EventLaws
+pub mod LentLaws

@@ -1,0 +1,124 @@
+-- The calls of a trip with settings on lent memory: what they answer, and what it holds afterwards; a refusal leaves every word and every bit. Definitions only.
+use Prim.Native.Nat.{ℕ}
+use mathlib.Core.Path.{_≡_}
+use mathlib.Core.Bool.{cond, _&&_}
+use mathlib.Core.List.{List, [], _∷_, map}
+use lib.ListN.{getD}
+use lib.Ieee.{Float, nan}
+use Rattle.exact.specs.Float.{+0}
+use Rattle.numeric.specs.Order.{patternOf}
+use Rattle.numeric.specs.Refusal.{numberOf}
+use Rattle.numeric.specs.declared.refusal.Refusal.the-variants.{TooMany}
+use Rattle.numeric.specs.declared.vec3.Vec3.{Vec3}
+use Rattle.records.specs.Carriers.{CarrierColumns, epochOf, epochFits}
+use Rattle.tdcp.specs.Displacement.{Input, input, displacementOf, displacementFloats, displacementCounts, Accepted}
+use Rattle.tdcp.specs.declared.displacement.Settings.{Settings}
+use Rattle.tdcp.specs.declared.displacement.Displacement.{Displacement}
+use Rattle.tdcp.specs.declared.displacement.Displacement.the-variants as Displacement
+use Rattle.trip.specs.Words.{heldOf, wordsOf}
+use Rattle.drive.specs.Drive.{travelBy}
+use Rattle.drive.specs.declared.drive.Driving.{Driving}
+use Rattle.drive.specs.declared.drive.Driving.the-variants as Driving
+use Rattle.drive.specs.declared.drive.Travelled.{Travelled}
+use Rattle.drive.specs.declared.drive.Travel.{Travel}
+use Rattle.drive.specs.declared.drive.Travel.the-variants as Travel
+
+-- ---- settings as five floats (screen, sigma_a, sigma_b, huber, mask) and the rounds; `agreement` is neither read nor checked
+
+abbrev pub settingsOf : List Float → ℕ → Settings
+settingsOf s rounds =
+    record {
+      screen = getD s 0 nan;
+      «sigma_a» = getD s 1 nan;
+      «sigma_b» = getD s 2 nan;
+      huber = getD s 3 nan;
+      mask = getD s 4 nan;
+      rounds = rounds;
+      agreement = +0;
+    }
+
+abbrev pub floatsOf : Settings → List Float
+floatsOf s = s .screen ∷ s .«sigma_a» ∷ s .«sigma_b» ∷ s .huber ∷ s .mask ∷ []
+
+-- ---- beginning, and new settings
+
+abbrev pub drivingNumber : Driving → ℕ
+drivingNumber (Driving.Refused r) = numberOf r
+drivingNumber (Driving.Goes v) = 0
+
+-- the patterns of the settings in force, and their rounds
+abbrev pub inForceAfter : Driving → List ℕ → List ℕ
+inForceAfter (Driving.Refused r) before = before
+inForceAfter (Driving.Goes v) before = map patternOf (floatsOf (v .settings))
+
+abbrev pub roundsAfter : Driving → ℕ → ℕ
+roundsAfter (Driving.Refused r) before = before
+roundsAfter (Driving.Goes v) before = v .settings .rounds
+
+abbrev pub startedAfter : Driving → List ℕ → List ℕ
+startedAfter (Driving.Refused r) before = before
+startedAfter (Driving.Goes v) before = wordsOf (v .trip)
+
+pub record DrivingAnswers (d : Driving) (number : ℕ) (force₀ force : List ℕ) (rounds₀ rounds : ℕ) : Type 0 where
+  pub number-is : number ≡ drivingNumber d
+  pub in-force-is : force ≡ inForceAfter d force₀
+  pub rounds-are : rounds ≡ roundsAfter d rounds₀
+
+-- beginning writes the trip's words too
+pub record BegunAnswers (d : Driving) (number : ℕ) (trip₀ trip force₀ force : List ℕ) (rounds₀ rounds : ℕ) : Type 0 where
+  pub trip-is : trip ≡ startedAfter d trip₀
+  pub others : DrivingAnswers d number force₀ force rounds₀ rounds
+
+-- ---- a displacement
+
+-- what is lent for one
+pub record Lent : Type 0 where
+  pub previous : CarrierColumns
+  pub previous-count : ℕ
+  pub current : CarrierColumns
+  pub current-count : ℕ
+  pub dt : Float
+  pub receiver : Vec3
+  pub settings : Settings
+
+abbrev pub lent : CarrierColumns → ℕ → CarrierColumns → ℕ → Float → Vec3 → Settings → Lent
+lent p m c n dt receiver settings =
+    record { previous = p; previous-count = m; current = c; current-count = n; dt = dt; receiver = receiver; settings = settings }
+
+abbrev pub inputOf : Lent → Input
+inputOf l = input (epochOf (l .previous) (l .previous-count)) (epochOf (l .current) (l .current-count)) (l .dt) (l .receiver) (l .settings)
+
+-- 2: one epoch has more than 64, or one of its columns is too short
+unfoldable pub movedOf : Lent → Displacement
+movedOf l =
+    cond (epochFits (l .previous) (l .previous-count) && epochFits (l .current) (l .current-count)) (displacementOf (inputOf l))
+    (Displacement.Refused TooMany)
+
+-- the trip that the words hold, with that displacement
+abbrev pub travelledIn : Lent → ℕ → List ℕ → Travel
+travelledIn l pulses words = travelBy (heldOf words) pulses (movedOf l)
+
+abbrev pub travelNumber : Travel → ℕ
+travelNumber (Travel.Refused r) = numberOf r
+travelNumber (Travel.Goes w) = 0
+
+abbrev pub tripAfter : Travel → List ℕ → List ℕ
+tripAfter (Travel.Refused r) before = before
+tripAfter (Travel.Goes w) before = wordsOf (w .trip)
+
+-- the patterns of the displacement in metres, and how many pairs were used and screened out
+abbrev pub deltaAfter : Travel → List ℕ → List ℕ
+deltaAfter (Travel.Refused r) before = before
+deltaAfter (Travel.Goes w) before = map patternOf (displacementFloats (Displacement.Moved (w .moved)))
+
+abbrev pub countsAfter : Travel → List ℕ → List ℕ
+countsAfter (Travel.Refused r) before = before
+countsAfter (Travel.Goes w) before = displacementCounts (Displacement.Moved (w .moved))
+
+-- The number and what is lent are those of the call. An accepted displacement has what every accepted one has with its own settings, demand 3 of every round included.
+pub record TravelAnswers (l : Lent) (pulses number : ℕ) (trip₀ trip delta₀ delta counts₀ counts : List ℕ) : Type 0 where
+  pub number-is : number ≡ travelNumber (travelledIn l pulses trip₀)
+  pub trip-is : trip ≡ tripAfter (travelledIn l pulses trip₀) trip₀
+  pub delta-is : delta ≡ deltaAfter (travelledIn l pulses trip₀) delta₀
+  pub counts-are : counts ≡ countsAfter (travelledIn l pulses trip₀) counts₀
+  pub accepted : (w : Travelled) → travelledIn l pulses trip₀ ≡ Travel.Goes w → Accepted (inputOf l) (w .moved)

@@ -1,0 +1,3 @@
+pub mod Drive
+pub mod Events
+pub mod Lent

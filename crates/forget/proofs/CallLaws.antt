@@ -1,0 +1,112 @@
+-- The call: its refusals, what it leaves, and the queries afterwards. Assumes nothing.
+use mathlib.Core.Path.{_≡_, refl, sym, ap, _∙_, subst}
+use mathlib.Core.List.{List}
+use mathlib.Core.Bool.{Bool, true, false, not, _||_}
+use Prim.Native.Nat.{ℕ, _≤_}
+use native.Mathlib.Omega.{arith}
+use lib.Dec.{T, ltb}
+use lib.ListN.{length, getD, take}
+use lib.Seq.{length-take-le}
+use borrow.Author.Tests.{ltb-false, not-true, not-false}
+use lib.Ieee.{Float, nan, fits, binary64}
+use lib.Ieee.Scale.{finite}
+use Rattle.walk.proofs.Walk.{or-no}
+use Rattle.numeric.specs.Refusal.{numberOf}
+use Rattle.numeric.specs.declared.refusal.Refusal.{Refusal}
+use Rattle.numeric.specs.declared.refusal.Refusal.the-variants.{TooMany, RecordOutOfRange, BadDropTime}
+use Rattle.table.proofs.UnitLaws.{never}
+use Rattle.table.specs.declared.add.Test.{Test}
+use Rattle.table.specs.declared.add.Test.the-variants as Test
+use Rattle.directory.specs.Directory.{Directory, Blocks, blockCapacity, blocksWith, directoryIn, directoryOf, entriesIn, flat, readingsIn, soundDirectory}
+use Rattle.query.proofs.PlaceLaws.{held-flat}
+use Rattle.forget.specs.Forget.{Forgets, Outcome, countAfter, forget, forgetIn, forgettingNumber, forgettingOf, leaves, outcomeOf, refused, testIn}
+use Rattle.forget.specs.Retain.{laid, retained, trimmed}
+use Rattle.forget.specs.declared.forget.Forgetting.{Forgetting}
+use Rattle.forget.specs.declared.forget.Forgetting.the-variants as Forgetting
+use Rattle.forget.proofs.LayoutLaws.{forget-trimmed}
+use Rattle.forget.proofs.TrimLaws.{laid-length}
+
+-- ---- the tests one after the other
+module _ (m n room : ℕ) (d : Directory) (time : Float) {r : ℕ} (is : r ≡ room) where
+  pub test-count : (ltb r m || ltb r n) ≡ true → Test.Refused TooMany ≡ testIn m n room d time
+  unfolding testIn
+  test-count h = rw (← is, h)
+
+  module _ (h : (ltb r m || ltb r n) ≡ false) {y : Bool} (ey : y ≡ soundDirectory d) where
+    pub test-sound : not y ≡ true → Test.Refused RecordOutOfRange ≡ testIn m n room d time
+    unfolding testIn
+    test-sound u = rw (← is, h, ← ey, not-true y u)
+
+    module _ (u : not y ≡ false) {f : Bool} (ef : f ≡ finite time) where
+      pub test-finite : not f ≡ true → Test.Refused BadDropTime ≡ testIn m n room d time
+      unfolding testIn
+      test-finite w = rw (← is, h, ← ey, not-false y u, ← ef, not-true f w)
+
+      pub test-passed : not f ≡ false → Test.Passed ≡ testIn m n room d time
+      unfolding testIn
+      test-passed w = rw (← is, h, ← ey, not-false y u, ← ef, not-false f w)
+
+-- ---- what a passed test says
+pub record Fit (m n : ℕ) (l : Blocks) : Type 0 where
+  pub few-entries : m ≤ length (entriesIn l)
+  pub few-samples : n ≤ length (readingsIn l)
+  pub steady : soundDirectory (directoryIn m n l) ≡ true
+
+refused-not : {A : Type 0} (r : Refusal) → Test.Refused r ≡ Test.Passed → A
+refused-not r e = never (ap isPassed e)
+  where
+    isPassed : Test → Bool
+    isPassed (Test.Refused r) = false
+    isPassed Test.Passed = true
+
+pub fit-of : (m n : ℕ) (l : Blocks) (time : Float) → testIn m n (blockCapacity l) (directoryIn m n l) time ≡ Test.Passed → Fit m n l
+fit-of m n l time e = go (ltb (blockCapacity l) m || ltb (blockCapacity l) n) (soundDirectory (directoryIn m n l)) refl refl
+  where
+    many : (ltb (blockCapacity l) m || ltb (blockCapacity l) n) ≡ true → testIn m n (blockCapacity l) (directoryIn m n l) time ≡ Test.Refused TooMany
+    many p = unfold testIn in rw p
+
+    unsound : (ltb (blockCapacity l) m || ltb (blockCapacity l) n) ≡ false → soundDirectory (directoryIn m n l) ≡ false → testIn m n (blockCapacity l) (directoryIn m n l) time ≡ Test.Refused RecordOutOfRange
+    unsound p q = unfold testIn in rw (p, q)
+
+    go : (x y : Bool) → (ltb (blockCapacity l) m || ltb (blockCapacity l) n) ≡ x → soundDirectory (directoryIn m n l) ≡ y → Fit m n l
+    go true y p q = refused-not TooMany (sym (many p) ∙ e)
+    go false false p q = refused-not RecordOutOfRange (sym (unsound p q) ∙ e)
+    go false true p q =
+        let k = or-no (ltb (blockCapacity l) m) (ltb (blockCapacity l) n) p in
+        let a = ltb-false (blockCapacity l) m (k .0) in
+        let b = ltb-false (blockCapacity l) n (k .1) in
+        record { few-entries = omega arith; few-samples = omega arith; steady = q }
+
+-- ---- what is left
+module _ (m n : ℕ) (l : Blocks) (time : Float) where
+  pub forget-refused : (r : Refusal) → testIn m n (blockCapacity l) (directoryIn m n l) time ≡ Test.Refused r
+      → (let o = forgetIn m n (blockCapacity l) (directoryIn m n l) time in (Forgetting.Refused r ≡ forgettingOf o) × Forgets o (numberOf r) m n n l l)
+  unfolding forgetIn
+  forget-refused r e = rw e (refl, record { number-is = refl; entries-stay = refl; count = refl; columns = refl })
+
+  pub forget-passed : testIn m n (blockCapacity l) (directoryIn m n l) time ≡ Test.Passed → ((j : ℕ) → T (fits binary64 (getD (l .times) j nan))) → T (fits binary64 time)
+      → {k : ℕ} {l′ : Blocks} → k ≡ length (trimmed time (directoryIn m n l) .readings) → l′ ≡ blocksWith (trimmed time (directoryIn m n l)) l
+      → (let o = forgetIn m n (blockCapacity l) (directoryIn m n l) time in (Forgetting.Count k ≡ forgettingOf o) × Forgets o 0 m n k l l′)
+  forget-passed e held ft {k} {l′} ek el =
+      let f = fit-of m n l time e in
+      let d = directoryIn m n l in
+      let q : directoryOf (forget time (flat d)) ≡ trimmed time d = forget-trimmed time d ft (f .steady) (held-flat m n l (f .few-entries) (f .few-samples) (f .steady) held) in
+      let o : forgetIn m n (blockCapacity l) d time ≡ leaves (trimmed time d) = outcome q in
+      rw o (
+        ap Forgetting.Count ek,
+        record { number-is = refl; entries-stay = entries (f .few-entries); count = ek; columns = el },
+      )
+    where
+      outcome : directoryOf (forget time (flat (directoryIn m n l))) ≡ trimmed time (directoryIn m n l) → forgetIn m n (blockCapacity l) (directoryIn m n l) time ≡ leaves (trimmed time (directoryIn m n l))
+      outcome q = unfold forgetIn in rw (e, q)
+
+      entries : m ≤ length (entriesIn l) → m ≡ length (trimmed time (directoryIn m n l) .entries)
+      entries h = unfold trimmed in sym (laid-length (retained time (take n (readingsIn l))) 0 (take m (entriesIn l)) ∙ length-take-le m (entriesIn l) h)
+
+-- ---- the number and the count, by the answer
+module _ {o : Outcome} {m n : ℕ} {l l′ : Blocks} {a : Forgetting} (f : Forgets o (forgettingNumber a) m n (countAfter a n) l l′) where
+  pub call-refused : {r : Refusal} → a ≡ Forgetting.Refused r → {k : ℕ} → k ≡ numberOf r → Forgets o k m n n l l′
+  call-refused e q = rw q (rw e at f)
+
+  pub call-count : {k : ℕ} → a ≡ Forgetting.Count k → Forgets o 0 m n k l l′
+  call-count e = rw e at f

@@ -1,0 +1,83 @@
+-- `forget::forget::forget` meets its contract. Assumes nothing.
+use mathlib.Core.Path.{sym, _∙_, subst}
+use lib.Dec.{T}
+use borrow.Author.Needs.{needs}
+use Rattle.directory.specs.Directory.{lentBlocks}
+use Rattle.forget.proofs.CallLaws.{fit-of, forget-refused, forget-passed}
+use Rattle.forget.proofs.forget.forget.Statement.{statement}
+use Rattle.forget.proofs.forget.forget.Tie as tie
+
+tested-requires : tie.Need-tested-requires
+tested-requires c κs = search needs
+
+enum-known-test : tie.Need-enum-known-test
+enum-known-test c = search needs
+
+enum-told : tie.Need-enum-told
+enum-told c = search needs
+
+trim-requires : tie.Need-trim-requires
+trim-requires c κs =
+    let a = c .before .before .before .before .before .before .before .before .before .before .before .before .before .before .before .before .before .before .args in
+    let l = lentBlocks (a .dc .now) (a .dv .now) (a .db .now) (a .df .now) (a .dn .now) (a .ts .now) (a .xs .now) in
+    let e = sym (c .before .before .before .before .enum-told .given .1) ∙ c .before .before .before .before .before .before .tested .ensures in
+    let f = fit-of (a .m) (a .n) l (a .time) (sym e) in
+    ((f .few-entries, f .few-samples), f .steady)
+
+same-length : tie.Need-same-length
+same-length c = search needs
+
+same-length-2 : tie.Need-same-length-2
+same-length-2 c = search needs
+
+same-length-3 : tie.Need-same-length-3
+same-length-3 c = search needs
+
+same-length-4 : tie.Need-same-length-4
+same-length-4 c = search needs
+
+returns : tie.Need-returns
+returns c =
+    let a = c .before .before .before .before .before .before .before .before .before .before .before .before .before .before .before .args in
+    let l = lentBlocks (a .dc .now) (a .dv .now) (a .db .now) (a .df .now) (a .dn .now) (a .ts .now) (a .xs .now) in
+    let e = sym (c .before .test .given .1) ∙ c .before .before .before .tested .ensures in
+    forget-refused (a .m) (a .n) l (a .time) _ (sym e)
+
+same-length-5 : tie.Need-same-length-5
+same-length-5 c = search needs
+
+same-length-6 : tie.Need-same-length-6
+same-length-6 c = search needs
+
+same-length-7 : tie.Need-same-length-7
+same-length-7 c = search needs
+
+same-length-8 : tie.Need-same-length-8
+same-length-8 c = search needs
+
+returns-2 : tie.Need-returns-2
+returns-2 c =
+    let s = c .before .before .before .before .before .before .before .before .before .before .before .before .before .before .before .before .before .before .before .before .before .before .before .before .before .before .before in
+    let a = s .args in
+    let l = lentBlocks (a .dc .now) (a .dv .now) (a .db .now) (a .df .now) (a .dn .now) (a .ts .now) (a .xs .now) in
+    let e = sym (c .before .before .before .before .before .before .before .before .before .before .before .before .before .enum-told .given .1) ∙ c .before .before .before .before .before .before .before .before .before .before .before .before .before .before .before .tested .ensures in
+    forget-passed (a .m) (a .n) l (a .time) (sym e) (λ j. c .before .before .before .before .before .before .before .before .before .before .before .before .before .before .before .before .before .before .before .before .before .slice-known3 .given j) (subst T (sym (s .good .1 .1 .1 .1 .1 .1 .1 .1 .1 .0 .1)) tt) (c .before .before .before .before .before .before .before .before .trim .ensures .0) (c .before .before .before .before .before .before .before .before .trim .ensures .1)
+
+pub forget-spec : {M : Type 1} → statement M
+forget-spec =
+    tie.close
+    (tie.spec
+    tested-requires
+    enum-known-test
+    enum-told
+    trim-requires
+    same-length
+    same-length-2
+    same-length-3
+    same-length-4
+    returns
+    same-length-5
+    same-length-6
+    same-length-7
+    same-length-8
+    returns-2)

@@ -1,0 +1,92 @@
+-- Forgetting the samples before a time (request (x)). Definitions only.
+use Prim.Native.Nat.{ℕ}
+use mathlib.Core.Path.{_≡_}
+use mathlib.Core.Bool.{Bool, false, cond, not, _&&_, _||_}
+use mathlib.Core.List.{List, [], _∷_}
+use lib.Dec.{eqb, ltb}
+use lib.ListN.{length}
+use lib.Ieee.{Float}
+use lib.Ieee.Scale.{finite}
+use Rattle.numeric.specs.Refusal.{numberOf}
+use Rattle.numeric.specs.declared.refusal.Refusal.{Refusal}
+use Rattle.numeric.specs.declared.refusal.Refusal.the-variants.{TooMany, RecordOutOfRange, BadDropTime}
+use Rattle.table.specs.Table.{signalOf}
+use Rattle.table.specs.declared.sample.Sample.{Sample}
+use Rattle.table.specs.declared.add.Test.{Test}
+use Rattle.table.specs.declared.add.Test.the-variants as Test
+use Rattle.directory.specs.Directory.{Directory, Blocks, blocksWith, directoryOf, flat, soundDirectory}
+use Rattle.query.specs.Query.{before}
+use Rattle.forget.specs.declared.forget.Forgetting.{Forgetting}
+use Rattle.forget.specs.declared.forget.Forgetting.the-variants as Forgetting
+
+-- ---- the table
+
+-- a sample of the signal g before the time t; earlier is `<`, as in a query
+abbrev pub earlier : ℕ → Float → Sample → Bool
+earlier g t s = eqb (signalOf s) g && before t s
+
+-- whether a sample passes the test
+unfoldable pub some : (Sample → Bool) → List Sample → Bool
+some test [] = false
+some test (s ∷ ss) = test s || some test ss
+
+-- of each signal's samples earlier than the time only the last in table order is retained
+unfoldable pub forget : Float → List Sample → List Sample
+forget time [] = []
+forget time (s ∷ ss) = cond (before time s && some (earlier (signalOf s) time) ss) (forget time ss) (s ∷ forget time ss)
+
+-- ---- the call
+
+-- what is tested before a drop from m entries and n samples in columns with that capacity: number 2, number 4, which does not look at the time, and number 18
+unfoldable pub testIn : ℕ → ℕ → ℕ → Directory → Float → Test
+testIn m n room d time =
+    cond (ltb room m || ltb room n) (Test.Refused TooMany)
+    (cond (not (soundDirectory d)) (Test.Refused RecordOutOfRange)
+    (cond (not (finite time)) (Test.Refused BadDropTime)
+    Test.Passed))
+
+-- a refusal, or the directory afterwards
+pub data Outcome : Type 0 where
+  refused : Refusal → Outcome
+  leaves : Directory → Outcome
+
+-- what comes of a test, where the directory d is left if it is passed
+abbrev pub outcomeOf : Test → Directory → Outcome
+outcomeOf (Test.Refused r) d = refused r
+outcomeOf Test.Passed d = leaves d
+
+-- a drop: the refusal, or the directory of what is retained of the samples that d stands for
+unfoldable pub forgetIn : ℕ → ℕ → ℕ → Directory → Float → Outcome
+forgetIn m n room d time = outcomeOf (testIn m n room d time) (directoryOf (forget time (flat d)))
+
+-- the answer: the refusal, or how many samples there are now
+abbrev pub forgettingOf : Outcome → Forgetting
+forgettingOf (refused r) = Forgetting.Refused r
+forgettingOf (leaves d) = Forgetting.Count (length (d .readings))
+
+-- 0, or the number of the refusal
+abbrev pub forgettingNumber : Forgetting → ℕ
+forgettingNumber (Forgetting.Refused r) = numberOf r
+forgettingNumber (Forgetting.Count k) = 0
+
+-- how many samples there are after an answer, n before it
+abbrev pub countAfter : Forgetting → ℕ → ℕ
+countAfter (Forgetting.Refused r) n = n
+countAfter (Forgetting.Count k) n = k
+
+-- how many entries there are afterwards, m before
+abbrev pub entriesAfter : Outcome → ℕ → ℕ
+entriesAfter (refused r) m = m
+entriesAfter (leaves d) m = length (d .entries)
+
+-- the columns afterwards: as they were where it is refused, else with the directory, and past it the bytes that were there
+abbrev pub blocksAfter : Outcome → Blocks → Blocks
+blocksAfter (refused r) l = l
+blocksAfter (leaves d) l = blocksWith d l
+
+-- the number, the count and the columns afterwards are those of the outcome, and the directory keeps its m entries
+pub record Forgets (o : Outcome) (number m n n′ : ℕ) (l l′ : Blocks) : Type 0 where
+  pub number-is : number ≡ forgettingNumber (forgettingOf o)
+  pub entries-stay : m ≡ entriesAfter o m
+  pub count : n′ ≡ countAfter (forgettingOf o) n
+  pub columns : l′ ≡ blocksAfter o l

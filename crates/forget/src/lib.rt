@@ -1,0 +1,6 @@
+// Forgetting the samples before a time: of each satellite's earlier samples only the last is retained, in place.
+// In every call dc, dv, db, df and dn are the directory's columns of constellations, svids, bands, first samples and counts, of which m entries count;
+// ts and xs are the columns of times and corrections, of which n samples count.
+pub mod calls;
+pub mod forget;
+mod retain;

@@ -1,0 +1,15 @@
+-- `records::pair::is_wanted` meets its contract. Assumes nothing.
+use Rattle.records.specs.City.{certified}
+use borrow.Author.Needs.{needs}
+use Rattle.records.proofs.pair.is_wanted.Statement.{statement}
+use Rattle.records.proofs.pair.is_wanted.Tie as tie
+
+is-usable-requires : tie.Need-is-usable-requires
+is-usable-requires c κs = search needs
+
+returns : tie.Need-returns
+unfolding certified
+returns c = rw (c .before .before .before .before .is-usable .ensures)
+
+pub is-wanted-spec : {M : Type 1} → statement M
+is-wanted-spec = tie.close (tie.spec is-usable-requires returns)

@@ -1,0 +1,93 @@
+// Entry points of a trip whose displacements are worked out under settings that may change between two epochs. The caller holds the trip as six words, and the settings in force as
+// five floats (screen, sigma_a, sigma_b, huber, mask) and the rounds.
+ghost use mathlib.Core.Path.{_≡_};
+ghost use Rattle.records.specs.Carriers.{vectorAt, carrierColumns};
+ghost use Rattle.trip.specs.Words.{heldOf};
+ghost use Rattle.drive.specs.Drive.{begunOf, underNew, tested};
+ghost use Rattle.drive.specs.Lent.{settingsOf, lent, DrivingAnswers, BegunAnswers, TravelAnswers};
+use drive::lent::begin_in;
+use drive::lent::change_in;
+use drive::lent::travel_in;
+
+// A trip just started in the lent words, its settings in force in the lent floats and rounds, and 0; or 3 or 16, which leave all of them as they were.
+#[no_mangle]
+pub extern "C" fn zaqnuti_trip_begin(
+    settings: &[f64; 5],
+    rounds: usize,
+    per_km: u16,
+    trip: &mut [u64; 6],
+    in_force: &mut [u64; 5],
+    in_force_rounds: &mut usize,
+) -> u8
+    ensures { λ r. ⌜ BegunAnswers (begunOf (settingsOf (now (settings .entry)) rounds) «per_km») r
+        (now (trip .entry)) (now (trip .exit)) (now («in_force» .entry)) (now («in_force» .exit)) (now («in_force_rounds» .entry)) (now («in_force_rounds» .exit)) ⌝ }
+{
+    begin_in(settings, rounds, per_km, trip, in_force, in_force_rounds)
+}
+
+// New settings in force in the lent floats and rounds, and 0; or 3 or 16, which leave them as they were.
+#[no_mangle]
+pub extern "C" fn zaqnuti_trip_settings(
+    trip: &[u64; 6],
+    settings: &[f64; 5],
+    rounds: usize,
+    in_force: &mut [u64; 5],
+    in_force_rounds: &mut usize,
+) -> u8
+    ensures { λ r. ⌜ DrivingAnswers (underNew (settingsOf (now (settings .entry)) rounds) (tested (heldOf (now (trip .entry))))) r
+        (now («in_force» .entry)) (now («in_force» .exit)) (now («in_force_rounds» .entry)) (now («in_force_rounds» .exit)) ⌝ }
+{
+    change_in(trip, settings, rounds, in_force, in_force_rounds)
+}
+
+// The displacement under the settings in force, added to the lent words with its pulses: 0, the displacement in metres in delta and how many pairs were used and screened out in
+// counts; or the refusal's number, which leaves all of them as they were.
+#[no_mangle]
+pub extern "C" fn zaqnuti_trip_displacement(
+    trip: &mut [u64; 6],
+    in_force: &[f64; 5],
+    in_force_rounds: usize,
+    previous_constellation: &[u8],
+    previous_svid: &[u16],
+    previous_band: &[u32],
+    previous_state: &[i32],
+    previous_floats: &[f64],
+    previous_count: usize,
+    current_constellation: &[u8],
+    current_svid: &[u16],
+    current_band: &[u32],
+    current_state: &[i32],
+    current_floats: &[f64],
+    current_count: usize,
+    dt: f64,
+    receiver: &[f64; 3],
+    pulses: u16,
+    delta: &mut [u64; 3],
+    counts: &mut [usize; 2],
+) -> u8
+    ensures { λ r. ⌜ TravelAnswers (lent (carrierColumns (now («previous_constellation» .entry)) (now («previous_svid» .entry)) (now («previous_band» .entry)) (now («previous_state» .entry)) (now («previous_floats» .entry))) «previous_count» (carrierColumns (now («current_constellation» .entry)) (now («current_svid» .entry)) (now («current_band» .entry)) (now («current_state» .entry)) (now («current_floats» .entry))) «current_count» dt (vectorAt (now (receiver .entry)) 0) (settingsOf (now («in_force» .entry)) «in_force_rounds»)) pulses
+        r (now (trip .entry)) (now (trip .exit)) (now (delta .entry)) (now (delta .exit)) (now (counts .entry)) (now (counts .exit)) ⌝ }
+{
+    travel_in(
+        trip,
+        in_force,
+        in_force_rounds,
+        previous_constellation,
+        previous_svid,
+        previous_band,
+        previous_state,
+        previous_floats,
+        previous_count,
+        current_constellation,
+        current_svid,
+        current_band,
+        current_state,
+        current_floats,
+        current_count,
+        dt,
+        receiver,
+        pulses,
+        delta,
+        counts,
+    )
+}
