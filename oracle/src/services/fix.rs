@@ -125,17 +125,7 @@ const ROOM: usize = 64;
 /// Guess 3, settings 4, rounds, how many records; of each record, of 64 at most, constellation, pseudorange, satellite 3, elevation; number, used,
 /// position 3, chi, pdop (zeros where refused).
 pub fn vectors(random: &mut Random) -> Vectors {
-    let wanted = [
-        (0, 18),
-        (2, 1),
-        (3, 3),
-        (4, 3),
-        (8, 3),
-        (9, 2),
-        (10, 4),
-        (14, 4),
-        (15, 4),
-    ];
+    let wanted = [(0, 18), (2, 1), (3, 3), (4, 3), (8, 3), (9, 2), (10, 4), (14, 4), (15, 4)];
     let next = || {
         let input: Fix = sky::input(random);
         let call = Call::of(&input);
