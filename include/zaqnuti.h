@@ -66,8 +66,8 @@
  *     read_records       256
  *     write_records      256
  *     add_epoch       18,688
- *     query              512
- *     queries            768
+ *     query            1,024
+ *     queries          1,024
  *     forget             512
  *     widen_bands        256
  *     smooth             768

@@ -5,11 +5,10 @@ ghost use Rattle.query.specs.Query.{queryIn, queryNumber, patternAfter, 
 ghost use Rattle.query.specs.Queries.{queriesIn, Replies};
 use crate::queries::Asking;
 use crate::queries::queries;
-use crate::query::Correction;
-use crate::query::query;
 use numeric::order::pattern;
 
-// The correction of the signal c, v, b at the time t in metres and 0, or the number of the refusal, which leaves metres as it was.
+// The correction of the signal c, v, b at the time t in metres and 0, or the number of the refusal, which leaves metres as it was. It is one place of
+// many queries, so that one search serves both calls.
 pub fn query_call(
     dc: &[u8],
     dv: &[u16],
@@ -31,12 +30,39 @@ pub fn query_call(
         let q = queryIn m n (blockCapacity l) (directoryIn m n l) gap c v b t in
         (r ≡ queryNumber q) × (now (metres .exit) ≡ patternAfter q (now (metres .entry))) × GivesFinite q) ⌝ }
 {
-    let answer = query(dc, dv, db, df, dn, m, ts, xs, n, gap, c, v, b, t);
+    let cs = [c; 1];
+    let vs = [v; 1];
+    let bs = [b; 1];
+    let at = [t; 1];
+    let mut numbers = [0u8; 1];
+    let mut given = [0.0; 1];
+    let answer = queries(
+        dc,
+        dv,
+        db,
+        df,
+        dn,
+        m,
+        ts,
+        xs,
+        n,
+        gap,
+        &cs,
+        &vs,
+        &bs,
+        &at,
+        1,
+        &mut numbers,
+        &mut given,
+    );
     match answer {
-        Correction::Refused(r) => r.number(),
-        Correction::Metres(x) => {
-            *metres = pattern(x);
-            0
+        Asking::Refused(r) => r.number(),
+        Asking::Answered => {
+            let number = numbers[0];
+            if number == 0 {
+                *metres = pattern(given[0]);
+            }
+            number
         }
     }
 }

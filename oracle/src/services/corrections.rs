@@ -512,7 +512,9 @@ fn many(
 
 /// The bands of a table that was written with 8 bits for each, in columns that may be too short.
 fn old_bands(tally: &mut Tally, random: &mut Random, table: &Table, seen: &mut Seen) {
-    let mut narrow: Vec<u8> = (0..table.n).map(|i| table.db[table.holding(i)] as u8).collect();
+    let mut narrow: Vec<u8> = (0..table.n)
+        .map(|i| table.db[table.holding(i)] as u8)
+        .collect();
     narrow.truncate(table.n + random.place(3));
     let n = match random.below(8) {
         0 => table.n + random.place(5),
@@ -639,21 +641,35 @@ fn time(random: &mut Random) {
         },
     );
     for count in [32, 4096] {
-        let each = &each[..count];
-        let asked = Asked::of(each);
-        let mut out = Out::room(count);
-        bench::row(
-            "queries of one call",
-            count,
-            count,
-            || {
-                black_box(full.queries(90.0, &asked, count, &mut out));
-            },
-            || {
-                for (key, t) in each {
-                    black_box(c.at(key.0, key.1, key.2 as u8, *t));
-                }
-            },
-        );
+        each_of_one_call("queries of one call", &full, &c, &each[..count]);
     }
+    for missing in [3, 10] {
+        let mut part = c.clone();
+        for samples in part.series.values_mut() {
+            samples.retain(|_| random.below(100) >= missing);
+        }
+        let table = Table::lent([2048; 7]).with(&part.series, Naming::PLAIN);
+        let name = format!("queries, {missing} % missing");
+        each_of_one_call(&name, &table, &part, &each);
+    }
+}
+
+/// Many queries of one call against as many of the Rust's.
+fn each_of_one_call(name: &str, table: &Table, c: &Corrections, each: &[((u8, u16, u32), f64)]) {
+    let count = each.len();
+    let asked = Asked::of(each);
+    let mut out = Out::room(count);
+    bench::row(
+        name,
+        count,
+        count,
+        || {
+            black_box(table.queries(90.0, &asked, count, &mut out));
+        },
+        || {
+            for (key, t) in each {
+                black_box(c.at(key.0, key.1, key.2 as u8, *t));
+            }
+        },
+    );
 }
