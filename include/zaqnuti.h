@@ -69,6 +69,7 @@
  *     query            1,024
  *     queries          1,024
  *     forget             512
+ *     forms              512
  *     widen_bands        256
  *     smooth             768
  *     times              256

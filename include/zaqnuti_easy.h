@@ -648,12 +648,30 @@ static inline void zaqnuti_table_clear(zaqnuti_table *table)
 }
 
 /*
- * The table's bands from a column that was written with 8 bits for each, for
- * the table's count of samples; the other columns are copied as they are.
+ * The directory of a table that was stored with a signal for each sample, as
+ * before 0.5.0: time, metres and count are the table's own, the signals are
+ * columns of so many places. (Bands of 8 bits go through zaqnuti_widen_bands
+ * first.)
  */
-static inline uint8_t zaqnuti_easy_widen_bands(zaqnuti_table *table, const uint8_t *narrow, size_t narrow_length)
+static inline uint8_t zaqnuti_easy_directory_of(
+    zaqnuti_table *table, const uint8_t *constellation, const uint16_t *svid, const uint32_t *band, size_t length)
 {
-    return zaqnuti_widen_bands(narrow, narrow_length, table->count, table->band, ZAQNUTI_EASY_SAMPLES);
+    return zaqnuti_directory_of(
+        constellation, length, svid, length, band, length,
+        table->time, ZAQNUTI_EASY_SAMPLES, table->metres, ZAQNUTI_EASY_SAMPLES, table->count,
+        table->constellation, ZAQNUTI_EASY_SAMPLES, table->svid, ZAQNUTI_EASY_SAMPLES, table->band, ZAQNUTI_EASY_SAMPLES,
+        table->first, ZAQNUTI_EASY_SAMPLES, table->samples, ZAQNUTI_EASY_SAMPLES, &table->blocks);
+}
+
+/* The way back: the signal of each sample, in columns of so many places. */
+static inline uint8_t zaqnuti_easy_signals_of(
+    const zaqnuti_table *table, uint8_t *constellation, uint16_t *svid, uint32_t *band, size_t length)
+{
+    return zaqnuti_signals_of(
+        table->constellation, ZAQNUTI_EASY_SAMPLES, table->svid, ZAQNUTI_EASY_SAMPLES, table->band, ZAQNUTI_EASY_SAMPLES,
+        table->first, ZAQNUTI_EASY_SAMPLES, table->samples, ZAQNUTI_EASY_SAMPLES, table->blocks,
+        table->time, ZAQNUTI_EASY_SAMPLES, table->metres, ZAQNUTI_EASY_SAMPLES, table->count,
+        constellation, length, svid, length, band, length);
 }
 
 /* An epoch of no ranges and no states yet. */

@@ -610,11 +610,42 @@ static void widen_both(size_t count, size_t length)
     number = zaqnuti_widen_bands(narrow, length, count, plain_table.band, ZAQNUTI_SAMPLES);
     met[number] += 1;
     same(number == (count > length || count > ZAQNUTI_SAMPLES ? ZAQNUTI_TOO_MANY : 0), "bands, the number");
-    same(number == zaqnuti_easy_widen_bands(&easy_table, narrow, length), "bands, the number of the easy call");
     for (i = 0; i < ZAQNUTI_SAMPLES; i++) {
         same(plain_table.band[i] == (number == 0 && i < count ? narrow[i] : 0xA5A5A5A5u), "bands, each of them");
     }
-    tables_same("bands, the table after them");
+}
+
+/* The signals of the easy table, and its directory made of them again: by both calls, and the table as it was. */
+static void forms_both(size_t length)
+{
+    static uint8_t constellation[2][ZAQNUTI_SAMPLES];
+    static uint16_t svid[2][ZAQNUTI_SAMPLES];
+    static uint32_t band[2][ZAQNUTI_SAMPLES];
+    static zaqnuti_table again;
+    uint8_t number;
+
+    memset(constellation, 0xA5, sizeof constellation);
+    memset(svid, 0xA5, sizeof svid);
+    memset(band, 0xA5, sizeof band);
+    number = zaqnuti_signals_of(
+        easy_table.constellation, ZAQNUTI_EASY_SAMPLES, easy_table.svid, ZAQNUTI_EASY_SAMPLES, easy_table.band, ZAQNUTI_EASY_SAMPLES,
+        easy_table.first, ZAQNUTI_EASY_SAMPLES, easy_table.samples, ZAQNUTI_EASY_SAMPLES, easy_table.blocks,
+        easy_table.time, ZAQNUTI_EASY_SAMPLES, easy_table.metres, ZAQNUTI_EASY_SAMPLES, easy_table.count,
+        constellation[0], length, svid[0], length, band[0], length);
+    met[number] += 1;
+    same(number == (easy_table.count > length ? ZAQNUTI_TOO_MANY : 0), "signals, the number");
+    same(zaqnuti_easy_signals_of(&easy_table, constellation[1], svid[1], band[1], length) == number, "signals, the number of the easy call");
+    same(memcmp(constellation[0], constellation[1], sizeof *constellation) == 0 && memcmp(svid[0], svid[1], sizeof *svid) == 0 &&
+             memcmp(band[0], band[1], sizeof *band) == 0, "signals, each of them");
+    if (number == 0) {
+        again = easy_table;
+        again.blocks = 0;
+        memset(again.first, 0, sizeof again.first);
+        same(zaqnuti_easy_directory_of(&again, constellation[1], svid[1], band[1], length) == 0, "directory, the number");
+        same(again.blocks == easy_table.blocks && memcmp(again.first, easy_table.first, again.blocks * sizeof *again.first) == 0 &&
+                 memcmp(again.samples, easy_table.samples, again.blocks * sizeof *again.samples) == 0 &&
+                 memcmp(again.band, easy_table.band, again.blocks * sizeof *again.band) == 0, "directory, as it was");
+    }
 }
 
 /* ---- the track */
@@ -1048,6 +1079,9 @@ static void corrections(void)
         alter(&set.max_gap, 8);
         query_both(signals, count, time, &set);
     }
+    forms_both(ZAQNUTI_SAMPLES);
+    forms_both(easy_table.count);
+    forms_both(easy_table.count - 1);
     for (k = 0; k < 8; k++) {
         double time = rover.epoch[k].tow - (double)chance(60);
         alter(&time, 4);

@@ -668,6 +668,70 @@ fn widen_bands(n: usize) -> usize {
     })
 }
 
+/// The directory of a table of so many samples, and its signals again.
+fn forms(n: usize) -> usize {
+    let (c, v, b) = (vec![1u8; 2048], vec![2u16; 2048], vec![3u32; 2048]);
+    let (ts, xs) = (vec![4.0; 2048], vec![5.0; 2048]);
+    let (mut dc, mut dv, mut db) = (vec![0u8; 2048], vec![0u16; 2048], vec![0u32; 2048]);
+    let (mut df, mut dn, mut m) = (vec![0usize; 2048], vec![0usize; 2048], 0);
+    let (mut cs, mut vs, mut bs) = (c.clone(), v.clone(), b.clone());
+    measured(move || {
+        let frame = top();
+        // SAFETY: each column has its length beside it, and what is written is ours alone.
+        unsafe {
+            sys::zaqnuti_directory_of(
+                c.as_ptr(),
+                2048,
+                v.as_ptr(),
+                2048,
+                b.as_ptr(),
+                2048,
+                ts.as_ptr(),
+                2048,
+                xs.as_ptr(),
+                2048,
+                n,
+                dc.as_mut_ptr(),
+                2048,
+                dv.as_mut_ptr(),
+                2048,
+                db.as_mut_ptr(),
+                2048,
+                df.as_mut_ptr(),
+                2048,
+                dn.as_mut_ptr(),
+                2048,
+                &mut m,
+            );
+            sys::zaqnuti_signals_of(
+                dc.as_ptr(),
+                2048,
+                dv.as_ptr(),
+                2048,
+                db.as_ptr(),
+                2048,
+                df.as_ptr(),
+                2048,
+                dn.as_ptr(),
+                2048,
+                m,
+                ts.as_ptr(),
+                2048,
+                xs.as_ptr(),
+                2048,
+                n,
+                cs.as_mut_ptr(),
+                2048,
+                vs.as_mut_ptr(),
+                2048,
+                bs.as_mut_ptr(),
+                2048,
+            );
+        }
+        frame
+    })
+}
+
 fn smooth(n: usize, links: usize, iterations: usize) -> usize {
     let index: Vec<usize> = (0..1024).collect();
     let value: Vec<f64> = (0..3072).map(|i| f64::from(i % 97)).collect();
@@ -961,6 +1025,7 @@ fn no_more_than_the_header_says() {
                 forget(1000, f64::NAN),
             ]),
         ),
+        ("forms", most([forms(2048), forms(2049), forms(0)])),
         (
             "widen_bands",
             most([widen_bands(2048), widen_bands(2049), widen_bands(0)]),
