@@ -229,7 +229,8 @@ pub fn city(b: &mut Bytes) {
         0..=199 => 1575,
         _ => b.u64() as u32,
     };
-    compared!(b, input, zaqnuti_city_displacement, input.dt, band; {
+    let dt = input.dt;
+    compared!(b, input, zaqnuti_city_displacement, dt, band; {
         City { displacement: input, band }.answer()
     });
 }
