@@ -1,9 +1,9 @@
--- `zaqnuti::columns::epoch_fits` meets its contract. Assumes nothing.
+-- `tdcp_columns::displacement::epoch_fits` meets its contract. Assumes nothing.
 use borrow.Author.Tests.{le-leb, lt-leb}
 use Rattle.records.specs.Carriers.{epochFits}
 use borrow.Author.Needs.{needs}
-use Rattle.zaqnuti.proofs.columns.epoch_fits.Statement.{statement}
-use Rattle.zaqnuti.proofs.columns.epoch_fits.Tie as tie
+use Rattle.tdcp_columns.proofs.displacement.epoch_fits.Statement.{statement}
+use Rattle.tdcp_columns.proofs.displacement.epoch_fits.Tie as tie
 
 returns : tie.Need-returns
 unfolding epochFits

@@ -1,7 +1,7 @@
--- `zaqnuti::estimates::displacement_settings` meets its contract. Assumes nothing.
+-- `tdcp_columns::settings::displacement_settings` meets its contract. Assumes nothing.
 use borrow.Author.Needs.{needs}
-use Rattle.zaqnuti.proofs.estimates.displacement_settings.Statement.{statement}
-use Rattle.zaqnuti.proofs.estimates.displacement_settings.Tie as tie
+use Rattle.tdcp_columns.proofs.settings.displacement_settings.Statement.{statement}
+use Rattle.tdcp_columns.proofs.settings.displacement_settings.Tie as tie
 
 rounds-of-requires : tie.Need-rounds-of-requires
 rounds-of-requires c κs = search needs
