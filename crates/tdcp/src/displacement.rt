@@ -24,7 +24,6 @@ use estimator::rules::Check;
 use numeric::order::pattern;
 use numeric::real::is_finite;
 use numeric::refusal::Refusal;
-use numeric::sight::is_on_receiver;
 use numeric::vec3::Vec3;
 use records::carriers::columns_into;
 use records::pair::Pairs;
@@ -258,8 +257,7 @@ pub fn delta_position(
 }
 
 // What every displacement of two epochs' columns shares once 2 to 4 have passed: rule 5, the pairs, in the city profile those of the carriers that it certifies, rule 15
-// of each pair in order, the current satellite before the previous, and what they come to. The pairs are tested where they stand: a function that reads the array of
-// a parameter has a copy of it.
+// of each pair, and what they come to.
 pub fn moved_in(
     previous_constellation: &[u8],
     previous_svid: &[u16],
@@ -305,16 +303,8 @@ pub fn moved_in(
         city,
         band,
     );
-    let mut i: usize = 0;
-    while i < all.count {
-        let q = all.pair[i];
-        if is_on_receiver(q.range) {
-            return Displacement::Refused(Refusal::OnReceiver);
-        }
-        if is_on_receiver(q.previous_range) {
-            return Displacement::Refused(Refusal::OnReceiver);
-        }
-        i += 1;
+    if !all.seen {
+        return Displacement::Refused(Refusal::OnReceiver);
     }
     moved_by(settings, all, city)
 }
