@@ -5,11 +5,11 @@ use native.Mathlib.Omega.{arith}
 use mathlib.Core.Bool.{Bool, true, false, not, _&&_, _||_}
 use mathlib.Core.List.{List, [], _∷_, _++_}
 use lib.Dec.{ltb}
-use lib.ListN.{length, take, length-take}
+use lib.ListN.{length, take}
 use lib.Ieee.{Float}
 use Rattle.numeric.specs.declared.refusal.Refusal.{Refusal}
-use Rattle.numeric.specs.declared.refusal.Refusal.the-variants.{TooMany, BadInterval, NotCertified}
-use Rattle.records.specs.Record.{Holds}
+use Rattle.numeric.specs.declared.refusal.Refusal.the-variants.{TooMany, BadInterval, OnReceiver, NotCertified}
+use Rattle.records.specs.Pair.{Paired}
 use Rattle.clocks.specs.Clocks.{has, clocksOf}
 use Rattle.records.specs.Screen.{keptOf, constellations}
 use Rattle.records.specs.Kept.{pairsIn, Kept}
@@ -17,9 +17,10 @@ use Rattle.estimator.specs.Rules.{Rule, rule, ruled}
 use Rattle.tdcp.specs.Valid.{badInterval, epochRules, intervalRules, displacementCounts}
 use Rattle.tdcp.specs.Front.{sightRules, countRules, cityRules, pairRules}
 use Rattle.estimator.specs.Rounds.{End, Stopped, Reached, Fit, concluded, Ended}
-use Rattle.tdcp.specs.Displacement.{Input, fitOver, fitBy, pairs, deltaAt, endRules, concludedAt, movedBy, movedIn, pairsFor, movedFor, displacementOf}
+use Rattle.tdcp.specs.Displacement.{Input, fitOver, fitBy, deltaAt, endRules, concludedAt, movedBy, movedIn, pairsFor, movedFor, displacementOf}
 use Rattle.clocks.specs.declared.clocks.Clocks.{Clocks}
 use Rattle.records.specs.declared.pair.Pair.{Pair}
+use Rattle.records.specs.declared.pair.Pairs.{Pairs}
 use Rattle.tdcp.specs.declared.displacement.Settings.{Settings}
 use Rattle.tdcp.specs.declared.displacement.Displacement.{Displacement}
 use Rattle.tdcp.specs.declared.displacement.Displacement.the-variants.{Refused, Moved}
@@ -27,6 +28,7 @@ use Rattle.estimator.specs.declared.rules.Check.the-variants.{Refused as Stops,
 use Rattle.estimator.proofs.RulesLaws.{checked, ruled-append, append-first, refused-by, passed-by}
 use Rattle.tdcp.proofs.DisplacementLaws.{fit-same}
 use Rattle.tdcp.proofs.FrontLaws.{counts-passed, kept-few}
+use Rattle.tdcp.proofs.SightLaws.{all-seen, one-unseen}
 
 -- what a fit comes to, by its end and what the code has of it
 ended-refused : {A : Type 0} (f : Refusal → A) (rules : List Float → List Rule) (answer : List Float → A) (e : End) {r : Refusal} {x y : List Float} → Ended e (Stops r) x y → f r ≡ concluded f rules answer e
@@ -97,9 +99,9 @@ module _ (city : Bool) (settings : Settings) (ps : List Pair) (n : ℕ) (all : n
           ap₂ (λ (u s : ℕ). concludedAt u s b) (h .count) (ap₂ _-_ all (h .count))
           ∙ ended-reached Refused endRules answer (fitBy settings ps .end) (subst (λ (f : Fit). Ended (f .end) Passed a b) fit-is e) ∙ answered
 
--- the pairs that the code has are in its array
-pub held-fits : {n : ℕ} {array xs : List Pair} → Holds n array xs → n ≤ length array
-held-fits {n} {array} h = omega (arith, h .count, simp length-take at (ap length (h .all)))
+-- the pairs that the code has, where the flag beside them is set
+pub passed-sights : {r : Pairs} {ps : List Pair} → Paired r ps → r .seen ≡ true → Passed ≡ checked (sightRules (take (r .count) (r .pair)))
+passed-sights {ps = ps} h t = rw (h .held .all) (all-seen ps (h .all-seen) t)
 
 -- ---- the call
 module _ (i : Input) where
@@ -128,10 +130,11 @@ module _ (i : Input) where
     unfolding movedFor intervalRules ruled
     refused-interval e = rw e
 
-    pub paired : badInterval (i .dt) ≡ false → {n : ℕ} {array : List Pair} → Holds n array (pairsFor city band i) → movedBy city (i .settings) (take n array) ≡ movedFor city band i
+    pub paired : badInterval (i .dt) ≡ false → {r : Pairs} → Paired r (pairsFor city band i) → movedBy city (i .settings) (take (r .count) (r .pair)) ≡ movedFor city band i
     unfolding movedFor intervalRules ruled
-    paired e h = rw (e, h .all)
+    paired e h = rw (e, h .held .all)
 
     -- 15 refuses a pair
-    pub unseen : badInterval (i .dt) ≡ false → {n : ℕ} {array : List Pair} → Holds n array (pairsFor city band i) → {r : Refusal} → Stops r ≡ checked (sightRules (take n array)) → Refused r ≡ movedFor city band i
-    unseen e {n} {array} h t = refused-sights city (i .settings) (take n array) t ∙ paired e h
+    pub unseen : badInterval (i .dt) ≡ false → {r : Pairs} → Paired r (pairsFor city band i) → r .seen ≡ false → Refused OnReceiver ≡ movedFor city band i
+    unseen e h t =
+        refused-sights city (i .settings) (pairsFor city band i) (one-unseen (pairsFor city band i) (h .all-seen) t) ∙ ap (movedBy city (i .settings)) (sym (h .held .all)) ∙ paired e h
