@@ -26,12 +26,12 @@ pub struct Pair {
     pub previous_range: f64,
 }
 
-// The first `count` of the pairs count, and `seen` is whether rule 15 lets each of them pass. It stands beside them, so that none is read again to be tested:
-// the compiler copies the array for a function that reads it and hands it on.
+// The first `count` of the pairs count, and `seen` is whether rule 15 lets each of them pass: where a caller asks that of the array, the compiler copies it.
+// It stands behind the array, as one before it is a copy more too.
 pub struct Pairs {
     pub count: usize,
-    pub seen: bool,
     pub pair: [Pair; 64],
+    pub seen: bool,
 }
 
 // No pairs.
@@ -55,8 +55,8 @@ pub fn no_pairs() -> Pairs
     let none = [nothing; 64];
     Pairs {
         count: 0,
-        seen: true,
         pair: none,
+        seen: true,
     }
 }
 

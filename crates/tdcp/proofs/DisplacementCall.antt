@@ -8,7 +8,7 @@ use lib.Dec.{ltb}
 use lib.ListN.{length, take}
 use lib.Ieee.{Float}
 use Rattle.numeric.specs.declared.refusal.Refusal.{Refusal}
-use Rattle.numeric.specs.declared.refusal.Refusal.the-variants.{TooMany, BadInterval, OnReceiver, NotCertified}
+use Rattle.numeric.specs.declared.refusal.Refusal.the-variants.{TooMany, BadInterval, NotCertified}
 use Rattle.records.specs.Pair.{Paired}
 use Rattle.clocks.specs.Clocks.{has, clocksOf}
 use Rattle.records.specs.Screen.{keptOf, constellations}
@@ -28,7 +28,6 @@ use Rattle.estimator.specs.declared.rules.Check.the-variants.{Refused as Stops,
 use Rattle.estimator.proofs.RulesLaws.{checked, ruled-append, append-first, refused-by, passed-by}
 use Rattle.tdcp.proofs.DisplacementLaws.{fit-same}
 use Rattle.tdcp.proofs.FrontLaws.{counts-passed, kept-few}
-use Rattle.tdcp.proofs.SightLaws.{all-seen, one-unseen}
 
 -- what a fit comes to, by its end and what the code has of it
 ended-refused : {A : Type 0} (f : Refusal → A) (rules : List Float → List Rule) (answer : List Float → A) (e : End) {r : Refusal} {x y : List Float} → Ended e (Stops r) x y → f r ≡ concluded f rules answer e
@@ -99,10 +98,6 @@ module _ (city : Bool) (settings : Settings) (ps : List Pair) (n : ℕ) (all : n
           ap₂ (λ (u s : ℕ). concludedAt u s b) (h .count) (ap₂ _-_ all (h .count))
           ∙ ended-reached Refused endRules answer (fitBy settings ps .end) (subst (λ (f : Fit). Ended (f .end) Passed a b) fit-is e) ∙ answered
 
--- the pairs that the code has, where the flag beside them is set
-pub passed-sights : {r : Pairs} {ps : List Pair} → Paired r ps → r .seen ≡ true → Passed ≡ checked (sightRules (take (r .count) (r .pair)))
-passed-sights {ps = ps} h t = rw (h .held .all) (all-seen ps (h .all-seen) t)
-
 -- ---- the call
 module _ (i : Input) where
   abbrev epochs : List Rule
@@ -133,8 +128,3 @@ module _ (i : Input) where
     pub paired : badInterval (i .dt) ≡ false → {r : Pairs} → Paired r (pairsFor city band i) → movedBy city (i .settings) (take (r .count) (r .pair)) ≡ movedFor city band i
     unfolding movedFor intervalRules ruled
     paired e h = rw (e, h .held .all)
-
-    -- 15 refuses a pair
-    pub unseen : badInterval (i .dt) ≡ false → {r : Pairs} → Paired r (pairsFor city band i) → r .seen ≡ false → Refused OnReceiver ≡ movedFor city band i
-    unseen e h t =
-        refused-sights city (i .settings) (pairsFor city band i) (one-unseen (pairsFor city band i) (h .all-seen) t) ∙ ap (movedBy city (i .settings)) (sym (h .held .all)) ∙ paired e h
