@@ -1,6 +1,5 @@
 -- The tests before samples are added, way by way, and what a call leaves. Assumes nothing.
-use mathlib.Core.Path.{_≡_, refl, sym, ap, _∙_}
-use mathlib.Core.List.{List}
+use mathlib.Core.Path.{_≡_, refl, sym, _∙_}
 use mathlib.Core.Bool.{Bool, true, false, cond, not, _&&_, _||_}
 use Prim.Native.Nat.{ℕ, _+_, _≤_, _<_, min}
 use native.Mathlib.Omega.{arith}
@@ -21,7 +20,7 @@ use Rattle.table.proofs.UnitLaws.{never}
 use Rattle.table.proofs.InsertLaws.{insertAll-length}
 use Rattle.directory.specs.Directory.{Directory, Blocks, blockCapacity, blocksWith, directoryIn, directoryOf, entriesIn, flat, readingOf, readingsIn, soundDirectory}
 use Rattle.directory.proofs.ColumnLaws.{flat-length}
-use Rattle.addition.specs.Add.{Fitting, Placed, Places, addedIn, addIn, additionNumber, additionOf, directoryWith, entriesNow, placedOf, refusedIn, samplesNow, testIn}
+use Rattle.addition.specs.Add.{Fitting, Places, addIn, additionNumber, additionOf, directoryWith, testIn}
 use Rattle.addition.specs.declared.add.Addition.{Addition}
 use Rattle.addition.specs.declared.add.Addition.the-variants as Addition
 

@@ -11,7 +11,7 @@ use lib.ListN.{length, take, drop, length-drop, length-map, take-append-drop}
 use lib.Seq.{drop-drop, drop-length, length-take-le}
 use borrow.Author.Tests.{ltb-true, leb-true, eqb-true, le-leb, lt-ltb, eq-eqb, ne-eqb}
 use Rattle.walk.specs.Walk.{collect, every, first}
-use Rattle.table.specs.Table.{ranged, signalOf, sorted, sound, seriesOf, ofSignal}
+use Rattle.table.specs.Table.{ranged, signalOf, sound, seriesOf, ofSignal}
 use Rattle.table.specs.declared.sample.Sample.{Sample}
 use Rattle.table.proofs.TableLaws.{and-left, and-right}
 use Rattle.table.proofs.UnitLaws.{never}

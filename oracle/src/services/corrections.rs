@@ -582,14 +582,7 @@ fn time(random: &mut Random) {
     };
     let epochs: Vec<Epoch> = (0..60).map(|i| one(f64::from(i) * 30.0)).collect();
     let first = Columns::of(&epochs[0], Naming::PLAIN);
-    let station = Base {
-        name: String::new(),
-        position: base,
-        epochs: vec![BaseEpoch {
-            tow: epochs[0].time,
-            ranges: epochs[0].ranges.clone(),
-        }],
-    };
+    let alone = station(&epochs[0], base);
     let states = &epochs[0].states;
     let mut table = Table::lent([2048; 7]);
     bench::row(
@@ -602,18 +595,20 @@ fn time(random: &mut Random) {
         },
         || {
             black_box(build(
-                black_box(&station),
+                black_box(&alone),
                 rover,
                 |_| Some(states.clone()),
                 &set,
             ));
         },
     );
+    let later: Vec<Epoch> = (60..64).map(|i| one(f64::from(i) * 30.0)).collect();
     let mut full = Table::lent([2048; 7]);
     for e in &epochs {
         Columns::of(e, Naming::PLAIN).add(&mut full, &base, &rover, &set);
     }
     let c = reference(&epochs, base, rover, &set);
+    more_epochs(&full, &c, &later, (&base, &rover), &set);
     // Signals and times that no predictor of branches learns.
     let each: Vec<((u8, u16, u32), f64)> = (0..4096)
         .map(|_| {
@@ -651,6 +646,58 @@ fn time(random: &mut Random) {
         let table = Table::lent([2048; 7]).with(&part.series, Naming::PLAIN);
         let name = format!("queries, {missing} % missing");
         each_of_one_call(&name, &table, &part, &each);
+    }
+}
+
+/// Epochs more to a table that has many samples; beside it the Rust's `build` of each by itself, its samples put into the series and these sorted, as
+/// `build` sorts them. Both sides begin anew with each round.
+fn more_epochs(
+    full: &Table,
+    c: &Corrections,
+    later: &[Epoch],
+    (base, rover): (&[f64; 3], &[f64; 3]),
+    set: &Settings,
+) {
+    let columns: Vec<Columns> = later.iter().map(|e| Columns::of(e, Naming::PLAIN)).collect();
+    let stations: Vec<Base> = later.iter().map(|e| station(e, *base)).collect();
+    let mut table = full.clone();
+    let mut series = c.series.clone();
+    bench::row(
+        "add an epoch to a table",
+        full.n,
+        later.len(),
+        || {
+            table.ts[..full.n].copy_from_slice(&full.ts[..full.n]);
+            table.xs[..full.n].copy_from_slice(&full.xs[..full.n]);
+            table.df[..full.m].copy_from_slice(&full.df[..full.m]);
+            table.dn[..full.m].copy_from_slice(&full.dn[..full.m]);
+            (table.m, table.n) = (full.m, full.n);
+            for e in &columns {
+                assert_eq!(e.add(black_box(&mut table), base, rover, set), 0);
+            }
+        },
+        || {
+            for (own, old) in series.values_mut().zip(c.series.values()) {
+                own.truncate(old.len());
+            }
+            for (e, station) in later.iter().zip(&stations) {
+                let states = |_| Some(e.states.clone());
+                forget::put(&mut series, &build(station, *rover, states, set).series);
+            }
+            black_box(&series);
+        },
+    );
+}
+
+/// A base of one epoch.
+fn station(e: &Epoch, position: [f64; 3]) -> Base {
+    Base {
+        name: String::new(),
+        position,
+        epochs: vec![BaseEpoch {
+            tow: e.time,
+            ranges: e.ranges.clone(),
+        }],
     }
 }
 
