@@ -1,7 +1,7 @@
 -- The trip that calls leave, one after the other from the start, is that of the list of their accepted epochs, and so is its report, for every list. Assumes nothing.
 use mathlib.Core.Path.{_≡_, refl, sym, ap, ap₂, _∙_, subst}
 use mathlib.Core.List.{List, [], _∷_, _++_, append-assoc, append-nil}
-use mathlib.Core.Bool.{Bool, true, false, cond, _&&_, _||_, and-false}
+use mathlib.Core.Bool.{Bool, true, false, cond, _&&_, _||_, and-false, and-true}
 use Prim.Native.Nat.{ℕ, zero, suc, _+_, _-_, _≤_, _<_, max}
 use native.Mathlib.Nat.{le-refl, le-step}
 use native.Mathlib.Numerals.{add-one}
@@ -10,14 +10,15 @@ use lib.Dec.{ltb, eqb, lit≤}
 use lib.ListN.{length, take, length-append}
 use lib.Seq.{take-append-le, take-all, take-nil}
 use borrow.Author.Tests.{lt-ltb, eq-eqb, ne-eqb, ltb-true, ltb-false}
-use lib.Ieee.{Float, le}
+use lib.Ieee.{le}
 use Rattle.exact.specs.Float.{whole}
 use Rattle.walk.specs.Walk.{collect, fold, every}
 use Rattle.walk.proofs.Walk.{and-both}
 use Rattle.numeric.specs.Vec3.{norm}
 use Rattle.numeric.specs.declared.vec3.Vec3.{Vec3}
 use Rattle.numeric.specs.declared.refusal.Refusal.the-variants.{BadTrip}
-use Rattle.trip.specs.Measure.{millimetres, distance, measurable}
+use Rattle.trip.specs.Measure.{distance, measurable, wayOf}
+use Rattle.trip.specs.declared.measure.Way.{Way}
 use Rattle.trip.specs.Trip.{Leg, carrierOf, pulsesOf, odometer, apart, differenceAfter, greatest, firstWith, greatestOf, reachedOf, reportOf, tripOf, sound, started, counted, added, reported, Adds, Reports, kept, after, measurables, counting, narrow}
 use Rattle.trip.specs.declared.trip.Trip.{Trip}
 use Rattle.trip.specs.declared.trip.Report.{Report}
@@ -173,18 +174,31 @@ list-added t l legs h =
 pub adds : (t : Trip) (l : Leg) {r : Step} → r ≡ added t (l .displacement) (l .pulses) → Adds t l r
 adds t l e = record { is = e; of-list = λ legs h. e ∙ list-added t l legs h }
 
--- the same from the length of the displacement, which alone decides
-module _ (t : Trip) (d : Vec3) (pulses : ℕ) {length : Float} (e : length ≡ norm d) {s : Bool} (s-is : s ≡ sound t) where
-  test-is : (s && ltb (t .epochs) 65535 && le length (whole 1000)) ≡ (sound t && ltb (t .epochs) 65535 && measurable d)
-  test-is = rw (by-length d, e, s-is)
+-- the same from the way of the displacement, which alone decides
+module _ (t : Trip) (d : Vec3) (pulses : ℕ) {way : Way} (e : way ≡ wayOf (norm d)) where
+  within-is : way .within ≡ measurable d
+  unfolding wayOf
+  within-is = rw (by-length d, e)
 
-  pub length-refused : (s && ltb (t .epochs) 65535 && le length (whole 1000)) ≡ false → Refused BadTrip ≡ added t d pulses
+  -- more than 1,000 m
+  pub way-refused : way .within ≡ false → Refused BadTrip ≡ added t d pulses
   unfolding added
-  length-refused h = rw (sym test-is ∙ h)
+  way-refused h = rw (sym within-is ∙ h, and-false (sound t && ltb (t .epochs) 65535))
 
-  pub length-added : (s && ltb (t .epochs) 65535 && le length (whole 1000)) ≡ true → Goes (counted t (millimetres length) pulses) ≡ added t d pulses
-  unfolding added distance
-  length-added h = rw (sym test-is ∙ h, ← e)
+  module _ {s : Bool} (s-is : s ≡ sound t) (w : way .within ≡ true) where
+    test-is : (s && ltb (t .epochs) 65535) ≡ (sound t && ltb (t .epochs) 65535 && measurable d)
+    test-is = rw (sym within-is ∙ w, s-is) (sym (and-true (sound t && ltb (t .epochs) 65535)))
+
+    -- a trip that is full or not sound
+    pub trip-refused : (s && ltb (t .epochs) 65535) ≡ false → Refused BadTrip ≡ added t d pulses
+    unfolding added
+    trip-refused h = rw (sym test-is ∙ h)
+
+    pub way-added : (s && ltb (t .epochs) 65535) ≡ true → Goes (counted t (way .millimetres) pulses) ≡ added t d pulses
+    unfolding added distance wayOf
+    way-added h =
+        let n : le (norm d) (whole 1000) ≡ true = sym (ap (λ (z : Way). z .within) e) ∙ w in
+        rw (sym test-is ∙ h, e, n)
 
 abbrev totals : Trip → ℕ → Report
 totals t rate = record { carrier = t .carrier; odometer = odometer rate (t .pulses); greatest = t .greatest; reached = t .reached }
