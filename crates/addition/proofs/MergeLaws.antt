@@ -11,7 +11,7 @@ use lib.Seq.{getD-take, length-take-le, take-all, take-take}
 use lib.Ieee.{Float, nan}
 use borrow.Author.Tests.{eqb-true, eqb-false}
 use Rattle.walk.specs.Walk.{collect, every}
-use Rattle.table.specs.Table.{blank, lent, rows, ranged, signalOf, sorted, sound, standsBefore, tableOf, timeBefore}
+use Rattle.table.specs.Table.{blank, lent, rows, ranged, signalOf, sorted, soundTable, standsBefore, tableOf, timeBefore}
 use Rattle.table.specs.Add.{insertAll}
 use Rattle.table.specs.declared.sample.Sample.{Sample}
 use Rattle.table.proofs.TableLaws.{and-right}
@@ -215,8 +215,8 @@ module _ (dc dv db df dn : List ℕ) (m : ℕ) (ts xs : List Float) (n : ℕ) (c
         room-x = omega (arith, readings-length ts xs);
       }
     where
-      sorted-of : (l : List Sample) → sound l ≡ true → sorted l ≡ true
-      sorted-of l e = and-right (every ranged l) (sorted l) (unfold sound in e)
+      sorted-of : (l : List Sample) → soundTable l ≡ true → sorted l ≡ true
+      sorted-of l e = and-right (every ranged l) (sorted l) (unfold soundTable in e)
 
       field-times : (l : List Sample) → map timeOf l ≡ map (λ (r : Reading). r .time) (map readingOf l)
       field-times [] = refl

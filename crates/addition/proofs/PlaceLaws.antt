@@ -8,7 +8,7 @@ use lib.ListN.{length, take, drop, length-map}
 use lib.Seq.{length-take-le, take-take}
 use lib.Ieee.{Float}
 use Rattle.walk.specs.Walk.{every}
-use Rattle.table.specs.Table.{Columns, lent, rows, sorted, sound, tableOf}
+use Rattle.table.specs.Table.{Columns, lent, rows, sorted, soundTable, tableOf}
 use Rattle.table.specs.Add.{InsertedAll, insertAll}
 use Rattle.table.specs.declared.sample.Sample.{Sample}
 use Rattle.table.proofs.ColumnLaws.{rows-length}
@@ -100,8 +100,8 @@ sorted-new ss = sorted-rises (insertAll [] ss) ∙ insertAll-rises [] ss (unfold
 pub fits-64 : (l : Columns) (k : ℕ) → length (l .constellations) ≡ 64 → length (l .svids) ≡ 64 → length (l .bands) ≡ 64 → length (l .times) ≡ 64 → length (l .corrections) ≡ 64 → k ≤ 64 → k ≤ length (rows l)
 fits-64 l k a b c d e h = omega (arith, rows-length l)
 
-pub none-sound : sound [] ≡ true
-unfolding sound every sorted
+pub none-sound : soundTable [] ≡ true
+unfolding soundTable every sorted
 none-sound = refl
 
 -- what was put into an empty table is sorted

@@ -4,10 +4,10 @@ use mathlib.Core.Bool.{Bool, not, cond, _&&_}
 use mathlib.Core.List.{List, [], _∷_}
 use lib.Ieee.{Float, le}
 use Rattle.exact.specs.Float.{_⊕_, _⊖_, _⊗_, bits}
-use Rattle.walk.specs.Walk.{every, first, collect}
+use Rattle.walk.specs.Walk.{every, first, collect, Holds}
 use Rattle.numeric.specs.Sight.{sightOf, onReceiver}
 use Rattle.numeric.specs.declared.vec3.Vec3.{Vec3}
-use Rattle.records.specs.Record.{usable, same, Holds}
+use Rattle.records.specs.Record.{usable, same}
 use Rattle.records.specs.declared.record.Carrier.{Carrier}
 use Rattle.records.specs.declared.pair.Pair.{Pair}
 use Rattle.records.specs.declared.pair.Pairs.{Pairs}

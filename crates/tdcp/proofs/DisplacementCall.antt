@@ -14,7 +14,7 @@ use Rattle.clocks.specs.Clocks.{has, clocksOf}
 use Rattle.records.specs.Screen.{keptOf, constellations}
 use Rattle.records.specs.Kept.{pairsIn, Kept}
 use Rattle.estimator.specs.Rules.{Rule, rule, ruled}
-use Rattle.tdcp.specs.Valid.{badInterval, epochRules, intervalRules, displacementCounts}
+use Rattle.tdcp.specs.Valid.{badInterval, epochRules, intervalRules, fewRules}
 use Rattle.tdcp.specs.Front.{sightRules, countRules, cityRules, pairRules}
 use Rattle.estimator.specs.Rounds.{End, Stopped, Reached, Fit, concluded, Ended}
 use Rattle.tdcp.specs.Displacement.{Input, fitOver, fitBy, deltaAt, endRules, concludedAt, movedBy, movedIn, pairsFor, movedFor, displacementOf}
@@ -59,7 +59,7 @@ module _ (city : Bool) (settings : Settings) (ps : List Pair) (n : ℕ) (all : n
   no-more = omega (arith, h .count, kept-few (settings .screen) ps)
 
   abbrev counts : List Rule
-  counts = displacementCounts n used (k .count) ++ (rule NotCertified uncertified ∷ [])
+  counts = fewRules n used (k .count) ++ (rule NotCertified uncertified ∷ [])
 
   counts-are : counts ≡ countRules settings ps ++ cityRules city kept
   unfolding countRules cityRules
@@ -80,7 +80,7 @@ module _ (city : Bool) (settings : Settings) (ps : List Pair) (n : ℕ) (all : n
   -- rules 7 to 9 leave a fit of at most nine unknowns
   module _ (enough : Passed ≡ checked counts) where
     pub few-clocks : k .count ≤ 6
-    few-clocks = counts-passed _ _ _ (append-first (displacementCounts n used (k .count)) _ enough) .1 .few-slots
+    few-clocks = counts-passed _ _ _ (append-first (fewRules n used (k .count)) _ enough) .1 .few-slots
 
     fit-is : fitOver settings k (pairsIn x y z constellation elevation (take used observed)) ≡ fitBy settings ps
     unfolding fitBy

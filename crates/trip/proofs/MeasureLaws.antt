@@ -23,7 +23,7 @@ use Rattle.numeric.specs.declared.vec3.Vec3.{Vec3}
 use Rattle.numeric.proofs.RealLaws.{sum-finite-left, sum-finite-right}
 use Rattle.numeric.proofs.Growing.{at-most, le-below, from-zero}
 use Rattle.numeric.proofs.WholeLaws.{Greatest, whole-greatest}
-use Rattle.trip.specs.Measure.{millimetres, distance, measurable, wayOf}
+use Rattle.trip.specs.Measure.{millimetres, millimetresOf, measurable, wayOf}
 
 -- ---- a root is not below 0
 
@@ -132,9 +132,9 @@ pub record Measured (d : Vec3) : Type 0 where
   pub from : le +0 (norm d) ≡ true
   pub upto : le (norm d) (whole 1000) ≡ true
   pub is-finite : T (finite (norm d))
-  pub short : distance d ≤ 1000000
+  pub short : millimetresOf d ≤ 1000000
   pub exact : value (norm d) ≡ pos (magnitude (norm d))
-  pub rounded-down : Greatest (distance d) 1000 (norm d)
+  pub rounded-down : Greatest (millimetresOf d) 1000 (norm d)
 
 pub length-from-zero : (d : Vec3) → le (norm d) (whole 1000) ≡ true → le +0 (norm d) ≡ true
 unfolding norm
@@ -153,7 +153,7 @@ way-few d = go (le (norm d) (whole 1000)) refl
     go false e = lit≤ tt
 
 pub measured : (d : Vec3) → measurable d ≡ true → Measured d
-unfolding measurable distance
+unfolding measurable millimetresOf
 measured d h =
     let k : le (norm d) (whole 1000) ≡ true = and-both (finite (d .x) && finite (d .y) && finite (d .z)) (le (norm d) (whole 1000)) h .1 in
     let z : le +0 (norm d) ≡ true = length-from-zero d k in

@@ -14,8 +14,8 @@ abbrev pub millimetres : Float → ℕ
 millimetres length = wholeTimes 1000 length
 
 -- those of a displacement, whose length is the root of the rounded squares summed in the order x, y, z
-unfoldable pub distance : Vec3 → ℕ
-distance d = millimetres (norm d)
+unfoldable pub millimetresOf : Vec3 → ℕ
+millimetresOf d = millimetres (norm d)
 
 -- a displacement that is finite and not longer than 1,000 m
 unfoldable pub measurable : Vec3 → Bool

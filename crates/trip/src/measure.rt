@@ -27,7 +27,7 @@ pub(crate) fn millimetres(length: f64) -> u64
 
 // A guess of how many units of 2 ^ -16 the root of the float s has whose bits are b. With y near 1 / √s, g = s * y and h = 1 - g * y the root is
 // g / √(1 - h), and that is g * (1 + h / 2 + 3 * h ^ 2 / 8 + ..). At 2 ^ 36 the last digit of a float is worth a unit. Nothing is proved of how near the
-// guess is: `is_seen` tests it.
+// guess is: `is_certain` tests it.
 fn guess(b: u64) -> u64
     requires { ⌜ b < 0x4130_0000_0000_0000 ⌝ }
     ensures { λ r. ⌜ r < 2 ^ 27 ⌝ }
@@ -45,9 +45,9 @@ fn guess(b: u64) -> u64
     f64::to_bits(u) % 0x0800_0000
 }
 
-// Whether the root of the float whose bits are b is seen to have the millimetres of a units of 2 ^ -16: the root lies from a units to a + 1, and no whole
+// Whether the root of the float whose bits are b is certain to have the millimetres of a units of 2 ^ -16: the root lies from a units to a + 1, and no whole
 // millimetre lies above the first and up to the second.
-fn is_seen(b: u64, a: u64) -> bool
+fn is_certain(b: u64, a: u64) -> bool
     requires { ⌜ (0x3EB0_0000_0000_0000 ≤ b) × (b < 0x4130_0000_0000_0000) × (a < 2 ^ 27) ⌝ }
     ensures { λ r. ⌜ (r ≡ true → record { within = true; millimetres = a * 1000 / 65536 } ≡ spec.wayOf (rootOf (bits b))) ⌝ }
 {
@@ -66,7 +66,7 @@ fn way_of_square(square: f64) -> Way
         if square < 1048576.0 {
             let b = f64::to_bits(square);
             let a = guess(b);
-            if is_seen(b, a) {
+            if is_certain(b, a) {
                 return Way {
                     within: true,
                     millimetres: a * 1000 / 65536,

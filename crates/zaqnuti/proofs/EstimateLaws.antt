@@ -5,10 +5,9 @@ use mathlib.Core.List.{List}
 use Prim.Native.Nat.{ℕ, min}
 use native.Mathlib.Omega.{arith}
 use lib.Ieee.{Float}
-use Rattle.walk.specs.Walk.{places}
+use Rattle.walk.specs.Walk.{places, Holds}
 use Rattle.numeric.specs.declared.refusal.Refusal.the-variants.{TooMany}
 use Rattle.numeric.specs.declared.vec3.Vec3.{Vec3}
-use Rattle.records.specs.Record.{Holds}
 use Rattle.records.specs.declared.record.Observations.{Observations}
 use Rattle.wls.specs.Fix as fix
 use Rattle.wls.specs.Fix.{fixOf, positionOf, fixNumber, positionNumber}

@@ -3,7 +3,7 @@ ghost use mathlib.Core.Path.{_≡_};
 ghost use mathlib.Core.Bool.{true};
 ghost use Prim.Native.Nat.{_+_, _*_, _<_};
 ghost use lib.ListN.{length};
-ghost use Rattle.records.specs.Record.{Holds};
+ghost use Rattle.walk.specs.Walk.{Holds};
 ghost use Rattle.zaqnuti.specs.Columns as spec;
 use numeric::vec3::Vec3;
 use records::carriers::vector_at;

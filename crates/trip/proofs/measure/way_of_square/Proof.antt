@@ -23,8 +23,8 @@ float-to-bits-b c = lt-number (c .before .before .args .square) _ (c .if2 .taken
 guess-requires : tie.Need-guess-requires
 guess-requires c κs = let s = c .before .before in pattern-in (s .args .square) (held s) (c .before .if1 .taken) (c .if2 .taken) .1
 
-is-seen-requires : tie.Need-is-seen-requires
-is-seen-requires c κs =
+is-certain-requires : tie.Need-is-certain-requires
+is-certain-requires c κs =
     let d = c .before in
     let s = d .before .before in
     let p = pattern-in (s .args .square) (held s) (d .before .if1 .taken) (d .if2 .taken) in
@@ -36,7 +36,7 @@ mul-t8 c = search needs
 returns : tie.Need-returns
 returns c =
     let s = c .before .before .before .before .before in
-    c .before .is-seen .ensures (c .if3 .taken) ∙ ap (λ x. wayOf (rootOf x)) (by-bits (s .args .square) _ (held s) refl)
+    c .before .is-certain .ensures (c .if3 .taken) ∙ ap (λ x. wayOf (rootOf x)) (by-bits (s .args .square) _ (held s) refl)
 
 sqrt-requires : tie.Need-sqrt-requires
 sqrt-requires c κs = search needs
@@ -63,7 +63,7 @@ way-of-square-spec =
     (tie.spec
     float-to-bits-b
     guess-requires
-    is-seen-requires
+    is-certain-requires
     mul-t8
     returns
     sqrt-requires

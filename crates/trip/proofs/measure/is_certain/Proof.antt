@@ -1,11 +1,11 @@
--- `trip::measure::is_seen` meets its contract. Assumes nothing.
+-- `trip::measure::is_certain` meets its contract. Assumes nothing.
 use Prim.Native.Nat.{_*_, _^_, _≤_}
 use native.Mathlib.Nat.{mul-le-mul, le-of-lt}
 use native.Mathlib.Omega.{arith}
 use borrow.Author.Needs.{needs}
 use Rattle.trip.proofs.WayLaws.{tested}
-use Rattle.trip.proofs.measure.is_seen.Statement.{statement}
-use Rattle.trip.proofs.measure.is_seen.Tie as tie
+use Rattle.trip.proofs.measure.is_certain.Statement.{statement}
+use Rattle.trip.proofs.measure.is_certain.Tie as tie
 
 add-m : tie.Need-add-m
 add-m c = search needs
@@ -34,6 +34,6 @@ mul-result-2 c = search needs
 returns : tie.Need-returns
 returns c = tested (c .args .b) (c .pre .0) (c .pre .1) (c .args .a)
 
-pub is-seen-spec : {M : Type 1} → statement M
-is-seen-spec =
+pub is-certain-spec : {M : Type 1} → statement M
+is-certain-spec =
     tie.close (tie.spec add-m sub-n shr-n mul-square mul-result add-result mul-result-2 returns)
