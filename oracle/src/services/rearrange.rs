@@ -199,7 +199,11 @@ fn table(random: &mut Random) -> (Signals, Table) {
             )
         })
         .collect();
-    rows.sort_by(|a, b| (a.0, a.1, a.2).cmp(&(b.0, b.1, b.2)).then(a.3.total_cmp(&b.3)));
+    rows.sort_by(|a, b| {
+        (a.0, a.1, a.2)
+            .cmp(&(b.0, b.1, b.2))
+            .then(a.3.total_cmp(&b.3))
+    });
     let mut s = Signals::lent(lengths(random, n));
     let mut t = Table::lent(lengths(random, n));
     t.n = n;
@@ -236,7 +240,10 @@ fn compare(tally: &mut Tally, random: &mut Random, count: u64) {
         };
         numbers[usize::from(want) / 2] += 1;
         tally.judge(number == want && t.bits() == after.bits(), || {
-            format!("directory_of {s:?} {} samples: {number}, not {want}", before.n)
+            format!(
+                "directory_of {s:?} {} samples: {number}, not {want}",
+                before.n
+            )
         });
         // The way back, from the directory made or from a damaged one.
         let mut from = after;
@@ -252,7 +259,10 @@ fn compare(tally: &mut Tally, random: &mut Random, count: u64) {
         };
         numbers[usize::from(want) / 2] += 1;
         tally.judge(number == want && into == after, || {
-            format!("signals_of {} entries, {} samples: {number}, not {want}", from.m, from.n)
+            format!(
+                "signals_of {} entries, {} samples: {number}, not {want}",
+                from.m, from.n
+            )
         });
     }
     tally.note(format!(
