@@ -1,6 +1,6 @@
 // The element at place len/2 of patterns sorted by totalOrder. It is found without sorting: the patterns are parted by the cases of the clause, and only
 // the part with the place goes on. First by sign, then into numbers, infinities and NaNs, and what is left of one sign and kind by a pattern of the list:
-// those below it, it, and those above it.
+// those below it, it, and those above it. Of at most 16 the four lowest or the four highest are found in one pass, where the place is one of theirs.
 ghost use mathlib.Core.Path.{_≡_};
 ghost use mathlib.Core.List.{[], _∷_};
 ghost use Prim.Native.Nat.{_-_, _≤_, _<_, min, max};
@@ -81,7 +81,7 @@ fn keep_high(k: &mut [u64; 64], n: usize, p: u64) -> usize
     w
 }
 
-// One of four numbers.
+// Of four numbers the one at place m.
 fn one_of(a: u64, b: u64, c: u64, d: u64, m: usize) -> u64
     requires { ⌜ m < 4 ⌝ }
     ensures { λ r. ⌜ r ≡ getD (a ∷ (b ∷ (c ∷ (d ∷ [])))) m 0 ⌝ }
