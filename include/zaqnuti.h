@@ -58,11 +58,11 @@
  *
  *     fix             25,088
  *     position        25,088
- *     displacement    25,856
- *     between         25,344
- *     city            25,344
- *     line            49,920
- *     records         33,536
+ *     displacement    16,640
+ *     between         16,128
+ *     city            16,128
+ *     line            40,704
+ *     records         24,320
  *     read_records       256
  *     write_records      256
  *     add_epoch       18,688
@@ -75,7 +75,7 @@
  *     times              256
  *     trip               256
  *     north_east_down    256
- *     trip_displacement 25,856
+ *     trip_displacement 16,640
  *     round            8,704
  *     centre             768
  *     geometry           256

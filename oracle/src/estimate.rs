@@ -170,11 +170,28 @@ impl Fix {
             .any(|o| rules::on_receiver(wls::geometry(o, x).1))
     }
 
-    /// 15 where a range is zero or not finite at the start of a round, 10 where the Rust has no
-    /// solution, 15 at the returned position, 14 where chi or pdop is not finite; or the Rust's
-    /// solution with the model's chi in place of its own. The states are the Rust's: the guess, with
-    /// its steps added one after the other.
+    /// What `ended` gives, or 14 where its chi or pdop is not finite.
     fn judged(&self, found: Option<Solution>, rounds: &[Round]) -> Result<Solution, u8> {
+        let s = self.ended(found, rounds)?;
+        if s.chi.is_finite() && s.pdop.is_finite() {
+            Ok(s)
+        } else {
+            Err(QUALITY_NOT_FINITE)
+        }
+    }
+
+    /// Of a fix that 14 turns away, whether chi and whether pdop is not finite.
+    pub fn not_finite(&self) -> [bool; 2] {
+        let (found, rounds) = rounds_of(|| self.rust());
+        let s = self.ended(found, &rounds);
+        s.map_or([false; 2], |s| [s.chi, s.pdop].map(|x| !x.is_finite()))
+    }
+
+    /// 15 where a range is zero or not finite at the start of a round, 10 where the Rust has no
+    /// solution, 15 at the returned position; or the Rust's solution with the model's chi in place
+    /// of its own, finite or not. The states are the Rust's: the guess, with its steps added one
+    /// after the other.
+    fn ended(&self, found: Option<Solution>, rounds: &[Round]) -> Result<Solution, u8> {
         let n = Clocks::assign(self.kept().map(|o| o.constellation)).unknowns();
         let mut x = [0.0; NX];
         x[..3].copy_from_slice(&self.guess);
@@ -201,11 +218,7 @@ impl Fix {
             return Err(ON_RECEIVER);
         }
         let chi = self.chi(&x);
-        if chi.is_finite() && found.pdop.is_finite() {
-            Ok(Solution { chi, ..found })
-        } else {
-            Err(QUALITY_NOT_FINITE)
-        }
+        Ok(Solution { chi, ..found })
     }
 
     /// chi at the state where the rounds end.

@@ -1,4 +1,7 @@
-/* The cases of the corrections: an epoch added to a table, a query, many queries of one call, and the bands of an old table. */
+/*
+ * The cases of the corrections: an epoch added to a table, a query, many queries of one call, forgetting, the two forms of a table, and the bands of
+ * an old one.
+ */
 #include <string.h>
 
 #include "replay.h"
@@ -27,11 +30,8 @@ struct table {
     uint8_t margin[MARGIN];
 };
 
-/*
- * How many blocks; of each, of 32 at most, constellation, svid, band, first sample, how many; how many samples; of each, of 32 at most, time,
- * correction.
- */
-static void next_samples(struct stored *s, struct table *t)
+/* How many blocks; of each, of 32 at most, constellation, svid, band, first sample, how many. */
+static void next_blocks(struct stored *s, struct table *t)
 {
     size_t i;
     t->m = next_size(s);
@@ -42,6 +42,13 @@ static void next_samples(struct stored *s, struct table *t)
         t->df[i] = next_size(s);
         t->dn[i] = next_size(s);
     }
+}
+
+/* The blocks; how many samples; of each, of 32 at most, time, correction. */
+static void next_samples(struct stored *s, struct table *t)
+{
+    size_t i;
+    next_blocks(s, t);
     t->n = next_size(s);
     for (i = 0; i < least(t->n, TABLE); i++) {
         t->ts[i] = next_float(s);
@@ -191,6 +198,84 @@ bool same_forget(struct stored *s)
         return false;
     }
     return is_number(s, number) && is_table(s, &t, &before);
+}
+
+/* The columns of the signals of a table without a directory, filled past its samples. */
+struct signals {
+    uint8_t c[TABLE + BEYOND];
+    uint16_t v[TABLE + BEYOND];
+    uint32_t b[TABLE + BEYOND];
+    uint8_t margin[MARGIN];
+};
+
+/* The lengths of so many columns. */
+static void next_lengths(struct stored *s, size_t *lengths, size_t count)
+{
+    size_t i;
+    for (i = 0; i < count; i++) {
+        lengths[i] = least(next_size(s), TABLE + BEYOND);
+    }
+}
+
+static void next_signal(struct stored *s, struct signals *g, size_t i)
+{
+    g->c[i] = next_byte(s);
+    g->v[i] = next_short(s);
+    g->b[i] = next_word(s);
+}
+
+/* How many samples, the lengths of the old columns and of the directory's, each sample; number, and where it is 0 the directory. */
+bool same_directory(struct stored *s)
+{
+    struct table t;
+    struct table before;
+    struct signals g;
+    size_t n, i, k[10];
+    uint8_t number;
+    lend(&t, sizeof t - MARGIN);
+    lend(&g, sizeof g - MARGIN);
+    n = next_size(s);
+    next_lengths(s, k, 10);
+    for (i = 0; i < least(n, TABLE); i++) {
+        next_signal(s, &g, i);
+        t.ts[i] = next_float(s);
+        t.xs[i] = next_float(s);
+    }
+    memcpy(&before, &t, sizeof before);
+    number = zaqnuti_directory_of(
+        g.c, k[0], g.v, k[1], g.b, k[2], t.ts, k[3], t.xs, k[4], n,
+        t.dc, k[5], t.dv, k[6], t.db, k[7], t.df, k[8], t.dn, k[9], &t.m);
+    if (!is_number(s, number)) {
+        return false;
+    }
+    if (number == 0) {
+        next_blocks(s, &before);
+    }
+    return memcmp(&t, &before, sizeof t) == 0;
+}
+
+/* A table, the lengths of the columns of signals; number, and where it is 0 the signals. */
+bool same_signals(struct stored *s)
+{
+    struct table t;
+    struct signals g;
+    struct signals expected;
+    size_t i, k[3];
+    uint8_t number;
+    next_table(s, &t);
+    next_lengths(s, k, 3);
+    lend(&g, sizeof g - MARGIN);
+    memcpy(&expected, &g, sizeof g);
+    number = zaqnuti_signals_of(
+        t.dc, TABLE, t.dv, TABLE, t.db, TABLE, t.df, TABLE, t.dn, TABLE, t.m, t.ts, TABLE, t.xs, TABLE, t.n,
+        g.c, k[0], g.v, k[1], g.b, k[2]);
+    if (!is_number(s, number)) {
+        return false;
+    }
+    for (i = 0; number == 0 && i < t.n; i++) {
+        next_signal(s, &expected, i);
+    }
+    return memcmp(&g, &expected, sizeof g) == 0;
 }
 
 /* The columns of the queries and of their answers. */

@@ -73,6 +73,8 @@ bool same_between(struct stored *s);
 bool same_city(struct stored *s);
 bool same_widen(struct stored *s);
 bool same_forget(struct stored *s);
+bool same_directory(struct stored *s);
+bool same_signals(struct stored *s);
 bool same_trip(struct stored *s);
 bool same_read(struct stored *s);
 bool same_write(struct stored *s);

@@ -6,6 +6,7 @@ use common::{carriers, observations, text, AT};
 use zaqnuti::differential::{
     build, Base, BaseEpoch, BaseRange, Corrections, SatelliteState, Signal,
 };
+use zaqnuti::forms::{directory_of, signals_of, Directory, Signals};
 use zaqnuti::frames::north_east_down;
 use zaqnuti::math::{self, Cholesky};
 use zaqnuti::robust::{centre_scale, elevation_sigma, geometry, step, Clocks, Row};
@@ -628,6 +629,64 @@ fn corrections_forget() {
     assert_eq!(add(&mut c, 120.0), Err(Refusal::TableFull));
     assert_eq!(c.forget(1e300), Ok(()));
     assert_eq!(c.samples(), 8);
+}
+
+#[test]
+fn corrections_in_both_forms() {
+    let signals = Signals {
+        constellation: vec![1, 1, 1, 6],
+        svid: vec![8, 8, 8, 3],
+        band: vec![1, 1, 5, 256],
+    };
+    let (time, metres) = ([10.0, 20.0, 10.0, -0.0], [0.5, 0.75, -2.0, 0.0]);
+    let directory = directory_of(&signals, &time, &metres).unwrap();
+    let expected = Directory {
+        constellation: vec![1, 1, 6],
+        svid: vec![8, 8, 3],
+        band: vec![1, 5, 256],
+        first: vec![0, 2, 3],
+        count: vec![2, 1, 1],
+    };
+    assert_eq!(directory, expected);
+    assert_eq!(signals_of(&directory, &time, &metres), Ok(signals.clone()));
+    let none = directory_of(&Signals::default(), &[], &[]);
+    assert_eq!(none, Ok(Directory::default()));
+    assert_eq!(
+        signals_of(&Directory::default(), &[], &[]),
+        Ok(Signals::default())
+    );
+    // A column too short, samples out of order, a correction out of range.
+    assert_eq!(
+        directory_of(&signals, &time, &metres[..3]),
+        Err(Refusal::TooMany)
+    );
+    let late = [20.0, 10.0, 10.0, 0.0];
+    assert_eq!(
+        directory_of(&signals, &late, &metres),
+        Err(Refusal::RecordOutOfRange)
+    );
+    assert_eq!(
+        directory_of(&signals, &time, &[0.5, 0.75, f64::NAN, 0.0]),
+        Err(Refusal::RecordOutOfRange)
+    );
+    // Another time than the directory's order, a gap at the end, a satellite named twice.
+    assert_eq!(
+        signals_of(&directory, &late, &metres),
+        Err(Refusal::RecordOutOfRange)
+    );
+    let mut gap = directory.clone();
+    gap.count[0] = 1;
+    gap.first = vec![0, 1, 2];
+    assert_eq!(
+        signals_of(&gap, &time, &metres),
+        Err(Refusal::RecordOutOfRange)
+    );
+    let mut twice = directory;
+    twice.band[1] = 1;
+    assert_eq!(
+        signals_of(&twice, &time, &metres),
+        Err(Refusal::RecordOutOfRange)
+    );
 }
 
 #[test]

@@ -1,6 +1,5 @@
 -- The tests before samples are added, way by way, and what a call leaves. Assumes nothing.
-use mathlib.Core.Path.{_≡_, refl, sym, ap, _∙_}
-use mathlib.Core.List.{List}
+use mathlib.Core.Path.{_≡_, refl, sym, _∙_}
 use mathlib.Core.Bool.{Bool, true, false, cond, not, _&&_, _||_}
 use Prim.Native.Nat.{ℕ, _+_, _≤_, _<_, min}
 use native.Mathlib.Omega.{arith}
@@ -21,7 +20,7 @@ use Rattle.table.proofs.UnitLaws.{never}
 use Rattle.table.proofs.InsertLaws.{insertAll-length}
 use Rattle.directory.specs.Directory.{Directory, Blocks, blockCapacity, blocksWith, directoryIn, directoryOf, entriesIn, flat, readingOf, readingsIn, soundDirectory}
 use Rattle.directory.proofs.ColumnLaws.{flat-length}
-use Rattle.addition.specs.Add.{Fitting, Placed, Places, addedIn, addIn, additionNumber, additionOf, directoryWith, entriesNow, placedOf, refusedIn, samplesNow, testIn}
+use Rattle.addition.specs.Add.{Fitting, Places, addIn, additionNumber, additionOf, directoryWith, testIn}
 use Rattle.addition.specs.declared.add.Addition.{Addition}
 use Rattle.addition.specs.declared.add.Addition.the-variants as Addition
 
@@ -72,25 +71,25 @@ module _ (m n room r : ℕ) (e : r ≡ room) (d : Directory) (new : Samples) whe
 refused-not : {A : Type 0} (r : Refusal) → Test.Refused r ≡ Test.Passed → A
 refused-not r e = absurd (let z : _≡_ {A = ℕ} 0 1 = cc in omega arith)
 
-pub record Passed (m n room : ℕ) (d : Directory) (new : Samples) : Type 0 where
+pub record PassedAddition (m n room : ℕ) (d : Directory) (new : Samples) : Type 0 where
   pub few : Few m n room (new .count)
   pub steady : soundDirectory d ≡ true
   pub every-ranged : every ranged (counted new) ≡ true
   pub fit : n + new .count ≤ room
 
-pub passed : (m n room : ℕ) (d : Directory) (new : Samples) → testIn m n room d new ≡ Test.Passed → Passed m n room d new
+pub passed : (m n room : ℕ) (d : Directory) (new : Samples) → testIn m n room d new ≡ Test.Passed → PassedAddition m n room d new
 unfolding testIn
 passed m n room d new e = go ((ltb room m || ltb room n) || ltb 64 (new .count)) (soundDirectory d && every ranged (counted new)) (ltb room (n + new .count)) refl refl refl e
   where
     go : (x y z : Bool) → ((ltb room m || ltb room n) || ltb 64 (new .count)) ≡ x → (soundDirectory d && every ranged (counted new)) ≡ y → ltb room (n + new .count) ≡ z
-        → cond x (Test.Refused TooMany) (cond (not y) (Test.Refused RecordOutOfRange) (cond z (Test.Refused TableFull) Test.Passed)) ≡ Test.Passed → Passed m n room d new
+        → cond x (Test.Refused TooMany) (cond (not y) (Test.Refused RecordOutOfRange) (cond z (Test.Refused TableFull) Test.Passed)) ≡ Test.Passed → PassedAddition m n room d new
     go true y z a b c e = refused-not TooMany e
     go false false z a b c e = refused-not RecordOutOfRange e
     go false true true a b c e = refused-not TableFull e
     go false true false a b c e =
         record { few = few-of m n room (new .count) a; steady = and-left (soundDirectory d) _ b; every-ranged = and-right (soundDirectory d) _ b; fit = ltb-false room (n + new .count) c }
 
-pub passed-fits : (m n : ℕ) (l : Blocks) (new : Samples) → Passed m n (blockCapacity l) (directoryIn m n l) new → Fitting m n (new .count) l
+pub passed-fits : (m n : ℕ) (l : Blocks) (new : Samples) → PassedAddition m n (blockCapacity l) (directoryIn m n l) new → Fitting m n (new .count) l
 passed-fits m n l new p = parts (length (entriesIn l)) (length (readingsIn l)) refl refl
   where
     parts : (a b : ℕ) → length (entriesIn l) ≡ a → length (readingsIn l) ≡ b → Fitting m n (new .count) l

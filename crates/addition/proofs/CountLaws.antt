@@ -1,12 +1,12 @@
 -- The entries of a directory with new samples, turn by turn: how many there are, and the columns that hold them. Assumes nothing.
 use mathlib.Core.Path.{_≡_, refl, sym, ap, _∙_}
 use mathlib.Core.List.{List, [], _∷_, _++_, map, map-append}
-use mathlib.Core.Bool.{Bool, true, false, _&&_}
+use mathlib.Core.Bool.{true}
 use Prim.Native.Nat.{ℕ, zero, suc, _+_, _-_, _^_, _≤_, _<_}
 use native.Mathlib.Nat.{not-suc-le-zero, le-of-suc-le-suc}
 use native.Mathlib.Omega.{arith}
 use lib.Dec.{leb}
-use lib.ListN.{length, getD, take, drop, set, replicate, length-append, length-map, length-replicate}
+use lib.ListN.{length, getD, take, set, length-append, length-map}
 use lib.Seq.{getD-take, length-take-le, take-take}
 use Rattle.walk.specs.Walk.{collect}
 use Rattle.table.specs.Add.{insertAll}
@@ -15,11 +15,11 @@ use Rattle.table.proofs.TableLaws.{and-left, and-right}
 use Rattle.directory.specs.Directory.{Entry, Reading, ascends, block, columnOf, entriesFrom, entryRows, noEntry, readingOf, signalIn}
 use Rattle.directory.proofs.DirectoryLaws.{readings-from}
 use Rattle.directory.proofs.SoundLaws.{tiles-at}
-use Rattle.addition.specs.Merge.{EntriesMerged, LastIs, LastOf, Lies, OfSignals, Tiled, blocksUpTo, entriesUpTo, lastEntry}
+use Rattle.addition.specs.Merge.{LastIs, LastOf, Lies, OfSignals, Tiled, blocksUpTo, entriesUpTo, lastEntry}
 use Rattle.addition.specs.declared.entries.Last.{Last}
 use Rattle.addition.proofs.FillLaws.{Filling, filling-start, filling-turn, filling-end}
 use Rattle.addition.proofs.LastLaws.{lies-fewer, lies-of}
-use Rattle.addition.proofs.OwnLaws.{enough, nothing-new, row-at}
+use Rattle.addition.proofs.OwnLaws.{nothing-new, row-at}
 
 -- ---- the first entries of a list of them
 pub ascends-take : (p : ℕ) (es : List Entry) (i : ℕ) → ascends p es ≡ true → ascends p (take i es) ≡ true

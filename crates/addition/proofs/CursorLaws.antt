@@ -1,7 +1,7 @@
 -- The block in which the last of the first i samples lies, as i falls. Assumes nothing.
 use mathlib.Core.Path.{_≡_, refl, sym, ap, _∙_}
 use mathlib.Core.List.{List, [], _∷_}
-use mathlib.Core.Bool.{Bool, true}
+use mathlib.Core.Bool.{true}
 use Prim.Native.Nat.{ℕ, zero, suc, _+_, _-_, _≤_, _<_}
 use native.Mathlib.Omega.{arith}
 use lib.ListN.{length, getD}
@@ -33,29 +33,29 @@ module _ (n : ℕ) where
 
   module _ (es : List Entry) (t : tiles 0 n es ≡ true) (e i : ℕ) (c : Cursor es e i) (h : 0 < i) where
     -- the block has more samples before
-    pub cursor-stay : (getD es (e - 1) noEntry .start ≡ i - 1 → ⊥) → Cursor es e (i - 1)
-    cursor-stay ne =
+    pub cursor-stay : (r : ℕ) → r ≤ i → getD es (e - 1) noEntry .start < r → Cursor es e r
+    cursor-stay r l m =
         let p = cursor-some es e i c h in
-        record { few = c .few; none = λ q. absurd (omega arith); from = λ k. let a = c .from k in omega arith; to = λ k. let a = c .to k in omega arith }
+        record { few = c .few; none = λ q. absurd (omega arith); from = λ k. m; to = λ k. let a = c .to k in omega arith }
 
     -- the block was left
-    pub cursor-leave : getD es (e - 1) noEntry .start ≡ i - 1 → Cursor es (e - 1) (i - 1)
-    cursor-leave q = go e refl
+    pub cursor-leave : (r : ℕ) → getD es (e - 1) noEntry .start ≡ r → Cursor es (e - 1) r
+    cursor-leave r q = go e refl
       where
         p : 0 < e
         p = cursor-some es e i c h
 
-        go : (k : ℕ) → e ≡ k → Cursor es (e - 1) (i - 1)
+        go : (k : ℕ) → e ≡ k → Cursor es (e - 1) r
         go zero z = absurd (omega (arith, p))
         go (suc zero) z =
             let y : e - 1 ≡ 0 = omega arith in
             let s : getD es 0 noEntry .start ≡ 0 = tiles-first 0 n es t (omega (arith, c .few, z)) in
-            let w : i - 1 ≡ 0 = sym q ∙ ap (λ (j : ℕ). getD es j noEntry .start) y ∙ s in
+            let w : r ≡ 0 = sym q ∙ ap (λ (j : ℕ). getD es j noEntry .start) y ∙ s in
             record { few = omega (arith, c .few); none = λ r. w; from = λ k. absurd (omega arith); to = λ k. absurd (omega arith) }
         go (suc (suc x)) z =
             let y : e - 1 ≡ suc x = omega arith in
             let v : e - 1 - 1 ≡ x = omega arith in
             let s : getD es (suc x) noEntry .start ≡ getD es x noEntry .start + getD es x noEntry .count = tiles-next 0 n es x t (omega (arith, c .few, z)) in
-            let w : i - 1 ≡ getD es x noEntry .start + getD es x noEntry .count = sym q ∙ ap (λ (j : ℕ). getD es j noEntry .start) y ∙ s in
+            let w : r ≡ getD es x noEntry .start + getD es x noEntry .count = sym q ∙ ap (λ (j : ℕ). getD es j noEntry .start) y ∙ s in
             let f = tiles-at 0 n es x t (omega (arith, c .few, z)) in
             record { few = omega (arith, c .few); none = λ r. absurd (omega arith); from = λ k. rw v (omega (arith, w, f .filled)); to = λ k. rw v (omega (arith, w)) }

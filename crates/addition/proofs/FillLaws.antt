@@ -1,11 +1,11 @@
--- A column that is filled from the back: what is still to be made, and after it what was made already, are the whole. Assumes nothing.
+-- A column that is filled from the back: what is still to be made, and after it what was made already, are the whole; values that go up in it. Assumes nothing.
 use mathlib.Core.Path.{_≡_, refl, sym, ap, _∙_}
 use mathlib.Core.List.{List, [], _∷_, _++_, append-assoc}
-use Prim.Native.Nat.{ℕ, zero, suc, _+_, _-_, _≤_, _<_}
-use native.Mathlib.Numerals.{add-one}
+use Prim.Native.Nat.{ℕ, suc, _+_, _-_, _≤_, _<_}
 use native.Mathlib.Omega.{arith}
-use lib.ListN.{length, take, drop, set, length-append, length-set, take-append-drop}
+use lib.ListN.{length, getD, take, drop, set, length-append, length-set, take-append-drop}
 use lib.Seq.{take-set-le, drop-cons, drop-set-lt, getD-set-same, take-take}
+use Rattle.addition.specs.Merge.{shifted}
 
 -- d₀ is the column before, d the column now, and w that after; of its first elements `left` are still to be made, and the first i are as they were
 pub record Filling {A : Type 0} (d₀ d w left : List A) (i k : ℕ) : Type 0 where
@@ -37,3 +37,35 @@ module _ {A : Type 0} where
     -- nothing is left but what was there
     pub filling-end : left ≡ take i d₀ → i ≡ k → d ≡ w
     filling-end e q = sym (take-append-drop i d) ∙ ap (λ (m : List A). m ++ drop i d) (inv .front ∙ sym e) ∙ ap (λ (n : ℕ). left ++ drop n d) q ∙ inv .back
+
+-- ---- values that go up together, the last of them first
+
+-- d₀ is the column before, d the column now, where c of the values are still to be moved
+pub record Shifting {A : Type 0} (z : A) (d₀ d : List A) (first by count c : ℕ) : Type 0 where
+  pub few : c ≤ count
+  pub long : length d ≡ length d₀
+  pub rest : shifted first by c z d ≡ shifted first by count z d₀
+
+module _ {A : Type 0} {z : A} {d₀ d : List A} {first by count c : ℕ} (inv : Shifting z d₀ d first by count c) where
+  pub shifting-turn : 0 < c → Shifting z d₀ (set d (first + (c - 1) + by) (getD d (first + (c - 1)) z)) first by count (c - 1)
+  shifting-turn h =
+      record {
+        few = omega (arith, inv .few);
+        long = length-set d (first + (c - 1) + by) (getD d (first + (c - 1)) z) ∙ inv .long;
+        rest = more (c - 1) ∙ ap (λ (m : ℕ). shifted first by m z d) (last h) ∙ inv .rest;
+      }
+    where
+      last : 0 < c → suc (c - 1) ≡ c
+      last h = omega arith
+
+      more : (m : ℕ) → shifted first by m z (set d (first + m + by) (getD d (first + m) z)) ≡ shifted first by (suc m) z d
+      more m = unfold shifted in refl
+
+  pub shifting-end : c ≤ 0 → d ≡ shifted first by count z d₀
+  shifting-end h = none ∙ ap (λ (m : ℕ). shifted first by m z d) (zeros h) ∙ inv .rest
+    where
+      zeros : c ≤ 0 → 0 ≡ c
+      zeros h = omega arith
+
+      none : d ≡ shifted first by 0 z d
+      none = unfold shifted in refl

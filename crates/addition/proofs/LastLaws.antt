@@ -1,10 +1,10 @@
 -- The last entry of the first blocks with the first of sorted new samples: an old block as it is, an old block with new samples, or a block of new ones. Assumes nothing.
 use mathlib.Core.Path.{_≡_, refl, sym, ap, _∙_}
 use mathlib.Core.List.{List, [], _∷_, _++_, map, append-assoc, append-nil}
-use mathlib.Core.Bool.{Bool, true, false, cond, not, _&&_}
+use mathlib.Core.Bool.{Bool, true, false, cond, not}
 use Prim.Native.Nat.{ℕ, zero, suc, _+_, _*_, _^_, _-_, _≤_, _<_}
 use native.Mathlib.Omega.{arith}
-use lib.Dec.{eqb, ltb}
+use lib.Dec.{ltb}
 use lib.ListN.{length, getD, take, drop, length-append, length-drop, length-map, take-append-drop}
 use lib.Seq.{getD-drop, getD-take, length-take-le, take-suc, take-take}
 use borrow.Author.Tests.{ltb-true, lt-ltb, eq-eqb}
@@ -13,8 +13,7 @@ use Rattle.table.specs.Table.{blank, signalOf, standsBefore}
 use Rattle.table.specs.Add.{insertAll}
 use Rattle.table.specs.declared.sample.Sample.{Sample}
 use Rattle.table.proofs.TableLaws.{and-left, and-right, rises-at}
-use Rattle.table.proofs.UnitLaws.{never}
-use Rattle.table.proofs.Places.{timeKey, placeOf, rises, key-lt}
+use Rattle.table.proofs.Places.{timeKey, rises, key-lt}
 use Rattle.table.proofs.SeriesLaws.{insertAll-append}
 use Rattle.table.proofs.InsertLaws.{insertAll-length}
 use Rattle.directory.specs.Directory.{Entry, Reading, ascends, block, entriesFrom, entryOf, isMine, joined, noEntry, readingOf, sampleOf, signalIn, tiles}

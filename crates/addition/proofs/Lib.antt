@@ -1,6 +1,7 @@
 -- What the proofs of more than one function use, and the theorems.
 pub mod SortLaws
 pub mod FillLaws
+pub mod StayLaws
 pub mod MixLaws
 pub mod LastLaws
 pub mod CursorLaws

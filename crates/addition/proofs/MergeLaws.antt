@@ -11,18 +11,17 @@ use lib.Seq.{getD-take, length-take-le, take-all, take-take}
 use lib.Ieee.{Float, nan}
 use borrow.Author.Tests.{eqb-true, eqb-false}
 use Rattle.walk.specs.Walk.{collect, every}
-use Rattle.table.specs.Table.{blank, lent, rows, ranged, signalOf, sorted, sound, standsBefore, tableOf, timeBefore}
+use Rattle.table.specs.Table.{blank, lent, rows, ranged, signalOf, sorted, soundTable, standsBefore, tableOf, timeBefore}
 use Rattle.table.specs.Add.{insertAll}
 use Rattle.table.specs.declared.sample.Sample.{Sample}
 use Rattle.table.proofs.TableLaws.{and-right}
-use Rattle.table.proofs.UnitLaws.{never}
-use Rattle.table.proofs.Places.{rises, sorted-rises}
+use Rattle.table.proofs.Places.{placeOf, rises, sorted-rises}
 use Rattle.table.proofs.ColumnLaws.{rows-at, rows-length}
 use Rattle.directory.specs.Directory.{Entry, Reading, block, columnOf, directoryIn, entryRows, flat, lentBlocks, noEntry, noReading, readingOf, readingRows, sampleOf, signalIn, soundDirectory, tiles}
 use Rattle.directory.proofs.DirectoryLaws.{sound-parts, sound-flat, flat-readings}
 use Rattle.directory.proofs.ColumnLaws.{entries-length, entry-at, flat-length, readings-length}
 use Rattle.directory.proofs.EntryLaws.{flat-at, getD-map-in}
-use Rattle.addition.specs.Merge.{ComesLast, ReadingsMerged, mixed}
+use Rattle.addition.specs.Merge.{ReadingsMerged, Stays, mixed, shifted}
 use Rattle.addition.proofs.SortLaws.{before-le}
 use Rattle.addition.proofs.FillLaws.{Filling, filling-start, filling-turn, filling-end}
 use Rattle.addition.proofs.MixLaws.{mixed-old, mixed-new, mixed-length, mixed-none}
@@ -56,14 +55,6 @@ pub record Merging (es : List Entry) (t u : List Sample) (ts₀ xs₀ : List Flo
   pub cursor : Cursor es e i
   pub times : Filling ts₀ ts (map timeOf (mixed t u n k) ++ drop (n + k) ts₀) (map timeOf (mixed t u i j)) i (i + j)
   pub corrections : Filling xs₀ xs (map correctionOf (mixed t u n k) ++ drop (n + k) xs₀) (map correctionOf (mixed t u i j)) i (i + j)
-
--- there is an old sample where one comes last
-pub some-old : {i a b : ℕ} {x v : Float} {r : Bool} → ComesLast i a x b v r → r ≡ true → 0 < i
-some-old {i} c q = go i refl
-  where
-    go : (m : ℕ) → i ≡ m → 0 < i
-    go zero z = never (sym (c .no-more z) ∙ q)
-    go (suc m) z = omega arith
 
 map-end : {A : Type 0} (f : Sample → A) (m l : List Sample) (a : Sample) → m ≡ l ++ (a ∷ []) → map f m ≡ map f l ++ (f a ∷ [])
 map-end f m l a e = ap (map f) e ∙ map-append f l (a ∷ [])
@@ -103,6 +94,24 @@ module _ {es : List Entry} {rs : List Reading} {t u : List Sample} {ts₀ xs₀ 
   held : (f : Sample → Float) (d : List Float) → map f t ≡ take n d → (i : ℕ) → i < n → getD d i nan ≡ f (getD t i blank)
   held f d e i h = sym (getD-take n d i nan h) ∙ ap (λ (l : List Float). getD l i nan) (sym e) ∙ getD-map-in f t i blank nan (omega (arith, g .old-count))
 
+  -- old samples that all come after the last new one go up together
+  fills-old : (f : Sample → Float) {d₀ d w : List Float} (j r : ℕ) → 0 < j → j ≤ k → map f t ≡ take n d₀ → (m y : ℕ) → y ≡ r + m → y ≤ n
+      → ((x : ℕ) → r ≤ x → x < y → standsBefore (getD u (j - 1) blank) (getD t x blank) ≡ true) → y + j ≤ length d₀
+      → Filling d₀ d w (map f (mixed t u y j)) y (y + j) → Filling d₀ (shifted r j m nan d) w (map f (mixed t u r j)) r (r + j)
+  unfolding shifted
+  fills-old f {d₀} {d} {w} j r hj kj q zero y z o b l v = let s : r ≡ y = omega arith in rw s v
+  fills-old f {d₀} {d} {w} j r hj kj q (suc m) y z o b l v =
+      let s : suc (y - 1) ≡ y = omega arith in
+      let at : r + m ≡ y - 1 = omega arith in
+      let to : y - 1 + j ≡ y + j - 1 = omega arith in
+      let e : mixed t u y j ≡ mixed t u (y - 1) j ++ (getD t (y - 1) blank ∷ []) =
+      ap (λ (x : ℕ). mixed t u x j) (sym s) ∙ mixed-old t u (g .old-rise) (g .new-rise) (y - 1) j (omega (arith, g .old-count)) (omega (arith, g .new-count)) hj (b (y - 1) (omega arith) (omega arith)) in
+      let x : getD d (y - 1) nan ≡ f (getD t (y - 1) blank) =
+      sym (getD-take y d (y - 1) nan (omega arith)) ∙ ap (λ (l : List Float). getD l (y - 1) nan) (v .front) ∙ getD-take y d₀ (y - 1) nan (omega arith) ∙ held f d₀ q (y - 1) (omega arith) in
+      let turn : Filling d₀ (set d (y - 1 + j) (f (getD t (y - 1) blank))) w (map f (mixed t u (y - 1) j)) (y - 1) (y - 1 + j) =
+      rw to (filling-turn nan v (f (getD t (y - 1) blank)) (map f (mixed t u (y - 1) j)) (y - 1) (map-end f (mixed t u y j) (mixed t u (y - 1) j) (getD t (y - 1) blank) e) (omega arith) (omega arith) l) in
+      rw (at, x) (fills-old f j r hj kj q m (y - 1) (omega arith) (omega arith) (λ x h k. b x h (omega arith)) (omega arith) turn)
+
   whole : (f : Sample → Float) (d : List Float) → map f (mixed t u n k) ++ drop (n + k) d ≡ columnOf f (insertAll t u) d
   whole f d =
       let a : take n t ≡ t = take-all n t (omega (arith, g .old-count)) in
@@ -124,60 +133,64 @@ module _ {es : List Entry} {rs : List Reading} {t u : List Sample} {ts₀ xs₀ 
         left f d z r = ap (λ (m : ℕ). map f (mixed t u i m)) z ∙ ap (map f) (mixed-none t u i) ∙ map-take f i t ∙ ap (take i) r ∙ take-take i n d (inv .old)
 
     -- a column's place that is not yet reached is as it was
-    same-at : (d₀ d w left : List Float) (m : ℕ) → Filling d₀ d w left i m → 0 < i → getD d (i - 1) nan ≡ getD d₀ (i - 1) nan
-    same-at d₀ d w left m f h = sym (getD-take i d (i - 1) nan (omega arith)) ∙ ap (λ (l : List Float). getD l (i - 1) nan) (f .front) ∙ getD-take i d₀ (i - 1) nan (omega arith)
+    same-at : (d₀ d w left : List Float) (m : ℕ) → Filling d₀ d w left i m → (y : ℕ) → y < i → getD d y nan ≡ getD d₀ y nan
+    same-at d₀ d w left m f y h = sym (getD-take i d y nan h) ∙ ap (λ (l : List Float). getD l y nan) (f .front) ∙ getD-take i d₀ y nan h
 
-    module _ (hj : 0 < j) where
-      -- what the code compares is the order of the two samples
-      stands : 0 < i → {a b : ℕ} → a ≡ signalOf (getD u (j - 1) blank) → (0 < e → b ≡ signalIn (getD es (e - 1) noEntry)) → {x : Float} → x ≡ getD u (j - 1) blank .time
-          → (ltb a b || (eqb a b && timeBefore x (getD ts (i - 1) nan))) ≡ standsBefore (getD u (j - 1) blank) (getD t (i - 1) blank)
+    module _ (hj : 0 < j) {a b start : ℕ} {x : Float} (ea : a ≡ signalOf (getD u (j - 1) blank)) (eb : 0 < e → b ≡ signalIn (getD es (e - 1) noEntry)) (es-start : 0 < e → start ≡ getD es (e - 1) noEntry .start) (ex : x ≡ getD u (j - 1) blank .time) where
+      -- what the code compares is the order of the two samples, within the last block
+      stands : (y : ℕ) → y < i → start ≤ y → (ltb a b || (eqb a b && timeBefore x (getD ts y nan))) ≡ standsBefore (getD u (j - 1) blank) (getD t y blank)
       unfolding standsBefore
-      stands h {a} {b} ea eb {x} ex =
-          let p = cursor-some es e i (inv .cursor) h in
-          let o : getD t (i - 1) blank ≡ sampleOf (getD es (e - 1) noEntry) (getD rs (i - 1) noReading) =
-          rw (g .blocks) (flat-at rs es (e - 1) (i - 1) (g .tiled) (omega (arith, inv .cursor .few)) (omega (arith, inv .cursor .from p)) (omega (arith, inv .cursor .to p))) in
-          let s : signalOf (getD t (i - 1) blank) ≡ signalIn (getD es (e - 1) noEntry) = ap signalOf o in
-          let v : getD ts (i - 1) nan ≡ getD t (i - 1) blank .time = same-at ts₀ ts _ _ _ (inv .times) h ∙ held timeOf ts₀ (g .times-are) (i - 1) (omega (arith, inv .old)) in
+      stands y h l =
+          let p = cursor-some es e i (inv .cursor) (omega arith) in
+          let o : getD t y blank ≡ sampleOf (getD es (e - 1) noEntry) (getD rs y noReading) =
+          rw (g .blocks) (flat-at rs es (e - 1) y (g .tiled) (omega (arith, p, inv .cursor .few)) (omega (arith, es-start p)) (omega (arith, inv .cursor .to p))) in
+          let s : signalOf (getD t y blank) ≡ signalIn (getD es (e - 1) noEntry) = ap signalOf o in
+          let v : getD ts y nan ≡ getD t y blank .time = same-at ts₀ ts _ _ _ (inv .times) y h ∙ held timeOf ts₀ (g .times-are) y (omega (arith, inv .old)) in
           rw (ea, eb p, ex, s, v)
 
-      module _ {a b : ℕ} {x : Float} {r : Bool} (c : ComesLast i a x b (getD ts (i - 1) nan) r) (ea : a ≡ signalOf (getD u (j - 1) blank)) (eb : 0 < e → b ≡ signalIn (getD es (e - 1) noEntry)) (ex : x ≡ getD u (j - 1) blank .time) where
-        pub merging-old : r ≡ true → (e′ : ℕ) → (getD es (e - 1) noEntry .start ≡ i - 1 → e′ ≡ e - 1) → ((getD es (e - 1) noEntry .start ≡ i - 1 → ⊥) → e′ ≡ e)
-            → Merging es t u ts₀ xs₀ n k (set ts (i + j - 1) (getD ts (i - 1) nan)) (set xs (i + j - 1) (getD xs (i - 1) nan)) e′ (i - 1) j
-        merging-old q e′ leave stay =
-            let h : 0 < i = some-old c q in
-            let z : suc (i - 1) ≡ i = omega arith in
-            let y : i - 1 + j ≡ i + j - 1 = omega arith in
-            let before = sym (stands h ea eb ex) ∙ sym (c .compared h) ∙ q in
-            let m : mixed t u i j ≡ mixed t u (i - 1) j ++ (getD t (i - 1) blank ∷ []) =
-            ap (λ (m : ℕ). mixed t u m j) (sym z) ∙ mixed-old t u (g .old-rise) (g .new-rise) (i - 1) j (omega (arith, inv .old, g .old-count)) (omega (arith, inv .new, g .new-count)) hj before in
-            let vt : getD ts (i - 1) nan ≡ getD t (i - 1) blank .time = same-at ts₀ ts _ _ _ (inv .times) h ∙ held timeOf ts₀ (g .times-are) (i - 1) (omega (arith, inv .old)) in
-            let vx : getD xs (i - 1) nan ≡ getD t (i - 1) blank .correction = same-at xs₀ xs _ _ _ (inv .corrections) h ∙ held correctionOf xs₀ (g .corrections-are) (i - 1) (omega (arith, inv .old)) in
+      module _ {r : ℕ} (c : Stays ts start i a x b r) where
+        -- the old samples of the last block that come after the new one go up together
+        pub merging-old : r < i → {ts′ xs′ : List Float} → ts′ ≡ shifted r j (i - r) nan ts → xs′ ≡ shifted r j (i - r) nan xs → {e′ : ℕ} → (start ≡ r → e′ ≡ e - 1) → ((start ≡ r → ⊥) → e′ ≡ e)
+            → Merging es t u ts₀ xs₀ n k ts′ xs′ e′ r j
+        merging-old h {ts′} {xs′} et ex′ {e′} leave stay =
+            let p = cursor-some es e i (inv .cursor) (omega arith) in
+            let z : i ≡ r + (i - r) = omega arith in
+            let l : start ≤ r = c .from (omega arith) in
+            let before : (y : ℕ) → r ≤ y → y < i → standsBefore (getD u (j - 1) blank) (getD t y blank) ≡ true = λ y m q. sym (stands y q (omega arith)) ∙ c .later y m q in
             record {
               old = omega (arith, inv .old);
               new = inv .new;
-              cursor = next (eqb (getD es (e - 1) noEntry .start) (i - 1)) refl h;
-              times = rw (y, vt) (filling-turn nan (inv .times) (timeOf (getD t (i - 1) blank)) (map timeOf (mixed t u (i - 1) j)) (i - 1) (map-end timeOf (mixed t u i j) (mixed t u (i - 1) j) (getD t (i - 1) blank) m) (omega arith) (omega arith) (omega (arith, inv .old, inv .new, g .room-t)));
-              corrections = rw (y, vx) (filling-turn nan (inv .corrections) (correctionOf (getD t (i - 1) blank)) (map correctionOf (mixed t u (i - 1) j)) (i - 1) (map-end correctionOf (mixed t u i j) (mixed t u (i - 1) j) (getD t (i - 1) blank) m) (omega arith) (omega arith) (omega (arith, inv .old, inv .new, g .room-x)));
+              cursor = next (eqb start r) refl p l;
+              times = rw et (fills-old timeOf j r hj (inv .new) (g .times-are) (i - r) i z (inv .old) before (omega (arith, inv .old, inv .new, g .room-t)) (inv .times));
+              corrections = rw ex′ (fills-old correctionOf j r hj (inv .new) (g .corrections-are) (i - r) i z (inv .old) before (omega (arith, inv .old, inv .new, g .room-x)) (inv .corrections));
             }
           where
-            next : (y : Bool) → eqb (getD es (e - 1) noEntry .start) (i - 1) ≡ y → 0 < i → Cursor es e′ (i - 1)
-            next true w h = let v = eqb-true _ _ w in rw (leave v) (cursor-leave n es (rw (g .sizes) at (g .tiled)) e i (inv .cursor) h v)
-            next false w h = let v = eqb-false _ _ w in rw (stay v) (cursor-stay n es (rw (g .sizes) at (g .tiled)) e i (inv .cursor) h v)
+            next : (y : Bool) → eqb start r ≡ y → 0 < e → start ≤ r → Cursor es e′ r
+            next true w p l = let v = eqb-true _ _ w in rw (leave v) (cursor-leave n es (rw (g .sizes) at (g .tiled)) e i (inv .cursor) (omega arith) r (sym (es-start p) ∙ v))
+            next false w p l = let v = eqb-false _ _ w in rw (stay v) (cursor-stay n es (rw (g .sizes) at (g .tiled)) e i (inv .cursor) (omega arith) r (c .few) (omega (arith, v, es-start p)))
 
-        pub merging-new : r ≡ false → {y : Float} → y ≡ getD u (j - 1) blank .correction → Merging es t u ts₀ xs₀ n k (set ts (i + j - 1) x) (set xs (i + j - 1) y) e i (j - 1)
+        -- the new sample comes after every old one that is left
+        pub merging-new : i ≤ r → {y : Float} → y ≡ getD u (j - 1) blank .correction → Merging es t u ts₀ xs₀ n k (set ts (i + (j - 1)) x) (set xs (i + (j - 1)) y) e i (j - 1)
         merging-new q {y} ey =
             let z : suc (j - 1) ≡ j = omega arith in
-            let w : i + (j - 1) ≡ i + j - 1 = omega arith in
+            let w′ : i + (j - 1) ≡ i + j - 1 = omega arith in
             let m : mixed t u i j ≡ mixed t u i (j - 1) ++ (getD u (j - 1) blank ∷ []) =
-            ap (mixed t u i) (sym z) ∙ mixed-new t u (g .old-rise) (g .new-rise) i (j - 1) (omega (arith, inv .old, g .old-count)) (omega (arith, inv .new, g .new-count))
-            (λ h. before-le (getD u (j - 1) blank) (getD t (i - 1) blank) (sym (stands h ea eb ex) ∙ sym (c .compared h) ∙ q)) in
+            ap (mixed t u i) (sym z) ∙ mixed-new t u (g .old-rise) (g .new-rise) i (j - 1) (omega (arith, inv .old, g .old-count)) (omega (arith, inv .new, g .new-count)) last in
             record {
               old = inv .old;
               new = omega (arith, inv .new);
               cursor = inv .cursor;
-              times = rw (w, ex) (filling-turn nan (inv .times) (timeOf (getD u (j - 1) blank)) (map timeOf (mixed t u i (j - 1))) i (map-end timeOf (mixed t u i j) (mixed t u i (j - 1)) (getD u (j - 1) blank) m) (omega arith) (omega arith) (omega (arith, inv .old, inv .new, g .room-t)));
-              corrections = rw (w, ey) (filling-turn nan (inv .corrections) (correctionOf (getD u (j - 1) blank)) (map correctionOf (mixed t u i (j - 1))) i (map-end correctionOf (mixed t u i j) (mixed t u i (j - 1)) (getD u (j - 1) blank) m) (omega arith) (omega arith) (omega (arith, inv .old, inv .new, g .room-x)));
+              times = rw (ex, w′) (filling-turn nan (inv .times) (timeOf (getD u (j - 1) blank)) (map timeOf (mixed t u i (j - 1))) i (map-end timeOf (mixed t u i j) (mixed t u i (j - 1)) (getD u (j - 1) blank) m) (omega arith) (omega arith) (omega (arith, inv .old, inv .new, g .room-t)));
+              corrections = rw (ey, w′) (filling-turn nan (inv .corrections) (correctionOf (getD u (j - 1) blank)) (map correctionOf (mixed t u i (j - 1))) i (map-end correctionOf (mixed t u i j) (mixed t u i (j - 1)) (getD u (j - 1) blank) m) (omega arith) (omega arith) (omega (arith, inv .old, inv .new, g .room-x)));
             }
+          where
+            last : 0 < i → placeOf (getD t (i - 1) blank) ≤ placeOf (getD u (j - 1) blank)
+            last h =
+                let p = cursor-some es e i (inv .cursor) h in
+                let v : r ≡ i = omega (arith, c .few) in
+                let l : start < i = omega (arith, inv .cursor .from p, es-start p) in
+                let f : (ltb a b || (eqb a b && timeBefore x (getD ts (i - 1) nan))) ≡ false = ap (λ (m : ℕ). ltb a b || (eqb a b && timeBefore x (getD ts (m - 1) nan))) (sym v) ∙ c .earlier (omega arith) in
+                before-le (getD u (j - 1) blank) (getD t (i - 1) blank) (sym (stands (i - 1) (omega arith) (omega arith)) ∙ f)
 
 -- ---- from the columns
 module _ (dc dv db df dn : List ℕ) (m : ℕ) (ts xs : List Float) (n : ℕ) (cs vs bs : List ℕ) (us ys : List Float) (k : ℕ) where
@@ -202,8 +215,8 @@ module _ (dc dv db df dn : List ℕ) (m : ℕ) (ts xs : List Float) (n : ℕ) (c
         room-x = omega (arith, readings-length ts xs);
       }
     where
-      sorted-of : (l : List Sample) → sound l ≡ true → sorted l ≡ true
-      sorted-of l e = and-right (every ranged l) (sorted l) (unfold sound in e)
+      sorted-of : (l : List Sample) → soundTable l ≡ true → sorted l ≡ true
+      sorted-of l e = and-right (every ranged l) (sorted l) (unfold soundTable in e)
 
       field-times : (l : List Sample) → map timeOf l ≡ map (λ (r : Reading). r .time) (map readingOf l)
       field-times [] = refl

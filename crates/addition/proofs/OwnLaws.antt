@@ -10,12 +10,12 @@ use borrow.Author.Tests.{eqb-true, eqb-false, ltb-true, ltb-false}
 use Rattle.table.specs.Table.{blank, signal, signalOf}
 use Rattle.table.specs.declared.sample.Sample.{Sample}
 use Rattle.table.proofs.Places.{rises, sorted-rises}
-use Rattle.directory.specs.Directory.{Entry, Reading, ascends, entriesFrom, entryRows, isMine, joined, noEntry, signalIn}
+use Rattle.directory.specs.Directory.{Entry, Reading, ascends, entriesFrom, entryRows, isMine, noEntry, signalIn}
 use Rattle.directory.proofs.DirectoryLaws.{Narrow}
 use Rattle.directory.proofs.ColumnLaws.{entries-length, entry-at}
-use Rattle.addition.specs.Merge.{LastIs, LastOf, Lies, NewLast, OfSignals, OwnFrom, blocksUpTo, entriesUpTo, lastEntry}
+use Rattle.addition.specs.Merge.{LastOf, Lies, NewLast, OfSignals, OwnFrom, blocksUpTo, entriesUpTo, lastEntry}
 use Rattle.addition.specs.declared.entries.Last.{Last}
-use Rattle.addition.proofs.LastLaws.{entryAt, last-new, last-old, lies-fewer, mine-by-signal, signals-rise, upto-length}
+use Rattle.addition.proofs.LastLaws.{entryAt, last-new, last-old, lies-fewer, mine-by-signal, signals-rise}
 
 -- ---- the new samples of one signal, from the last down
 abbrev pub Own : List ℕ → List ℕ → List ℕ → ℕ → ℕ → ℕ → Type 0

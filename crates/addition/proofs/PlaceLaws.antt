@@ -2,20 +2,20 @@
 use mathlib.Core.Path.{_≡_, refl, sym, ap, _∙_}
 use mathlib.Core.List.{List, [], _∷_, _++_, map}
 use mathlib.Core.Bool.{Bool, true, false, cond}
-use Prim.Native.Nat.{ℕ, zero, suc, _+_, _≤_, _<_}
+use Prim.Native.Nat.{ℕ, suc, _+_, _≤_}
 use native.Mathlib.Omega.{arith}
-use lib.ListN.{length, getD, take, drop, length-map}
+use lib.ListN.{length, take, drop, length-map}
 use lib.Seq.{length-take-le, take-take}
 use lib.Ieee.{Float}
-use Rattle.walk.specs.Walk.{collect, every}
-use Rattle.table.specs.Table.{Columns, blank, lent, rows, sorted, sound, tableOf}
+use Rattle.walk.specs.Walk.{every}
+use Rattle.table.specs.Table.{Columns, lent, rows, sorted, soundTable, tableOf}
 use Rattle.table.specs.Add.{InsertedAll, insertAll}
 use Rattle.table.specs.declared.sample.Sample.{Sample}
 use Rattle.table.proofs.ColumnLaws.{rows-length}
 use Rattle.table.proofs.InsertLaws.{insertAll-length}
 use Rattle.table.proofs.SeriesLaws.{insertAll-rises}
 use Rattle.table.proofs.Places.{rises, sorted-rises}
-use Rattle.directory.specs.Directory.{Directory, Entry, Reading, Blocks, block, blocksWith, columnOf, directoryIn, directoryOf, entriesFrom, entriesIn, entryOf, entryRows, flat, isMine, joined, lentBlocks, readingOf, readingRows, soundDirectory}
+use Rattle.directory.specs.Directory.{Directory, Entry, Reading, blocksWith, columnOf, directoryIn, directoryOf, entriesFrom, entryOf, entryRows, flat, isMine, joined, lentBlocks, readingOf, readingRows}
 use Rattle.directory.proofs.DirectoryLaws.{sound-parts}
 use Rattle.directory.proofs.ColumnLaws.{flat-length}
 use Rattle.addition.specs.Merge.{EntriesMerged, OfSignals, ReadingsMerged, Tiled, entriesUpTo}
@@ -100,8 +100,8 @@ sorted-new ss = sorted-rises (insertAll [] ss) ∙ insertAll-rises [] ss (unfold
 pub fits-64 : (l : Columns) (k : ℕ) → length (l .constellations) ≡ 64 → length (l .svids) ≡ 64 → length (l .bands) ≡ 64 → length (l .times) ≡ 64 → length (l .corrections) ≡ 64 → k ≤ 64 → k ≤ length (rows l)
 fits-64 l k a b c d e h = omega (arith, rows-length l)
 
-pub none-sound : sound [] ≡ true
-unfolding sound every sorted
+pub none-sound : soundTable [] ≡ true
+unfolding soundTable every sorted
 none-sound = refl
 
 -- what was put into an empty table is sorted

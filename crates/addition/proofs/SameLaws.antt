@@ -9,7 +9,7 @@ use lib.ListN.{length}
 use borrow.Author.Tests.{ltb-true, lt-ltb}
 use Rattle.walk.specs.Walk.{every}
 use Rattle.numeric.specs.declared.refusal.Refusal.the-variants.{TooMany, RecordOutOfRange, TableFull}
-use Rattle.table.specs.Table.{ranged, sorted, sound}
+use Rattle.table.specs.Table.{ranged, sorted, soundTable}
 use Rattle.table.specs.Add.{added, addOf, counted, insertAll, outcomeOf, testOf}
 use Rattle.table.specs.declared.sample.Sample.{Sample}
 use Rattle.table.specs.declared.add.Samples.{Samples}
@@ -37,7 +37,7 @@ pub add-same : (t : List Sample) (n room : ℕ) (new : Samples) → every narrow
 unfolding addIn addOf testIn testOf
 add-same t n room new w r l =
     rw (either room (length ((directoryOf t) .entries)) n (few-entries t l), sound-directory t w (sym (sorted-rises t) ∙ r), flat-directory t)
-    (go (ltb room n || ltb 64 (new .count)) (sound t && every ranged (counted new)) (ltb room (n + new .count)))
+    (go (ltb room n || ltb 64 (new .count)) (soundTable t && every ranged (counted new)) (ltb room (n + new .count)))
   where
     go : (x y z : Bool)
         → flatOutcome (placedOf (cond x (Test.Refused TooMany) (cond (not y) (Test.Refused RecordOutOfRange) (cond z (Test.Refused TableFull) Test.Passed))) (directoryOf (insertAll t (counted new))))

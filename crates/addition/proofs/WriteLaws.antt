@@ -1,19 +1,18 @@
 -- The columns of entries with those of new samples, turn by turn. Assumes nothing.
-use mathlib.Core.Path.{_≡_, refl, sym, ap, _∙_}
-use mathlib.Core.List.{List, [], _∷_, _++_}
-use mathlib.Core.Bool.{true}
-use Prim.Native.Nat.{ℕ, suc, _+_, _-_, _^_, _≤_, _<_}
+use mathlib.Core.Path.{_≡_, sym, ap, _∙_}
+use mathlib.Core.List.{List, [], _∷_}
+use Prim.Native.Nat.{ℕ, _+_, _-_, _^_, _≤_, _<_}
 use native.Mathlib.Omega.{arith}
 use lib.ListN.{length, getD, take, set, replicate, length-append, length-map, length-replicate}
 use lib.Seq.{take-take}
 use Rattle.table.specs.declared.sample.Sample.{Sample}
-use Rattle.directory.specs.Directory.{Entry, Reading, columnOf, entryRows, noEntry, noReading}
+use Rattle.directory.specs.Directory.{Entry, Reading, entryRows, noEntry, noReading}
 use Rattle.directory.proofs.DirectoryLaws.{Narrow}
 use Rattle.directory.proofs.ColumnLaws.{entries-length}
 use Rattle.addition.specs.Merge.{EntriesMerged, LastIs, LastOf, OfSignals, SomeSignals, Tiled, blocksUpTo, entriesUpTo, lastEntry}
 use Rattle.addition.specs.declared.entries.Last.{Last}
 use Rattle.addition.proofs.LastLaws.{lies-fewer}
-use Rattle.addition.proofs.OwnLaws.{Room, enough, nothing-new, room-of, row-at}
+use Rattle.addition.proofs.OwnLaws.{enough, nothing-new, room-of, row-at}
 use Rattle.addition.proofs.CountLaws.{Writing, blocks-all, column-end, column-start, column-turn, fields-of, last-for, lies, long, rows-front}
 
 -- i old blocks and j new samples are left, which end at `end`, and the entries from w on are in place

@@ -1,11 +1,11 @@
 -- What the contracts of the steps say: the first samples of a table with the first of new ones, from the back to the front. Definitions only.
-use Prim.Native.Nat.{ℕ, _+_, _-_, _^_, _≤_, _<_}
+use Prim.Native.Nat.{ℕ, zero, suc, _+_, _-_, _^_, _≤_, _<_}
 use mathlib.Core.List.{List, [], _∷_, _++_}
 use mathlib.Core.Path.{_≡_}
-use mathlib.Core.Bool.{Bool, true, false, _&&_, _||_}
+use mathlib.Core.Bool.{true, false, _&&_, _||_}
 use lib.Dec.{eqb, ltb}
-use lib.Ieee.{Float}
-use lib.ListN.{length, getD, take}
+use lib.Ieee.{Float, nan}
+use lib.ListN.{length, getD, take, set}
 use Rattle.walk.specs.Walk.{collect}
 use Rattle.table.specs.Table.{blank, signal, sorted, timeBefore}
 use Rattle.table.specs.Add.{insertAll}
@@ -27,10 +27,24 @@ entriesUpTo rs es u i j = entriesFrom 0 (insertAll (blocksUpTo rs es i) (take j 
 
 -- ---- times and corrections
 
--- r says whether old samples are left, i of them, and a new one of the signal g at the time t stands before the last, of the signal h at the time v
-pub record ComesLast (i g : ℕ) (t : Float) (h : ℕ) (v : Float) (r : Bool) : Type 0 where
-  pub no-more : i ≡ 0 → r ≡ false
-  pub compared : 0 < i → r ≡ (ltb g h || (eqb g h && timeBefore t v))
+-- the first r of i times stay before the time t, of those from the place `first` on
+pub record TimesStay (ts : List Float) (first i : ℕ) (t : Float) (r : ℕ) : Type 0 where
+  pub from : first ≤ r
+  pub few : r ≤ i
+  pub later : (x : ℕ) → r ≤ x → x < i → timeBefore t (getD ts x nan) ≡ true
+  pub earlier : first < r → timeBefore t (getD ts (r - 1) nan) ≡ false
+
+-- The first r of i old samples stay before a new one of the signal g at the time t, of those of the last block, which begins at the place `first` and is of the signal h.
+pub record Stays (ts : List Float) (first i g : ℕ) (t : Float) (h r : ℕ) : Type 0 where
+  pub few : r ≤ i
+  pub from : 0 < i → first ≤ r
+  pub later : (x : ℕ) → r ≤ x → x < i → (ltb g h || (eqb g h && timeBefore t (getD ts x nan))) ≡ true
+  pub earlier : first < r → (ltb g h || (eqb g h && timeBefore t (getD ts (r - 1) nan))) ≡ false
+
+-- the first c values from the place `first` on go up by so many places, the last of them first
+unfoldable pub shifted : {A : Type 0} → ℕ → ℕ → ℕ → A → List A → List A
+shifted first by zero z d = d
+shifted first by (suc c) z d = shifted first by c z (set d (first + c + by) (getD d (first + c) z))
 
 -- the columns have the times and corrections of the table t, and past it what was there
 pub record ReadingsMerged (t : List Sample) (ts xs ts′ xs′ : List Float) : Type 0 where

@@ -1,22 +1,37 @@
 // The times and corrections of a directory with those of new samples, from the back to the front.
 ghost use mathlib.Core.Path.{_≡_};
-ghost use mathlib.Core.Bool.{true, false, _&&_, _||_};
+ghost use mathlib.Core.Bool.{true};
 ghost use Prim.Native.Nat.{_+_, _-_, _≤_, _<_};
-ghost use lib.Dec.{eqb, ltb};
 ghost use lib.Ieee.{nan};
 ghost use lib.ListN.{length, getD};
-ghost use Rattle.table.specs.Table.{lent, rows, tableOf, signal, timeBefore, sorted};
+ghost use Rattle.table.specs.Table.{lent, rows, tableOf, signal, sorted};
 ghost use Rattle.table.specs.Add.{insertAll};
 ghost use Rattle.directory.specs.Directory.{lentBlocks, entryRows, readingRows, directoryIn, soundDirectory, flat};
-ghost use Rattle.addition.specs.Merge.{ReadingsMerged, ComesLast};
+ghost use Rattle.addition.specs.Merge.{ReadingsMerged, Stays, TimesStay, shifted};
 use directory::entry::signal_at;
-use table::sample::is_below;
+use table::sample::is_earlier;
 
-// Whether there are old samples left, i of them, the last in the block of the entry e - 1, and the new sample at j - 1 stands before that one.
-fn comes_last(
+// Where those of the first i times end that the time t does not come before, of a block in order that begins at the place first.
+fn times_stay(ts: &[f64], first: usize, i: usize, t: f64) -> usize
+    requires { ⌜ (first ≤ i) × (i ≤ length (now ts)) ⌝ }
+    ensures { λ r. ⌜ TimesStay (now (ts .entry)) first i t r ⌝ }
+{
+    let mut p = i;
+    while first < p {
+        if !is_earlier(t, ts[p - 1]) {
+            return p;
+        }
+        p -= 1;
+    }
+    p
+}
+
+// How many of the first i old samples stay before the new one at j - 1; those of the block of the entry e - 1, which is the last, are looked at alone.
+fn old_stay(
     dc: &[u8],
     dv: &[u16],
     db: &[u32],
+    df: &[usize],
     e: usize,
     ts: &[f64],
     i: usize,
@@ -25,19 +40,40 @@ fn comes_last(
     bs: &[u32],
     us: &[f64],
     j: usize,
-) -> bool
-    requires { ⌜ (e ≤ length (now dc)) × ((e ≤ length (now dv)) × (e ≤ length (now db))) ⌝ }
-    requires { ⌜ (i ≤ length (now ts)) × (0 < i → 0 < e) ⌝ }
+) -> usize
+    requires { ⌜ (e ≤ length (now dc)) × ((e ≤ length (now dv)) × ((e ≤ length (now db)) × (e ≤ length (now df)))) ⌝ }
+    requires { ⌜ (i ≤ length (now ts)) × (0 < i → (0 < e) × (getD (now df) (e - 1) 0 < i)) ⌝ }
     requires { ⌜ (0 < j) × ((j ≤ length (now cs)) × ((j ≤ length (now vs)) × ((j ≤ length (now bs)) × (j ≤ length (now us))))) ⌝ }
-    ensures { λ r. ⌜ ComesLast i (signal (getD (now (cs .entry)) (j - 1) 0) (getD (now (vs .entry)) (j - 1) 0) (getD (now (bs .entry)) (j - 1) 0)) (getD (now (us .entry)) (j - 1) nan)
-        (signal (getD (now (dc .entry)) (e - 1) 0) (getD (now (dv .entry)) (e - 1) 0) (getD (now (db .entry)) (e - 1) 0)) (getD (now (ts .entry)) (i - 1) nan) r ⌝ }
+    ensures { λ r. ⌜ Stays (now (ts .entry)) (getD (now (df .entry)) (e - 1) 0) i (signal (getD (now (cs .entry)) (j - 1) 0) (getD (now (vs .entry)) (j - 1) 0) (getD (now (bs .entry)) (j - 1) 0)) (getD (now (us .entry)) (j - 1) nan)
+        (signal (getD (now (dc .entry)) (e - 1) 0) (getD (now (dv .entry)) (e - 1) 0) (getD (now (db .entry)) (e - 1) 0)) r ⌝ }
 {
     if i == 0 {
-        return false;
+        return i;
     }
     let new = signal_at(cs, vs, bs, j - 1);
     let old = signal_at(dc, dv, db, e - 1);
-    is_below(new, us[j - 1], old, ts[i - 1])
+    if old < new {
+        return i;
+    }
+    let first = df[e - 1];
+    if new < old {
+        return first;
+    }
+    let t = us[j - 1];
+    times_stay(ts, first, i, t)
+}
+
+// The count values from the place first on go up by so many places, the last of them first.
+fn shift(d: &mut [f64], first: usize, count: usize, by: usize)
+    requires { ⌜ first + count + by ≤ length (now d) ⌝ }
+    ensures { λ _. ⌜ now (d .exit) ≡ shifted first by count nan (now (d .entry)) ⌝ }
+{
+    let mut c = count;
+    while 0 < c {
+        c -= 1;
+        let x = d[first + c];
+        d[first + c + by] = x;
+    }
 }
 
 // How many of the first e entries are left where i samples are: the last goes where its block begins there.
@@ -51,7 +87,7 @@ fn blocks_left(df: &[usize], e: usize, i: usize) -> usize
     e
 }
 
-// The times and corrections of the new samples among those of a sound directory; each old one is moved at most once.
+// The times and corrections of the new samples among those of a sound directory; each old one is moved at most once, those of a block together.
 pub(crate) fn merge_readings(
     dc: &[u8],
     dv: &[u16],
@@ -80,16 +116,16 @@ pub(crate) fn merge_readings(
     let mut i = n;
     let mut j = k;
     while 0 < j {
-        let w = i + j - 1;
-        if comes_last(dc, dv, db, e, ts, i, cs, vs, bs, us, j) {
-            i -= 1;
-            ts[w] = ts[i];
-            xs[w] = xs[i];
+        let stay = old_stay(dc, dv, db, df, e, ts, i, cs, vs, bs, us, j);
+        if stay < i {
+            shift(ts, stay, i - stay, j);
+            shift(xs, stay, i - stay, j);
+            i = stay;
             e = blocks_left(df, e, i);
         } else {
             j -= 1;
-            ts[w] = us[j];
-            xs[w] = ys[j];
+            ts[i + j] = us[j];
+            xs[i + j] = ys[j];
         }
     }
 }

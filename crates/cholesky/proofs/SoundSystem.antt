@@ -16,7 +16,7 @@ use Rattle.exact.specs.Products.{lessProducts}
 use Rattle.exact.proofs.Steps.{RootInUnits, FactorSteps, ForwardSteps, BackwardSteps}
 use Rattle.cholesky.specs.Factor.{at, cell, forwardTo, Lower, factorOf, solutionOf}
 use Rattle.cholesky.proofs.FactorFinite.{factor-finite}
-use Rattle.cholesky.specs.Sound.{Sound, Held}
+use Rattle.cholesky.specs.Sound.{SoundSystem, Held}
 use Rattle.exact.proofs.Ops.{div-finite}
 use Rattle.exact.proofs.Products.{less-fits, less-start, less-finite}
 use Rattle.exact.proofs.Solve.{sharper}
@@ -90,7 +90,7 @@ module _ (a l : List (List Float)) (b : List Float) (nine : length b ≡ 9) (e :
     unfolding y
     b-finite i ib = less-start (at b i) (cell l i) (at y) i (div-finite (lessProducts (at b i) (cell l i) (at y) i) (cell l i i) (subst (λ (z : Float). T (finite z)) (forth .at i ib) (forward-finite i ib)))
 
-    pub sound : Sound a b l (solutionOf l b)
+    pub sound : SoundSystem a b l (solutionOf l b)
     unfolding y
     sound =
         record {

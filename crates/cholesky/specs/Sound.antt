@@ -8,7 +8,7 @@ use Rattle.exact.specs.Accuracy.{entry, Accurate}
 use Rattle.cholesky.specs.Factor.{at, cell}
 
 -- matrix, right side, factor and solution are finite, and taken as exact numbers a x differs from b in each of the nine rows by no more than `Accurate` allows
-pub record Sound (a : List (List Float)) (b : List Float) (l : List (List Float)) (x : List Float) : Type 0 where
+pub record SoundSystem (a : List (List Float)) (b : List Float) (l : List (List Float)) (x : List Float) : Type 0 where
   pub matrix-finite : (i j : ℕ) → i < 9 → j < 9 → T (finite (entry (cell a) i j))
   pub right-finite : (i : ℕ) → i < 9 → T (finite (at b i))
   pub factor-finite : (i j : ℕ) → i < 9 → j < 9 → T (finite (cell l i j))

@@ -2,12 +2,12 @@
 use mathlib.Core.Logic.{_⊎_, inl, inr}
 use mathlib.Core.Path.{_≡_, refl, sym, ap, ap₂, _∙_}
 use mathlib.Core.Bool.{Bool, true, false, not, cond, _&&_, _||_}
-use mathlib.Core.List.{List, [], _∷_, _++_}
-use Prim.Native.Nat.{ℕ, _-_, _≤_, _<_}
+use mathlib.Core.List.{List, [], _∷_}
+use Prim.Native.Nat.{ℕ, _-_, _<_}
 use native.Mathlib.Omega.{arith}
 use lib.Dec.{ltb}
 use borrow.Author.Tests.{ltb-false, le-ltb, not-false}
-use lib.ListN.{length, take, length-take}
+use lib.ListN.{length, length-take}
 use lib.Ieee.{Float}
 use Rattle.walk.specs.Walk.{every}
 use Rattle.walk.proofs.Walk.{or-no, and-both}
@@ -15,11 +15,10 @@ use Rattle.clocks.specs.Clocks.{has}
 use Rattle.numeric.specs.declared.refusal.Refusal.{Refusal}
 use Rattle.numeric.specs.declared.refusal.Refusal.the-variants.{TooMany, SettingOutOfRange, NotCertified}
 use Rattle.numeric.specs.declared.vec3.Vec3.{Vec3}
-use Rattle.records.specs.Record.{counted, sound, placeable}
+use Rattle.records.specs.Record.{counted, soundCarrier, placeable}
 use Rattle.records.specs.City.{certifiedOf}
 use Rattle.records.specs.Pair.{pairsOf}
 use Rattle.records.specs.Screen.{keptOf, constellations}
-use Rattle.records.specs.declared.record.Carrier.{Carrier}
 use Rattle.records.specs.declared.record.Epoch.{Epoch}
 use Rattle.records.specs.declared.pair.Pair.{Pair}
 use Rattle.estimator.specs.Rules.{Rule, ruled}
@@ -145,11 +144,11 @@ module _ (settings : Settings) (ps : List Pair) where
 few-left : (band : ℕ) (e : Epoch) → ltb 64 (e .count) ≡ false → ltb 64 (length (certifiedOf band (counted e))) ≡ false
 few-left band e h = le-ltb 64 (length (certifiedOf band (counted e))) (omega (arith, ltb-false 64 (e .count) h, left-few band (counted e), length-take (e .count) (e .carriers)))
 
-sound-left : (band : ℕ) (e : Epoch) → every sound (counted e) ≡ true → every sound (counted (certifiedEpoch band e)) ≡ true
-sound-left band e h = ap (every sound) (counted-left band e) ∙ left-every sound band (counted e) h
+sound-left : (band : ℕ) (e : Epoch) → every soundCarrier (counted e) ≡ true → every soundCarrier (counted (certifiedEpoch band e)) ≡ true
+sound-left band e h = ap (every soundCarrier) (counted-left band e) ∙ left-every soundCarrier band (counted e) h
 
 passed-parts : (p c : Epoch) (r : Vec3) (s : Settings) → Passed ≡ checked (epochRules p c r s)
-    → ((ltb 64 (p .count) || ltb 64 (c .count)) ≡ false) × (not (settingsPass s) ≡ false) × (not (every sound (counted p) && every sound (counted c) && placeable r) ≡ false)
+    → ((ltb 64 (p .count) || ltb 64 (c .count)) ≡ false) × (not (settingsPass s) ≡ false) × (not (every soundCarrier (counted p) && every soundCarrier (counted c) && placeable r) ≡ false)
 unfolding epochRules
 passed-parts p c r s e =
     let a = head-passed _ _ e in
@@ -163,9 +162,9 @@ module _ (i : Input) (e : Passed ≡ checked (epochRules (i .previous) (i .curre
       let h = passed-parts (i .previous) (i .current) (i .receiver) (i .settings) e in
       let few = or-no (ltb 64 (i .previous .count)) (ltb 64 (i .current .count)) (h .0) in
       let set : settingsPass (i .settings) ≡ true = not-false (settingsPass (i .settings)) (h .1) in
-      let all = not-false (every sound (counted (i .previous)) && every sound (counted (i .current)) && placeable (i .receiver)) (h .2) in
-      let outer = and-both (every sound (counted (i .previous)) && every sound (counted (i .current))) (placeable (i .receiver)) all in
-      let inner = and-both (every sound (counted (i .previous))) (every sound (counted (i .current))) (outer .0) in
+      let all = not-false (every soundCarrier (counted (i .previous)) && every soundCarrier (counted (i .current)) && placeable (i .receiver)) (h .2) in
+      let outer = and-both (every soundCarrier (counted (i .previous)) && every soundCarrier (counted (i .current))) (placeable (i .receiver)) all in
+      let inner = and-both (every soundCarrier (counted (i .previous))) (every soundCarrier (counted (i .current))) (outer .0) in
       rw (few-left (i .band) (i .previous) (few .0), few-left (i .band) (i .current) (few .1), set, sound-left (i .band) (i .previous) (inner .0), sound-left (i .band) (i .current) (inner .1), outer .1)
 
   pub aside-twenty : (cityOf i ≡ Refused NotCertified) ⊎ (cityOf i ≡ displacementOf (left i))

@@ -1,7 +1,7 @@
 -- Calls with the same base, rover and settings, one after the other on a caller's own columns, from an empty table: refused calls change nothing, and the table
 -- ends in what `buildOf` gives on the epochs of the accepted ones. Assumes nothing.
 use mathlib.Core.Path.{_≡_, refl, sym, ap, subst, _∙_}
-use mathlib.Core.List.{List, [], _∷_, _++_, map}
+use mathlib.Core.List.{List, [], _∷_, map}
 use mathlib.Core.Bool.{Bool, true, false, cond, not, _&&_, _||_}
 use Prim.Native.Nat.{ℕ, _+_, _≤_}
 use native.Mathlib.Omega.{arith}
@@ -13,7 +13,7 @@ use Rattle.numeric.specs.Real.{inRange}
 use Rattle.numeric.specs.declared.vec3.Vec3.{Vec3}
 use Rattle.numeric.specs.declared.refusal.Refusal.{Refusal}
 use Rattle.numeric.specs.declared.refusal.Refusal.the-variants.{TooMany, SettingOutOfRange, RecordOutOfRange, TableFull}
-use Rattle.table.specs.Table.{ranged, sorted, sound}
+use Rattle.table.specs.Table.{ranged, sorted, soundTable}
 use Rattle.table.specs.Add.{insertAll}
 use Rattle.table.specs.declared.sample.Sample.{Sample}
 use Rattle.table.proofs.TableLaws.{and-left, and-right}
@@ -140,7 +140,7 @@ module _ (base rover : Vec3) (set : Settings) where
           subst (Keeps room (afterCalls base rover set (afterCall base rover set h i) inputs)) (sym (insertAll-append t (samples i) (collect samples rest))) (ih (insertAll t (samples i)) (call-accepted room h t k i d′ e))
 
   nothing : (l : Blocks) → Keeps (blockCapacity l) (record { entries = 0; samples = 0; columns = l }) []
-  unfolding sound every sorted directoryOf entriesFrom
+  unfolding soundTable every sorted directoryOf entriesFrom
   nothing l = record { directory = refl; all-entries = refl; all-samples = refl; steady = refl; same-room = refl }
 
   -- from an empty table in any columns, calls end in what `buildOf` gives on the accepted epochs

@@ -1,5 +1,5 @@
 -- An epoch's samples are in range, and adding them is adding the epoch. Assumes nothing.
-use mathlib.Core.Path.{_≡_, refl, sym, ap, _∙_, subst}
+use mathlib.Core.Path.{_≡_, refl, ap, _∙_, subst}
 use mathlib.Core.List.{List, [], _∷_, _++_}
 use mathlib.Core.Bool.{Bool, true, false, cond, not, _&&_, _||_}
 use Prim.Native.Nat.{ℕ, _+_, _*_, _≤_, _<_}
@@ -12,13 +12,13 @@ use lib.Ieee.{Float, nan, inf, fin, lt, le, up, down, ofInt}
 use lib.Ieee.Scale.{finite}
 use lib.Ieee.Fits.{down-pos}
 use Rattle.exact.specs.Float.{_⊖_}
-use Rattle.walk.specs.Walk.{every, collect}
+use Rattle.walk.specs.Walk.{every, collect, Holds}
 use Rattle.numeric.specs.Real.{abs, inRange}
 use Rattle.numeric.specs.declared.vec3.Vec3.{Vec3}
 use Rattle.numeric.specs.declared.refusal.Refusal.{Refusal}
 use Rattle.numeric.specs.declared.refusal.Refusal.the-variants.{TooMany, SettingOutOfRange, RecordOutOfRange, TableFull}
-use Rattle.table.specs.Table.{ranged, sound}
-use Rattle.table.specs.Add.{Outcome, refused, added, counted, testOf, outcomeOf, addOf, insertAll}
+use Rattle.table.specs.Table.{ranged, soundTable}
+use Rattle.table.specs.Add.{refused, added, counted, testOf, outcomeOf, addOf, insertAll}
 use Rattle.table.specs.declared.sample.Sample.{Sample}
 use Rattle.table.specs.declared.add.Samples.{Samples}
 use Rattle.table.specs.declared.add.Test.the-variants.{Refused, Passed}
@@ -28,12 +28,10 @@ use Rattle.directory.specs.Directory.{Blocks, Directory, soundDirectory}
 use Rattle.addition.specs.Add.{Placed, Places, addIn, addedIn, additionNumber, additionOf, directoryWith, entriesNow, placedOf, refusedIn, samplesNow, testIn}
 use Rattle.addition.specs.declared.add.Addition.{Addition}
 use Rattle.addition.specs.declared.add.Addition.the-variants as Addition
-use Rattle.differential.specs.Record.{rangesOf, statesCount, statesOf, placeInRange, rangeInRange, stateInRange}
-use Rattle.differential.specs.Raw.{rawsOf, Holds}
+use Rattle.differential.specs.Record.{rangesOf, statesCount, placeInRange, rangeInRange}
+use Rattle.differential.specs.Raw.{rawsOf}
 use Rattle.differential.specs.Sample.{group, clockOf, kept, sampleOf, corrected, sampleAt, samplesOf, epochSamples}
 use Rattle.differential.specs.AddEpoch.{tooMany, settingsInRange, recordsInRange, addedOf, epochIn, recordsTest}
-use Rattle.differential.specs.declared.record.Range.{Range}
-use Rattle.differential.specs.declared.record.State.{State}
 use Rattle.differential.specs.declared.record.BaseEpoch.{BaseEpoch}
 use Rattle.differential.specs.declared.record.States.{States}
 use Rattle.differential.specs.declared.record.Settings.{Settings}
@@ -137,7 +135,7 @@ module _ (n room : ℕ) (t : List Sample) (e : BaseEpoch) (s : States) (base rov
           → refused r
           ≡ cond a (refused TooMany)
           (cond (not b) (refused SettingOutOfRange)
-          (cond (not (x && sound t)) (refused RecordOutOfRange)
+          (cond (not (x && soundTable t)) (refused RecordOutOfRange)
           (cond (ltb room (n + length (epochSamples base rover set e s))) (refused TableFull) (added (insertAll t (epochSamples base rover set e s))))))
       go true b x q = let z : r ≡ TooMany = cc in ap refused z
       go false false x q = let z : r ≡ SettingOutOfRange = cc in ap refused z
@@ -148,7 +146,7 @@ module _ (n room : ℕ) (t : List Sample) (e : BaseEpoch) (s : States) (base rov
     pub epoch-passed : addOf n room t new ≡ addedOf n room t e s base rover set
     unfolding addOf testOf addedOf
     epoch-passed =
-        rw (le-ltb room n (p .few), le-ltb 64 (new .count) (h .room), counted-ranged n room e s base rover set p new h, h .all, p .not-many, p .settings, p .records, ← (h .count)) (go (sound t) (ltb room (n + new .count)))
+        rw (le-ltb room n (p .few), le-ltb 64 (new .count) (h .room), counted-ranged n room e s base rover set p new h, h .all, p .not-many, p .settings, p .records, ← (h .count)) (go (soundTable t) (ltb room (n + new .count)))
       where
         go : (x y : Bool)
             → outcomeOf (cond (not (x && true)) (Refused RecordOutOfRange) (cond y (Refused TableFull) Passed)) (insertAll t (epochSamples base rover set e s))
@@ -199,29 +197,3 @@ module _ (m n room : ℕ) (d : Directory) (e : BaseEpoch) (s : States) (base rov
           go true true = refl
           go true false = refl
           go false y = refl
-
--- ---- an epoch is known by what counts of it
-addedBy : ℕ → ℕ → List Sample → ℕ → Float → List Range → ℕ → List State → Vec3 → Vec3 → Settings → Outcome
-addedBy n room t k time ranges m states base rover set =
-    let new = samplesOf time (set .«max_correction») (rawsOf set base rover states ranges) in
-    cond (ltb room n || ltb 64 k || ltb 64 m) (refused TooMany)
-    (cond (not (settingsInRange set)) (refused SettingOutOfRange)
-    (cond (not (placeInRange base && placeInRange rover && inRange time && every rangeInRange ranges && every stateInRange states && sound t)) (refused RecordOutOfRange)
-    (cond (ltb room (n + length new)) (refused TableFull)
-    (added (insertAll t new)))))
-
-added-by : (n room : ℕ) (t : List Sample) (e : BaseEpoch) (s : States) (base rover : Vec3) (set : Settings)
-    → addedOf n room t e s base rover set ≡ addedBy n room t (e .count) (e .time) (rangesOf e) (statesCount s) (statesOf s) base rover set
-unfolding addedOf addedBy tooMany recordsInRange epochSamples
-added-by n room t e s base rover set = refl
-
-pub added-same : (n room : ℕ) (t : List Sample) (e e′ : BaseEpoch) (s s′ : States) (base rover : Vec3) (set : Settings) → e .count ≡ e′ .count → e .time ≡ e′ .time → rangesOf e ≡ rangesOf e′
-    → statesCount s ≡ statesCount s′ → statesOf s ≡ statesOf s′ → addedOf n room t e s base rover set ≡ addedOf n room t e′ s′ base rover set
-added-same n room t e e′ s s′ base rover set a b c d f =
-    added-by n room t e s base rover set
-    ∙ go (e .count) (e .time) (rangesOf e) (statesCount s) (statesOf s) (e′ .count) (e′ .time) (rangesOf e′) (statesCount s′) (statesOf s′) a b c d f
-    ∙ sym (added-by n room t e′ s′ base rover set)
-  where
-    go : (k : ℕ) (x : Float) (l : List Range) (m : ℕ) (j : List State) (k′ : ℕ) (x′ : Float) (l′ : List Range) (m′ : ℕ) (j′ : List State) → k ≡ k′ → x ≡ x′ → l ≡ l′ → m ≡ m′ → j ≡ j′
-        → addedBy n room t k x l m j base rover set ≡ addedBy n room t k′ x′ l′ m′ j′ base rover set
-    go k x l m j k′ x′ l′ m′ j′ a b c d f = rw (a, b, c, d, f)

@@ -10,7 +10,7 @@ use borrow.Author.Tests.{ltb-true, lt-ltb}
 use Rattle.walk.specs.Walk.{every}
 use Rattle.numeric.specs.declared.vec3.Vec3.{Vec3}
 use Rattle.numeric.specs.declared.refusal.Refusal.the-variants.{TooMany, SettingOutOfRange, RecordOutOfRange, TableFull}
-use Rattle.table.specs.Table.{sorted, sound}
+use Rattle.table.specs.Table.{sorted, soundTable}
 use Rattle.table.specs.Add.{added, insertAll, refused}
 use Rattle.table.specs.declared.sample.Sample.{Sample}
 use Rattle.table.proofs.Places.{sorted-rises}
@@ -41,7 +41,7 @@ unfolding epochIn addedOf
 epoch-same t n room e s base rover set w r l =
     let new = epochSamples base rover set e s in
     rw (many-same (length ((directoryOf t) .entries)) n room e s (few-entries t l), sound-directory t w (sym (sorted-rises t) ∙ r), flat-directory t)
-    (go (tooMany n room e s) (settingsInRange set) (recordsInRange e s base rover && sound t) (ltb room (n + length new)))
+    (go (tooMany n room e s) (settingsInRange set) (recordsInRange e s base rover && soundTable t) (ltb room (n + length new)))
   where
     go : (a b x y : Bool)
         → flatOutcome (cond a (refusedIn TooMany) (cond (not b) (refusedIn SettingOutOfRange) (cond (not x) (refusedIn RecordOutOfRange) (cond y (refusedIn TableFull) (addedIn (directoryOf (insertAll t (epochSamples base rover set e s))))))))

@@ -8,7 +8,7 @@ use Rattle.walk.specs.Walk.{every}
 use Rattle.numeric.specs.Real.{inRange}
 use Rattle.numeric.specs.declared.vec3.Vec3.{Vec3}
 use Rattle.numeric.specs.declared.refusal.Refusal.the-variants.{TooMany, SettingOutOfRange, RecordOutOfRange, TableFull}
-use Rattle.table.specs.Table.{sound}
+use Rattle.table.specs.Table.{soundTable}
 use Rattle.table.specs.Add.{Outcome, refused, added, insertAll}
 use Rattle.table.specs.declared.sample.Sample.{Sample}
 use Rattle.table.specs.declared.add.Test.{Test}
@@ -40,7 +40,7 @@ addedOf n room t e s base rover set =
     let new = epochSamples base rover set e s in
     cond (tooMany n room e s) (refused TooMany)
     (cond (not (settingsInRange set)) (refused SettingOutOfRange)
-    (cond (not (recordsInRange e s base rover && sound t)) (refused RecordOutOfRange)
+    (cond (not (recordsInRange e s base rover && soundTable t)) (refused RecordOutOfRange)
     (cond (ltb room (n + length new)) (refused TableFull)
     (added (insertAll t new)))))
 

@@ -6,7 +6,7 @@ use mathlib.Core.List.{List, [], _∷_}
 use lib.ListN.{length}
 use Rattle.walk.specs.Walk.{collect, fold}
 use Rattle.numeric.specs.declared.vec3.Vec3.{Vec3}
-use Rattle.table.specs.Table.{sound}
+use Rattle.table.specs.Table.{soundTable}
 use Rattle.table.specs.Build.{builtOf}
 use Rattle.table.specs.declared.sample.Sample.{Sample}
 use Rattle.directory.specs.Directory.{Blocks, blockCapacity, directoryIn, directoryOf}
@@ -33,7 +33,7 @@ pub record Keeps (room : ℕ) (h : Owned) (t : List Sample) : Type 0 where
   pub directory : directoryIn (h .entries) (h .samples) (h .columns) ≡ directoryOf t
   pub all-entries : h .entries ≡ length ((directoryOf t) .entries)
   pub all-samples : h .samples ≡ length t
-  pub steady : sound t ≡ true
+  pub steady : soundTable t ≡ true
   pub same-room : blockCapacity (h .columns) ≡ room
 
 -- i and then the rest where its call was accepted, and the rest alone where it was refused

@@ -1,10 +1,9 @@
 -- The raw corrections of an epoch, in the order of its ranges (`build` of differential.rs, its first loop). Definitions only.
-use Prim.Native.Nat.{ℕ, _≤_, min}
-use mathlib.Core.Path.{_≡_}
+use Prim.Native.Nat.{ℕ, min}
 use mathlib.Core.Bool.{Bool, false, cond, _&&_}
 use mathlib.Core.List.{List, [], _∷_}
 use lib.Dec.{eqb}
-use lib.ListN.{getD, take, length}
+use lib.ListN.{getD}
 use lib.Ieee.{Float, neg}
 use Rattle.exact.specs.Float.{_⊕_, _⊖_, _⊗_, _⊘_}
 use Rattle.walk.specs.Walk.{first, collect}
@@ -58,9 +57,3 @@ rawAt set base rover states r = cond (enabled set (r .constellation)) (firstRaw 
 
 unfoldable pub rawsOf : Settings → Vec3 → Vec3 → List State → List Range → List Raw
 rawsOf set base rover states ranges = collect (rawAt set base rover states) ranges
-
--- what the contracts of the steps say: the first k elements of an array of 64 are l
-pub record Holds {A : Type 0} (k : ℕ) (array : List A) (l : List A) : Type 0 where
-  pub room : k ≤ 64
-  pub count : k ≡ length l
-  pub all : take k array ≡ l

@@ -2,8 +2,8 @@
 ghost use mathlib.Core.Path.{_≡_};
 ghost use Prim.Native.Nat.{_≤_};
 ghost use lib.ListN.{take};
+ghost use Rattle.walk.specs.Walk.{Holds};
 ghost use Rattle.differential.specs.Raw as spec;
-ghost use Rattle.differential.specs.Raw.{Holds};
 use crate::record::BaseEpoch;
 use crate::record::Range;
 use crate::record::Settings;

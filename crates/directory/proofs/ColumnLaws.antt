@@ -10,7 +10,7 @@ use lib.Seq.{length-take-le}
 use lib.Ieee.{Float, nan}
 use Rattle.table.specs.Table.{Columns, beside, lent, rows, tableOf}
 use Rattle.table.specs.declared.sample.Sample.{Sample}
-use Rattle.directory.specs.Directory.{Entry, Reading, Directory, Blocks, blocksWith, columnOf, directoryIn, directoryOf, entriesFrom, entriesIn, entryRows, flat, lentBlocks, noEntry, noReading, readingOf, readingRows, readingsIn, soundDirectory}
+use Rattle.directory.specs.Directory.{Entry, Reading, Directory, Blocks, blocksWith, directoryIn, directoryOf, entriesFrom, entryRows, flat, lentBlocks, noEntry, noReading, readingOf, readingRows, readingsIn, soundDirectory}
 use Rattle.directory.specs.Rearrange.{entriesWith, signalsWith}
 use Rattle.directory.proofs.DirectoryLaws.{flat-readings}
 

@@ -11,7 +11,7 @@ use lib.ListN.{length, take, drop, length-drop, length-map, take-append-drop}
 use lib.Seq.{drop-drop, drop-length, length-take-le}
 use borrow.Author.Tests.{ltb-true, leb-true, eqb-true, le-leb, lt-ltb, eq-eqb, ne-eqb}
 use Rattle.walk.specs.Walk.{collect, every, first}
-use Rattle.table.specs.Table.{ranged, signalOf, sorted, sound, seriesOf, ofSignal}
+use Rattle.table.specs.Table.{ranged, signalOf, soundTable, seriesOf, ofSignal}
 use Rattle.table.specs.declared.sample.Sample.{Sample}
 use Rattle.table.proofs.TableLaws.{and-left, and-right}
 use Rattle.table.proofs.UnitLaws.{never}
@@ -273,8 +273,8 @@ rises-flat rs p (e ∷ es) a o =
     low : (p g : ℕ) → p ≤ g → p * 2 ^ 64 ≤ g * 2 ^ 64 + 0
     low p g h = omega arith
 
-pub sound-flat : (d : Directory) → soundDirectory d ≡ true → sound (flat d) ≡ true
-unfolding sound flat
+pub sound-flat : (d : Directory) → soundDirectory d ≡ true → soundTable (flat d) ≡ true
+unfolding soundTable flat
 sound-flat d h =
     let p = sound-parts d h in
     let r : every ranged (collect (block (d .readings)) (d .entries)) ≡ true =
@@ -412,8 +412,8 @@ in-order-of rs (e ∷ es) r =
     rw (timely-block rs e (rises-left 0 (block rs e) (collect (block rs) es) r)) (in-order-of rs es (rises-right 0 (block rs e) (collect (block rs) es) r))
 
 -- for every sorted table the tests of number 4 agree
-pub sound-directory : (t : List Sample) → every narrow t ≡ true → rises 0 t ≡ true → soundDirectory (directoryOf t) ≡ sound t
-unfolding soundDirectory directoryOf sound
+pub sound-directory : (t : List Sample) → every narrow t ≡ true → rises 0 t ≡ true → soundDirectory (directoryOf t) ≡ soundTable t
+unfolding soundDirectory directoryOf soundTable
 sound-directory t n r =
     let o : inOrder (map readingOf t) (entriesFrom 0 t) ≡ true = in-order-of (map readingOf t) (entriesFrom 0 t) (rw (flat-from (map readingOf t) 0 t refl) r) in
     let z : length t ≡ 0 + length t = omega arith in

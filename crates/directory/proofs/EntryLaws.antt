@@ -1,6 +1,6 @@
 -- The entries of a sound directory place by place, and the samples of their blocks. Assumes nothing.
 use mathlib.Core.Path.{_≡_, refl, sym, ap, _∙_}
-use mathlib.Core.List.{List, [], _∷_, _++_, map}
+use mathlib.Core.List.{List, [], _∷_, map}
 use mathlib.Core.Bool.{true}
 use Prim.Native.Nat.{ℕ, zero, suc, _+_, _-_, _≤_, _<_}
 use native.Mathlib.Nat.{not-suc-le-zero, le-of-suc-le-suc}
@@ -9,9 +9,8 @@ use lib.ListN.{length, getD, take, drop, length-drop, length-map, List·getD-app
 use lib.Seq.{getD-append-add, getD-drop, getD-take, length-take-le}
 use Rattle.walk.specs.Walk.{collect}
 use Rattle.table.specs.Table.{blank}
-use Rattle.table.specs.declared.sample.Sample.{Sample}
 use Rattle.directory.specs.Directory.{Entry, Reading, ascends, block, noEntry, noReading, sampleOf, signalIn, tiles}
-use Rattle.directory.proofs.DirectoryLaws.{ascends-low, ascends-rest, tiles-le, tiles-start, tiles-count, tiles-rest}
+use Rattle.directory.proofs.DirectoryLaws.{ascends-low, ascends-rest, tiles-start, tiles-rest}
 use Rattle.directory.proofs.SoundLaws.{tiles-at}
 
 pub getD-map-in : {A B : Type 0} (f : A → B) (l : List A) (i : ℕ) (d : A) (z : B) → i < length l → getD (map f l) i z ≡ f (getD l i d)

@@ -1,30 +1,53 @@
 -- The passes that test a directory, turn by turn. Assumes nothing.
 use mathlib.Core.Path.{_≡_, refl, sym, ap, _∙_}
-use mathlib.Core.List.{List, [], _∷_, _++_, map}
+use mathlib.Core.List.{List, [], _∷_, map}
 use mathlib.Core.Bool.{Bool, true, false, not, _&&_, _||_}
 use Prim.Native.Nat.{ℕ, zero, suc, _+_, _-_, _≤_, _<_}
 use native.Mathlib.Nat.{not-suc-le-zero, le-of-suc-le-suc}
 use native.Mathlib.Numerals.{add-one}
 use native.Mathlib.Omega.{arith}
-use lib.Dec.{eqb, ltb, leb}
+use lib.Dec.{T, eqb, ltb}
 use lib.ListN.{length, getD, take, drop}
 use lib.Seq.{drop-at, getD-take, length-take-le, take-add}
-use borrow.Author.Tests.{ltb-true, ltb-false, eqb-true, eqb-false, le-leb, lt-leb, lt-ltb, le-ltb, eq-eqb, ne-eqb, not-true, not-false}
-use lib.Ieee.{Float, nan}
+use borrow.Author.Tests.{ltb-true, ltb-false, eqb-true, eqb-false, le-leb, lt-leb, lt-ltb, not-true, not-false}
+use lib.Ieee as Ieee
+use lib.Ieee.{Float, nan, lt, binary64}
 use Rattle.walk.specs.Walk.{every}
 use Rattle.walk.proofs.Walk.{left-at, left-end}
 use Rattle.numeric.specs.Real.{inRange}
 use Rattle.table.specs.Table.{signal, timeBefore}
 use Rattle.table.proofs.TableLaws.{and-left, and-right}
 use Rattle.table.proofs.UnitLaws.{never}
+use Rattle.table.proofs.Places.{numbers-after}
 use Rattle.directory.specs.Directory.{Entry, Reading, Blocks, ascends, blockTimes, directoryIn, entriesIn, inOrder, inReach, noEntry, noReading, readingRows, readingsIn, signalIn, soundDirectory, tiles, timely, timelyFrom}
 use Rattle.directory.proofs.DirectoryLaws.{tiles-le, tiles-start, tiles-count, tiles-rest}
-use Rattle.directory.proofs.ColumnLaws.{reading-at, readings-length}
+use Rattle.directory.proofs.ColumnLaws.{reading-at}
+
+and-yes : (a : Bool) → (a && true) ≡ a
+and-yes true = refl
+and-yes false = refl
+
+and-parts : (a b c d : Bool) → (((a && b) && c) && d) ≡ (a && ((b && c) && d))
+and-parts true b c d = refl
+and-parts false b c d = refl
 
 -- ---- times and corrections in range
 pub reach-at : (ts xs : List Float) (i : ℕ) → i < length (readingRows ts xs) → (inRange (getD ts i nan) && inRange (getD xs i nan)) ≡ inReach (getD (readingRows ts xs) i noReading)
 unfolding inReach
 reach-at ts xs i h = ap (λ (r : Reading). inRange (r .time) && inRange (r .correction)) (reading-at ts xs i h)
+
+-- whether those so far are, and whether those to come are
+module _ (ts xs : List Float) (n : ℕ) (fits : n ≤ length (readingRows ts xs)) (i : ℕ) (all : Bool) {w : Bool} (inv : (all && every inReach (drop i (take n (readingRows ts xs)))) ≡ w) where
+  pub reach-end : n ≤ i → all ≡ w
+  unfolding every
+  reach-end h = sym (and-yes all) ∙ (rw (left-end (readingRows ts xs) n fits i h) at inv)
+
+  pub reach-on : i < n → (a b : Bool) → a ≡ inRange (getD ts i nan) → b ≡ inRange (getD xs i nan) → (((all && a) && b) && every inReach (drop (i + 1) (take n (readingRows ts xs)))) ≡ w
+  unfolding every
+  reach-on h a b ea eb =
+      let at : (a && b) ≡ inReach (getD (readingRows ts xs) i noReading) = rw (ea, eb) (reach-at ts xs i (omega arith)) in
+      and-parts all a b _ ∙ ap (λ (y : Bool). all && (y && every inReach (drop (i + 1) (take n (readingRows ts xs))))) at
+      ∙ (rw (left-at (readingRows ts xs) n fits i noReading h) at inv)
 
 -- ---- times in order
 pub part-is : {A : Type 0} (first count : ℕ) (l : List A) → first + count ≤ length l → take count (drop first l) ≡ drop first (take (first + count) l)
@@ -48,6 +71,13 @@ module _ (ts : List Float) (first count : ℕ) (fits : first + count ≤ length 
       pub timely-on : timeBefore (getD ts i nan) p ≡ false → timelyFrom (getD ts i nan) (drop (i + 1) (take (first + count) ts)) ≡ w
       unfolding timelyFrom
       timely-on t = rw (left-at ts (first + count) fits i nan h, t) at inv
+
+-- times that are each below the next so far are in order where the rest is
+module _ (ts : List Float) (first count : ℕ) (fits : first + count ≤ length ts) (i : ℕ) (all : Bool) {w : Bool} (inv : all ≡ true → timelyFrom (getD ts (i - 1) nan) (drop i (take (first + count) ts)) ≡ w) where
+  pub rising-on : i < first + count → T (Ieee.fits binary64 (getD ts i nan)) → T (Ieee.fits binary64 (getD ts (i - 1) nan)) → (all && lt (getD ts (i - 1) nan) (getD ts i nan)) ≡ true
+      → timelyFrom (getD ts i nan) (drop (i + 1) (take (first + count) ts)) ≡ w
+  rising-on h ft fu e =
+      timely-on ts first count fits i (getD ts (i - 1) nan) (inv (and-left all _ e)) h (sym (numbers-after (getD ts i nan) (getD ts (i - 1) nan) ft fu (and-right all (lt (getD ts (i - 1) nan) (getD ts i nan)) e)))
 
 part-times : (a c n : ℕ) (ts xs : List Float) → n ≤ length (readingRows ts xs) → a + c ≤ n → take c (drop a ts) ≡ map (λ (r : Reading). r .time) (take c (drop a (take n (readingRows ts xs))))
 unfolding readingRows

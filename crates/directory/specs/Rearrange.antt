@@ -1,6 +1,5 @@
 -- The two forms of a table, each made of the other (request (ix)): they share times and corrections, so only the directory is written, or only the three columns of signals. Definitions only.
 use Prim.Native.Nat.{ℕ, min}
-use mathlib.Core.Path.{_≡_}
 use mathlib.Core.Bool.{cond, not, _||_}
 use mathlib.Core.List.{List}
 use lib.Dec.{ltb}
@@ -8,9 +7,9 @@ use lib.ListN.{length}
 use Rattle.numeric.specs.Refusal.{numberOf}
 use Rattle.numeric.specs.declared.refusal.Refusal.{Refusal}
 use Rattle.numeric.specs.declared.refusal.Refusal.the-variants.{TooMany, RecordOutOfRange}
-use Rattle.table.specs.Table.{Columns, capacity, tableOf, sound}
+use Rattle.table.specs.Table.{Columns, capacity, tableOf, soundTable}
 use Rattle.table.specs.declared.sample.Sample.{Sample}
-use Rattle.directory.specs.Directory.{Entry, Directory, Blocks, blockCapacity, columnOf, directoryIn, directoryOf, entriesIn, flat, soundDirectory}
+use Rattle.directory.specs.Directory.{Entry, Blocks, blockCapacity, columnOf, directoryIn, directoryOf, flat, soundDirectory}
 
 -- ---- the directory of a table
 
@@ -23,7 +22,7 @@ pub data Filed : Type 0 where
 unfoldable pub filedOf : ℕ → ℕ → Columns → Filed
 filedOf n long l =
     cond (ltb (min long (capacity l)) n) (unfiled TooMany)
-    (cond (not (sound (tableOf n l))) (unfiled RecordOutOfRange)
+    (cond (not (soundTable (tableOf n l))) (unfiled RecordOutOfRange)
     (entriesAre ((directoryOf (tableOf n l)) .entries)))
 
 -- 0, or the number of the refusal

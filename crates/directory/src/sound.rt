@@ -9,19 +9,18 @@ use crate::entry::signal_at;
 use numeric::real::in_range;
 use table::sample::is_earlier;
 
-// Whether the first n times and corrections are in range.
+// Whether the first n times and corrections are in range. It goes on past one that is not, so that several are tested at once.
 fn all_in_reach(ts: &[f64], xs: &[f64], n: usize) -> bool
     requires { ⌜ n ≤ length (readingRows (now ts) (now xs)) ⌝ }
     ensures { λ r. ⌜ r ≡ every inReach (take n (readingRows (now (ts .entry)) (now (xs .entry)))) ⌝ }
 {
+    let mut all = true;
     let mut i: usize = 0;
     while i < n {
-        if !(in_range(ts[i]) & in_range(xs[i])) {
-            return false;
-        }
+        all = all & in_range(ts[i]) & in_range(xs[i]);
         i += 1;
     }
-    true
+    all
 }
 
 // Whether the first m entries ascend, none is empty, and their blocks lie one after the other from place 0 to n.
@@ -55,7 +54,22 @@ fn is_tiled(
     place == n
 }
 
-// Whether the times of the block from the place first on, count of them, are in order.
+// Whether each of count times, from the place first on, is below the next: then they are in order. Several are tested at once.
+fn is_rising(ts: &[f64], first: usize, count: usize) -> bool
+    requires { ⌜ (0 < count) × (first + count ≤ length (now ts)) ⌝ }
+    ensures { λ r. ⌜ (r ≡ true → true ≡ timely (take count (drop first (now (ts .entry))))) ⌝ }
+{
+    let end = first + count;
+    let mut all = true;
+    let mut i = first + 1;
+    while i < end {
+        all = all & (ts[i - 1] < ts[i]);
+        i += 1;
+    }
+    all
+}
+
+// Whether the times of the block from the place first on, count of them, are in order, one after the other.
 fn is_timely(ts: &[f64], first: usize, count: usize) -> bool
     requires { ⌜ (0 < count) × (first + count ≤ length (now ts)) ⌝ }
     ensures { λ r. ⌜ r ≡ timely (take count (drop first (now (ts .entry)))) ⌝ }
@@ -69,6 +83,17 @@ fn is_timely(ts: &[f64], first: usize, count: usize) -> bool
         i += 1;
     }
     true
+}
+
+// The same, where most blocks have no time twice.
+fn in_turn(ts: &[f64], first: usize, count: usize) -> bool
+    requires { ⌜ (0 < count) × (first + count ≤ length (now ts)) ⌝ }
+    ensures { λ r. ⌜ r ≡ timely (take count (drop first (now (ts .entry)))) ⌝ }
+{
+    if is_rising(ts, first, count) {
+        return true;
+    }
+    is_timely(ts, first, count)
 }
 
 // Whether the times of each of the first m blocks are in order.
@@ -92,7 +117,7 @@ fn in_order(
     while i < m {
         let first = df[i];
         let count = dn[i];
-        if !is_timely(ts, first, count) {
+        if !in_turn(ts, first, count) {
             return false;
         }
         i += 1;

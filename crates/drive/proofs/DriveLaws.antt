@@ -11,7 +11,7 @@ use Rattle.tdcp.specs.Displacement.{Input, Promised}
 use Rattle.tdcp.specs.declared.displacement.Delta.{Delta}
 use Rattle.tdcp.specs.declared.displacement.Displacement.{Displacement}
 use Rattle.tdcp.specs.declared.displacement.Displacement.the-variants.{Refused as Still, Moved}
-use Rattle.trip.specs.Trip.{sound, added}
+use Rattle.trip.specs.Trip.{soundTrip, added}
 use Rattle.trip.specs.Words.{addedHeld}
 use Rattle.trip.specs.declared.trip.Trip.{Trip}
 use Rattle.trip.specs.declared.trip.Step.{Step}
@@ -33,7 +33,7 @@ module _ (s : Settings) (t : Step) where
   unfolding underNew
   new-taken h e = rw (h, ← e)
 
-pub tested-by : {t : Step} {u : Trip} (b : Bool) → t ≡ Step.Goes u → b ≡ sound u → cond b (Step.Goes u) (Step.Refused BadTrip) ≡ tested t
+pub tested-by : {t : Step} {u : Trip} (b : Bool) → t ≡ Step.Goes u → b ≡ soundTrip u → cond b (Step.Goes u) (Step.Refused BadTrip) ≡ tested t
 unfolding tested
 tested-by b e h = rw (e, ← h)
 

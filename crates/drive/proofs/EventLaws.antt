@@ -15,7 +15,7 @@ use Rattle.tdcp.specs.declared.displacement.Settings.{Settings}
 use Rattle.tdcp.specs.declared.displacement.Displacement.{Displacement}
 use Rattle.tdcp.specs.declared.displacement.Displacement.the-variants.{Refused as Still, Moved}
 use Rattle.tdcp.proofs.DisplacementSound.{displacement-accepted}
-use Rattle.trip.specs.Trip.{Leg, reportOf, tripOf, sound, added, reported, kept, after, counting, narrow}
+use Rattle.trip.specs.Trip.{Leg, reportOf, tripOf, soundTrip, added, reported, kept, after, counting, narrow}
 use Rattle.trip.specs.Words.{addedHeld}
 use Rattle.trip.specs.declared.trip.Trip.{Trip}
 use Rattle.trip.specs.declared.trip.Step.{Step}
@@ -47,7 +47,7 @@ fold-append g s [] ys = refl
 fold-append g s (x ∷ xs) ys = fold-append g (g s x) xs ys
 
 -- it keeps the trip sound
-move-sound : (t : Trip) (pulses : ℕ) (a : Displacement) → sound t ≡ true → leb pulses 65535 ≡ true → sound (fold after t (legsOf pulses a)) ≡ true
+move-sound : (t : Trip) (pulses : ℕ) (a : Displacement) → soundTrip t ≡ true → leb pulses 65535 ≡ true → soundTrip (fold after t (legsOf pulses a)) ≡ true
 unfolding legsOf fold narrow
 move-sound t pulses (Still r) s n = s
 move-sound t pulses (Moved d) s n = after-sound t (record { displacement = d .delta; pulses = pulses }) s n
@@ -60,7 +60,7 @@ move-narrow pulses (Moved d) legs n h = rw (n, h)
 -- ---- a change
 
 -- new settings are taken where 3 lets them pass: the trip is sound, so that 16 does not apply
-change-taken : (t : Trip) (s r : Settings) → sound t ≡ true → driveAfter (record { trip = t; settings = s }) (changedOf (record { trip = t; settings = s }) r) ≡ record { trip = t; settings = changedTo s r }
+change-taken : (t : Trip) (s r : Settings) → soundTrip t ≡ true → driveAfter (record { trip = t; settings = s }) (changedOf (record { trip = t; settings = s }) r) ≡ record { trip = t; settings = changedTo s r }
 unfolding underNew tested
 change-taken t s r h = rw h (go (settingsPass r))
   where
@@ -81,7 +81,7 @@ move-refused v m pulses r h = rw h
 -- ---- a list of events
 
 -- the trip after the events is that after their epochs
-events-from : (es : List Event) (t : Trip) (s : Settings) → sound t ≡ true → every narrowEvent es ≡ true
+events-from : (es : List Event) (t : Trip) (s : Settings) → soundTrip t ≡ true → every narrowEvent es ≡ true
     → fold next (record { trip = t; settings = s }) es ≡ record { trip = fold after t (legsUnder s es); settings = inForce s es }
 unfolding fold every narrowEvent next legsUnder inForce travelledOf
 events-from [] t s h n = refl

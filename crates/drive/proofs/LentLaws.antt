@@ -1,81 +1,32 @@
 -- What the calls on lent memory answer and leave, by the answer of the call behind them; and rounds above 50, which are refused alike. Assumes nothing.
 use mathlib.Core.Path.{_≡_, sym, ap, _∙_}
-use mathlib.Core.Bool.{Bool, true, false, cond, _&&_}
 use mathlib.Core.List.{List}
-use Prim.Native.Nat.{ℕ, min, _<_}
-use native.Mathlib.Decide.{decLt}
-use native.Mathlib.Omega.{arith}
+use Prim.Native.Nat.{ℕ, min}
 use lib.Ieee.{Float}
-use Rattle.numeric.specs.declared.refusal.Refusal.the-variants.{TooMany}
-use Rattle.numeric.specs.declared.vec3.Vec3.{Vec3}
-use Rattle.records.specs.Carriers.{CarrierColumns, epochFits}
 use Rattle.tdcp.specs.Displacement.{displacementOf, Accepted}
 use Rattle.tdcp.specs.declared.displacement.Delta.{Delta}
-use Rattle.tdcp.specs.declared.displacement.Displacement.{Displacement}
 use Rattle.tdcp.specs.declared.displacement.Displacement.the-variants as Displacement
-use Rattle.tdcp.proofs.DisplacementSound.{never, displacement-accepted}
-use Rattle.tdcp.proofs.CountedLaws.{many-rounds, displacement-many-rounds}
+use Rattle.tdcp.proofs.DisplacementSound.{displacement-accepted}
+use Rattle.tdcp.proofs.CountedLaws.{many-rounds}
 use Rattle.trip.specs.declared.trip.Step.{Step}
 use Rattle.drive.specs.Drive.{underNew}
-use Rattle.drive.specs.Lent.{settingsOf, drivingNumber, inForceAfter, roundsAfter, startedAfter, DrivingAnswers, BegunAnswers, Lent, lent, inputOf, movedOf, travelledIn, travelNumber, tripAfter, deltaAfter, countsAfter, TravelAnswers}
+use Rattle.tdcp_columns.specs.Displacement.{displacementSettings}
+use Rattle.tdcp_columns.proofs.RoundLaws.{capped}
+use Rattle.tdcp_columns.proofs.FitLaws.{moved-fit}
+use Rattle.drive.specs.Lent.{drivingNumber, inForceAfter, roundsAfter, startedAfter, DrivingAnswers, BegunAnswers, Lent, inputOf, movedOf, travelledIn, travelNumber, tripAfter, deltaAfter, countsAfter, TravelAnswers}
 use Rattle.drive.specs.declared.drive.Driving.{Driving}
 use Rattle.drive.specs.declared.drive.Driving.the-variants as Driving
 use Rattle.drive.specs.declared.drive.Travel.{Travel}
 use Rattle.drive.specs.declared.drive.Travel.the-variants as Travel
 use Rattle.drive.proofs.DriveLaws.{by-moved, new-refused}
 
--- ---- rounds
-
-capped : (rounds : ℕ) → (50 < rounds → ⊥) → min rounds 51 ≡ rounds
-capped rounds h = omega arith
-
 -- 51 rounds are refused as any more are
-pub new-capped : (s : List Float) (rounds : ℕ) (t : Step) → underNew (settingsOf s (min rounds 51)) t ≡ underNew (settingsOf s rounds) t
-new-capped s rounds t = go (decLt 50 rounds)
-  where
-    go : Dec (50 < rounds) → underNew (settingsOf s (min rounds 51)) t ≡ underNew (settingsOf s rounds) t
-    go (yes h) = sym (new-refused (settingsOf s (min rounds 51)) t (many-rounds (settingsOf s (min rounds 51)) (omega arith))) ∙ new-refused (settingsOf s rounds) t (many-rounds (settingsOf s rounds) h)
-    go (no h) = ap (λ (k : ℕ). underNew (settingsOf s k) t) (capped rounds h)
+pub new-capped : (s : List Float) (rounds : ℕ) (t : Step) → underNew (displacementSettings s (min rounds 51)) t ≡ underNew (displacementSettings s rounds) t
+new-capped s rounds t =
+    capped (λ (k : ℕ). underNew (displacementSettings s k) t) (λ k h. sym (new-refused (displacementSettings s k) t (many-rounds (displacementSettings s k) h))) rounds
 
-module _ (p : CarrierColumns) (m : ℕ) (c : CarrierColumns) (n : ℕ) (dt : Float) (receiver : Vec3) (s : List Float) (rounds : ℕ) where
-  -- what is lent, with k rounds
-  abbrev with : ℕ → Lent
-  with k = lent p m c n dt receiver (settingsOf s k)
-
-  displacement-capped : displacementOf (inputOf (with (min rounds 51))) ≡ displacementOf (inputOf (with rounds))
-  displacement-capped = go (decLt 50 rounds)
-    where
-      go : Dec (50 < rounds) → displacementOf (inputOf (with (min rounds 51))) ≡ displacementOf (inputOf (with rounds))
-      go (yes h) = displacement-many-rounds (inputOf (with (min rounds 51))) (omega arith) ∙ sym (displacement-many-rounds (inputOf (with rounds)) h)
-      go (no h) = ap (λ (k : ℕ). displacementOf (inputOf (with k))) (capped rounds h)
-
-  pub moved-capped : movedOf (with (min rounds 51)) ≡ movedOf (with rounds)
-  unfolding movedOf
-  moved-capped = rw displacement-capped
-
--- ---- the displacement of columns
-
-module _ (l : Lent) where
-  pub previous-short : {a : Bool} → a ≡ epochFits (l .previous) (l .previous-count) → a ≡ false → Displacement.Refused TooMany ≡ movedOf l
-  unfolding movedOf
-  previous-short is e = rw (← is, e)
-
-  module _ {a b : Bool} (a-is : a ≡ epochFits (l .previous) (l .previous-count)) (e : a ≡ true) (b-is : b ≡ epochFits (l .current) (l .current-count)) where
-    pub current-short : b ≡ false → Displacement.Refused TooMany ≡ movedOf l
-    unfolding movedOf
-    current-short f = rw (← a-is, e, ← b-is, f)
-
-    pub both-fit : b ≡ true → displacementOf (inputOf l) ≡ movedOf l
-    unfolding movedOf
-    both-fit f = rw (← a-is, e, ← b-is, f)
-
-  moved-accepted : (d : Delta) → movedOf l ≡ Displacement.Moved d → Accepted (inputOf l) d
-  unfolding movedOf
-  moved-accepted d = go (epochFits (l .previous) (l .previous-count) && epochFits (l .current) (l .current-count))
-    where
-      go : (b : Bool) → cond b (displacementOf (inputOf l)) (Displacement.Refused TooMany) ≡ Displacement.Moved d → Accepted (inputOf l) d
-      go true e = displacement-accepted (inputOf l) d e
-      go false e = absurd (never d TooMany e)
+moved-accepted : (l : Lent) (d : Delta) → movedOf l ≡ Displacement.Moved d → Accepted (inputOf l) d
+moved-accepted l d e = displacement-accepted (inputOf l) d (moved-fit (l .previous) (l .previous-count) (l .current) (l .current-count) (displacementOf (inputOf l)) d e)
 
 -- ---- the contracts' parts, from the answer that was given
 

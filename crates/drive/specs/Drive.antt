@@ -9,7 +9,7 @@ use Rattle.tdcp.specs.declared.displacement.Delta.{Delta}
 use Rattle.tdcp.specs.declared.displacement.Settings.{Settings}
 use Rattle.tdcp.specs.declared.displacement.Displacement.{Displacement}
 use Rattle.tdcp.specs.declared.displacement.Displacement.the-variants.{Refused as Still, Moved}
-use Rattle.trip.specs.Trip.{sound, started}
+use Rattle.trip.specs.Trip.{soundTrip, started}
 use Rattle.trip.specs.Words.{addedHeld}
 use Rattle.trip.specs.declared.trip.Trip.{Trip}
 use Rattle.trip.specs.declared.trip.Step.{Step}
@@ -38,7 +38,7 @@ begunOf s rate = underNew s (started rate)
 -- the trip handed in, where 16 lets it pass
 unfoldable pub tested : Step → Step
 tested (Step.Refused r) = Step.Refused r
-tested (Step.Goes t) = cond (sound t) (Step.Goes t) (Step.Refused BadTrip)
+tested (Step.Goes t) = cond (soundTrip t) (Step.Goes t) (Step.Refused BadTrip)
 
 -- new settings between two epochs
 abbrev pub changedOf : Drive → Settings → Driving

@@ -1,17 +1,14 @@
 -- The calls of a trip with settings on lent memory: what they answer, and what it holds afterwards; a refusal leaves every word and every bit. Definitions only.
 use Prim.Native.Nat.{ℕ}
 use mathlib.Core.Path.{_≡_}
-use mathlib.Core.Bool.{cond, _&&_}
 use mathlib.Core.List.{List, [], _∷_, map}
-use lib.ListN.{getD}
-use lib.Ieee.{Float, nan}
-use Rattle.exact.specs.Float.{+0}
+use lib.Ieee.{Float}
 use Rattle.numeric.specs.Order.{patternOf}
 use Rattle.numeric.specs.Refusal.{numberOf}
-use Rattle.numeric.specs.declared.refusal.Refusal.the-variants.{TooMany}
 use Rattle.numeric.specs.declared.vec3.Vec3.{Vec3}
-use Rattle.records.specs.Carriers.{CarrierColumns, epochOf, epochFits}
-use Rattle.tdcp.specs.Displacement.{Input, input, displacementOf, displacementFloats, displacementCounts, Accepted}
+use Rattle.records.specs.Carriers.{CarrierColumns}
+use Rattle.tdcp.specs.Displacement.{Input, displacementFloats, displacementCounts, Accepted}
+use Rattle.tdcp_columns.specs.Displacement.{displacementInput, columnDisplacementOf}
 use Rattle.tdcp.specs.declared.displacement.Settings.{Settings}
 use Rattle.tdcp.specs.declared.displacement.Displacement.{Displacement}
 use Rattle.tdcp.specs.declared.displacement.Displacement.the-variants as Displacement
@@ -23,19 +20,7 @@ use Rattle.drive.specs.declared.drive.Travelled.{Travelled}
 use Rattle.drive.specs.declared.drive.Travel.{Travel}
 use Rattle.drive.specs.declared.drive.Travel.the-variants as Travel
 
--- ---- settings as five floats (screen, sigma_a, sigma_b, huber, mask) and the rounds; `agreement` is neither read nor checked
-
-abbrev pub settingsOf : List Float → ℕ → Settings
-settingsOf s rounds =
-    record {
-      screen = getD s 0 nan;
-      «sigma_a» = getD s 1 nan;
-      «sigma_b» = getD s 2 nan;
-      huber = getD s 3 nan;
-      mask = getD s 4 nan;
-      rounds = rounds;
-      agreement = +0;
-    }
+-- ---- the five floats of settings (screen, sigma_a, sigma_b, huber, mask)
 
 abbrev pub floatsOf : Settings → List Float
 floatsOf s = s .screen ∷ s .«sigma_a» ∷ s .«sigma_b» ∷ s .huber ∷ s .mask ∷ []
@@ -86,13 +71,10 @@ lent p m c n dt receiver settings =
     record { previous = p; previous-count = m; current = c; current-count = n; dt = dt; receiver = receiver; settings = settings }
 
 abbrev pub inputOf : Lent → Input
-inputOf l = input (epochOf (l .previous) (l .previous-count)) (epochOf (l .current) (l .current-count)) (l .dt) (l .receiver) (l .settings)
+inputOf l = displacementInput (l .previous) (l .previous-count) (l .current) (l .current-count) (l .dt) (l .receiver) (l .settings)
 
--- 2: one epoch has more than 64, or one of its columns is too short
-unfoldable pub movedOf : Lent → Displacement
-movedOf l =
-    cond (epochFits (l .previous) (l .previous-count) && epochFits (l .current) (l .current-count)) (displacementOf (inputOf l))
-    (Displacement.Refused TooMany)
+abbrev pub movedOf : Lent → Displacement
+movedOf l = columnDisplacementOf (l .previous) (l .previous-count) (l .current) (l .current-count) (l .dt) (l .receiver) (l .settings)
 
 -- the trip that the words hold, with that displacement
 abbrev pub travelledIn : Lent → ℕ → List ℕ → Travel

@@ -21,7 +21,7 @@ use Rattle.robust.specs.declared.round.Stepping.the-variants as Stepping
 use Rattle.numeric.specs.declared.refusal.Refusal.{Refusal}
 use Rattle.estimator.specs.declared.rules.Check.the-variants as Check
 use Rattle.robust.proofs.NineLaws.{nine-is}
-use Rattle.estimator.specs.Rounds.{End, Stopped, Reached, Fit, moved, short, after, fitFrom, lastRows, Ended}
+use Rattle.estimator.specs.Rounds.{End, Stopped, Reached, Fit, moved, shortStep, after, fitFrom, lastRows, Ended}
 
 -- 1e-3 and 1e-5, as a compiler reads them
 pub three-places : bits 0x3F50_624D_D2F1_A9FC ≡ decimal 1 3
@@ -105,22 +105,22 @@ module _ (roundAt : List Float → Outcome) (n : ℕ) (limit : Float) (count : �
           go (Solved q) s e = absurd (let w : a ≡ Stepping.Done = s .answer-is in let z : _≡_ {A = ℕ} 0 1 = cc in omega arith)
 
       -- y is where the step leads, and `stop` whether it is short
-      module _ (t : a ≡ Stepping.Done) (y : List Float) (stop : Bool) (moves : y ≡ moved n x dx) (stops : stop ≡ short limit dx) where
+      module _ (t : a ≡ Stepping.Done) (y : List Float) (stop : Bool) (moves : y ≡ moved n x dx) (stops : stop ≡ shortStep limit dx) where
         never : {A : Type 0} (r : Refusal) → Solving (Refused r) a before dx → A
         never r s = absurd (let w : a ≡ Stepping.Refused r = s .answer-is in let z : _≡_ {A = ℕ} 0 1 = cc in omega arith)
 
         there : (r : Round) → Solving (Solved r) a before dx → y ≡ moved n x (r .step)
         there r s = moves ∙ ap (moved n x) (s .step-is)
 
-        is-short : (r : Round) → Solving (Solved r) a before dx → stop ≡ short limit (r .step)
-        is-short r s = stops ∙ ap (short limit) (s .step-is)
+        is-short : (r : Round) → Solving (Solved r) a before dx → stop ≡ shortStep limit (r .step)
+        is-short r s = stops ∙ ap (shortStep limit) (s .step-is)
 
         pub left-stops : stop ≡ true → Left i x → Reached y ≡ f .end
         left-stops w l = go (roundAt x) s (here l)
           where
             go : (o : Outcome) → Solving o a before dx → after n limit x next o .end ≡ f .end → Reached y ≡ f .end
             go (Refused r) s e = never r s
-            go (Solved r) s e = let q : short limit (r .step) ≡ true = sym (is-short r s) ∙ w in ap Reached (there r s) ∙ (rw q at e)
+            go (Solved r) s e = let q : shortStep limit (r .step) ≡ true = sym (is-short r s) ∙ w in ap Reached (there r s) ∙ (rw q at e)
 
         pub left-goes : stop ≡ false → Left i x → Left (i + 1) y
         unfolding next
@@ -128,7 +128,7 @@ module _ (roundAt : List Float → Outcome) (n : ℕ) (limit : Float) (count : �
           where
             go : (o : Outcome) → Solving o a before dx → after n limit x next o .end ≡ f .end → Left (i + 1) y
             go (Refused r) s e = never r s
-            go (Solved r) s e = let q : short limit (r .step) ≡ false = sym (is-short r s) ∙ w in record { end = ap (λ (z : List Float). next z .end) (there r s) ∙ (rw q at e) }
+            go (Solved r) s e = let q : shortStep limit (r .step) ≡ false = sym (is-short r s) ∙ w in record { end = ap (λ (z : List Float). next z .end) (there r s) ∙ (rw q at e) }
 
         -- `new` are the rows of the round
         module _ (rows new : List Row) (news : (r : Round) → roundAt x ≡ Solved r → r .rows ≡ new) where
@@ -138,7 +138,7 @@ module _ (roundAt : List Float → Outcome) (n : ℕ) (limit : Float) (count : �
             where
               go : (o : Outcome) → roundAt x ≡ o → Solving o a before dx → lastRows rows (after n limit x next o .rounds) ≡ lastRows [] (f .rounds) → new ≡ lastRows [] (f .rounds)
               go (Refused r) d s e = never r s
-              go (Solved r) d s e = let q : short limit (r .step) ≡ true = sym (is-short r s) ∙ w in sym (news r d) ∙ (rw q at e)
+              go (Solved r) d s e = let q : shortStep limit (r .step) ≡ true = sym (is-short r s) ∙ w in sym (news r d) ∙ (rw q at e)
 
           pub rows-go : stop ≡ false → LeftRows i x rows → LeftRows (i + 1) y new
           unfolding lastRows next
@@ -147,7 +147,7 @@ module _ (roundAt : List Float → Outcome) (n : ℕ) (limit : Float) (count : �
               go : (o : Outcome) → roundAt x ≡ o → Solving o a before dx → lastRows rows (after n limit x next o .rounds) ≡ lastRows [] (f .rounds) → LeftRows (i + 1) y new
               go (Refused r) d s e = never r s
               go (Solved r) d s e =
-                  let q : short limit (r .step) ≡ false = sym (is-short r s) ∙ w in
+                  let q : shortStep limit (r .step) ≡ false = sym (is-short r s) ∙ w in
                   let h : lastRows (r .rows) (next (moved n x (r .step)) .rounds) ≡ lastRows [] (f .rounds) = rw q at e in
                   record { last = subst₂ (λ (a : List Row) (b : List Float). lastRows a (next b .rounds) ≡ lastRows [] (f .rounds)) (news r d) (sym (there r s)) h }
 

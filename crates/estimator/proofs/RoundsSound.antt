@@ -22,7 +22,7 @@ use Rattle.robust.specs.Round.{Round, Outcome, Refused, Solved}
 use Rattle.robust.specs.declared.row.Row.{Row}
 use Rattle.robust.proofs.NineLaws.{nine-at}
 use Rattle.estimator.specs.Rules.{Rule}
-use Rattle.estimator.specs.Rounds.{End, Stopped, Reached, Fit, moved, short, ended, begun, after, fitFrom, lastRows, finiteAt, concluded, Each}
+use Rattle.estimator.specs.Rounds.{End, Stopped, Reached, Fit, moved, shortStep, ended, begun, after, fitFrom, lastRows, finiteAt, concluded, Each}
 use Rattle.estimator.specs.declared.rules.Check.the-variants.{Passed}
 use Rattle.estimator.proofs.RulesLaws.{checked, passed-of, passed-by}
 
@@ -53,7 +53,7 @@ module _ (P : Round → Type 0) (roundAt : List Float → Outcome) (n : ℕ) (li
 
   after-kept : (x : List Float) (next : List Float → Fit) → ((z : List Float) → Kept z (next z)) → (o : Outcome) → roundAt x ≡ o → Kept x (after n limit x next o)
   after-kept x next h (Refused r) d = λ y e f. absurd (let z : _≡_ {A = ℕ} 0 1 = cc in omega arith)
-  after-kept x next h (Solved r) d = begun-kept x r (cond (short limit (r .step)) (ended (moved n x (r .step))) (next (moved n x (r .step)))) d (pick (short limit (r .step)))
+  after-kept x next h (Solved r) d = begun-kept x r (cond (shortStep limit (r .step)) (ended (moved n x (r .step))) (next (moved n x (r .step)))) d (pick (shortStep limit (r .step)))
     where
       pick : (b : Bool) → Kept (moved n x (r .step)) (cond b (ended (moved n x (r .step))) (next (moved n x (r .step))))
       pick true = ended-kept (moved n x (r .step))
@@ -76,7 +76,7 @@ module _ (roundAt : List Float → Outcome) (n : ℕ) (limit : Float) (L : ℕ) 
   step-long : (x : List Float) (next : List Float → Fit) → Long next → (rows : List Row) (o : Outcome) → roundAt x ≡ o → (y : List Float) → after n limit x next o .end ≡ Reached y → length (lastRows rows (after n limit x next o .rounds)) ≡ L
   unfolding lastRows
   step-long x next ih rows (Refused r) d y h = absurd (let z : _≡_ {A = ℕ} 0 1 = cc in omega arith)
-  step-long x next ih rows (Solved r) d y h = pick (short limit (r .step)) h
+  step-long x next ih rows (Solved r) d y h = pick (shortStep limit (r .step)) h
     where
       pick : (b : Bool) → cond b (ended (moved n x (r .step))) (next (moved n x (r .step))) .end ≡ Reached y
           → length (lastRows (r .rows) (cond b (ended (moved n x (r .step))) (next (moved n x (r .step))) .rounds)) ≡ L

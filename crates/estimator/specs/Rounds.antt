@@ -34,8 +34,8 @@ unfoldable pub moved : ℕ → List Float → List Float → List Float
 moved n x dx = nine (λ i. cond (ltb i n) (at x i ⊕ at dx i) (at x i))
 
 -- the stop: the first three elements of the step are together shorter than the limit
-unfoldable pub short : Float → List Float → Bool
-short limit dx = lt (hypot (hypot (at dx 0) (at dx 1)) (at dx 2)) limit
+unfoldable pub shortStep : Float → List Float → Bool
+shortStep limit dx = lt (hypot (hypot (at dx 0) (at dx 1)) (at dx 2)) limit
 
 -- no round more
 abbrev pub ended : List Float → Fit
@@ -50,7 +50,7 @@ abbrev pub after : ℕ → Float → List Float → (List Float → Fit) → Out
 after n limit x next (Refused r) = record { rounds = []; end = Stopped r }
 after n limit x next (Solved r) =
     let y = moved n x (r .step) in
-    begun r (cond (short limit (r .step)) (ended y) (next y))
+    begun r (cond (shortStep limit (r .step)) (ended y) (next y))
 
 -- at most `count` rounds of n unknowns from the state x on; roundAt x is the round at x
 unfoldable pub fitFrom : (List Float → Outcome) → ℕ → Float → ℕ → List Float → Fit

@@ -19,7 +19,7 @@ pub fn move_by(n: usize, dx: [f64; 9], x: [f64; 9]) -> [f64; 9]
 
 // Whether the first three elements of a step are together shorter than the limit.
 pub fn is_short(limit: f64, dx: [f64; 9]) -> bool
-    ensures { λ r. ⌜ r ≡ spec.short limit dx ⌝ }
+    ensures { λ r. ⌜ r ≡ spec.shortStep limit dx ⌝ }
 {
     hypot(hypot(dx[0], dx[1]), dx[2]) < limit
 }

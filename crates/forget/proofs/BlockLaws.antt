@@ -3,15 +3,14 @@ use mathlib.Core.Path.{_≡_, refl, sym, ap, _∙_}
 use mathlib.Core.List.{List, [], _∷_}
 use mathlib.Core.Bool.{Bool, true, false, cond, not, _&&_, _||_}
 use Prim.Native.Nat.{ℕ, zero, suc, _-_, _≤_, _<_}
-use native.Mathlib.Nat.{not-suc-le-zero, le-of-suc-le-suc}
 use native.Mathlib.Omega.{arith}
-use lib.Dec.{T, leb, ltb}
-use lib.ListN.{length, getD, drop}
-use borrow.Author.Tests.{leb-true, eq-eqb, ltb-true, ltb-false, lt-ltb, le-ltb}
+use lib.Dec.{T, leb}
+use lib.ListN.{drop}
+use borrow.Author.Tests.{leb-true, eq-eqb}
 use lib.Ieee.{Float, lt, fits, binary64}
 use Rattle.walk.specs.Walk.{every}
 use Rattle.numeric.specs.Real.{inRange}
-use Rattle.table.specs.Table.{blank, ranged, signalOf}
+use Rattle.table.specs.Table.{ranged, signalOf}
 use Rattle.table.specs.declared.sample.Sample.{Sample}
 use Rattle.table.proofs.Places.{timeKey}
 use Rattle.table.proofs.TableLaws.{and-left, and-right}
@@ -19,7 +18,7 @@ use Rattle.table.proofs.UnitLaws.{earlier-of, never}
 use Rattle.directory.specs.Series.{front}
 use Rattle.directory.proofs.DirectoryLaws.{keyed}
 use Rattle.query.specs.Query.{before}
-use Rattle.query.proofs.QueryLaws.{Held}
+use Rattle.query.proofs.QueryLaws.{TimesHeld}
 use Rattle.forget.specs.Forget.{earlier, some, forget}
 
 -- every time is a value of the format
@@ -34,8 +33,8 @@ T-held : (b : Bool) → T b → b ≡ true
 T-held true t = refl
 T-held false t = absurd t
 
-pub held-all : (l : List Sample) → Held l → heldAll l ≡ true
-unfolding heldAll Held every
+pub held-all : (l : List Sample) → TimesHeld l → heldAll l ≡ true
+unfolding heldAll TimesHeld every
 held-all [] h = refl
 held-all (s ∷ l) h = rw (T-held (fits binary64 (s .time)) (h 0 (omega arith))) (held-all l (λ j k. h (suc j) (omega arith)))
 

@@ -1,6 +1,5 @@
 -- The call: its refusals, what it leaves, and the queries afterwards. Assumes nothing.
-use mathlib.Core.Path.{_≡_, refl, sym, ap, _∙_, subst}
-use mathlib.Core.List.{List}
+use mathlib.Core.Path.{_≡_, refl, sym, ap, _∙_}
 use mathlib.Core.Bool.{Bool, true, false, not, _||_}
 use Prim.Native.Nat.{ℕ, _≤_}
 use native.Mathlib.Omega.{arith}
@@ -19,8 +18,8 @@ use Rattle.table.specs.declared.add.Test.{Test}
 use Rattle.table.specs.declared.add.Test.the-variants as Test
 use Rattle.directory.specs.Directory.{Directory, Blocks, blockCapacity, blocksWith, directoryIn, directoryOf, entriesIn, flat, readingsIn, soundDirectory}
 use Rattle.query.proofs.PlaceLaws.{held-flat}
-use Rattle.forget.specs.Forget.{Forgets, Outcome, countAfter, forget, forgetIn, forgettingNumber, forgettingOf, leaves, outcomeOf, refused, testIn}
-use Rattle.forget.specs.Retain.{laid, retained, trimmed}
+use Rattle.forget.specs.Forget.{Forgets, Outcome, countAfter, forget, forgetIn, forgettingNumber, forgettingOf, leaves, testIn}
+use Rattle.forget.specs.Retain.{retained, trimmed}
 use Rattle.forget.specs.declared.forget.Forgetting.{Forgetting}
 use Rattle.forget.specs.declared.forget.Forgetting.the-variants as Forgetting
 use Rattle.forget.proofs.LayoutLaws.{forget-trimmed}

@@ -2,16 +2,16 @@
 use mathlib.Core.Path.{_≡_, refl, sym, ap, _∙_}
 use mathlib.Core.List.{List, [], _∷_, _++_}
 use mathlib.Core.Bool.{Bool, true, false, cond, _&&_, _||_}
-use Prim.Native.Nat.{ℕ, _≤_, _<_}
-use native.Mathlib.Nat.{le-trans, le-refl, lt-of-lt-of-le}
+use Prim.Native.Nat.{ℕ, _<_}
+use native.Mathlib.Nat.{le-refl, lt-of-lt-of-le}
 use native.Mathlib.Omega.{arith}
-use lib.Dec.{eqb, ltb, leb}
+use lib.Dec.{eqb, leb}
 use borrow.Author.Tests.{ltb-true, leb-true, eqb-true, le-leb, lt-ltb, not-true}
 use lib.Ieee.{Float, nan, inf, fin, isNan, lt, le, eq, add, sub, neg}
 use Rattle.walk.specs.Walk.{collect, every}
 use Rattle.numeric.specs.Real.{abs}
 use Rattle.numeric.specs.declared.refusal.Refusal.the-variants.{NoCorrection}
-use Rattle.table.specs.Table.{ranged, seriesOf, signal, signalOf, sound, standsBefore}
+use Rattle.table.specs.Table.{ranged, seriesOf, signal, signalOf, soundTable, standsBefore}
 use Rattle.table.specs.Add.{insert, insertAll}
 use Rattle.table.specs.declared.sample.Sample.{Sample}
 use Rattle.table.proofs.Places.{before-place, placeOf, rises, sorted-rises}
@@ -44,8 +44,8 @@ forget-every test time (s ∷ l) e = go (before time s && some (earlier (signalO
     go true ih = ih
     go false ih = rw (and-left (test s) _ e) ih
 
-pub forget-sound : (time : Float) (t : List Sample) → sound t ≡ true → sound (forget time t) ≡ true
-unfolding sound
+pub forget-sound : (time : Float) (t : List Sample) → soundTable t ≡ true → soundTable (forget time t) ≡ true
+unfolding soundTable
 forget-sound time t e = rw (forget-every ranged time t (and-left _ _ e)) (sorted-rises (forget time t) ∙ forget-rises time 0 t (sym (sorted-rises t) ∙ and-right (every ranged t) _ e))
 
 -- ---- the forgotten table's series are the forgotten series

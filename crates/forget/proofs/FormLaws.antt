@@ -1,13 +1,13 @@
 -- What the columns hold after a drop, and the queries of directories that were dropped from and added to. Assumes nothing.
 use mathlib.Core.Path.{_≡_, refl, sym, ap, _∙_}
 use mathlib.Core.List.{List, [], _∷_}
-use mathlib.Core.Bool.{Bool, true, false, cond, _&&_}
+use mathlib.Core.Bool.{Bool, true, false, cond}
 use Prim.Native.Nat.{ℕ, _≤_}
 use native.Mathlib.Nat.{le-of-eq}
 use lib.ListN.{length, length-map}
 use lib.Ieee.{Float, lt}
 use Rattle.walk.specs.Walk.{every, fold}
-use Rattle.table.specs.Table.{ranged, sorted, sound, standsBefore}
+use Rattle.table.specs.Table.{ranged, soundTable, standsBefore}
 use Rattle.table.specs.Add.{insert, insertAll}
 use Rattle.table.specs.declared.sample.Sample.{Sample}
 use Rattle.table.specs.declared.add.Test.the-variants as Test
@@ -85,7 +85,7 @@ history-flat d es s = ap (λ (k : Directory). historyIn k es) (sym (directory-fl
 abbrev pub asked : ℕ → Directory → Float → ℕ → ℕ → ℕ → Float → Correction
 asked room d gap c v b q = queryIn (length (d .entries)) (length (d .readings)) room d gap c v b q
 
-asked-table : (t : List Sample) (room : ℕ) (gap : Float) (c v b : ℕ) (q : Float) → every narrow t ≡ true → sound t ≡ true → asked room (directoryOf t) gap c v b q ≡ queryOf (length t) room t gap c v b q
+asked-table : (t : List Sample) (room : ℕ) (gap : Float) (c v b : ℕ) (q : Float) → every narrow t ≡ true → soundTable t ≡ true → asked room (directoryOf t) gap c v b q ≡ queryOf (length t) room t gap c v b q
 asked-table t room gap c v b q w s = ap (λ (n : ℕ). queryIn (length (directoryOf t .entries)) n room (directoryOf t) gap c v b q) long ∙ same
   where
     long : length (directoryOf t .readings) ≡ length t

@@ -10,7 +10,7 @@ use lib.ListN.{length}
 use borrow.Author.Tests.{eqb-true, le-ltb, not-true}
 use lib.Ieee.{Float, isNan, lt}
 use Rattle.walk.specs.Walk.{every, fold}
-use Rattle.table.specs.Table.{ranged, signalOf, sorted, sound}
+use Rattle.table.specs.Table.{ranged, signalOf, sorted, soundTable}
 use Rattle.table.specs.Add.{insertAll}
 use Rattle.table.specs.declared.sample.Sample.{Sample}
 use Rattle.table.proofs.Places.{rises, sorted-rises}
@@ -115,14 +115,14 @@ history-rises t [] r = r
 history-rises t (add ss ∷ es) r = history-rises (insertAll t ss) es (insertAll-rises t ss r)
 history-rises t (drop time ∷ es) r = history-rises (forget time t) es (forget-rises time 0 t r)
 
-pub history-sound : (t : List Sample) (es : List Event) → sound t ≡ true → every inRangeAll es ≡ true → sound (history t es) ≡ true
+pub history-sound : (t : List Sample) (es : List Event) → soundTable t ≡ true → every inRangeAll es ≡ true → soundTable (history t es) ≡ true
 unfolding fold happen every inRangeAll
 history-sound t [] s r = s
 history-sound t (add ss ∷ es) s r = history-sound (insertAll t ss) es (insertAll-sound t ss (and-left (every ranged ss) _ r) s) (and-right (every ranged ss) _ r)
 history-sound t (drop time ∷ es) s r = history-sound (forget time t) es (forget-sound time t s) r
 
-pub sorted-of : (t : List Sample) → sound t ≡ true → rises 0 t ≡ true
-unfolding sound
+pub sorted-of : (t : List Sample) → soundTable t ≡ true → rises 0 t ≡ true
+unfolding soundTable
 sorted-of t e = sym (sorted-rises t) ∙ and-right (every ranged t) _ e
 
 -- ---- the answers
@@ -168,22 +168,22 @@ undropped-ranged [] r = refl
 undropped-ranged (add ss ∷ es) r = rw (and-left (every ranged ss) _ r) (undropped-ranged es (and-right (every ranged ss) _ r))
 undropped-ranged (drop time ∷ es) r = undropped-ranged es r
 
-guard-same : (n m room : ℕ) (t u : List Sample) (gap q : Float) (a : Correction) → n ≤ room → m ≤ room → sound t ≡ true → sound u ≡ true → guarded (ltb room n) (sound t) gap q a ≡ guarded (ltb room m) (sound u) gap q a
+guard-same : (n m room : ℕ) (t u : List Sample) (gap q : Float) (a : Correction) → n ≤ room → m ≤ room → soundTable t ≡ true → soundTable u ≡ true → guarded (ltb room n) (soundTable t) gap q a ≡ guarded (ltb room m) (soundTable u) gap q a
 guard-same n m room t u gap q a h k e f = rw (le-ltb room n h, le-ltb room m k, e, f)
 
 -- for every sound table, any drops and additions in range, with room for all that were added, and query not before a drop: the call answers as if no drop had been made
 pub history-query : (t : List Sample) (es : List Event) (room : ℕ) (gap : Float) (c v b : ℕ) (q : Float)
-    → sound t ≡ true → every inRangeAll es ≡ true → allowed q es ≡ true → length (history t (undropped es)) ≤ room
+    → soundTable t ≡ true → every inRangeAll es ≡ true → allowed q es ≡ true → length (history t (undropped es)) ≤ room
     → queryOf (length (history t es)) room (history t es) gap c v b q ≡ queryOf (length (history t (undropped es))) room (history t (undropped es)) gap c v b q
 unfolding queryOf
 history-query t es room gap c v b q s r a l =
     guard-same (length (history t es)) (length (history t (undropped es))) room (history t es) (history t (undropped es)) gap q (answerAt (history t es) gap c v b q)
     (le-trans (history-length t es q (sorted-of t s) a) l) l (history-sound t es s r) (history-sound t (undropped es) s (undropped-ranged es r))
-    ∙ ap (guarded (ltb room (length (history t (undropped es)))) (sound (history t (undropped es))) gap q) (history-law t es gap c v b q (sorted-rises t ∙ sorted-of t s) a)
+    ∙ ap (guarded (ltb room (length (history t (undropped es)))) (soundTable (history t (undropped es))) gap q) (history-law t es gap c v b q (sorted-rises t ∙ sorted-of t s) a)
 
 -- for every sound table, drop time, additions in range and not earlier than it with room for all, and query not before it: the call answers as without the drop
 pub forget-query : (time : Float) (t ss : List Sample) (room : ℕ) (gap : Float) (c v b : ℕ) (q : Float)
-    → sound t ≡ true → every ranged ss ≡ true → every (since time) ss ≡ true → length (insertAll t ss) ≤ room → lt q time ≡ false
+    → soundTable t ≡ true → every ranged ss ≡ true → every (since time) ss ≡ true → length (insertAll t ss) ≤ room → lt q time ≡ false
     → queryOf (length (insertAll (forget time t) ss)) room (insertAll (forget time t) ss) gap c v b q ≡ queryOf (length (insertAll t ss)) room (insertAll t ss) gap c v b q
 forget-query time t ss room gap c v b q s r e l h =
     unfold fold happen undropped in history-query t (drop time ∷ add ss ∷ []) room gap c v b q s (unfold every inRangeAll in rw r) (unfold allowed every notBefore in rw (h, e)) l

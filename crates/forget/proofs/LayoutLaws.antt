@@ -2,14 +2,14 @@
 use mathlib.Core.Path.{_≡_, refl, sym, ap, _∙_}
 use mathlib.Core.List.{List, [], _∷_, _++_, map, map-append}
 use mathlib.Core.Bool.{Bool, true, false, cond, _&&_, _||_}
-use Prim.Native.Nat.{ℕ, zero, suc, _+_, _-_, _≤_, _<_}
+use Prim.Native.Nat.{ℕ, zero, suc, _+_, _-_, _<_}
 use native.Mathlib.Omega.{arith}
 use lib.Dec.{T, leb}
 use lib.ListN.{length, take, drop, length-drop, length-map}
 use lib.Seq.{length-take-le}
 use lib.Ieee.{Float, fits, binary64}
 use Rattle.walk.specs.Walk.{collect, every}
-use Rattle.table.specs.Table.{ranged, signalOf, sorted, sound}
+use Rattle.table.specs.Table.{ranged, signalOf, sorted, soundTable}
 use Rattle.table.specs.declared.sample.Sample.{Sample}
 use Rattle.table.proofs.TableLaws.{and-left, and-right}
 use Rattle.directory.specs.Directory.{Entry, Reading, Directory, ascends, block, blockTimes, directoryOf, entriesFrom, flat, inOrder, readingOf, sampleOf, signalIn, soundDirectory, tiles, timely}
@@ -17,7 +17,7 @@ use Rattle.directory.specs.Series.{front}
 use Rattle.directory.proofs.DirectoryLaws.{block-keyed, keyed, run, readings-map, series-above, sound-parts, sound-flat, tiles-le, tiles-start, tiles-count, tiles-rest, ascends-rest}
 use Rattle.directory.proofs.BlockLaws.{front-le}
 use Rattle.query.specs.Query.{before}
-use Rattle.query.proofs.QueryLaws.{Held}
+use Rattle.query.proofs.QueryLaws.{TimesHeld}
 use Rattle.forget.specs.Forget.{earlier, some, forget}
 use Rattle.forget.specs.Retain.{laid, retained, trimmed}
 use Rattle.forget.proofs.ForgetLaws.{some-series}
@@ -143,10 +143,10 @@ module _ (time : Float) where
             (omega (arith, whole, tiles-count e es place (length rs) t, front-le time (map (sampleOf e) X), length-map X (sampleOf e)))
 
 every-ranged : (d : Directory) → soundDirectory d ≡ true → every ranged (collect (block (d .readings)) (d .entries)) ≡ true
-every-ranged d h = and-left (every ranged (collect (block (d .readings)) (d .entries))) (sorted (collect (block (d .readings)) (d .entries))) (unfold flat sound in sound-flat d h)
+every-ranged d h = and-left (every ranged (collect (block (d .readings)) (d .entries))) (sorted (collect (block (d .readings)) (d .entries))) (unfold flat soundTable in sound-flat d h)
 
 -- for every sound directory of the format's times
-pub forget-trimmed : (time : Float) (d : Directory) → T (fits binary64 time) → soundDirectory d ≡ true → Held (flat d) → directoryOf (forget time (flat d)) ≡ trimmed time d
+pub forget-trimmed : (time : Float) (d : Directory) → T (fits binary64 time) → soundDirectory d ≡ true → TimesHeld (flat d) → directoryOf (forget time (flat d)) ≡ trimmed time d
 unfolding flat directoryOf trimmed
 forget-trimmed time d ft h held =
     let w : heldAll (collect (block (d .readings)) (d .entries)) ≡ true = held-all (collect (block (d .readings)) (d .entries)) held in

@@ -2,7 +2,7 @@
 use mathlib.Core.Path.{_≡_, refl, sym, ap, _∙_}
 use mathlib.Core.Bool.{Bool, true, false}
 use mathlib.Core.List.{List, [], _∷_, _++_, append-assoc, append-nil}
-use Prim.Native.Nat.{ℕ, suc, _+_, _-_, _≤_, _<_}
+use Prim.Native.Nat.{ℕ, _+_, _-_, _≤_, _<_}
 use native.Mathlib.Numerals.{add-one}
 use native.Mathlib.Omega.{arith}
 use lib.Dec.{ltb}
@@ -10,7 +10,7 @@ use borrow.Author.Tests.{ltb-true, ltb-false}
 use lib.Ieee.{Float, nan, lt}
 use lib.ListN.{length, getD, take, drop, set, length-drop, length-set, take-append-drop}
 use lib.Seq.{drop-drop, drop-paste, drop-set-lt, getD-append-add, getD-drop, length-paste, length-paste-head, length-take-le, paste-suc, paste-zero, take-paste, take-suc-set}
-use Rattle.forget.specs.Retain.{Front, movedDown}
+use Rattle.forget.specs.Retain.{Outdated, movedDown}
 
 -- ---- values moved down, one after the other
 module _ {A : Type 0} (to from : ℕ) (l : List A) where
@@ -120,24 +120,24 @@ module _ {A : Type 0} where
           sym (take-append-drop k c) ∙ ap (λ (l : List A). l ++ drop k c) written ∙ ap (λ (l : List A). whole ++ l) (inv .back) ∙ ap (λ (j : ℕ). whole ++ drop j c₀) going-count
 
 -- ---- times passed from the front on
-pub record Passed (ts : List Float) (first count : ℕ) (time : Float) (k : ℕ) : Type 0 where
+pub record PassedFront (ts : List Float) (first count : ℕ) (time : Float) (k : ℕ) : Type 0 where
   pub within : k ≤ count
   pub earlier : (j : ℕ) → j < k → lt (getD ts (first + j) nan) time ≡ true
 
 module _ {ts : List Float} {first count : ℕ} {time : Float} where
-  pub passed-none : Passed ts first count time 0
+  pub passed-none : PassedFront ts first count time 0
   passed-none = record { within = omega arith; earlier = λ j h. absurd (omega arith) }
 
-  module _ {k : ℕ} (inv : Passed ts first count time k) where
-    pub passed-more : k < count → lt (getD ts (first + k) nan) time ≡ true → Passed ts first count time (k + 1)
+  module _ {k : ℕ} (inv : PassedFront ts first count time k) where
+    pub passed-more : k < count → lt (getD ts (first + k) nan) time ≡ true → PassedFront ts first count time (k + 1)
     passed-more h e = record { within = omega arith; earlier = λ j l. go j l (ltb j k) refl }
       where
         go : (j : ℕ) → j < k + 1 → (x : Bool) → ltb j k ≡ x → lt (getD ts (first + j) nan) time ≡ true
         go j l true q = inv .earlier j (ltb-true j k q)
         go j l false q = let z : j ≡ k = omega (arith, ltb-false j k q) in rw z e
 
-    pub passed-stop : lt (getD ts (first + k) nan) time ≡ false → Front ts first count time k
+    pub passed-stop : lt (getD ts (first + k) nan) time ≡ false → Outdated ts first count time k
     passed-stop e = record { within = inv .within; earlier = inv .earlier; next = λ h. e }
 
-    pub passed-all : count ≤ k → Front ts first count time k
+    pub passed-all : count ≤ k → Outdated ts first count time k
     passed-all h = record { within = inv .within; earlier = inv .earlier; next = λ l. absurd (omega arith) }

@@ -1,7 +1,7 @@
 -- The pass that trims the blocks of a directory, turn by turn. Assumes nothing.
 use mathlib.Core.Path.{_≡_, refl, sym, ap, _∙_}
 use mathlib.Core.List.{List, [], _∷_, _++_, map, map-append}
-use mathlib.Core.Bool.{Bool, true, false, cond}
+use mathlib.Core.Bool.{true, false}
 use Prim.Native.Nat.{ℕ, zero, suc, _+_, _-_, _≤_, _<_}
 use native.Mathlib.Nat.{not-suc-le-zero, le-of-suc-le-suc}
 use native.Mathlib.Omega.{arith}
@@ -12,13 +12,13 @@ use Rattle.walk.specs.Walk.{collect}
 use Rattle.walk.proofs.Walk.{left-at, left-end}
 use Rattle.table.specs.Table.{blank}
 use Rattle.table.specs.declared.sample.Sample.{Sample}
-use Rattle.directory.specs.Directory.{Entry, Reading, Directory, Blocks, block, blocksWith, columnOf, directoryIn, entriesIn, entryRows, lentBlocks, noEntry, readingRows, readingsIn, soundDirectory, tiles}
+use Rattle.directory.specs.Directory.{Entry, Reading, Blocks, block, blocksWith, columnOf, directoryIn, entriesIn, entryRows, lentBlocks, noEntry, readingRows, readingsIn, soundDirectory, tiles}
 use Rattle.directory.specs.Series.{front}
 use Rattle.directory.proofs.DirectoryLaws.{sound-parts, tiles-count, tiles-le, tiles-rest, tiles-start}
 use Rattle.directory.proofs.ColumnLaws.{entries-length, entry-at, readings-length}
 use Rattle.directory.proofs.SoundLaws.{part-is}
 use Rattle.query.proofs.PlaceLaws.{Lies, lies}
-use Rattle.forget.specs.Retain.{Front, laid, movedDown, retained, trimmed}
+use Rattle.forget.specs.Retain.{Outdated, laid, movedDown, retained, trimmed}
 use Rattle.forget.proofs.MoveLaws.{Going, going-at, going-count, going-end, going-many, going-one, going-start}
 
 -- ---- fields of rows are the columns
@@ -202,7 +202,7 @@ module _ (time : Float) (m n : ℕ) (l₀ : Blocks) (fm : m ≤ length (entriesI
             in-counts = omega (arith, q, fm, h, inv .counts .long);
           }
 
-      module _ {k : ℕ} (f : Front ts (getD df i 0) (getD dn i 0) time k) where
+      module _ {k : ℕ} (f : Outdated ts (getD df i 0) (getD dn i 0) time k) where
         lying : Lies (block (take n (readingsIn l₀)) e) (l₀ .times) (l₀ .corrections) (getD (l₀ .firsts) i 0) (getD (l₀ .counts) i 0)
         lying = lies m n l₀ fm fn s i h
 

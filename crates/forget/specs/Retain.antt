@@ -11,7 +11,7 @@ use Rattle.directory.specs.Directory.{Entry, Reading, Directory, block}
 use Rattle.directory.specs.Series.{front}
 
 -- the first r of the count times from the place first on are before the time, and the next one is not
-pub record Front (ts : List Float) (first count : ℕ) (time : Float) (r : ℕ) : Type 0 where
+pub record Outdated (ts : List Float) (first count : ℕ) (time : Float) (r : ℕ) : Type 0 where
   pub within : r ≤ count
   pub earlier : (j : ℕ) → j < r → lt (getD ts (first + j) nan) time ≡ true
   pub next : r < count → lt (getD ts (first + r) nan) time ≡ false

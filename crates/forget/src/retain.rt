@@ -4,12 +4,12 @@ ghost use mathlib.Core.Bool.{true};
 ghost use Prim.Native.Nat.{_+_, _-_, _≤_};
 ghost use lib.ListN.{length};
 ghost use Rattle.directory.specs.Directory.{lentBlocks, entriesIn, readingsIn, directoryIn, soundDirectory, blocksWith};
-ghost use Rattle.forget.specs.Retain.{Front, movedDown, trimmed};
+ghost use Rattle.forget.specs.Retain.{Outdated, movedDown, trimmed};
 
 // How many samples at the front of the block from the place first on, count of them, are before the time.
 fn front_of(ts: &[f64], first: usize, count: usize, time: f64) -> usize
     requires { ⌜ first + count ≤ length (now ts) ⌝ }
-    ensures { λ r. ⌜ Front (now (ts .entry)) first count time r ⌝ }
+    ensures { λ r. ⌜ Outdated (now (ts .entry)) first count time r ⌝ }
 {
     let mut k: usize = 0;
     while k < count {

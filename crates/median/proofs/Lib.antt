@@ -2,6 +2,7 @@ pub mod SortedLaws
 pub mod SortedValues
 pub mod SelectSplit
 pub mod SelectLoops
+pub mod SelectFew
 pub mod SelectSeek
 pub mod MedianSigns
 pub mod CentreLaws

@@ -60,6 +60,16 @@ each-kept P test w (x ∷ xs) = go (test x) refl (each-kept P test w xs)
     go true e r = (w x e, r)
     go false e r = r
 
+-- what is kept has what each has
+pub kept-each : (P : ℕ → Type 0) (test : ℕ → Bool) (l : List ℕ) → Each P l → Each P (kept test l)
+unfolding Each kept
+kept-each P test [] h = tt
+kept-each P test (x ∷ xs) h = go (test x) (kept-each P test xs (h .1))
+  where
+    go : (b : Bool) → Each P (kept test xs) → Each P (keep b x (kept test xs))
+    go true r = (h .0, r)
+    go false r = r
+
 -- ---- one element more: a is what is below p, n how often p stands there, and h what is above it
 
 module _ (p x : ℕ) (a h : List ℕ) (n : ℕ) (u : Each (λ (y : ℕ). y < p) a) (f : Each (λ (y : ℕ). p < y) h) where

@@ -112,7 +112,7 @@ each-by P (x ∷ xs) h = (h 0 (omega arith), each-by P xs (λ i b. h (suc i) (om
 -- ---- numbers in order
 
 -- each number is at most every later one
-Ascending : List ℕ → Type 0
+unfoldable pub Ascending : List ℕ → Type 0
 Ascending [] = Unit
 Ascending (x ∷ xs) = Each (λ (y : ℕ). x ≤ y) xs × Ascending xs
 
@@ -127,7 +127,7 @@ insert-ascending x (y ∷ ys) o = go (leb x y) refl (insert-ascending x ys (o .1
         ((h, each-weaker (λ (z : ℕ). y ≤ z) (λ (z : ℕ). x ≤ z) (λ z g. le-trans h g) ys (o .0)), o)
     go false e r = let h : y < x = leb-false x y e in (insert-each leb (λ (z : ℕ). y ≤ z) x ys (omega arith) (o .0), r)
 
-sort-ascending : (l : List ℕ) → Ascending (sortedBy leb l)
+pub sort-ascending : (l : List ℕ) → Ascending (sortedBy leb l)
 unfolding Ascending sortedBy
 sort-ascending [] = tt
 sort-ascending (x ∷ xs) = insert-ascending x (sortedBy leb xs) (sort-ascending xs)
@@ -152,7 +152,7 @@ pub unsigned-sorted : (l : List ℕ) → Unsigned l → sorted l ≡ sortedBy le
 unsigned-sorted l h = sorted-same totalOrder leb (λ (x : ℕ). x < 2 ^ 63) unsigned-order l h
 
 -- inside a list the default does not count
-getD-any : (l : List ℕ) (i d e : ℕ) → i < length l → getD l i d ≡ getD l i e
+pub getD-any : (l : List ℕ) (i d e : ℕ) → i < length l → getD l i d ≡ getD l i e
 getD-any [] i d e h = absurd (not-suc-le-zero h)
 getD-any (x ∷ xs) zero d e h = refl
 getD-any (x ∷ xs) (suc i) d e h = getD-any xs i d e (le-of-suc-le-suc h)

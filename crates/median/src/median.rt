@@ -1,10 +1,10 @@
 // The element at place len/2 of patterns sorted by totalOrder. It is found without sorting: the patterns are parted by the cases of the clause, and only
 // the part with the place goes on. First by sign, then into numbers, infinities and NaNs, and what is left of one sign and kind by a pattern of the list:
-// those below it, it, and those above it.
+// those below it, it, and those above it. Of at most 16 the four lowest or the four highest are found in one pass, where the place is one of theirs.
 ghost use mathlib.Core.Path.{_≡_};
 ghost use mathlib.Core.List.{[], _∷_};
-ghost use Prim.Native.Nat.{_≤_, _<_, min, max};
-ghost use lib.ListN.{take, length};
+ghost use Prim.Native.Nat.{_-_, _≤_, _<_, min, max};
+ghost use lib.ListN.{getD, take, length};
 ghost use Rattle.median.specs.Sorted.{medianOf, Unsigned, count};
 ghost use Rattle.median.specs.Select.{inOrder, placed, lows, highs, ofSign, Front};
 
@@ -81,45 +81,78 @@ fn keep_high(k: &mut [u64; 64], n: usize, p: u64) -> usize
     w
 }
 
-// The number at place m of three in ascending order.
-fn of_three(a: u64, b: u64, c: u64, m: usize) -> u64
-    requires { ⌜ m < 3 ⌝ }
-    ensures { λ r. ⌜ r ≡ placed m (a ∷ (b ∷ (c ∷ []))) ⌝ }
+// Of four numbers the one at place m.
+fn one_of(a: u64, b: u64, c: u64, d: u64, m: usize) -> u64
+    requires { ⌜ m < 4 ⌝ }
+    ensures { λ r. ⌜ r ≡ getD (a ∷ (b ∷ (c ∷ (d ∷ [])))) m 0 ⌝ }
 {
-    let low = lesser(a, b);
-    let high = greater(a, b);
-    if m == 0 {
-        return lesser(low, c);
+    if m < 2 {
+        return if m < 1 { a } else { b };
     }
-    if m == 1 {
-        return greater(low, lesser(high, c));
+    if m < 3 { c } else { d }
+}
+
+// The number at place m, one of the four lowest, of the first n patterns of k, whose signs are clear, in ascending order. a, b, c, d are the four lowest of
+// those looked at, in their order, with the highest such pattern where there are fewer: which way the code goes does not hang on the numbers.
+fn of_lowest(k: &[u64; 64], n: usize, m: usize) -> u64
+    requires { ⌜ (m < n) × (m < 4) × (n ≤ 64) × (length (now k) ≡ 64) × Unsigned (take n (now k)) ⌝ }
+    ensures { λ r. ⌜ r ≡ placed m (take n (now (k .entry))) ⌝ }
+{
+    let mut a = 0x7FFF_FFFF_FFFF_FFFFu64;
+    let mut b = 0x7FFF_FFFF_FFFF_FFFFu64;
+    let mut c = 0x7FFF_FFFF_FFFF_FFFFu64;
+    let mut d = 0x7FFF_FFFF_FFFF_FFFFu64;
+    let mut j = n;
+    while 0 < j {
+        j -= 1;
+        let x = k[j];
+        d = greater(c, lesser(d, x));
+        c = greater(b, lesser(c, x));
+        b = greater(a, lesser(b, x));
+        a = lesser(a, x);
     }
-    greater(high, c)
+    one_of(a, b, c, d, m)
+}
+
+// The same for one of the four highest, m places below the highest. a, b, c, d are the four highest of those looked at, with 0 where there are fewer.
+fn of_highest(k: &[u64; 64], n: usize, m: usize) -> u64
+    requires { ⌜ (m < n) × (m < 4) × (n ≤ 64) × (length (now k) ≡ 64) × Unsigned (take n (now k)) ⌝ }
+    ensures { λ r. ⌜ r ≡ placed (n - 1 - m) (take n (now (k .entry))) ⌝ }
+{
+    let mut a = 0u64;
+    let mut b = 0u64;
+    let mut c = 0u64;
+    let mut d = 0u64;
+    let mut j = n;
+    while 0 < j {
+        j -= 1;
+        let x = k[j];
+        d = greater(d, lesser(c, x));
+        c = greater(c, lesser(b, x));
+        b = greater(b, lesser(a, x));
+        a = greater(a, x);
+    }
+    one_of(a, b, c, d, m)
 }
 
 // The number at place m of the first n numbers of k in ascending order. k is left with other contents.
 // Of patterns whose signs are clear this is the order of magnitudes, since the exponent field stands above the digits; and of NaNs the order of digits, of
 // which the first tells signaling from quiet, and the others are the payload.
 fn select(k: &mut [u64; 64], n: usize, m: usize) -> u64
-    requires { ⌜ (m < n) × (n ≤ 64) × (length (now k) ≡ 64) ⌝ }
+    requires { ⌜ (m < n) × (n ≤ 64) × (length (now k) ≡ 64) × Unsigned (take n (now k)) ⌝ }
     ensures { λ r. ⌜ (r ≡ placed m (take n (now (k .entry)))) × (length (now (k .exit)) ≡ 64) ⌝ }
 {
     let mut len = n;
     let mut at = m;
     loop {
-        if len <= 2 {
-            let a = k[0];
-            let b = k[len - 1];
-            if at == 0 {
-                return lesser(a, b);
+        if len <= 16 {
+            if at < 4 {
+                return of_lowest(k, len, at);
             }
-            return greater(a, b);
-        }
-        if len == 3 {
-            let a = k[0];
-            let b = k[1];
-            let c = k[2];
-            return of_three(a, b, c, at);
+            let above = len - 1 - at;
+            if above < 4 {
+                return of_highest(k, len, above);
+            }
         }
         let p = pivot(k, len);
         let less = count_low(k, len, p);

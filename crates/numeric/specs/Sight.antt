@@ -1,7 +1,6 @@
 -- The line of sight from a satellite to a receiver, `geometry` of wls.rs and tdcp.rs, and its refusal (docs/SCOPE.md, "Line of sight"). Definitions only.
 use Prim.Native.Nat.{ℕ}
 use mathlib.Core.Bool.{Bool, not, cond, _||_}
-use mathlib.Core.List.{List, [], _∷_}
 use lib.Ieee.{Float, neg, eq}
 use lib.Ieee.Scale.{finite}
 use Rattle.exact.specs.Float.{_⊕_, _⊗_, _⊘_, +0, whole, decimal}
@@ -54,11 +53,7 @@ onReceiver range = eq range +0 || not (finite range)
 unfoldable pub geometry : Vec3 → Vec3 → Sighting
 geometry satellite receiver = cond (onReceiver (sightOf satellite receiver .range)) (Refused OnReceiver) (Seen (sightOf satellite receiver))
 
--- its number, which is 0 where it is given, and what four lent floats hold afterwards: a refusal leaves them
+-- its number, which is 0 where it is given
 abbrev pub sightingNumber : Sighting → ℕ
 sightingNumber (Refused r) = numberOf r
 sightingNumber (Seen s) = 0
-
-abbrev pub sightingAfter : Sighting → List Float → List Float
-sightingAfter (Refused r) out = out
-sightingAfter (Seen s) out = s .x ∷ s .y ∷ s .z ∷ s .range ∷ []

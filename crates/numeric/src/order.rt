@@ -4,6 +4,7 @@ ghost use Prim.Native.Nat.{_%_, _^_};
 ghost use lib.Dec.{leb};
 ghost use Rattle.exact.specs.Float.{bits};
 ghost use Rattle.exact.specs.Pattern.{exponent, digits};
+ghost use Rattle.numeric.specs.declared.order.Class.the-variants.{Number, Signaling, Quiet};
 ghost use Rattle.numeric.specs.Order.{payload, signOf, classOf, totalOrder, patternOf};
 
 // The sign of a pattern.
@@ -85,6 +86,58 @@ fn magnitudes(a: u64, b: u64) -> bool
     (e < f) | ((e == f) & (c <= d))
 }
 
+// The clause with x = |a| a number and y = |b| of the class y.
+fn number_before(a: u64, b: u64, y: Class) -> bool
+    requires { ⌜ (Number ≡ classOf a) × (y ≡ classOf b) ⌝ }
+    ensures { λ r. ⌜ r ≡ totalOrder (a % 2 ^ 63) (b % 2 ^ 63) ⌝ }
+{
+    match y {
+        // x > y (b)
+        Class::Zero => false,
+        // x < y (a), x > y (b), or one datum (c)
+        Class::Number => magnitudes(a, b),
+        // x < y (a)
+        Class::Infinity => true,
+        // a number comes before a NaN (d 2)
+        Class::Signaling => true,
+        Class::Quiet => true,
+    }
+}
+
+// The same with x a signaling NaN.
+fn signaling_before(a: u64, b: u64, y: Class) -> bool
+    requires { ⌜ (Signaling ≡ classOf a) × (y ≡ classOf b) ⌝ }
+    ensures { λ r. ⌜ r ≡ totalOrder (a % 2 ^ 63) (b % 2 ^ 63) ⌝ }
+{
+    match y {
+        // a NaN comes after what is none (d 2)
+        Class::Zero => false,
+        Class::Number => false,
+        Class::Infinity => false,
+        // the lesser payload comes first (d 3 iii)
+        Class::Signaling => payload_of(a) <= payload_of(b),
+        // signaling comes before quiet (d 3 ii)
+        Class::Quiet => true,
+    }
+}
+
+// The same with x a quiet NaN.
+fn quiet_before(a: u64, b: u64, y: Class) -> bool
+    requires { ⌜ (Quiet ≡ classOf a) × (y ≡ classOf b) ⌝ }
+    ensures { λ r. ⌜ r ≡ totalOrder (a % 2 ^ 63) (b % 2 ^ 63) ⌝ }
+{
+    match y {
+        // a NaN comes after what is none (d 2)
+        Class::Zero => false,
+        Class::Number => false,
+        Class::Infinity => false,
+        // signaling comes before quiet (d 3 ii)
+        Class::Signaling => false,
+        // the lesser payload comes first (d 3 iii)
+        Class::Quiet => payload_of(a) <= payload_of(b),
+    }
+}
+
 // Two patterns of like sign, as if it were plus: the clause with x = |a| and y = |b|.
 fn unsigned_before(a: u64, b: u64) -> bool
     ensures { λ r. ⌜ r ≡ totalOrder (a % 2 ^ 63) (b % 2 ^ 63) ⌝ }
@@ -94,17 +147,7 @@ fn unsigned_before(a: u64, b: u64) -> bool
     match x {
         // 0 is below the other numbers and infinity (a), equal to 0 (c), and comes before a NaN (d 2)
         Class::Zero => true,
-        Class::Number => match y {
-            // x > y (b)
-            Class::Zero => false,
-            // x < y (a), x > y (b), or one datum (c)
-            Class::Number => magnitudes(a, b),
-            // x < y (a)
-            Class::Infinity => true,
-            // a number comes before a NaN (d 2)
-            Class::Signaling => true,
-            Class::Quiet => true,
-        },
+        Class::Number => number_before(a, b, y),
         Class::Infinity => match y {
             // x > y (b)
             Class::Zero => false,
@@ -115,26 +158,8 @@ fn unsigned_before(a: u64, b: u64) -> bool
             Class::Signaling => true,
             Class::Quiet => true,
         },
-        Class::Signaling => match y {
-            // a NaN comes after what is none (d 2)
-            Class::Zero => false,
-            Class::Number => false,
-            Class::Infinity => false,
-            // the lesser payload comes first (d 3 iii)
-            Class::Signaling => payload_of(a) <= payload_of(b),
-            // signaling comes before quiet (d 3 ii)
-            Class::Quiet => true,
-        },
-        Class::Quiet => match y {
-            // a NaN comes after what is none (d 2)
-            Class::Zero => false,
-            Class::Number => false,
-            Class::Infinity => false,
-            // signaling comes before quiet (d 3 ii)
-            Class::Signaling => false,
-            // the lesser payload comes first (d 3 iii)
-            Class::Quiet => payload_of(a) <= payload_of(b),
-        },
+        Class::Signaling => signaling_before(a, b, y),
+        Class::Quiet => quiet_before(a, b, y),
     }
 }
 

@@ -19,7 +19,7 @@ use lib.Ieee.Scale.{finite}
 use Rattle.exact.specs.Float.{_⊖_, _⊗_, _⊘_}
 use Rattle.numeric.specs.Real.{inRange}
 use Rattle.numeric.specs.declared.refusal.Refusal.the-variants.{NoCorrection}
-use Rattle.table.specs.Table.{blank, signal, signalOf, sound}
+use Rattle.table.specs.Table.{blank, signal, signalOf, soundTable}
 use Rattle.query.specs.Query.{GivesFinite, Found, answerAt, answerIn, firstOf, lastOf, line, missing, near, nearOr, ruled, spanned, the, through}
 use Rattle.table.specs.declared.sample.Sample.{Sample}
 use Rattle.query.specs.declared.query.Correction.{Correction}
@@ -29,7 +29,7 @@ use Rattle.table.proofs.UnitLaws.{units, lt-is, units-exact, down-le, cross, ne
 use Rattle.table.proofs.SmallLaws.{Small, small-finite, Up, round-up, at-most, add-small, sub-small, mul-small, div-small, range-small}
 use Rattle.table.proofs.TableLaws.{and-right, sound-at}
 use Rattle.query.proofs.FoundLaws.{earlier, later, earlier-series, later-series}
-use Rattle.query.proofs.QueryLaws.{Held}
+use Rattle.query.proofs.QueryLaws.{TimesHeld}
 
 -- ---- differences, in units
 scale-sub : (A B p A′ B′ q : ℕ) → A * p ≡ A′ * q → B * p ≡ B′ * q → (A - B) * p ≡ (A′ - B′) * q
@@ -237,8 +237,8 @@ unfolding ruled
 ruled-finite g gap t a b f i j =
     near-finite (later g t) t b (nearOr t a (spanned gap t a b)) j (near-finite (earlier g t) t a (spanned gap t a b) i (spanned-finite g gap t a b f i j))
 
-pub answer-finite : (l : List Sample) (gap : Float) (c v b : ℕ) (t : Float) → sound l ≡ true → Held l → T (fits binary64 t) → GivesFinite (answerAt l gap c v b t)
-unfolding answerAt answerIn Held
+pub answer-finite : (l : List Sample) (gap : Float) (c v b : ℕ) (t : Float) → soundTable l ≡ true → TimesHeld l → T (fits binary64 t) → GivesFinite (answerAt l gap c v b t)
+unfolding answerAt answerIn TimesHeld
 answer-finite l gap c v b t s h f =
     let r = sound-at l s in
     let good : (j : ℕ) → j < length l → Good (getD l j blank) = λ j k. record { holds = h j k; time = r .times j k; value = r .values j k } in

@@ -1,5 +1,5 @@
 -- A directory answers as the table that it stands for, and a sorted table as its directory. Assumes nothing.
-use mathlib.Core.Path.{_≡_, refl, sym, ap, _∙_}
+use mathlib.Core.Path.{_≡_, refl, sym, _∙_}
 use mathlib.Core.List.{List, [], _∷_}
 use mathlib.Core.Bool.{Bool, true, false, cond, _||_}
 use Prim.Native.Nat.{ℕ, suc, _≤_}
@@ -10,12 +10,12 @@ use lib.ListN.{length}
 use borrow.Author.Tests.{ltb-true, lt-ltb, le-ltb}
 use lib.Ieee.{Float}
 use Rattle.walk.specs.Walk.{every}
-use Rattle.table.specs.Table.{sorted, sound}
+use Rattle.table.specs.Table.{sorted}
 use Rattle.table.specs.declared.sample.Sample.{Sample}
 use Rattle.table.proofs.Places.{sorted-rises}
 use Rattle.directory.specs.Directory.{Entry, Directory, directoryOf, entriesFrom, entryOf, flat, isMine, joined, soundDirectory}
 use Rattle.directory.proofs.DirectoryLaws.{narrow, flat-directory, sound-directory, sound-flat}
-use Rattle.query.specs.Query.{answerAt, queryIn, queryOf}
+use Rattle.query.specs.Query.{queryIn, queryOf}
 
 -- for every sound directory of so many entries as there is room for
 pub query-flat : (m n room : ℕ) (d : Directory) → soundDirectory d ≡ true → m ≤ room → (gap : Float) (c v b : ℕ) (t : Float) → queryIn m n room d gap c v b t ≡ queryOf n room (flat d) gap c v b t

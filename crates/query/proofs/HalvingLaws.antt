@@ -106,11 +106,6 @@ module _ (test : ℕ → Bool) (from to : ℕ) (f : Falling test from to) where
             back = λ j h k. up lo j (i .above) (omega arith) k e;
           }
 
--- what is chosen of two places, lo ≤ mid, lies between them
-pub chosen-le : (x : Bool) (lo mid r : ℕ) → lo ≤ mid → r ≡ cond x mid lo → (lo ≤ r) × (r ≤ mid)
-chosen-le true lo mid r h e = (omega arith, omega arith)
-chosen-le false lo mid r h e = (omega arith, omega arith)
-
 -- so many halvings leave one of so many places
 pub halves : (len left : ℕ) → 0 < left → len ≤ 2 ^ left → len - len / 2 ≤ 2 ^ (left - 1)
 halves len zero h k = absurd (omega arith)
@@ -119,6 +114,6 @@ halves len (suc left) h k =
     let p : 2 ^ suc left ≡ 2 ^ left * 2 = pow-suc 2 left in
     rw e (omega (arith, p, k))
 
-pub short : (len left : ℕ) → left ≤ 0 → len ≤ 2 ^ left → len ≤ 1
-short len zero h k = k
-short len (suc left) h k = absurd (omega arith)
+pub one-left : (len left : ℕ) → left ≤ 0 → len ≤ 2 ^ left → len ≤ 1
+one-left len zero h k = k
+one-left len (suc left) h k = absurd (omega arith)

@@ -10,17 +10,17 @@ use lib.ListN.{length, getD}
 use borrow.Author.Tests.{eqb-true, ltb-true, ltb-false}
 use lib.Ieee.{Float, lt, fits, binary64}
 use Rattle.numeric.specs.declared.refusal.Refusal.the-variants.{NoCorrection}
-use Rattle.table.specs.Table.{blank, seriesOf, signal, signalOf, sound}
+use Rattle.table.specs.Table.{blank, seriesOf, signal, signalOf, soundTable}
 use Rattle.table.specs.declared.sample.Sample.{Sample}
 use Rattle.table.proofs.Places.{placeOf, timeKey}
-use Rattle.table.proofs.TableLaws.{Sound, sound-at, and-right}
+use Rattle.table.proofs.TableLaws.{SoundTable, sound-at, and-right}
 use Rattle.table.proofs.UnitLaws.{earlier-of, never}
 use Rattle.query.specs.Query.{Found, missing, the, near, firstOf, lastOf, lastBefore, firstSince, nearOr, spanned, ruled, answerIn, answerAt, guarded, queryOf}
 use Rattle.query.specs.Past.{bridged, between, answerBefore, queryBefore, isOf, JustPast}
 use Rattle.query.specs.declared.query.Correction.{Correction}
 use Rattle.query.specs.declared.query.Correction.the-variants.{Refused, Metres}
 use Rattle.query.proofs.FoundLaws.{earlier, later, earlier-series, later-series, first-none}
-use Rattle.query.proofs.QueryLaws.{Held}
+use Rattle.query.proofs.QueryLaws.{TimesHeld}
 
 -- ---- the two rules, by what was found before the time and from it on
 module _ (gap t : Float) where
@@ -133,8 +133,8 @@ keys-le a b h e = keys (signalOf a) (signalOf b) (timeKey (a .time)) (timeKey (b
     keys g l j k e r = omega arith
 
 -- a table in order whose last sample of the signal is before t has none at or after t
-last-passed : (ss : List Sample) (g : ℕ) (t : Float) (a : Sample) → T (fits binary64 t) → Sound ss → Held ss → JustPast ss g t a → PastAll ss g t a
-unfolding Held
+last-passed : (ss : List Sample) (g : ℕ) (t : Float) (a : Sample) → T (fits binary64 t) → SoundTable ss → TimesHeld ss → JustPast ss g t a → PastAll ss g t a
+unfolding TimesHeld
 last-passed ss g t a ft s w p =
     record {
       none-since = later-series g t ss ∙ none;
@@ -185,7 +185,7 @@ module _ (ss : List Sample) (gap : Float) (c v b : ℕ) (t : Float) where
           test false q = far-off gap t a q ∙ sym (alone gap t (the a))
 
   -- there the old one is 12, and the new one that sample's value
-  pub answer-changed : T (fits binary64 t) → sound ss ≡ true → Held ss → (a : Sample) → JustPast ss (signal c v b) t a
+  pub answer-changed : T (fits binary64 t) → soundTable ss ≡ true → TimesHeld ss → (a : Sample) → JustPast ss (signal c v b) t a
       → (answerBefore ss gap c v b t ≡ Refused NoCorrection) × (answerAt ss gap c v b t ≡ Metres (a .correction))
   unfolding answerAt answerIn answerBefore
   answer-changed ft s w a j =
@@ -195,20 +195,20 @@ module _ (ss : List Sample) (gap : Float) (c v b : ℕ) (t : Float) where
   -- the call: where the time is not just past the signal's last sample, it answers as before
   pub query-kept : (n room : ℕ) → ((a : Sample) → JustPast ss (signal c v b) t a → ⊥) → queryOf n room ss gap c v b t ≡ queryBefore n room ss gap c v b t
   unfolding queryOf queryBefore
-  query-kept n room nay = ap (guarded (ltb room n) (sound ss) gap t) (answer-kept nay)
+  query-kept n room nay = ap (guarded (ltb room n) (soundTable ss) gap t) (answer-kept nay)
 
   -- where it is, 12 became that sample's value; what 2 to 4 turn away is turned away as before
-  pub query-changed : (n room : ℕ) → T (fits binary64 t) → Held ss → (a : Sample) → JustPast ss (signal c v b) t a
-      → (queryBefore n room ss gap c v b t ≡ guarded (ltb room n) (sound ss) gap t (Refused NoCorrection)) × (queryOf n room ss gap c v b t ≡ guarded (ltb room n) (sound ss) gap t (Metres (a .correction)))
+  pub query-changed : (n room : ℕ) → T (fits binary64 t) → TimesHeld ss → (a : Sample) → JustPast ss (signal c v b) t a
+      → (queryBefore n room ss gap c v b t ≡ guarded (ltb room n) (soundTable ss) gap t (Refused NoCorrection)) × (queryOf n room ss gap c v b t ≡ guarded (ltb room n) (soundTable ss) gap t (Metres (a .correction)))
   unfolding queryOf queryBefore
-  query-changed n room ft w a j = go (sound ss) refl
+  query-changed n room ft w a j = go (soundTable ss) refl
     where
       -- of a table that is not sound no answer is asked
-      unasked : (x y : Correction) → sound ss ≡ false → guarded (ltb room n) (sound ss) gap t x ≡ guarded (ltb room n) (sound ss) gap t y
+      unasked : (x y : Correction) → soundTable ss ≡ false → guarded (ltb room n) (soundTable ss) gap t x ≡ guarded (ltb room n) (soundTable ss) gap t y
       unasked x y e = unfold guarded in rw e
 
-      go : (z : Bool) → sound ss ≡ z
-          → (guarded (ltb room n) (sound ss) gap t (answerBefore ss gap c v b t) ≡ guarded (ltb room n) (sound ss) gap t (Refused NoCorrection))
-          × (guarded (ltb room n) (sound ss) gap t (answerAt ss gap c v b t) ≡ guarded (ltb room n) (sound ss) gap t (Metres (a .correction)))
-      go true e = let k = answer-changed ft e w a j in (ap (guarded (ltb room n) (sound ss) gap t) (k .0), ap (guarded (ltb room n) (sound ss) gap t) (k .1))
+      go : (z : Bool) → soundTable ss ≡ z
+          → (guarded (ltb room n) (soundTable ss) gap t (answerBefore ss gap c v b t) ≡ guarded (ltb room n) (soundTable ss) gap t (Refused NoCorrection))
+          × (guarded (ltb room n) (soundTable ss) gap t (answerAt ss gap c v b t) ≡ guarded (ltb room n) (soundTable ss) gap t (Metres (a .correction)))
+      go true e = let k = answer-changed ft e w a j in (ap (guarded (ltb room n) (soundTable ss) gap t) (k .0), ap (guarded (ltb room n) (soundTable ss) gap t) (k .1))
       go false e = (unasked (answerBefore ss gap c v b t) (Refused NoCorrection) e, unasked (answerAt ss gap c v b t) (Metres (a .correction)) e)

@@ -23,7 +23,7 @@ use Rattle.directory.proofs.SoundLaws.{tiles-at}
 use Rattle.directory.proofs.EntryLaws.{ascends-at, block-length, block-at}
 use Rattle.directory.proofs.ColumnLaws.{entry-at, reading-at}
 use Rattle.query.specs.Search.{Split, Falling, isUpTo, isBefore}
-use Rattle.query.proofs.QueryLaws.{Held}
+use Rattle.query.proofs.QueryLaws.{TimesHeld}
 
 -- ---- lists by their places
 every-at : {A : Type 0} (q : A → Bool) (d : A) (l : List A) (i : ℕ) → every q l ≡ true → i < length l → q (getD l i d) ≡ true
@@ -200,8 +200,8 @@ module _ (m n : ℕ) (l : Blocks) (fm : m ≤ length (entriesIn l)) (fn : n ≤ 
           ∙ ap (block (take n (readingsIn l))) (taken e em)
 
   -- every time of the table that the directory stands for is a value of the format
-  pub held-flat : ((j : ℕ) → T (fits binary64 (getD (l .times) j nan))) → Held (flat (directoryIn m n l))
-  unfolding Held
+  pub held-flat : ((j : ℕ) → T (fits binary64 (getD (l .times) j nan))) → TimesHeld (flat (directoryIn m n l))
+  unfolding TimesHeld
   held-flat held j h =
       let e = flat-readings (directoryIn m n l) s in
       let k : j < n = omega (arith, length-map (flat (directoryIn m n l)) readingOf, ap length e, readings) in

@@ -16,7 +16,7 @@ use Rattle.numeric.specs.Real.{inRange}
 use Rattle.numeric.specs.declared.refusal.Refusal.{Refusal}
 use Rattle.numeric.specs.declared.refusal.Refusal.the-variants.{TooMany, SettingOutOfRange, RecordOutOfRange}
 use Rattle.directory.specs.Directory.{Directory, flat, soundDirectory}
-use Rattle.query.specs.Query.{answerAt, guarded, queryIn, queryNumber, metresAfter, GivesFinite, Passed}
+use Rattle.query.specs.Query.{answerAt, guarded, queryIn, queryNumber, metresAfter, GivesFinite, PassedQuery}
 use Rattle.query.specs.declared.query.Correction.{Correction}
 use Rattle.query.specs.declared.query.Correction.the-variants as Correction
 use Rattle.query.specs.declared.queries.Asking.the-variants.{Refused, Answered}
@@ -157,7 +157,7 @@ module _ (m n room : ℕ) (d : Directory) (gap : Float) (c v b : List ℕ) (t : 
         not-sound z = rw (h, sym es ∙ w, sym eq ∙ not-false q u, sym ey ∙ not-true y z)
 
         module _ (z : not y ≡ false) where
-          pub passes : Passed m n room d gap
+          pub passes : PassedQuery m n room d gap
           passes =
               let k = or-no (ltb room m) (ltb room n) h in
               record {

@@ -15,12 +15,12 @@ use Rattle.numeric.specs.declared.refusal.Refusal.the-variants.{RecordOutOfRang
 use Rattle.table.specs.Table.{blank}
 use Rattle.table.specs.declared.sample.Sample.{Sample}
 use Rattle.directory.specs.Directory.{Blocks, Directory, blockCapacity, entriesIn, readingsIn, flat, soundDirectory}
-use Rattle.query.specs.Query.{answerAt, guarded, queryIn, Passed}
+use Rattle.query.specs.Query.{answerAt, guarded, queryIn, PassedQuery}
 use Rattle.query.specs.declared.query.Correction.the-variants.{Refused}
 
 -- every time is a value of the format
-unfoldable pub Held : List Sample → Type 0
-Held l = (j : ℕ) → j < length l → T (fits binary64 (getD l j blank .time))
+unfoldable pub TimesHeld : List Sample → Type 0
+TimesHeld l = (j : ℕ) → j < length l → T (fits binary64 (getD l j blank .time))
 
 -- counts up to the capacity lie in the columns
 pub roomy : (m n room : ℕ) (l : Blocks) → room ≡ blockCapacity l → (ltb room m || ltb room n) ≡ false → (m ≤ length (entriesIn l)) × (n ≤ length (readingsIn l))
@@ -46,7 +46,7 @@ module _ (m n room : ℕ) (d : Directory) (gap : Float) (c v b : ℕ) (t : Float
       unfolding queryIn guarded
       rule-4 u = rw (h, sym eq ∙ not-false q w, sym ey ∙ not-true y u)
 
-      pub no-rule : not y ≡ false → Passed m n room d gap
+      pub no-rule : not y ≡ false → PassedQuery m n room d gap
       no-rule u =
           let k = or-no (ltb room m) (ltb room n) h in
           record {
@@ -57,7 +57,7 @@ module _ (m n room : ℕ) (d : Directory) (gap : Float) (c v b : ℕ) (t : Float
           }
 
 -- ---- the time of a query that has passed them
-module _ (m n room : ℕ) (d : Directory) (gap : Float) (p : Passed m n room d gap) (c v b : ℕ) (t : Float) {i k : Bool} (ei : i ≡ inRange t) (ek : k ≡ finite t) where
+module _ (m n room : ℕ) (d : Directory) (gap : Float) (p : PassedQuery m n room d gap) (c v b : ℕ) (t : Float) {i k : Bool} (ei : i ≡ inRange t) (ek : k ≡ finite t) where
   pub time-refused : not (i || not k) ≡ true → Refused RecordOutOfRange ≡ queryIn m n room d gap c v b t
   unfolding queryIn guarded
   time-refused z = rw (le-ltb room m (p .few-entries), le-ltb room n (p .few-samples), p .in-range, p .steady, ← ei, ← ek, not-true (i || not k) z)

@@ -9,7 +9,7 @@ use Rattle.exact.specs.Pattern.{sign}
 use Rattle.numeric.specs.Order.{totalOrder, patternOf}
 use Rattle.numeric.specs.Real.{abs, inRange}
 use Rattle.numeric.specs.declared.refusal.Refusal.the-variants.{NoCorrection, RecordOutOfRange, TooMany}
-use Rattle.table.specs.Table.{timeBefore, standsBefore, sortedFrom, sorted, ranged, sound}
+use Rattle.table.specs.Table.{timeBefore, standsBefore, sortedFrom, sorted, ranged, soundTable}
 use Rattle.directory.specs.Directory.{Directory, ascends, tiles, timely, timelyFrom, blockTimes, inReach, soundDirectory, block, flat}
 use Rattle.query.specs.Query.{near, firstOf, lastOf, through, nearOr, spanned, ruled, answerIn, answerAt, guarded, queryIn, queryOf, metresAfter}
 use Rattle.query.specs.Queries.{Reply, refusal, placesShort, queriesIn, written, placesAfter, numberAfter}
@@ -31,57 +31,57 @@ asked gap t = queryOf 2 2048 two gap 1 5 1 t
 
 -- (m10) gap limit 90: 15 s gives 2 m
 pub m10 : asked (whole 90) (whole 15) ≡ Metres (whole 2)
-unfolding queryOf guarded answerAt answerIn collect ruled nearOr spanned through near firstOf lastOf inRange abs sound ranged sorted sortedFrom standsBefore timeBefore totalOrder sign patternOf every lt le eq add sub mul div ofBits ofInt toBits isNan
+unfolding queryOf guarded answerAt answerIn collect ruled nearOr spanned through near firstOf lastOf inRange abs soundTable ranged sorted sortedFrom standsBefore timeBefore totalOrder sign patternOf every lt le eq add sub mul div ofBits ofInt toBits isNan
 m10 = refl
 
 -- (m11) gap limit 5: 12
 pub m11 : asked (whole 5) (whole 15) ≡ Refused NoCorrection
-unfolding queryOf guarded answerAt answerIn collect ruled nearOr spanned through near firstOf lastOf inRange abs sound ranged sorted sortedFrom standsBefore timeBefore totalOrder sign patternOf every lt le eq add sub mul div ofBits ofInt toBits isNan
+unfolding queryOf guarded answerAt answerIn collect ruled nearOr spanned through near firstOf lastOf inRange abs soundTable ranged sorted sortedFrom standsBefore timeBefore totalOrder sign patternOf every lt le eq add sub mul div ofBits ofInt toBits isNan
 m11 = refl
 
 -- a gap equal to the limit is bridged
 pub gap-at-limit : asked (whole 10) (whole 15) ≡ Metres (whole 2)
-unfolding queryOf guarded answerAt answerIn collect ruled nearOr spanned through near firstOf lastOf inRange abs sound ranged sorted sortedFrom standsBefore timeBefore totalOrder sign patternOf every lt le eq add sub mul div ofBits ofInt toBits isNan
+unfolding queryOf guarded answerAt answerIn collect ruled nearOr spanned through near firstOf lastOf inRange abs soundTable ranged sorted sortedFrom standsBefore timeBefore totalOrder sign patternOf every lt le eq add sub mul div ofBits ofInt toBits isNan
 gap-at-limit = refl
 
 -- a sample is answered whatever the gaps beside it are, and past the last one there is no correction
 pub on-sample : asked (whole 5) (whole 20) ≡ Metres (whole 3)
-unfolding queryOf guarded answerAt answerIn collect ruled nearOr spanned through near firstOf lastOf inRange abs sound ranged sorted sortedFrom standsBefore timeBefore totalOrder sign patternOf every lt le eq add sub mul div ofBits ofInt toBits isNan
+unfolding queryOf guarded answerAt answerIn collect ruled nearOr spanned through near firstOf lastOf inRange abs soundTable ranged sorted sortedFrom standsBefore timeBefore totalOrder sign patternOf every lt le eq add sub mul div ofBits ofInt toBits isNan
 on-sample = refl
 
 pub past-end : asked (whole 90) (whole 21) ≡ Refused NoCorrection
-unfolding queryOf guarded answerAt answerIn collect ruled nearOr spanned through near firstOf lastOf inRange abs sound ranged sorted sortedFrom standsBefore timeBefore totalOrder sign patternOf every lt le eq add sub mul div ofBits ofInt toBits isNan
+unfolding queryOf guarded answerAt answerIn collect ruled nearOr spanned through near firstOf lastOf inRange abs soundTable ranged sorted sortedFrom standsBefore timeBefore totalOrder sign patternOf every lt le eq add sub mul div ofBits ofInt toBits isNan
 past-end = refl
 
 -- request (vi): 2^-21 s past the last one that sample is answered, where it was 12; 2^-19 s past it nothing is
 pub just-past : asked (whole 90) (bits 0x4034_0000_0800_0000) ≡ Metres (whole 3)
-unfolding queryOf guarded answerAt answerIn collect ruled nearOr spanned through near firstOf lastOf inRange abs sound ranged sorted sortedFrom standsBefore timeBefore totalOrder sign patternOf every lt le eq add sub mul div ofBits ofInt toBits isNan
+unfolding queryOf guarded answerAt answerIn collect ruled nearOr spanned through near firstOf lastOf inRange abs soundTable ranged sorted sortedFrom standsBefore timeBefore totalOrder sign patternOf every lt le eq add sub mul div ofBits ofInt toBits isNan
 just-past = refl
 
 pub just-past-before : queryBefore 2 2048 two (whole 90) 1 5 1 (bits 0x4034_0000_0800_0000) ≡ Refused NoCorrection
-unfolding queryBefore guarded answerBefore collect between bridged through near firstOf lastOf inRange abs sound ranged sorted sortedFrom standsBefore timeBefore totalOrder sign patternOf every lt le eq add sub mul div ofBits ofInt toBits isNan
+unfolding queryBefore guarded answerBefore collect between bridged through near firstOf lastOf inRange abs soundTable ranged sorted sortedFrom standsBefore timeBefore totalOrder sign patternOf every lt le eq add sub mul div ofBits ofInt toBits isNan
 just-past-before = refl
 
 pub further-past : asked (whole 90) (bits 0x4034_0000_2000_0000) ≡ Refused NoCorrection
-unfolding queryOf guarded answerAt answerIn collect ruled nearOr spanned through near firstOf lastOf inRange abs sound ranged sorted sortedFrom standsBefore timeBefore totalOrder sign patternOf every lt le eq add sub mul div ofBits ofInt toBits isNan
+unfolding queryOf guarded answerAt answerIn collect ruled nearOr spanned through near firstOf lastOf inRange abs soundTable ranged sorted sortedFrom standsBefore timeBefore totalOrder sign patternOf every lt le eq add sub mul div ofBits ofInt toBits isNan
 further-past = refl
 
 -- a time that is not finite is 12, and one above 1e9 is 4
 pub at-nan : asked (whole 90) nan ≡ Refused NoCorrection
-unfolding queryOf guarded answerAt answerIn collect ruled nearOr spanned through near firstOf lastOf inRange abs sound ranged sorted sortedFrom standsBefore timeBefore totalOrder sign patternOf every lt le eq add sub mul div ofBits ofInt toBits isNan
+unfolding queryOf guarded answerAt answerIn collect ruled nearOr spanned through near firstOf lastOf inRange abs soundTable ranged sorted sortedFrom standsBefore timeBefore totalOrder sign patternOf every lt le eq add sub mul div ofBits ofInt toBits isNan
 at-nan = refl
 
 pub at-infinity : asked (whole 90) (inf false) ≡ Refused NoCorrection
-unfolding queryOf guarded answerAt answerIn collect ruled nearOr spanned through near firstOf lastOf inRange abs sound ranged sorted sortedFrom standsBefore timeBefore totalOrder sign patternOf every lt le eq add sub mul div ofBits ofInt toBits isNan
+unfolding queryOf guarded answerAt answerIn collect ruled nearOr spanned through near firstOf lastOf inRange abs soundTable ranged sorted sortedFrom standsBefore timeBefore totalOrder sign patternOf every lt le eq add sub mul div ofBits ofInt toBits isNan
 at-infinity = refl
 
 pub far-time : asked (whole 90) (whole 2000000000) ≡ Refused RecordOutOfRange
-unfolding queryOf guarded answerAt answerIn collect ruled nearOr spanned through near firstOf lastOf inRange abs sound ranged sorted sortedFrom standsBefore timeBefore totalOrder sign patternOf every lt le eq add sub mul div ofBits ofInt toBits isNan
+unfolding queryOf guarded answerAt answerIn collect ruled nearOr spanned through near firstOf lastOf inRange abs soundTable ranged sorted sortedFrom standsBefore timeBefore totalOrder sign patternOf every lt le eq add sub mul div ofBits ofInt toBits isNan
 far-time = refl
 
 -- the time +0 followed by −0 is not sorted
 pub zeros-unsorted : queryOf 2 2048 (sample +0 (whole 1) ∷ sample (bits 0x8000_0000_0000_0000) (whole 1) ∷ []) (whole 90) 1 5 1 +0 ≡ Refused RecordOutOfRange
-unfolding queryOf guarded answerAt answerIn collect ruled nearOr spanned through near firstOf lastOf inRange abs sound ranged sorted sortedFrom standsBefore timeBefore totalOrder sign patternOf every lt le eq add sub mul div ofBits ofInt toBits isNan
+unfolding queryOf guarded answerAt answerIn collect ruled nearOr spanned through near firstOf lastOf inRange abs soundTable ranged sorted sortedFrom standsBefore timeBefore totalOrder sign patternOf every lt le eq add sub mul div ofBits ofInt toBits isNan
 zeros-unsorted = refl
 
 -- ---- the same samples as one block

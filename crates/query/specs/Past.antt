@@ -7,7 +7,7 @@ use lib.Dec.{eqb, ltb}
 use lib.Ieee.{Float, lt}
 use Rattle.exact.specs.Float.{_⊖_}
 use Rattle.numeric.specs.declared.refusal.Refusal.the-variants.{NoCorrection}
-use Rattle.table.specs.Table.{signal, signalOf, seriesOf, sound}
+use Rattle.table.specs.Table.{signal, signalOf, seriesOf, soundTable}
 use Rattle.table.specs.declared.sample.Sample.{Sample}
 use Rattle.query.specs.Query.{Found, missing, the, near, line, lastOf, lastBefore, firstSince, guarded}
 use Rattle.query.specs.declared.query.Correction.{Correction}
@@ -32,7 +32,7 @@ unfoldable pub answerBefore : List Sample → Float → ℕ → ℕ → ℕ → 
 answerBefore ss gap c v b t = let l = seriesOf (signal c v b) ss in between gap t (lastBefore t l) (firstSince t l)
 
 unfoldable pub queryBefore : ℕ → ℕ → List Sample → Float → ℕ → ℕ → ℕ → Float → Correction
-queryBefore n room ss gap c v b t = guarded (ltb room n) (sound ss) gap t (answerBefore ss gap c v b t)
+queryBefore n room ss gap c v b t = guarded (ltb room n) (soundTable ss) gap t (answerBefore ss gap c v b t)
 
 -- ---- where the answers differ
 

@@ -11,7 +11,7 @@ use Rattle.numeric.specs.Order.{patternOf}
 use Rattle.numeric.specs.Real.{abs, inRange}
 use Rattle.numeric.specs.Refusal.{numberOf}
 use Rattle.numeric.specs.declared.refusal.Refusal.the-variants.{TooMany, SettingOutOfRange, RecordOutOfRange, NoCorrection}
-use Rattle.table.specs.Table.{signal, seriesOf, sound}
+use Rattle.table.specs.Table.{signal, seriesOf, soundTable}
 use Rattle.table.specs.declared.sample.Sample.{Sample}
 use Rattle.directory.specs.Directory.{Directory, flat, soundDirectory}
 use Rattle.query.specs.declared.query.Correction.{Correction}
@@ -96,7 +96,7 @@ guarded many steady gap t answer =
 
 -- a query of n samples with that capacity
 unfoldable pub queryOf : ℕ → ℕ → List Sample → Float → ℕ → ℕ → ℕ → Float → Correction
-queryOf n room ss gap c v b t = guarded (ltb room n) (sound ss) gap t (answerAt ss gap c v b t)
+queryOf n room ss gap c v b t = guarded (ltb room n) (soundTable ss) gap t (answerAt ss gap c v b t)
 
 -- request (ix): a query of a directory of m entries and n samples in columns with that capacity has its own 2 and 4, and the answer of the samples that the directory stands for
 unfoldable pub queryIn : ℕ → ℕ → ℕ → Directory → Float → ℕ → ℕ → ℕ → Float → Correction
@@ -125,7 +125,7 @@ GivesFinite (Metres x) = finite x ≡ true
 -- ---- what the contract of the answer says
 
 -- rules 2 to 4 let the directory and the gap pass
-pub record Passed (m n room : ℕ) (d : Directory) (gap : Float) : Type 0 where
+pub record PassedQuery (m n room : ℕ) (d : Directory) (gap : Float) : Type 0 where
   pub few-entries : m ≤ room
   pub few-samples : n ≤ room
   pub in-range : inRange gap ≡ true

@@ -3,7 +3,7 @@ ghost use mathlib.Core.Path.{_≡_};
 ghost use mathlib.Core.Bool.{false};
 ghost use Rattle.walk.specs.Walk.{places};
 ghost use Rattle.directory.specs.Directory.{lentBlocks, blockCapacity, directoryIn};
-ghost use Rattle.query.specs.Query.{queryNumber, metresAfter, Passed};
+ghost use Rattle.query.specs.Query.{queryNumber, metresAfter, PassedQuery};
 ghost use Rattle.query.specs.Queries.{placesShort, queryAt, queriesIn, answers, askingOf, askingNumber, Replies};
 use crate::query::Correction;
 use crate::query::answer_of;
@@ -78,7 +78,7 @@ fn fill(
     numbers: &mut [u8],
     metres: &mut [f64],
 )
-    requires { ⌜ (let l = lentBlocks (now dc) (now dv) (now db) (now df) (now dn) (now ts) (now xs) in Passed m n (blockCapacity l) (directoryIn m n l) gap) ⌝ }
+    requires { ⌜ (let l = lentBlocks (now dc) (now dv) (now db) (now df) (now dn) (now ts) (now xs) in PassedQuery m n (blockCapacity l) (directoryIn m n l) gap) ⌝ }
     requires { ⌜ placesShort count (now c) (now v) (now b) (now t) (now numbers) (now metres) ≡ false ⌝ }
     ensures { λ _. ⌜ (let l = lentBlocks (now (dc .entry)) (now (dv .entry)) (now (db .entry)) (now (df .entry)) (now (dn .entry)) (now (ts .entry)) (now (xs .entry)) in
         Replies (answers (places (queryAt m n (blockCapacity l) (directoryIn m n l) gap (now (c .entry)) (now (v .entry)) (now (b .entry)) (now (t .entry))) count)) 0

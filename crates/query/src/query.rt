@@ -6,7 +6,7 @@ ghost use lib.ListN.{length, getD, take};
 ghost use lib.Dec.{ltb};
 ghost use lib.Ieee.{nan};
 ghost use Rattle.directory.specs.Directory.{lentBlocks, entriesIn, readingsIn, noEntry, blockCapacity, directoryIn, block, flat, soundDirectory};
-ghost use Rattle.query.specs.Query.{near, through, answerIn, answerAt, queryIn, GivesFinite, Passed};
+ghost use Rattle.query.specs.Query.{near, through, answerIn, answerAt, queryIn, GivesFinite, PassedQuery};
 use crate::search::entry_of;
 use crate::search::front_of;
 use directory::entry::block_capacity;
@@ -156,7 +156,7 @@ pub(crate) fn answer_of(
     b: u32,
     t: f64,
 ) -> Correction
-    requires { ⌜ (let l = lentBlocks (now dc) (now dv) (now db) (now df) (now dn) (now ts) (now xs) in Passed m n (blockCapacity l) (directoryIn m n l) gap) ⌝ }
+    requires { ⌜ (let l = lentBlocks (now dc) (now dv) (now db) (now df) (now dn) (now ts) (now xs) in PassedQuery m n (blockCapacity l) (directoryIn m n l) gap) ⌝ }
     ensures { λ r. ⌜ (let l = lentBlocks (now (dc .entry)) (now (dv .entry)) (now (db .entry)) (now (df .entry)) (now (dn .entry)) (now (ts .entry)) (now (xs .entry)) in
         (r ≡ queryIn m n (blockCapacity l) (directoryIn m n l) gap c v b t) × GivesFinite r) ⌝ }
 {

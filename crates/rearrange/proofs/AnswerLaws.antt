@@ -1,7 +1,6 @@
 -- The answers of the rearrangements, way by way. Assumes nothing.
 use mathlib.Core.Path.{_≡_, refl, sym, ap, _∙_}
-use mathlib.Core.List.{List}
-use mathlib.Core.Bool.{Bool, true, false, cond, not, _||_}
+use mathlib.Core.Bool.{Bool, true, false, not, _||_}
 use Prim.Native.Nat.{ℕ, _≤_, _<_, min}
 use native.Mathlib.Omega.{arith}
 use lib.Dec.{ltb}
@@ -9,7 +8,7 @@ use lib.ListN.{length}
 use borrow.Author.Tests.{ltb-false, lt-ltb, le-ltb, not-true, not-false}
 use Rattle.numeric.specs.declared.refusal.Refusal.the-variants.{TooMany, RecordOutOfRange}
 use Rattle.table.proofs.UnitLaws.{never}
-use Rattle.table.specs.Table.{Columns, capacity, rows, sound, tableOf}
+use Rattle.table.specs.Table.{Columns, capacity, rows, soundTable, tableOf}
 use Rattle.directory.specs.Directory.{Blocks, blockCapacity, directoryIn, directoryOf, entriesFrom, entriesIn, flat, readingsIn, soundDirectory}
 use Rattle.directory.specs.Rearrange.{entriesWith, filedColumns, filedOf, listedColumns, listedOf, signalsWith}
 use Rattle.rearrange.specs.Run.{filingOf, listingOf}
@@ -28,7 +27,7 @@ module _ (n long : ℕ) (t : Columns) (l : Blocks) (r : ℕ) (e : r ≡ min long
         go : (k : ℕ) → length (rows t) ≡ k → (n ≤ long) × (n ≤ length (rows t))
         go k q = let z : r ≡ min long (min 2048 k) = e ∙ ap (λ (x : ℕ). min long (min 2048 x)) q in (omega arith, rw q (omega arith))
 
-    module _ {x : Bool} (ex : x ≡ sound (tableOf n t)) where
+    module _ {x : Bool} (ex : x ≡ soundTable (tableOf n t)) where
       pub file-unsound : not x ≡ true → (Filing.Refused RecordOutOfRange ≡ filingOf (filedOf n long t)) × (l ≡ filedColumns (filedOf n long t) l)
       unfolding filedOf
       file-unsound k = rw (← e, le-ltb r n h, sym ex ∙ not-true x k) (refl, refl)

@@ -1,17 +1,17 @@
 -- The entries of a sorted table, block by block, as they are written. Assumes nothing.
 use mathlib.Core.Path.{_≡_, refl, sym, ap, _∙_}
-use mathlib.Core.List.{List, [], _∷_, _++_, map, map-append, append-assoc, append-nil}
-use mathlib.Core.Bool.{Bool, true, false, not, _&&_, _||_}
-use Prim.Native.Nat.{ℕ, zero, suc, _+_, _-_, _^_, _≤_, _<_}
+use mathlib.Core.List.{List, [], _∷_, _++_, map, map-append, append-assoc}
+use mathlib.Core.Bool.{Bool, true, false, not, _||_}
+use Prim.Native.Nat.{ℕ, suc, _+_, _-_, _^_, _≤_, _<_}
 use native.Mathlib.Numerals.{add-one}
 use native.Mathlib.Omega.{arith}
-use lib.Dec.{eqb, ltb}
-use lib.ListN.{length, getD, take, drop, set, length-append, length-drop, length-map, length-set, take-append-drop}
+use lib.Dec.{eqb}
+use lib.ListN.{length, getD, take, drop, set, length-append, length-drop, length-map, take-append-drop}
 use lib.Ieee.{Float, nan}
 use lib.Seq.{drop-cons, length-take-le, set-at, take-all, take-take}
 use borrow.Author.Tests.{eq-eqb, eqb-true, eqb-false}
 use Rattle.walk.specs.Walk.{every}
-use Rattle.table.specs.Table.{blank, lent, ranged, rows, signalOf, sorted, sound, tableOf}
+use Rattle.table.specs.Table.{blank, lent, ranged, rows, signalOf, sorted, soundTable, tableOf}
 use Rattle.table.specs.Add.{insertAll}
 use Rattle.table.specs.declared.sample.Sample.{Sample}
 use Rattle.table.proofs.ColumnLaws.{rows-at, rows-length}
@@ -21,7 +21,7 @@ use Rattle.table.proofs.Places.{rises, sorted-rises}
 use Rattle.directory.specs.Directory.{Entry, columnOf, entriesFrom, isMine, lentBlocks, signalIn}
 use Rattle.directory.specs.Rearrange.{entriesWith}
 use Rattle.directory.proofs.DirectoryLaws.{Narrow, Same, same-of}
-use Rattle.addition.proofs.LastLaws.{entryAt, group-mine, last-block, mine-by-signal, new-below, signals-rise}
+use Rattle.addition.proofs.LastLaws.{group-mine, last-block, mine-by-signal, new-below, signals-rise}
 use Rattle.addition.proofs.PlaceLaws.{entries-fewer}
 use Rattle.rearrange.specs.Run.{Run, SameAt}
 
@@ -33,9 +33,6 @@ column-more f l r d z m e h =
     rw q
     (set-at (map f l) (getD d m z) (drop (suc m) d) (f r) m (length-map l f ∙ e)
     ∙ rw n (sym (ap (λ (x : List _). x ++ drop (suc m) d) (map-append f l (r ∷ [])) ∙ append-assoc (map f l) (f r ∷ []) (drop (suc m) d))))
-
-pub column-none : {R A : Type 0} (f : R → A) (d : List A) → d ≡ columnOf f [] d
-column-none f d = refl
 
 pub column-length : {R A : Type 0} (f : R → A) (l : List R) (d : List A) → length l ≤ length d → length (columnOf f l d) ≡ length d
 column-length f l d h = length-append (map f l) (drop (length l) d) ∙ rw (length-map l f, length-drop (length l) d) (omega arith)
@@ -148,14 +145,14 @@ module _ {cs vs bs : List ℕ} {n : ℕ} {t : List Sample} (s : Signals cs vs bs
 
 -- ---- from the columns
 module _ (cs vs bs : List ℕ) (ts xs : List Float) (n : ℕ) (h : n ≤ length (rows (lent cs vs bs ts xs))) where
-  pub signals-by : sound (tableOf n (lent cs vs bs ts xs)) ≡ true → ((x : ℕ) → getD vs x 0 < 2 ^ 16) → ((x : ℕ) → getD bs x 0 < 2 ^ 32) → Signals cs vs bs n (tableOf n (lent cs vs bs ts xs))
+  pub signals-by : soundTable (tableOf n (lent cs vs bs ts xs)) ≡ true → ((x : ℕ) → getD vs x 0 < 2 ^ 16) → ((x : ℕ) → getD bs x 0 < 2 ^ 32) → Signals cs vs bs n (tableOf n (lent cs vs bs ts xs))
   signals-by ok fv fb =
       record {
         count = length-take-le n (rows (lent cs vs bs ts xs)) h;
         constellations = λ x l. ap (λ (s : Sample). s .constellation) (row x l);
         svids = λ x l. ap (λ (s : Sample). s .svid) (row x l);
         bands = λ x l. ap (λ (s : Sample). s .band) (row x l);
-        rising = sym (sorted-rises (tableOf n (lent cs vs bs ts xs))) ∙ and-right (every ranged (tableOf n (lent cs vs bs ts xs))) (sorted (tableOf n (lent cs vs bs ts xs))) (unfold sound in ok);
+        rising = sym (sorted-rises (tableOf n (lent cs vs bs ts xs))) ∙ and-right (every ranged (tableOf n (lent cs vs bs ts xs))) (sorted (tableOf n (lent cs vs bs ts xs))) (unfold soundTable in ok);
         svids-fit = fv;
         bands-fit = fb;
       }

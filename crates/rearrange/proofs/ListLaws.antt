@@ -2,18 +2,17 @@
 use mathlib.Core.Path.{_≡_, refl, sym, ap, _∙_}
 use mathlib.Core.List.{List, [], _∷_, _++_}
 use mathlib.Core.Bool.{Bool, true, false}
-use Prim.Native.Nat.{ℕ, zero, suc, _+_, _-_, _≤_, _<_}
+use Prim.Native.Nat.{ℕ, suc, _+_, _≤_, _<_}
 use native.Mathlib.Numerals.{add-one}
 use native.Mathlib.Omega.{arith}
 use lib.Dec.{eqb, ltb}
-use lib.ListN.{length, getD, take, drop, set}
+use lib.ListN.{length, getD, take, set}
 use lib.Seq.{length-take-le, take-all, take-suc}
 use lib.Ieee.{Float}
 use borrow.Author.Tests.{eqb-true, eqb-false, ltb-true, ltb-false}
-use Rattle.walk.specs.Walk.{collect}
 use Rattle.table.specs.Table.{blank, lent}
 use Rattle.table.specs.declared.sample.Sample.{Sample}
-use Rattle.directory.specs.Directory.{Entry, Reading, block, columnOf, directoryIn, entryRows, flat, lentBlocks, noEntry, noReading, readingRows, sampleOf, soundDirectory, tiles}
+use Rattle.directory.specs.Directory.{Entry, columnOf, directoryIn, entryRows, flat, lentBlocks, noEntry, noReading, readingRows, sampleOf, soundDirectory, tiles}
 use Rattle.directory.specs.Rearrange.{signalsWith}
 use Rattle.directory.proofs.DirectoryLaws.{sound-parts}
 use Rattle.directory.proofs.ColumnLaws.{flat-length}

@@ -3,7 +3,7 @@ ghost use mathlib.Core.Path.{_≡_};
 ghost use mathlib.Core.Bool.{true};
 ghost use Prim.Native.Nat.{_≤_, _<_, min};
 ghost use lib.ListN.{length};
-ghost use Rattle.table.specs.Table.{lent, rows, tableOf, sound};
+ghost use Rattle.table.specs.Table.{lent, rows, tableOf, soundTable};
 ghost use Rattle.directory.specs.Directory.{lentBlocks, entryRows, entriesFrom};
 ghost use Rattle.directory.specs.Rearrange.{filedOf, filedColumns, entriesWith};
 ghost use Rattle.rearrange.specs.Run.{Run, filingOf};
@@ -67,7 +67,7 @@ fn file_all(
     dn: &mut [usize],
 ) -> usize
     requires { ⌜ (n ≤ length (rows (lent (now cs) (now vs) (now bs) (now ts) (now xs)))) × (n ≤ length (entryRows (now dc) (now dv) (now db) (now df) (now dn))) ⌝ }
-    requires { ⌜ sound (tableOf n (lent (now cs) (now vs) (now bs) (now ts) (now xs))) ≡ true ⌝ }
+    requires { ⌜ soundTable (tableOf n (lent (now cs) (now vs) (now bs) (now ts) (now xs))) ≡ true ⌝ }
     ensures { λ r. ⌜ (let es = entriesFrom 0 (tableOf n (lent (now (cs .entry)) (now (vs .entry)) (now (bs .entry)) (now (ts .entry)) (now (xs .entry)))) in
         (r ≡ length es) × (lentBlocks (now (dc .exit)) (now (dv .exit)) (now (db .exit)) (now (df .exit)) (now (dn .exit)) (now (ts .entry)) (now (xs .entry))
         ≡ entriesWith es (lentBlocks (now (dc .entry)) (now (dv .entry)) (now (db .entry)) (now (df .entry)) (now (dn .entry)) (now (ts .entry)) (now (xs .entry))))) ⌝ }

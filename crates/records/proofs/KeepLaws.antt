@@ -1,7 +1,7 @@
 -- The elements that pass a test, and arrays that are filled one element after the other. Assumes nothing.
 use mathlib.Core.Path.{_≡_, refl, ap, _∙_}
 use mathlib.Core.List.{List, [], _∷_, _++_, map, map-append}
-use mathlib.Core.Bool.{Bool, true, false, cond}
+use mathlib.Core.Bool.{Bool, true, false, cond, _&&_}
 use Prim.Native.Nat.{ℕ, _+_, _≤_, _<_}
 use native.Mathlib.Nat.{not-suc-le-zero}
 use native.Mathlib.Decide.{ℕ-discrete}
@@ -9,7 +9,7 @@ use native.Mathlib.Numerals.{add-one}
 use native.Mathlib.Omega.{arith}
 use lib.ListN.{length, take, set, getD, length-set}
 use lib.Seq.{take-suc, take-suc-set, getD-set-same, getD-set-other}
-use Rattle.walk.specs.Walk.{collect}
+use Rattle.walk.specs.Walk.{every, collect}
 use Rattle.records.specs.Record.{keep}
 
 module _ {A : Type 0} (test : A → Bool) where
@@ -48,6 +48,24 @@ map-snoc f (y ∷ ys) x = ap (λ zs. f y ∷ zs) (map-snoc f ys x)
 pub filled-next : {A B : Type 0} (f : A → B) (xs : List A) (out : List B) (i : ℕ) (d : A) → i < length xs → i < length out → take i out ≡ map f (take i xs)
     → take (i + 1) (set out i (f (getD xs i d))) ≡ map f (take (i + 1) xs)
 filled-next f xs out i d h g e = rw (add-one, take-suc-set out i (f (getD xs i d)) g, take-suc xs i d h, map-snoc, e)
+
+-- whether each element passes, of an array that is filled one place further
+every-snoc : {A : Type 0} (test : A → Bool) (xs : List A) (x : A) → every test (xs ++ (x ∷ [])) ≡ (every test xs && test x)
+unfolding every
+every-snoc test [] x = go (test x)
+  where
+    go : (b : Bool) → (b && true) ≡ b
+    go true = refl
+    go false = refl
+every-snoc test (y ∷ ys) x = go (test y) (every-snoc test ys x)
+  where
+    go : (b : Bool) → every test (ys ++ (x ∷ [])) ≡ (every test ys && test x) → (b && every test (ys ++ (x ∷ []))) ≡ ((b && every test ys) && test x)
+    go true e = e
+    go false e = refl
+
+pub every-next : {A : Type 0} (test : A → Bool) (out : List A) (k : ℕ) (x : A) → k < length out → {b r : Bool} → b ≡ every test (take k out) → r ≡ test x
+    → (b && r) ≡ every test (take (k + 1) (set out k x))
+every-next test out k x g e is = rw (add-one, take-suc-set out k x g, every-snoc, e, is)
 
 -- an array of 64 whose first j places are what g gives of the places
 pub record Filled {B : Type 0} (g : ℕ → B) (d : B) (j : ℕ) (array : List B) : Type 0 where

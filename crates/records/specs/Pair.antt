@@ -1,14 +1,16 @@
 -- The carrier pairs of two epochs (docs/SCOPE.md, "Displacement"; tdcp.rs). Definitions only.
-use mathlib.Core.Bool.{cond, _&&_}
+use mathlib.Core.Path.{_≡_}
+use mathlib.Core.Bool.{Bool, not, cond, _&&_}
 use mathlib.Core.List.{List, [], _∷_}
 use lib.Ieee.{Float, le}
 use Rattle.exact.specs.Float.{_⊕_, _⊖_, _⊗_, bits}
-use Rattle.walk.specs.Walk.{first, collect}
-use Rattle.numeric.specs.Sight.{sightOf}
+use Rattle.walk.specs.Walk.{every, first, collect, Holds}
+use Rattle.numeric.specs.Sight.{sightOf, onReceiver}
 use Rattle.numeric.specs.declared.vec3.Vec3.{Vec3}
 use Rattle.records.specs.Record.{usable, same}
 use Rattle.records.specs.declared.record.Carrier.{Carrier}
 use Rattle.records.specs.declared.pair.Pair.{Pair}
+use Rattle.records.specs.declared.pair.Pairs.{Pairs}
 
 -- 0.5
 abbrev pub half : Float
@@ -42,3 +44,12 @@ pairAt receiver mask dt previous c = cond (usable c && le mask (c .elevation)) (
 -- the pairs of two epochs, in the order of the current carriers
 unfoldable pub pairsOf : Vec3 → Float → Float → List Carrier → List Carrier → List Pair
 pairsOf receiver mask dt previous current = collect (pairAt receiver mask dt previous) current
+
+-- 15 lets a pair pass: neither of its ranges is zero or not finite
+unfoldable pub seen : Pair → Bool
+seen q = not (onReceiver (q .range)) && not (onReceiver (q .«previous_range»))
+
+-- what the code has of the pairs ps: they are the first of its array, and whether 15 lets each pass
+pub record Paired (r : Pairs) (ps : List Pair) : Type 0 where
+  pub held : Holds (r .count) (r .pair) ps
+  pub all-seen : r .seen ≡ every seen ps

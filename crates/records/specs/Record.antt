@@ -1,10 +1,9 @@
 -- Which records a call takes, and which carriers a displacement can use (docs/SCOPE.md, "Why a call turns back", 4, and "Displacement"). Definitions only.
-use Prim.Native.Nat.{ℕ, suc, _-_, _/_, _%_, _^_, _≤_}
-use mathlib.Core.Path.{_≡_}
+use Prim.Native.Nat.{ℕ, suc, _-_, _/_, _%_, _^_}
 use mathlib.Core.Bool.{Bool, not, cond, _&&_, _||_}
 use mathlib.Core.List.{List, [], _∷_}
 use lib.Dec.{eqb}
-use lib.ListN.{take, length}
+use lib.ListN.{take}
 use lib.IntN.{ℤ, pos, negsuc}
 use lib.Ieee.{Float, neg, le}
 use lib.Ieee.Scale.{finite}
@@ -23,12 +22,6 @@ counted e = take (e .count) (e .carriers)
 abbrev pub countedObservations : Observations → List Observation
 countedObservations o = take (o .count) (o .observation)
 
--- the first n elements of an array of 64 are xs
-pub record Holds {A : Type 0} (n : ℕ) (array xs : List A) : Type 0 where
-  pub room : n ≤ 64
-  pub count : n ≡ length xs
-  pub all : take n array ≡ xs
-
 -- an element, if it passes the test
 abbrev pub keep : {A : Type 0} → (A → Bool) → A → List A
 keep test x = cond (test x) (x ∷ []) []
@@ -44,8 +37,8 @@ unfoldable pub isElevation : Float → Bool
 isElevation x = le (neg (whole 90)) x && le x (whole 90)
 
 -- A carrier passes if its floats do. An adr that is not finite makes it unusable and nothing more.
-unfoldable pub sound : Carrier → Bool
-sound c = placeable (c .satellite) && inRange (c .rate) && isElevation (c .elevation) && (inRange (c .adr) || not (finite (c .adr)))
+unfoldable pub soundCarrier : Carrier → Bool
+soundCarrier c = placeable (c .satellite) && inRange (c .rate) && isElevation (c .elevation) && (inRange (c .adr) || not (finite (c .adr)))
 
 -- An observation passes if its floats do, but for `modelled`, which is never looked at.
 unfoldable pub soundObservation : Observation → Bool

@@ -4,7 +4,7 @@ ghost use mathlib.Core.Bool.{true};
 ghost use Prim.Native.Nat.{_+_, _*_, _<_, _≤_};
 ghost use lib.ListN.{length};
 ghost use Rattle.walk.specs.Walk.{every};
-ghost use Rattle.records.specs.Record.{sound, counted};
+ghost use Rattle.records.specs.Record.{soundCarrier, counted};
 ghost use Rattle.records.specs.Carriers as spec;
 use crate::record::Carrier;
 use crate::record::Epoch;
@@ -61,7 +61,7 @@ pub fn sound_in(
     n: usize,
 ) -> bool
     requires { ⌜ spec.epochFits (spec.carrierColumns (now constellation) (now svid) (now band) (now state) (now floats)) n ≡ true ⌝ }
-    ensures { λ r. ⌜ r ≡ every sound (counted (spec.epochOf (spec.carrierColumns (now (constellation .entry)) (now (svid .entry)) (now (band .entry)) (now (state .entry)) (now (floats .entry))) n)) ⌝ }
+    ensures { λ r. ⌜ r ≡ every soundCarrier (counted (spec.epochOf (spec.carrierColumns (now (constellation .entry)) (now (svid .entry)) (now (band .entry)) (now (state .entry)) (now (floats .entry))) n)) ⌝ }
 {
     let mut i: usize = 0;
     while i < n {

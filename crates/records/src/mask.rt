@@ -1,8 +1,9 @@
 // The observations at or above the mask, and their clocks.
 ghost use mathlib.Core.Path.{_≡_};
 ghost use Prim.Native.Nat.{_≤_};
+ghost use Rattle.walk.specs.Walk.{Holds};
 ghost use Rattle.clocks.specs.Clocks.{clocksOf};
-ghost use Rattle.records.specs.Record.{countedObservations, Holds};
+ghost use Rattle.records.specs.Record.{countedObservations};
 ghost use Rattle.records.specs.Mask as spec;
 use crate::record::Observations;
 use clocks::clocks::Clocks;

@@ -2,7 +2,7 @@
 ghost use mathlib.Core.Path.{_≡_};
 ghost use mathlib.Core.Bool.{true, not, _&&_, _||_};
 ghost use lib.Ieee.{le};
-ghost use Rattle.records.specs.Record.{counted, same, usable, Holds};
+ghost use Rattle.records.specs.Record.{counted, same, usable};
 ghost use Rattle.records.specs.Carriers.{carrierColumns, epochOf, epochFits};
 ghost use Rattle.records.specs.City.{certified, looked};
 ghost use Rattle.records.specs.Pair as spec;
@@ -10,6 +10,7 @@ use crate::carriers::carrier_at;
 use crate::record::Carrier;
 use crate::record::is_same;
 use crate::record::is_usable;
+use numeric::sight::is_on_receiver;
 use numeric::sight::sights_of;
 use numeric::vec3::Vec3;
 
@@ -25,15 +26,17 @@ pub struct Pair {
     pub previous_range: f64,
 }
 
-// The first `count` of the pairs count.
+// The first `count` of the pairs count, and `seen` is whether rule 15 lets each of them pass: where a caller asks that of the array, the compiler copies it.
+// It stands behind the array, as one before it is a copy more too.
 pub struct Pairs {
     pub count: usize,
     pub pair: [Pair; 64],
+    pub seen: bool,
 }
 
 // No pairs.
 pub fn no_pairs() -> Pairs
-    ensures { λ r. ⌜ r .count ≡ 0 ⌝ }
+    ensures { λ r. ⌜ (r .count ≡ 0) × (r .seen ≡ true) ⌝ }
 {
     let zero = Vec3 {
         x: 0.0,
@@ -53,6 +56,7 @@ pub fn no_pairs() -> Pairs
     Pairs {
         count: 0,
         pair: none,
+        seen: true,
     }
 }
 
@@ -99,6 +103,13 @@ pub fn pair_of(receiver: Vec3, dt: f64, c: Carrier, p: Carrier) -> Pair
     }
 }
 
+// Rule 15 of one pair, the current satellite before the previous: whether it lets the pair pass.
+pub fn is_seen(q: Pair) -> bool
+    ensures { λ r. ⌜ r ≡ spec.seen q ⌝ }
+{
+    !is_on_receiver(q.range) & !is_on_receiver(q.previous_range)
+}
+
 // The pairs of two epochs' columns, in the city profile those of the carriers that it certifies.
 pub fn pairs_in(
     previous_constellation: &[u8],
@@ -121,7 +132,7 @@ pub fn pairs_in(
 ) -> Pairs
     requires { ⌜ epochFits (carrierColumns (now «previous_constellation») (now «previous_svid») (now «previous_band») (now «previous_state») (now «previous_floats»)) «previous_count» ≡ true ⌝ }
     requires { ⌜ epochFits (carrierColumns (now «current_constellation») (now «current_svid») (now «current_band») (now «current_state») (now «current_floats»)) «current_count» ≡ true ⌝ }
-    ensures { λ r. ⌜ Holds (r .count) (r .pair) (spec.pairsOf receiver mask dt (counted (epochOf (carrierColumns (now («previous_constellation» .entry)) (now («previous_svid» .entry)) (now («previous_band» .entry)) (now («previous_state» .entry)) (now («previous_floats» .entry))) «previous_count»)) (looked city band (counted (epochOf (carrierColumns (now («current_constellation» .entry)) (now («current_svid» .entry)) (now («current_band» .entry)) (now («current_state» .entry)) (now («current_floats» .entry))) «current_count»)))) ⌝ }
+    ensures { λ r. ⌜ spec.Paired r (spec.pairsOf receiver mask dt (counted (epochOf (carrierColumns (now («previous_constellation» .entry)) (now («previous_svid» .entry)) (now («previous_band» .entry)) (now («previous_state» .entry)) (now («previous_floats» .entry))) «previous_count»)) (looked city band (counted (epochOf (carrierColumns (now («current_constellation» .entry)) (now («current_svid» .entry)) (now («current_band» .entry)) (now («current_state» .entry)) (now («current_floats» .entry))) «current_count»)))) ⌝ }
 {
     let mut out = no_pairs();
     let mut i: usize = 0;
@@ -148,8 +159,10 @@ pub fn pairs_in(
                 if is_partner(p, c) {
                     let k = out.count;
                     let q = pair_of(receiver, dt, c, p);
+                    let seen = out.seen & is_seen(q);
                     out.pair[k] = q;
                     out.count = k + 1;
+                    out.seen = seen;
                     break;
                 }
                 j += 1;

@@ -56,7 +56,7 @@ pub fn is_elevation(x: f64) -> bool
 
 // Whether rule 4 lets the carrier pass.
 pub fn is_sound(c: Carrier) -> bool
-    ensures { λ r. ⌜ r ≡ spec.sound c ⌝ }
+    ensures { λ r. ⌜ r ≡ spec.soundCarrier c ⌝ }
 {
     is_placeable(c.satellite)
         & in_range(c.rate)

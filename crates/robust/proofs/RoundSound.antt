@@ -15,7 +15,7 @@ use Rattle.cholesky.specs.Factor.{at, Factored, Refused, Lower, factorOf}
 use Rattle.cholesky.specs.Sound.{Held}
 use Rattle.cholesky.proofs.SoundSystem.{sound}
 use Rattle.median.specs.Centre.{centreAndScaleOf}
-use Rattle.robust.specs.Round.{weight, total, cellOf, sideOf, triangleOf, matrixOf, rightOf, Round, Solved, made, solved, roundBy, roundOf, Sound}
+use Rattle.robust.specs.Round.{weight, total, cellOf, sideOf, triangleOf, matrixOf, rightOf, Round, Solved, made, solved, roundBy, roundOf, SoundRound}
 use Rattle.robust.specs.declared.row.Row.{Row}
 use Rattle.robust.proofs.NineLaws.{nine-at, nine-length, cell-at}
 
@@ -56,17 +56,17 @@ module _ (w : Row → Float) (rows : List Row) (n : ℕ) where
   unfolding rightOf
   right-length = nine-length (λ i. cond (ltb i n) (sideOf w rows i) +0)
 
-  pub roundBy-sound : (r : Round) → roundBy w rows n ≡ Solved r → T (finite (at (r .step) 0)) → Sound r
+  pub roundBy-sound : (r : Round) → roundBy w rows n ≡ Solved r → T (finite (at (r .step) 0)) → SoundRound r
   unfolding roundBy
   roundBy-sound r e f = go (factorOf (matrixOf w rows n)) refl e
     where
-      go : (v : Factored) → factorOf (matrixOf w rows n) ≡ v → solved rows (matrixOf w rows n) (rightOf w rows n) v ≡ Solved r → Sound r
+      go : (v : Factored) → factorOf (matrixOf w rows n) ≡ v → solved rows (matrixOf w rows n) (rightOf w rows n) v ≡ Solved r → SoundRound r
       go Refused q d = absurd (let z : _≡_ {A = ℕ} 0 1 = cc in omega arith)
       go (Lower l) q d =
           let p : made rows (matrixOf w rows n) (rightOf w rows n) l ≡ r = cc in
-          subst Sound p (sound (matrixOf w rows n) l (rightOf w rows n) right-length q held (subst (λ (z : Round). T (finite (at (z .step) 0))) (sym p) f))
+          subst SoundRound p (sound (matrixOf w rows n) l (rightOf w rows n) right-length q held (subst (λ (z : Round). T (finite (at (z .step) 0))) (sym p) f))
 
-pub round-sound : (rows : List Row) (n : ℕ) (huber : Float) (r : Round) → roundOf rows n huber ≡ Solved r → T (finite (at (r .step) 0)) → Sound r
+pub round-sound : (rows : List Row) (n : ℕ) (huber : Float) (r : Round) → roundOf rows n huber ≡ Solved r → T (finite (at (r .step) 0)) → SoundRound r
 unfolding roundOf
 round-sound rows n huber r e f = roundBy-sound (weight (centreAndScaleOf (map (λ (r : Row). r .residual) rows)) huber) rows n r e f
 

@@ -89,8 +89,8 @@ unfoldable pub roundOf : List Row → ℕ → Float → Outcome
 roundOf rows n huber = roundBy (weight (centreAndScaleOf (map (λ (r : Row). r .residual) rows)) huber) rows n
 
 -- demand 3 for one round: matrix, right side, factor and step are finite, and the step solves the equations up to rounding
-abbrev pub Sound : Round → Type 0
-Sound r = system.Sound (r .matrix) (r .right) (r .factor) (r .step)
+abbrev pub SoundRound : Round → Type 0
+SoundRound r = system.SoundSystem (r .matrix) (r .right) (r .factor) (r .step)
 
 -- every residual of a round is a finite number, so that neither the sign nor the payload of a NaN has a part in its centre
 unfoldable pub FiniteResiduals : Round → Type 0

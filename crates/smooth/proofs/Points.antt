@@ -11,10 +11,10 @@ use lib.ListN.{length, getD, drop, length-append, length-drop, List·getD-append
 use lib.Seq.{getD-append-add, getD-drop, ext-getD}
 use lib.Ieee.{Float, nan}
 use lib.Ieee.Scale.{finite}
-use Rattle.tridiagonal.specs.Columns.{Kept}
+use Rattle.tridiagonal.specs.Columns.{SameOutside}
 use Rattle.tridiagonal.proofs.Cells.{place}
 use Rattle.smooth.specs.Track.{points}
-use Rattle.smooth.specs.Steps.{Holds}
+use Rattle.smooth.specs.Steps.{Tabulated}
 
 pub points-length : (f : ℕ → ℕ → Float) (n : ℕ) → length (points f n) ≡ n * 3
 unfolding points
@@ -49,7 +49,7 @@ points-finite f n h j l = go (j % 3) (j / 3) (omega arith) (omega arith)
     go : (t q : ℕ) → t < 3 → j ≡ q * 3 + t → finite (getD (points f n) j nan) ≡ true
     go t q g e = ap finite (place (points f n) j (q * 3 + t) e ∙ points-at f t g n q (omega (arith, points-length f n))) ∙ h t g q (omega (arith, points-length f n))
 
-module _ (r r' : List Float) (n : ℕ) (f : ℕ → ℕ → Float) (long : length r' ≡ length r) (room : n * 3 ≤ length r) (s : Holds r' n f) (kept : Kept 0 (n * 3) r r') where
+module _ (r r' : List Float) (n : ℕ) (f : ℕ → ℕ → Float) (long : length r' ≡ length r) (room : n * 3 ≤ length r) (s : Tabulated r' n f) (kept : SameOutside 0 (n * 3) r r') where
   in-list : (j : ℕ) → j < n * 3 → getD r' j nan ≡ getD (points f n) j nan
   in-list j l = go (j % 3) (j / 3) (omega arith) (omega arith)
     where

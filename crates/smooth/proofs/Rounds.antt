@@ -9,7 +9,7 @@ use native.Mathlib.Omega.{arith}
 use lib.ListN.{length, getD, set, length-set}
 use lib.Ieee.{Float, nan}
 use Rattle.exact.specs.Float.{_⊕_, 1·0}
-use Rattle.tridiagonal.specs.Columns.{col, Kept, Filled}
+use Rattle.tridiagonal.specs.Columns.{col, SameOutside, Filled}
 use Rattle.tridiagonal.specs.Tridiagonal.{solution}
 use Rattle.tridiagonal.proofs.Cells.{place, hit, miss, miss2, miss3, kept-none, kept-then}
 use Rattle.trajectory.specs.Input.{Trajectory, origin, workNeed}
@@ -18,7 +18,7 @@ use Rattle.trajectory.specs.Pass.{passes, fitOf}
 use Rattle.trajectory.specs.Steps.{Valid, scalesIn, PassDone}
 use Rattle.trajectory.proofs.Passing.{passes-same, fit-same}
 use Rattle.smooth.specs.Track.{anchorScale, linkScale, scalesOf, ones, refined, smoothed}
-use Rattle.smooth.specs.Steps.{fitIn, Weighed, Holds, Published, RoundDone, RefineDone, FitDone}
+use Rattle.smooth.specs.Steps.{fitIn, Weighed, Tabulated, Published, RoundDone, RefineDone, FitDone}
 use Rattle.smooth.proofs.Weights.{held-anchor, held-link}
 
 -- ---- the copy
@@ -67,7 +67,7 @@ module _ (p : Trajectory) (s : Scales) (w w' : List Float) (ok : Bool) (d : Pass
   unfolding fitOf
   shifted axis k x e = ap (λ (y : Float). y ⊕ origin (p .anchors) axis) e ∙ fit-same p (scalesIn p w) s ea el axis k
 
-  pub published-fit : Holds r' (p .n) (fitOf p s)
+  pub published-fit : Tabulated r' (p .n) (fitOf p s)
   published-fit =
       let n = p .n in
       let u = d .solutions t in
@@ -85,7 +85,7 @@ module _ (p : Trajectory) (h : Float) (w r w1 w2 w3 : List Float) (ok : Bool)
   anchor-scales : (j : ℕ) → j < p .anchors .count → col w2 (p .n * 9) j ≡ anchorScale (p .anchors) h (fitIn r) j
   anchor-scales j g = l .kept .low (p .n * 9 + j) (omega arith) ∙ a .scales j g
 
-  work-round : Kept 0 (workNeed p) w w3
+  work-round : SameOutside 0 (workNeed p) w w3
   work-round = record {
     low = λ k g. absurd (omega arith);
     high = λ k g. d .kept .high k (omega arith) ∙ l .kept .high k (omega arith) ∙ a .kept .high k (omega arith);
@@ -131,19 +131,19 @@ refined-none : (p : Trajectory) (h : Float) (m : ℕ) (f : ℕ → ℕ → Float
 unfolding refined
 refined-none p h m f e = rw e
 
-holds-same : (r : List Float) (n : ℕ) (f g : ℕ → ℕ → Float) → ((t k : ℕ) → f t k ≡ g t k) → Holds r n f → Holds r n g
+holds-same : (r : List Float) (n : ℕ) (f g : ℕ → ℕ → Float) → ((t k : ℕ) → f t k ≡ g t k) → Tabulated r n f → Tabulated r n g
 holds-same r n f g e s = record { xs = λ k l. s .xs k l ∙ e 0 k; ys = λ k l. s .ys k l ∙ e 1 k; zs = λ k l. s .zs k l ∙ e 2 k }
 
-holds-is : (r : List Float) (n : ℕ) (f g : ℕ → ℕ → Float) → f ≡ g → Holds r n f → Holds r n g
+holds-is : (r : List Float) (n : ℕ) (f g : ℕ → ℕ → Float) → f ≡ g → Tabulated r n f → Tabulated r n g
 holds-is r n f g e s = rw e at s
 
 -- what is left to do from the fit in r is what there was to do from the fit in r₀
 pub record Going (p : Trajectory) (h : Float) (rounds : ℕ) (w₀ w r₀ r : List Float) (left : ℕ) : Type 0 where
-  pub work-kept : Kept 0 (workNeed p) w₀ w
-  pub kept : Kept 0 (p .n * 3) r₀ r
+  pub work-kept : SameOutside 0 (workNeed p) w₀ w
+  pub kept : SameOutside 0 (p .n * 3) r₀ r
   pub work-long : length w ≡ length w₀
   pub long : length r ≡ length r₀
-  pub goes : (f : ℕ → ℕ → Float) → Holds r₀ (p .n) f → (g : ℕ → ℕ → Float) × Holds r (p .n) g × (refined p h rounds f ≡ refined p h left g)
+  pub goes : (f : ℕ → ℕ → Float) → Tabulated r₀ (p .n) f → (g : ℕ → ℕ → Float) × Tabulated r (p .n) g × (refined p h rounds f ≡ refined p h left g)
 
 pub going-none : (p : Trajectory) (h : Float) (rounds : ℕ) (w r : List Float) → Going p h rounds w w r r rounds
 going-none p h rounds w r = record {
@@ -163,13 +163,13 @@ module _ (p : Trajectory) (v : Valid p) (h : Float) (rounds : ℕ) (w₀ w r₀ 
   }
 
   module _ (more : 0 < left) (w' : List Float) (ok : Bool) (r' : List Float) (d : RoundDone p h w w' r ok r') where
-    work-both : Kept 0 (workNeed p) w₀ w'
+    work-both : SameOutside 0 (workNeed p) w₀ w'
     work-both = kept-then 0 (workNeed p) 0 (workNeed p) w₀ w w' (omega arith) (omega arith) (s .work-kept) (d .work-kept)
 
-    both : Kept 0 (p .n * 3) r₀ r'
+    both : SameOutside 0 (p .n * 3) r₀ r'
     both = kept-then 0 (p .n * 3) 0 (p .n * 3) r₀ r r' (omega arith) (omega arith) (s .kept) (d .kept)
 
-    module _ (g : ℕ → ℕ → Float) (q : Holds r (p .n) g) where
+    module _ (g : ℕ → ℕ → Float) (q : Tabulated r (p .n) g) where
       anchors-same : (j : ℕ) → j < p .anchors .count → anchorScale (p .anchors) h (fitIn r) j ≡ anchorScale (p .anchors) h g j
       anchors-same j l = held-anchor (p .anchors) (p .n) h r g q j (v .anchors .below j l)
 
@@ -179,7 +179,7 @@ module _ (p : Trajectory) (v : Valid p) (h : Float) (rounds : ℕ) (w₀ w r₀ 
       ok-is : ok ≡ passes p (scalesOf p h g)
       ok-is = d .answer ∙ passes-same p (scalesOf p h (fitIn r)) (scalesOf p h g) anchors-same links-same
 
-      next-holds : ok ≡ true → Holds r' (p .n) (fitOf p (scalesOf p h g))
+      next-holds : ok ≡ true → Tabulated r' (p .n) (fitOf p (scalesOf p h g))
       next-holds t = holds-same r' (p .n) _ _ (fit-same p (scalesOf p h (fitIn r)) (scalesOf p h g) anchors-same links-same) (d .yes-holds t)
 
     pub going-stop : ok ≡ false → RefineDone p h rounds w₀ w' r₀ r'
@@ -213,7 +213,7 @@ module _ (p : Trajectory) (h : Float) (its : ℕ) (w r : List Float) (w1 w2 : Li
   link-ones : (j : ℕ) → j < p .links .count → col w1 (p .n * 9 + p .anchors .count) j ≡ 1·0
   link-ones j g = f .filled (p .n * 9 + p .anchors .count + j) (omega arith) (omega arith)
 
-  first-work : Kept 0 (workNeed p) w w2
+  first-work : SameOutside 0 (workNeed p) w w2
   first-work = record { low = λ k g. absurd (omega arith); high = λ k g. d .kept .high k (omega arith) ∙ f .kept .high k (omega arith) }
 
   first-answer : ok ≡ passes p ones
@@ -229,7 +229,7 @@ module _ (p : Trajectory) (h : Float) (its : ℕ) (w r : List Float) (w1 w2 : Li
   }
 
   module _ (t : ok ≡ true) (r1 : List Float) (q : Published w2 (p .n) (p .n) (getD (p .anchors .value) 0 nan) (getD (p .anchors .value) 1 nan) (getD (p .anchors .value) 2 nan) r r1) where
-    first-holds : Holds r1 (p .n) (fitOf p ones)
+    first-holds : Tabulated r1 (p .n) (fitOf p ones)
     first-holds = published-fit p ones w1 w2 ok d t anchor-ones link-ones r r1 q
 
     pub fit-one : its ≤ 1 → FitDone p h its w w2 r true r1

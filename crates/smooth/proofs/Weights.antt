@@ -18,7 +18,7 @@ use Rattle.tridiagonal.proofs.Cells.{place, hit, miss, kept-none}
 use Rattle.trajectory.specs.Input.{Measured, indexAt, valueAt}
 use Rattle.trajectory.specs.Equations.{nextAt}
 use Rattle.smooth.specs.Track.{huberOf, anchorScale, linkScale}
-use Rattle.smooth.specs.Steps.{Limit, Weighed, Holds, fitIn}
+use Rattle.smooth.specs.Steps.{Limit, Weighed, Tabulated, fitIn}
 use Rattle.smooth.proofs.RootOrder.{root-within}
 
 -- ---- `huber`
@@ -138,7 +138,7 @@ module _ (m : Measured) (h : Float) (r : List Float) (from j : ℕ) (w₀ w : Li
 
 -- ---- a list that holds a fit gives the fit's scales
 
-module _ (m : Measured) (n : ℕ) (h : Float) (r : List Float) (f : ℕ → ℕ → Float) (s : Holds r n f) where
+module _ (m : Measured) (n : ℕ) (h : Float) (r : List Float) (f : ℕ → ℕ → Float) (s : Tabulated r n f) where
   in-x : (i : ℕ) → i < n → fitIn r 0 i ≡ f 0 i
   in-x i g = place r (i * 3 + 0) (i * 3) (omega arith) ∙ s .xs i g
 

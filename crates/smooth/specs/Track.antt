@@ -14,8 +14,8 @@ use Rattle.trajectory.specs.Pass.{passes, fitOf}
 -- ---- how much a measurement counts, by the fit before
 
 -- how far residuals r lie off, in sigmas s
-abbrev pub distance : (r s : ℕ → Float) → Float
-distance r s = rootOf (square (r 0 ⊘ s 0) ⊕ square (r 1 ⊘ s 1) ⊕ square (r 2 ⊘ s 2))
+abbrev pub scaledDistance : (r s : ℕ → Float) → Float
+scaledDistance r s = rootOf (square (r 0 ⊘ s 0) ⊕ square (r 1 ⊘ s 1) ⊕ square (r 2 ⊘ s 2))
 
 -- `huber`: 1 up to the threshold h, and beyond it h over the distance z, which counts as 1e-12 at least; a NaN distance does too
 unfoldable pub huberOf : Float → Float → Float
@@ -29,10 +29,10 @@ abbrev pub linkOff : Measured → (ℕ → ℕ → Float) → ℕ → ℕ → Fl
 linkOff m f j t = f t (nextAt m j) ⊖ f t (indexAt m j) ⊖ valueAt m t j
 
 unfoldable pub anchorScale : Measured → Float → (ℕ → ℕ → Float) → ℕ → Float
-anchorScale m h f j = huberOf h (distance (anchorOff m f j) (λ t. sigmaAt m t j))
+anchorScale m h f j = huberOf h (scaledDistance (anchorOff m f j) (λ t. sigmaAt m t j))
 
 unfoldable pub linkScale : Measured → Float → (ℕ → ℕ → Float) → ℕ → Float
-linkScale m h f j = huberOf h (distance (linkOff m f j) (λ t. sigmaAt m t j))
+linkScale m h f j = huberOf h (scaledDistance (linkOff m f j) (λ t. sigmaAt m t j))
 
 abbrev pub scalesOf : Trajectory → Float → (ℕ → ℕ → Float) → Scales
 scalesOf p h f = record { anchors = anchorScale (p .anchors) h f; links = linkScale (p .links) h f }

@@ -8,7 +8,7 @@ use native.Mathlib.Numerals.{add-one}
 use lib.ListN.{length, getD, take, drop}
 use lib.Seq.{take-suc, drop-drop}
 use Rattle.walk.specs.Walk.{every}
-use Rattle.table.specs.Table.{Columns, blank, standsBefore, ranged, rows, sound, tableOf}
+use Rattle.table.specs.Table.{Columns, blank, standsBefore, ranged, rows, soundTable, tableOf}
 use Rattle.table.specs.Add.{Inserted, InsertedAll, insert, insertAll, past}
 use Rattle.table.specs.declared.sample.Sample.{Sample}
 use Rattle.table.proofs.Places.{sorted-rises}
@@ -26,11 +26,11 @@ every-insert s (a ∷ t) r e = go (standsBefore s a) (every-insert s t r (and-ri
     go false i = rw (and-left (ranged a) _ e) i
 
 -- a sound table stays sound
-pub insert-sound : (s : Sample) (t : List Sample) → ranged s ≡ true → sound t ≡ true → sound (insert s t) ≡ true
-unfolding sound
+pub insert-sound : (s : Sample) (t : List Sample) → ranged s ≡ true → soundTable t ≡ true → soundTable (insert s t) ≡ true
+unfolding soundTable
 insert-sound s t r e = rw (every-insert s t r (and-left (every ranged t) _ e)) (sorted-rises (insert s t) ∙ insert-rises 0 s t (omega arith) (sym (sorted-rises t) ∙ and-right (every ranged t) _ e))
 
-pub insertAll-sound : (t ss : List Sample) → every ranged ss ≡ true → sound t ≡ true → sound (insertAll t ss) ≡ true
+pub insertAll-sound : (t ss : List Sample) → every ranged ss ≡ true → soundTable t ≡ true → soundTable (insertAll t ss) ≡ true
 unfolding insertAll every
 insertAll-sound t [] r e = e
 insertAll-sound t (s ∷ ss) r e = insertAll-sound (insert s t) ss (and-right (ranged s) _ r) (insert-sound s t (and-left (ranged s) _ r) e)
@@ -67,11 +67,11 @@ past-more n l m e =
 pub record Inserting (n m : ℕ) (new : List Sample) (l l′ : Columns) (i : ℕ) : Type 0 where
   pub within : i ≤ m
   pub so-far : InsertedAll n i (take i new) l l′
-  pub steady : sound (tableOf (n + i) l′) ≡ true
+  pub steady : soundTable (tableOf (n + i) l′) ≡ true
   pub alike : Alike l l′
 
 module _ (n m : ℕ) (new : List Sample) (l : Columns) where
-  pub inserting-start : sound (tableOf n l) ≡ true → Inserting n m new l l 0
+  pub inserting-start : soundTable (tableOf n l) ≡ true → Inserting n m new l l 0
   unfolding insertAll
   inserting-start e =
       let z : n + 0 ≡ n = omega arith in

@@ -12,7 +12,7 @@ use Rattle.table.specs.Table.{blank, standsBefore}
 use Rattle.table.specs.Add.{spotOf}
 use Rattle.table.specs.declared.sample.Sample.{Sample}
 use Rattle.table.proofs.Places.{placeOf, before-place}
-use Rattle.table.proofs.TableLaws.{Sound}
+use Rattle.table.proofs.TableLaws.{SoundTable}
 
 pub spot-is : (s : Sample) (l : List Sample) (p : ℕ) → p ≤ length l → ((j : ℕ) → j < p → standsBefore s (getD l j blank) ≡ false)
     → ((j : ℕ) → p ≤ j → j < length l → standsBefore s (getD l j blank) ≡ true) → p ≡ spotOf s l
@@ -37,7 +37,7 @@ module _ (s : Sample) (l : List Sample) (n : ℕ) where
     spotting-front h = spot-is s l p (omega (arith, i)) (λ j k. absurd (omega arith)) (i .up)
 
     module _ (h : 0 < p) where
-      pub spotting-found : Sound l → standsBefore s (getD l (p - 1) blank) ≡ false → p ≡ spotOf s l
+      pub spotting-found : SoundTable l → standsBefore s (getD l (p - 1) blank) ≡ false → p ≡ spotOf s l
       spotting-found v e =
           spot-is s l p (omega (arith, i))
           (λ j k. before-place s (getD l j blank) ∙ le-ltb (placeOf s) (placeOf (getD l j blank)) (native.Mathlib.Nat.le-trans (v .rising j (p - 1) (omega arith) (omega (arith, i .whole, i .within))) (ltb-false (placeOf s) (placeOf (getD l (p - 1) blank)) (sym (before-place s (getD l (p - 1) blank)) ∙ e))))

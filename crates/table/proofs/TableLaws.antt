@@ -11,7 +11,7 @@ use borrow.Author.Tests.{ltb-true, ltb-false, leb-true, le-leb, lt-leb}
 use Rattle.walk.specs.Walk.{every}
 use Rattle.walk.proofs.Walk.{left-at, left-end}
 use Rattle.numeric.specs.Real.{inRange}
-use Rattle.table.specs.Table.{blank, ranged, sound}
+use Rattle.table.specs.Table.{blank, ranged, soundTable}
 use Rattle.table.specs.declared.sample.Sample.{Sample}
 use Rattle.table.proofs.Places.{placeOf, rises, sorted-rises}
 
@@ -47,13 +47,13 @@ every-at q (a ∷ l) zero e h = and-left _ _ e
 every-at q (a ∷ l) (suc j) e h = every-at q l j (and-right (q a) _ e) (le-of-suc-le-suc h)
 
 -- a sound table, place by place
-pub record Sound (l : List Sample) : Type 0 where
+pub record SoundTable (l : List Sample) : Type 0 where
   pub rising : (i j : ℕ) → i ≤ j → j < length l → placeOf (getD l i blank) ≤ placeOf (getD l j blank)
   pub times : (j : ℕ) → j < length l → inRange (getD l j blank .time) ≡ true
   pub values : (j : ℕ) → j < length l → inRange (getD l j blank .correction) ≡ true
 
-pub sound-at : (l : List Sample) → sound l ≡ true → Sound l
-unfolding sound ranged
+pub sound-at : (l : List Sample) → soundTable l ≡ true → SoundTable l
+unfolding soundTable ranged
 sound-at l e =
     record {
       rising = λ i j g h. rises-at 0 l i j (sym (sorted-rises l) ∙ and-right (every ranged l) _ e) g h;
@@ -65,8 +65,8 @@ sound-at l e =
 abbrev pub soundFrom : ℕ → List Sample → Bool
 soundFrom p l = every ranged l && rises p l
 
-pub sound-starts : (l : List Sample) → soundFrom 0 l ≡ sound l
-unfolding sound
+pub sound-starts : (l : List Sample) → soundFrom 0 l ≡ soundTable l
+unfolding soundTable
 sound-starts l = ap (λ (b : Bool). every ranged l && b) (sym (sorted-rises l))
 
 and-no : (a b : Bool) → (a && (false && b)) ≡ false

@@ -12,7 +12,7 @@ use borrow.Author.Tests.{ltb-true, ltb-false, lt-ltb, le-ltb}
 use lib.Ieee.{Float}
 use Rattle.walk.proofs.Walk.{or-no}
 use Rattle.numeric.specs.declared.refusal.Refusal.the-variants.{TooMany}
-use Rattle.table.specs.Table.{lent, beside, rows, capacity, tableOf, sound}
+use Rattle.table.specs.Table.{lent, beside, rows, capacity, tableOf, soundTable}
 use Rattle.table.specs.Add.{addOf}
 use Rattle.table.specs.Widen.{bandsShort, widened, widenOf}
 use Rattle.table.specs.declared.sample.Sample.{Sample}
@@ -123,8 +123,8 @@ module _ (n : ℕ) (cs vs narrow wide : List ℕ) (ts xs : List Float) (r : Room
   table-widened = rows-widened n cs vs narrow wide ts xs (r .in-narrow) (r .in-wide)
 
   -- it is sound, so also sorted, where the old one is
-  pub sound-widened : sound (tableOf n (lent cs vs (widened n narrow wide) ts xs)) ≡ sound (tableOf n (lent cs vs narrow ts xs))
-  sound-widened = ap sound table-widened
+  pub sound-widened : soundTable (tableOf n (lent cs vs (widened n narrow wide) ts xs)) ≡ soundTable (tableOf n (lent cs vs narrow ts xs))
+  sound-widened = ap soundTable table-widened
 
   -- number 2 of the table itself is met where it was
   pub fits-widened : ltb (capacity (lent cs vs (widened n narrow wide) ts xs)) n ≡ ltb (capacity (lent cs vs narrow ts xs)) n

@@ -8,7 +8,7 @@ use lib.ListN.{take, drop}
 use Rattle.walk.specs.Walk.{every}
 use Rattle.numeric.specs.declared.refusal.Refusal.{Refusal}
 use Rattle.numeric.specs.declared.refusal.Refusal.the-variants.{TooMany, RecordOutOfRange, TableFull}
-use Rattle.table.specs.Table.{Columns, tableOf, standsBefore, ranged, sound}
+use Rattle.table.specs.Table.{Columns, tableOf, standsBefore, ranged, soundTable}
 use Rattle.table.specs.declared.sample.Sample.{Sample}
 use Rattle.table.specs.declared.add.Samples.{Samples}
 use Rattle.table.specs.declared.add.Test.{Test}
@@ -39,7 +39,7 @@ counted new = take (new .count) (new .samples)
 unfoldable pub testOf : ℕ → ℕ → List Sample → Samples → Test
 testOf n room t new =
     cond (ltb room n || ltb 64 (new .count)) (Test.Refused TooMany)
-    (cond (not (sound t && every ranged (counted new))) (Test.Refused RecordOutOfRange)
+    (cond (not (soundTable t && every ranged (counted new))) (Test.Refused RecordOutOfRange)
     (cond (ltb room (n + new .count)) (Test.Refused TableFull)
     Test.Passed))
 

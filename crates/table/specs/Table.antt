@@ -83,8 +83,8 @@ sorted (s ∷ ss) = sortedFrom s ss
 unfoldable pub ranged : Sample → Bool
 ranged s = inRange (s .time) && inRange (s .correction)
 
-unfoldable pub sound : List Sample → Bool
-sound ss = every ranged ss && sorted ss
+unfoldable pub soundTable : List Sample → Bool
+soundTable ss = every ranged ss && sorted ss
 
 -- ---- one satellite's series
 

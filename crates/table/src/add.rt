@@ -4,7 +4,7 @@ ghost use mathlib.Core.Bool.{true};
 ghost use Prim.Native.Nat.{_+_, _-_, _≤_, _<_};
 ghost use lib.ListN.{length, take};
 ghost use Rattle.walk.specs.Walk.{every};
-ghost use Rattle.table.specs.Table.{lent, rows, tableOf, ranged, sound};
+ghost use Rattle.table.specs.Table.{lent, rows, tableOf, ranged, soundTable};
 ghost use Rattle.table.specs.Add.{spotOf, opened, Inserted, InsertedAll, counted};
 use crate::sample::Sample;
 use crate::sample::is_ranged;
@@ -27,7 +27,7 @@ pub enum Test {
 // How many samples at the front of a sound table the sample s does not precede.
 fn spot_of(cs: &[u8], vs: &[u16], bs: &[u32], ts: &[f64], xs: &[f64], n: usize, s: Sample) -> usize
     requires { ⌜ n ≤ length (rows (lent (now cs) (now vs) (now bs) (now ts) (now xs))) ⌝ }
-    requires { ⌜ sound (tableOf n (lent (now cs) (now vs) (now bs) (now ts) (now xs))) ≡ true ⌝ }
+    requires { ⌜ soundTable (tableOf n (lent (now cs) (now vs) (now bs) (now ts) (now xs))) ≡ true ⌝ }
     ensures { λ r. ⌜ r ≡ spotOf s (tableOf n (lent (now (cs .entry)) (now (vs .entry)) (now (bs .entry)) (now (ts .entry)) (now (xs .entry)))) ⌝ }
 {
     let mut p = n;
@@ -104,7 +104,7 @@ fn insert(
     s: Sample,
 )
     requires { ⌜ n < length (rows (lent (now cs) (now vs) (now bs) (now ts) (now xs))) ⌝ }
-    requires { ⌜ sound (tableOf n (lent (now cs) (now vs) (now bs) (now ts) (now xs))) ≡ true ⌝ }
+    requires { ⌜ soundTable (tableOf n (lent (now cs) (now vs) (now bs) (now ts) (now xs))) ≡ true ⌝ }
     ensures { λ _. ⌜ Inserted n s (lent (now (cs .entry)) (now (vs .entry)) (now (bs .entry)) (now (ts .entry)) (now (xs .entry)))
         (lent (now (cs .exit)) (now (vs .exit)) (now (bs .exit)) (now (ts .exit)) (now (xs .exit))) ⌝ }
 {
@@ -129,7 +129,7 @@ pub fn insert_all(
 )
     requires { ⌜ m ≤ 64 ⌝ }
     requires { ⌜ n + m ≤ length (rows (lent (now cs) (now vs) (now bs) (now ts) (now xs))) ⌝ }
-    requires { ⌜ sound (tableOf n (lent (now cs) (now vs) (now bs) (now ts) (now xs))) ≡ true ⌝ }
+    requires { ⌜ soundTable (tableOf n (lent (now cs) (now vs) (now bs) (now ts) (now xs))) ≡ true ⌝ }
     requires { ⌜ every ranged (take m new) ≡ true ⌝ }
     ensures { λ _. ⌜ InsertedAll n m (take m new) (lent (now (cs .entry)) (now (vs .entry)) (now (bs .entry)) (now (ts .entry)) (now (xs .entry)))
         (lent (now (cs .exit)) (now (vs .exit)) (now (bs .exit)) (now (ts .exit)) (now (xs .exit))) ⌝ }

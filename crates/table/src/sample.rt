@@ -4,7 +4,7 @@ ghost use mathlib.Core.Bool.{_&&_, _||_};
 ghost use Prim.Native.Nat.{_≤_, _<_, min};
 ghost use lib.ListN.{length, getD};
 ghost use lib.Dec.{ltb, eqb};
-ghost use Rattle.table.specs.Table.{lent, rows, blank, capacity, tableOf, signal, timeBefore, standsBefore, ranged, sound};
+ghost use Rattle.table.specs.Table.{lent, rows, blank, capacity, tableOf, signal, timeBefore, standsBefore, ranged, soundTable};
 use numeric::order::before;
 use numeric::order::pattern;
 use numeric::real::in_range;
@@ -100,7 +100,7 @@ pub fn is_ranged(s: Sample) -> bool
 // Whether rule 4 lets the first n samples pass, in one pass.
 pub fn is_sound(cs: &[u8], vs: &[u16], bs: &[u32], ts: &[f64], xs: &[f64], n: usize) -> bool
     requires { ⌜ n ≤ length (rows (lent (now cs) (now vs) (now bs) (now ts) (now xs))) ⌝ }
-    ensures { λ r. ⌜ r ≡ sound (tableOf n (lent (now (cs .entry)) (now (vs .entry)) (now (bs .entry)) (now (ts .entry)) (now (xs .entry)))) ⌝ }
+    ensures { λ r. ⌜ r ≡ soundTable (tableOf n (lent (now (cs .entry)) (now (vs .entry)) (now (bs .entry)) (now (ts .entry)) (now (xs .entry)))) ⌝ }
 {
     if n == 0 {
         return true;

@@ -18,7 +18,7 @@ use Rattle.time.specs.declared.time.Seconds.the-variants.{Refused as NoSeconds,
 use Rattle.estimator.specs.Rules.{Rule, ruled}
 use Rattle.estimator.specs.declared.rules.Check.the-variants.{Refused as Stops, Passed}
 use Rattle.estimator.proofs.RulesLaws.{checked, refused-by, passed-by, passed-of}
-use Rattle.records.specs.Record.{counted, placeable, sound}
+use Rattle.records.specs.Record.{counted, placeable, soundCarrier}
 use Rattle.tdcp.specs.Valid.{settingsPass, badInterval, epochRules, intervalRules}
 use Rattle.tdcp.specs.Displacement.{movedIn, displacementOf, Accepted}
 use Rattle.tdcp.specs.Between.{Input, timed, movedSince, betweenOf, Promised, untimed}
@@ -108,7 +108,7 @@ module _ (i : Input) where
   untimed-way e =
       rw (late e, zero-refused)
       (instead (ltb 64 (i .previous .count) || ltb 64 (i .current .count)) (not (settingsPass (i .settings)))
-      (not (every sound (counted (i .previous)) && every sound (counted (i .current)) && placeable (i .receiver))))
+      (not (every soundCarrier (counted (i .previous)) && every soundCarrier (counted (i .current)) && placeable (i .receiver))))
 
 -- every count of rounds above 50 is refused alike
 pub between-many-rounds : (i : Input) → 50 < i .settings .rounds → betweenOf i ≡ cond (ltb 64 (i .previous .count) || ltb 64 (i .current .count)) (Refused TooMany) (Refused SettingOutOfRange)

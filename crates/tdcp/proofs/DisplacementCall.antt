@@ -5,21 +5,22 @@ use native.Mathlib.Omega.{arith}
 use mathlib.Core.Bool.{Bool, true, false, not, _&&_, _||_}
 use mathlib.Core.List.{List, [], _∷_, _++_}
 use lib.Dec.{ltb}
-use lib.ListN.{length, take, length-take}
+use lib.ListN.{length, take}
 use lib.Ieee.{Float}
 use Rattle.numeric.specs.declared.refusal.Refusal.{Refusal}
 use Rattle.numeric.specs.declared.refusal.Refusal.the-variants.{TooMany, BadInterval, NotCertified}
-use Rattle.records.specs.Record.{Holds}
+use Rattle.records.specs.Pair.{Paired}
 use Rattle.clocks.specs.Clocks.{has, clocksOf}
 use Rattle.records.specs.Screen.{keptOf, constellations}
 use Rattle.records.specs.Kept.{pairsIn, Kept}
 use Rattle.estimator.specs.Rules.{Rule, rule, ruled}
-use Rattle.tdcp.specs.Valid.{badInterval, epochRules, intervalRules, displacementCounts}
+use Rattle.tdcp.specs.Valid.{badInterval, epochRules, intervalRules, fewRules}
 use Rattle.tdcp.specs.Front.{sightRules, countRules, cityRules, pairRules}
 use Rattle.estimator.specs.Rounds.{End, Stopped, Reached, Fit, concluded, Ended}
-use Rattle.tdcp.specs.Displacement.{Input, fitOver, fitBy, pairs, deltaAt, endRules, concludedAt, movedBy, movedIn, pairsFor, movedFor, displacementOf}
+use Rattle.tdcp.specs.Displacement.{Input, fitOver, fitBy, deltaAt, endRules, concludedAt, movedBy, movedIn, pairsFor, movedFor, displacementOf}
 use Rattle.clocks.specs.declared.clocks.Clocks.{Clocks}
 use Rattle.records.specs.declared.pair.Pair.{Pair}
+use Rattle.records.specs.declared.pair.Pairs.{Pairs}
 use Rattle.tdcp.specs.declared.displacement.Settings.{Settings}
 use Rattle.tdcp.specs.declared.displacement.Displacement.{Displacement}
 use Rattle.tdcp.specs.declared.displacement.Displacement.the-variants.{Refused, Moved}
@@ -58,7 +59,7 @@ module _ (city : Bool) (settings : Settings) (ps : List Pair) (n : ℕ) (all : n
   no-more = omega (arith, h .count, kept-few (settings .screen) ps)
 
   abbrev counts : List Rule
-  counts = displacementCounts n used (k .count) ++ (rule NotCertified uncertified ∷ [])
+  counts = fewRules n used (k .count) ++ (rule NotCertified uncertified ∷ [])
 
   counts-are : counts ≡ countRules settings ps ++ cityRules city kept
   unfolding countRules cityRules
@@ -79,7 +80,7 @@ module _ (city : Bool) (settings : Settings) (ps : List Pair) (n : ℕ) (all : n
   -- rules 7 to 9 leave a fit of at most nine unknowns
   module _ (enough : Passed ≡ checked counts) where
     pub few-clocks : k .count ≤ 6
-    few-clocks = counts-passed _ _ _ (append-first (displacementCounts n used (k .count)) _ enough) .1 .few-slots
+    few-clocks = counts-passed _ _ _ (append-first (fewRules n used (k .count)) _ enough) .1 .few-slots
 
     fit-is : fitOver settings k (pairsIn x y z constellation elevation (take used observed)) ≡ fitBy settings ps
     unfolding fitBy
@@ -96,10 +97,6 @@ module _ (city : Bool) (settings : Settings) (ps : List Pair) (n : ℕ) (all : n
       reached e =
           ap₂ (λ (u s : ℕ). concludedAt u s b) (h .count) (ap₂ _-_ all (h .count))
           ∙ ended-reached Refused endRules answer (fitBy settings ps .end) (subst (λ (f : Fit). Ended (f .end) Passed a b) fit-is e) ∙ answered
-
--- the pairs that the code has are in its array
-pub held-fits : {n : ℕ} {array xs : List Pair} → Holds n array xs → n ≤ length array
-held-fits {n} {array} h = omega (arith, h .count, simp length-take at (ap length (h .all)))
 
 -- ---- the call
 module _ (i : Input) where
@@ -128,10 +125,6 @@ module _ (i : Input) where
     unfolding movedFor intervalRules ruled
     refused-interval e = rw e
 
-    pub paired : badInterval (i .dt) ≡ false → {n : ℕ} {array : List Pair} → Holds n array (pairsFor city band i) → movedBy city (i .settings) (take n array) ≡ movedFor city band i
+    pub paired : badInterval (i .dt) ≡ false → {r : Pairs} → Paired r (pairsFor city band i) → movedBy city (i .settings) (take (r .count) (r .pair)) ≡ movedFor city band i
     unfolding movedFor intervalRules ruled
-    paired e h = rw (e, h .all)
-
-    -- 15 refuses a pair
-    pub unseen : badInterval (i .dt) ≡ false → {n : ℕ} {array : List Pair} → Holds n array (pairsFor city band i) → {r : Refusal} → Stops r ≡ checked (sightRules (take n array)) → Refused r ≡ movedFor city band i
-    unseen e {n} {array} h t = refused-sights city (i .settings) (take n array) t ∙ paired e h
+    paired e h = rw (e, h .held .all)

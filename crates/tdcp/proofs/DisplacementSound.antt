@@ -11,7 +11,7 @@ use lib.Ieee.Scale.{finite}
 use Rattle.walk.specs.Walk.{every}
 use Rattle.cholesky.specs.Factor.{at, zeros}
 use Rattle.numeric.specs.declared.refusal.Refusal.{Refusal}
-use Rattle.robust.specs.Round.{Round, Solved, Sound, FiniteResiduals}
+use Rattle.robust.specs.Round.{Round, Solved, SoundRound, FiniteResiduals}
 use Rattle.robust.proofs.RoundSound.{round-sound}
 use Rattle.robust.proofs.ResidualsFinite.{round-residuals}
 use Rattle.clocks.specs.Clocks.{clocksOf}
@@ -34,7 +34,7 @@ use Rattle.tdcp.proofs.FrontLaws.{kept-few, pairs-enough}
 pub never : (d : Delta) (r : Refusal) → Refused r ≡ Moved d → ⊥
 never d r e = let z : _≡_ {A = ℕ} 0 1 = cc in omega arith
 
-one-sound : (settings : Settings) (k : Clocks) (ps : List Pair) (x : List Float) (r : Round) → roundAt settings k ps x ≡ Solved r → T (finite (at (r .step) 0)) → Sound r
+one-sound : (settings : Settings) (k : Clocks) (ps : List Pair) (x : List Float) (r : Round) → roundAt settings k ps x ≡ Solved r → T (finite (at (r .step) 0)) → SoundRound r
 unfolding roundAt
 one-sound settings k ps x = round-sound (map (rowAt settings k x) ps) (3 + k .count) (settings .huber)
 
@@ -92,7 +92,7 @@ by-accepted city i d m =
       z-finite = subst (λ (z : Delta). T (finite (z .delta .z))) is (p .third);
       pairs-counted = subst (λ (z : Delta). z .used + z .screened ≡ length (pairs i)) is (omega (arith, kept-few (i .settings .screen) (pairs i)));
       redundant = subst (λ (z : Delta). 3 + clocksOf (constellations (kept i)) .count < z .used) is (omega (arith, many .redundant));
-      sound-rounds = moved-each city s ps d m Sound (one-sound s);
+      sound-rounds = moved-each city s ps d m SoundRound (one-sound s);
       finite-residuals = moved-each city s ps d m FiniteResiduals (one-finite s);
     }
 

@@ -11,7 +11,7 @@ use borrow.Author.Tests.{ltb-false}
 use Rattle.numeric.specs.declared.refusal.Refusal.{Refusal}
 use Rattle.numeric.specs.declared.refusal.Refusal.the-variants.{TooFewPairs, NotCertified}
 use Rattle.estimator.specs.Rules.{Rule, rule, ruled, rowRules}
-use Rattle.tdcp.specs.Valid.{displacementCounts}
+use Rattle.tdcp.specs.Valid.{fewRules}
 use Rattle.estimator.specs.declared.rules.Check.the-variants.{Refused as Stops, Passed}
 use lib.ListN.{length, getD, drop, drop-of-length-le}
 use lib.Ieee.{Float}
@@ -23,8 +23,8 @@ use Rattle.tdcp.specs.declared.displacement.Settings.{Settings}
 use Rattle.records.proofs.KeepLaws.{keep-few}
 use Rattle.estimator.proofs.RulesLaws.{checked, ruled-append, refused-by, passed-by, head-passed, append-passed, append-first, Enough, rows-passed}
 
-pub counts-passed : (pairs kept slots : ℕ) → Passed ≡ checked (displacementCounts pairs kept slots) → (6 ≤ pairs) × Enough kept slots
-unfolding displacementCounts rowRules
+pub counts-passed : (pairs kept slots : ℕ) → Passed ≡ checked (fewRules pairs kept slots) → (6 ≤ pairs) × Enough kept slots
+unfolding fewRules rowRules
 counts-passed pairs kept slots e =
     let a = head-passed _ _ e in
     (ltb-false pairs 6 (a .0), rows-passed kept slots (a .1))
@@ -32,15 +32,15 @@ counts-passed pairs kept slots e =
 -- 7 to 9 and 20, tested in parts
 module _ (pairs kept slots : ℕ) (twenty : Bool) where
   abbrev rules : List Rule
-  rules = displacementCounts pairs kept slots ++ (rule NotCertified twenty ∷ [])
+  rules = fewRules pairs kept slots ++ (rule NotCertified twenty ∷ [])
 
   pub counts-short : ltb pairs 6 ≡ true → Stops TooFewPairs ≡ checked rules
-  unfolding displacementCounts ruled
+  unfolding fewRules ruled
   counts-short e = rw e
 
   module _ (many : ltb pairs 6 ≡ false) where
     rows-left : checked rules ≡ ruled Stops (rowRules kept slots) (checked (rule NotCertified twenty ∷ []))
-    unfolding displacementCounts ruled
+    unfolding fewRules ruled
     rows-left = rw many (ruled-append Stops Passed (rowRules kept slots) (rule NotCertified twenty ∷ []))
 
     pub counts-refused : {r : Refusal} → Stops r ≡ checked (rowRules kept slots) → Stops r ≡ checked rules

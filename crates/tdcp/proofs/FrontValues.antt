@@ -17,11 +17,11 @@ use Rattle.numeric.specs.declared.refusal.Refusal.the-variants.{TooMany, Settin
 use Rattle.median.specs.Sorted.{insertBy, sortedBy, medianOf}
 use Rattle.median.specs.Centre.{centreOf}
 use Rattle.estimator.specs.Rules.{ruled, rowRules}
-use Rattle.records.specs.Record.{placeable, isElevation, sound, unsigned, bitSet, usable, same}
+use Rattle.records.specs.Record.{placeable, isElevation, soundCarrier, unsigned, bitSet, usable, same}
 use Rattle.clocks.specs.Clocks.{none, given, slot, has, appearing, slotFrom, clocksIn, clocksOf}
 use Rattle.records.specs.Pair.{pairOf, firstPair, pairAt, pairsOf}
 use Rattle.records.specs.Screen.{centre, within, keptOf}
-use Rattle.tdcp.specs.Valid.{settingsPass, badInterval, epochRules, intervalRules, displacementCounts}
+use Rattle.tdcp.specs.Valid.{settingsPass, badInterval, epochRules, intervalRules, fewRules}
 use Rattle.tdcp.specs.Front.{allPairs, keptPairs, sightRules, countRules}
 use Rattle.records.specs.declared.record.Carrier.{Carrier}
 use Rattle.records.specs.declared.record.Epoch.{Epoch}
@@ -96,7 +96,7 @@ pub record Edges : Type 0 where
   pub mask-not-finite : said nan 1·0 six six ≡ Refused SettingOutOfRange
 
 pub edges : Edges
-unfolding ruled every first collect abs inRange placeable isElevation sound unsigned bitSet usable same has appearing slotFrom clocksIn clocksOf pairOf firstPair pairAt pairsOf centre within keptOf settingsPass badInterval epochRules intervalRules displacementCounts rowRules countRules sign exponent digits isNanPattern isQuiet payload payloadOrder unordered totalOrder patternOf insertBy sortedBy medianOf centreOf ofInt ofBits toBits neg add sub mul div le lt eq isNan
+unfolding ruled every first collect abs inRange placeable isElevation soundCarrier unsigned bitSet usable same has appearing slotFrom clocksIn clocksOf pairOf firstPair pairAt pairsOf centre within keptOf settingsPass badInterval epochRules intervalRules fewRules rowRules countRules sign exponent digits isNanPattern isQuiet payload payloadOrder unordered totalOrder patternOf insertBy sortedBy medianOf centreOf ofInt ofBits toBits neg add sub mul div le lt eq isNan
 edges =
     record {
       nothing = refl;

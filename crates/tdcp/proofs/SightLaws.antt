@@ -1,23 +1,21 @@
--- Rule 15 of a displacement: pair after pair, as the geometry of the two satellites has it, and for whom nothing changed with request (v). Assumes nothing.
-use mathlib.Core.Path.{_≡_, refl, ap, ap₂, _∙_}
+-- Rule 15 of a displacement: as the geometry of the two satellites has it, where it applies, and for whom nothing changed with request (v). Assumes nothing.
+use mathlib.Core.Path.{_≡_, refl, sym, ap, ap₂, _∙_}
 use mathlib.Core.Bool.{Bool, true, false, not, cond, _&&_}
 use mathlib.Core.List.{List, [], _∷_, _++_}
-use Prim.Native.Nat.{ℕ, _+_, _-_, _≤_, _<_}
-use lib.ListN.{length, getD, take, drop}
+use Prim.Native.Nat.{_-_}
+use lib.ListN.{length}
 use lib.Ieee.{Float}
 use Rattle.walk.specs.Walk.{every, collect}
-use Rattle.walk.proofs.Walk.{left-end, left-at}
 use Rattle.numeric.specs.Sight.{sightOf, onReceiver, geometry}
 use Rattle.numeric.specs.declared.vec3.Vec3.{Vec3}
 use Rattle.numeric.specs.declared.refusal.Refusal.{Refusal}
 use Rattle.numeric.specs.declared.refusal.Refusal.the-variants.{OnReceiver}
 use Rattle.numeric.specs.declared.sight.Sighting.{Sighting}
 use Rattle.numeric.specs.declared.sight.Sighting.the-variants.{Refused as NotSeen, Seen}
-use Rattle.records.specs.Pair.{pairOf}
+use Rattle.records.specs.Pair.{pairOf, seen}
 use Rattle.records.specs.Screen.{keptOf}
 use Rattle.records.specs.declared.record.Carrier.{Carrier}
 use Rattle.records.specs.declared.pair.Pair.{Pair}
-use Rattle.records.proofs.PairLaws.{blankPair}
 use Rattle.estimator.specs.Rules.{Rule, rule, ruled}
 use Rattle.estimator.specs.Rounds.{concluded}
 use Rattle.estimator.specs.declared.rules.Check.the-variants.{Refused as Stops, Passed}
@@ -28,36 +26,6 @@ use Rattle.tdcp.specs.Displacement.{Input, fitBy, pairs, deltaAt, endRul
 use Rattle.tdcp.specs.declared.displacement.Settings.{Settings}
 use Rattle.tdcp.specs.declared.displacement.Displacement.{Displacement}
 use Rattle.tdcp.specs.declared.displacement.Displacement.the-variants.{Refused, Moved}
-
--- ---- the code's loop: what is left to test after j of the first n pairs
-pub record Sights (ps : List Pair) (n j : ℕ) : Type 0 where
-  pub left : checked (sightRules (drop j (take n ps))) ≡ checked (sightRules (take n ps))
-
-module _ (ps : List Pair) (n : ℕ) where
-  pub sights-start : Sights ps n 0
-  sights-start = record { left = refl }
-
-  module _ (fits : n ≤ length ps) (j : ℕ) (h : Sights ps n j) where
-    pub sights-end : n ≤ j → Passed ≡ checked (sightRules (take n ps))
-    unfolding sightRules collect ruled
-    sights-end l = rw (left-end ps n fits j l) at (h .left)
-
-    module _ (l : j < n) where
-      abbrev here : Pair
-      here = getD ps j blankPair
-
-      turn : cond (onReceiver (here .range)) (Stops OnReceiver) (cond (onReceiver (here .«previous_range»)) (Stops OnReceiver) (checked (sightRules (drop (j + 1) (take n ps))))) ≡ checked (sightRules (take n ps))
-      unfolding sightRules collect ruled
-      turn = rw (left-at ps n fits j blankPair l) at (h .left)
-
-      pub current-stops : onReceiver (here .range) ≡ true → Stops OnReceiver ≡ checked (sightRules (take n ps))
-      current-stops a = rw a at turn
-
-      pub previous-stops : onReceiver (here .range) ≡ false → onReceiver (here .«previous_range») ≡ true → Stops OnReceiver ≡ checked (sightRules (take n ps))
-      previous-stops a b = rw (a, b) at turn
-
-      pub sights-next : onReceiver (here .range) ≡ false → onReceiver (here .«previous_range») ≡ false → Sights ps n (j + 1)
-      sights-next a b = record { left = rw (a, b) at turn }
 
 -- ---- the rules of a pair are what the geometry of its current satellite and then that of the previous pass on
 
@@ -77,11 +45,29 @@ pub passed-on : (receiver : Vec3) (dt : Float) (c p : Carrier) → rangeRules (p
 unfolding pairOf
 passed-on receiver dt c p = ap₂ (λ (a b : Rule). a ∷ b ∷ []) (one-on (c .satellite) receiver) (one-on (p .satellite) receiver)
 
--- ---- THE LAW of request (v): where no range of a pair is zero or not finite the displacement is the one from before, and else, behind 2 to 5, it is refused by 15
+-- ---- the first of the rules that applies is 15 exactly where a range of a pair is zero or not finite
 
--- neither range of the pair is zero or not finite
-abbrev pub seen : Pair → Bool
-seen p = not (onReceiver (p .range)) && not (onReceiver (p .«previous_range»))
+module _ {A : Type 0} (f : Refusal → A) (a : A) where
+  pub sights-are : (ps : List Pair) → ruled f (sightRules ps) a ≡ cond (every seen ps) a (f OnReceiver)
+  unfolding sightRules seen collect every ruled
+  sights-are [] = refl
+  sights-are (p ∷ ps) = go (onReceiver (p .range)) (onReceiver (p .«previous_range»)) (sights-are ps)
+    where
+      go : (x y : Bool) → ruled f (sightRules ps) a ≡ cond (every seen ps) a (f OnReceiver)
+          → cond x (f OnReceiver) (cond y (f OnReceiver) (ruled f (sightRules ps) a)) ≡ cond ((not x && not y) && every seen ps) a (f OnReceiver)
+      go true y e = refl
+      go false true e = refl
+      go false false e = e
+
+-- what the flag beside the pairs says
+module _ (ps : List Pair) {flag : Bool} (is : flag ≡ every seen ps) where
+  pub all-seen : flag ≡ true → Passed ≡ checked (sightRules ps)
+  all-seen t = sym (sights-are Stops Passed ps ∙ ap (λ (b : Bool). cond b Passed (Stops OnReceiver)) (sym is ∙ t))
+
+  pub one-unseen : flag ≡ false → Stops OnReceiver ≡ checked (sightRules ps)
+  one-unseen t = sym (sights-are Stops Passed ps ∙ ap (λ (b : Bool). cond b Passed (Stops OnReceiver)) (sym is ∙ t))
+
+-- ---- THE LAW of request (v): where no range of a pair is zero or not finite the displacement is the one from before, and else, behind 2 to 5, it is refused by 15
 
 -- what the pairs came to before the request: 7 to 9, the rounds, and 10
 abbrev pub movedBefore : Settings → List Pair → Displacement
@@ -91,18 +77,6 @@ movedBefore settings ps =
 
 abbrev pub displacementBefore : Input → Displacement
 displacementBefore i = ruled Refused (epochRules (i .previous) (i .current) (i .receiver) (i .settings)) (ruled Refused (intervalRules (i .dt)) (movedBefore (i .settings) (pairs i)))
-
-module _ {A : Type 0} (f : Refusal → A) (a : A) where
-  sights-are : (ps : List Pair) → ruled f (sightRules ps) a ≡ cond (every seen ps) a (f OnReceiver)
-  unfolding sightRules collect every ruled
-  sights-are [] = refl
-  sights-are (p ∷ ps) = go (onReceiver (p .range)) (onReceiver (p .«previous_range»)) (sights-are ps)
-    where
-      go : (x y : Bool) → ruled f (sightRules ps) a ≡ cond (every seen ps) a (f OnReceiver)
-          → cond x (f OnReceiver) (cond y (f OnReceiver) (ruled f (sightRules ps) a)) ≡ cond ((not x && not y) && every seen ps) a (f OnReceiver)
-      go true y e = refl
-      go false true e = refl
-      go false false e = e
 
 -- 20 never applies outside the city profile
 counts-alone : (settings : Settings) (ps : List Pair) (a : Displacement) → ruled Refused (countRules settings ps ++ cityRules false (keptOf (settings .screen) ps)) a ≡ ruled Refused (countRules settings ps) a

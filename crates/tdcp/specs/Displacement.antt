@@ -14,7 +14,7 @@ use Rattle.numeric.specs.Order.{patternOf}
 use Rattle.numeric.specs.Refusal.{numberOf}
 use Rattle.numeric.specs.declared.vec3.Vec3.{Vec3}
 use Rattle.numeric.specs.declared.refusal.Refusal.the-variants.{FitFailed}
-use Rattle.robust.specs.Round.{Round, Outcome, roundOf, Sound, FiniteResiduals}
+use Rattle.robust.specs.Round.{Round, Outcome, roundOf, SoundRound, FiniteResiduals}
 use Rattle.robust.specs.Sigma.{elevationSigma}
 use Rattle.robust.specs.declared.row.Row.{Row}
 use Rattle.clocks.specs.Clocks.{slot, clocksOf}
@@ -158,7 +158,7 @@ pub record Accepted (i : Input) (d : Delta) : Type 0 where
   pub z-finite : T (finite (d .delta .z))
   pub pairs-counted : d .used + d .screened ≡ length (pairs i)
   pub redundant : 3 + clocksOf (constellations (kept i)) .count < d .used
-  pub sound-rounds : Each Sound (roundsOf i)
+  pub sound-rounds : Each SoundRound (roundsOf i)
   pub finite-residuals : Each FiniteResiduals (roundsOf i)
 
 -- the answer is the definition's, for every input whatever, and what it gives out is finite

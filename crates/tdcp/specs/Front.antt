@@ -12,7 +12,7 @@ use Rattle.records.specs.Record.{counted}
 use Rattle.clocks.specs.Clocks.{has, clocksOf}
 use Rattle.records.specs.Pair.{pairsOf}
 use Rattle.records.specs.Screen.{keptOf, constellations}
-use Rattle.tdcp.specs.Valid.{displacementCounts}
+use Rattle.tdcp.specs.Valid.{fewRules}
 use Rattle.records.specs.declared.record.Epoch.{Epoch}
 use Rattle.records.specs.declared.pair.Pair.{Pair}
 use Rattle.tdcp.specs.declared.displacement.Settings.{Settings}
@@ -37,7 +37,7 @@ sightRules ps = collect rangeRules ps
 unfoldable pub countRules : Settings → List Pair → List Rule
 countRules settings ps =
     let kept = keptOf (settings .screen) ps in
-    displacementCounts (length ps) (length kept) (clocksOf (constellations kept) .count)
+    fewRules (length ps) (length kept) (clocksOf (constellations kept) .count)
 
 -- 20, in the city profile alone: GPS (1) or Galileo (6) is absent among the pairs kept
 unfoldable pub cityRules : Bool → List Pair → List Rule

@@ -11,7 +11,7 @@ use Rattle.numeric.specs.Real.{inRange}
 use Rattle.numeric.specs.declared.vec3.Vec3.{Vec3}
 use Rattle.numeric.specs.declared.refusal.Refusal.the-variants.{TooMany, SettingOutOfRange, RecordOutOfRange, BadInterval, TooFewPairs}
 use Rattle.estimator.specs.Rules.{Rule, rule, rowRules}
-use Rattle.records.specs.Record.{counted, placeable, sound}
+use Rattle.records.specs.Record.{counted, placeable, soundCarrier}
 use Rattle.records.specs.declared.record.Epoch.{Epoch}
 use Rattle.tdcp.specs.declared.displacement.Settings.{Settings}
 
@@ -30,7 +30,7 @@ unfoldable pub epochRules : Epoch → Epoch → Vec3 → Settings → List Rule
 epochRules previous current receiver settings =
     rule TooMany (ltb 64 (previous .count) || ltb 64 (current .count))
     ∷ rule SettingOutOfRange (not (settingsPass settings))
-    ∷ rule RecordOutOfRange (not (every sound (counted previous) && every sound (counted current) && placeable receiver))
+    ∷ rule RecordOutOfRange (not (every soundCarrier (counted previous) && every soundCarrier (counted current) && placeable receiver))
     ∷ []
 
 -- 5, of the interval
@@ -38,5 +38,5 @@ unfoldable pub intervalRules : Float → List Rule
 intervalRules dt = rule BadInterval (badInterval dt) ∷ []
 
 -- 7 to 9, of how many pairs there are before screening, how many are kept, and how many clock slots those have
-unfoldable pub displacementCounts : ℕ → ℕ → ℕ → List Rule
-displacementCounts pairs kept slots = rule TooFewPairs (ltb pairs 6) ∷ rowRules kept slots
+unfoldable pub fewRules : ℕ → ℕ → ℕ → List Rule
+fewRules pairs kept slots = rule TooFewPairs (ltb pairs 6) ∷ rowRules kept slots

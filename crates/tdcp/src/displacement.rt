@@ -5,12 +5,12 @@ ghost use lib.ListN.{length, take};
 ghost use Prim.Native.Nat.{ℕ, _≤_};
 ghost use Rattle.exact.specs.Float.{_⊕_, _⊖_, _⊗_};
 ghost use Rattle.cholesky.specs.Factor.{at};
+ghost use Rattle.walk.specs.Walk.{every};
 ghost use Rattle.numeric.specs.Order.{patternOf};
 ghost use Rattle.records.specs.Carriers.{carrierColumns, epochOf, epochFits};
 ghost use Rattle.records.specs.Kept.{pairsIn};
-ghost use Rattle.estimator.specs.Rules.{ruled};
+ghost use Rattle.records.specs.Pair.{seen};
 ghost use Rattle.estimator.specs.Rounds.{Ended};
-ghost use Rattle.tdcp.specs.Front.{sightRules};
 ghost use Rattle.tdcp.specs.Displacement as spec;
 use crate::valid::check_in;
 use crate::valid::check_pairs;
@@ -24,7 +24,6 @@ use estimator::rules::Check;
 use numeric::order::pattern;
 use numeric::real::is_finite;
 use numeric::refusal::Refusal;
-use numeric::sight::is_on_receiver;
 use numeric::vec3::Vec3;
 use records::carriers::columns_into;
 use records::pair::Pairs;
@@ -151,12 +150,14 @@ fn moved_to(x: [f64; 9], used: usize, screened: usize) -> Displacement
     Displacement::Refused(Refusal::FitFailed)
 }
 
-// What every displacement shares, from the pairs on that 15 lets pass: the screen, rules 7 to 9 and in the city profile 20, the rounds, and 10.
+// What every displacement shares, from the pairs on: 15, the screen, rules 7 to 9 and in the city profile 20, the rounds, and 10. 15 is asked behind the screen:
+// a way out before it keeps the pairs a second time.
 pub(crate) fn moved_by(settings: Settings, all: Pairs, city: bool) -> Displacement
-    requires { ⌜ (all .count ≤ 64) × (Check.Passed ≡ ruled Check.Refused (sightRules (take (all .count) (all .pair))) Check.Passed) ⌝ }
+    requires { ⌜ (all .count ≤ 64) × (all .seen ≡ every seen (take (all .count) (all .pair))) ⌝ }
     ensures { λ r. ⌜ r ≡ spec.movedBy city settings (take (all .count) (all .pair)) ⌝ }
 {
     let pairs = all.count;
+    let seen = all.seen;
     let mut x = [0.0; 64];
     let mut y = [0.0; 64];
     let mut z = [0.0; 64];
@@ -173,6 +174,9 @@ pub(crate) fn moved_by(settings: Settings, all: Pairs, city: bool) -> Displaceme
         &mut elevation,
         &mut observed,
     );
+    if !seen {
+        return Displacement::Refused(Refusal::OnReceiver);
+    }
     let clocks = clocks_of(&constellation[..used]);
     let uncertified = is_uncertified(city, &constellation[..used]);
     if let Check::Refused(r) = check_pairs(pairs, used, clocks.count, uncertified) {
@@ -257,9 +261,8 @@ pub fn delta_position(
     )
 }
 
-// What every displacement of two epochs' columns shares once 2 to 4 have passed: rule 5, the pairs, in the city profile those of the carriers that it certifies, rule 15
-// of each pair in order, the current satellite before the previous, and what they come to. The pairs are tested where they stand: a function that reads the array of
-// a parameter has a copy of it.
+// What every displacement of two epochs' columns shares once 2 to 4 have passed: rule 5, the pairs, in the city profile those of the carriers that it certifies,
+// and what they come to.
 pub fn moved_in(
     previous_constellation: &[u8],
     previous_svid: &[u16],
@@ -305,17 +308,6 @@ pub fn moved_in(
         city,
         band,
     );
-    let mut i: usize = 0;
-    while i < all.count {
-        let q = all.pair[i];
-        if is_on_receiver(q.range) {
-            return Displacement::Refused(Refusal::OnReceiver);
-        }
-        if is_on_receiver(q.previous_range) {
-            return Displacement::Refused(Refusal::OnReceiver);
-        }
-        i += 1;
-    }
     moved_by(settings, all, city)
 }
 

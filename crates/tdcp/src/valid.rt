@@ -104,7 +104,7 @@ pub(crate) fn is_uncertified(city: bool, constellation: &[u8]) -> bool
 
 // Rules 7 to 9 of a displacement, and 20 where it applies.
 pub(crate) fn check_pairs(pairs: usize, kept: usize, slots: usize, uncertified: bool) -> Check
-    ensures { λ r. ⌜ r ≡ ruled Check.Refused (spec.displacementCounts pairs kept slots ++ (rule NotCertified uncertified ∷ [])) Check.Passed ⌝ }
+    ensures { λ r. ⌜ r ≡ ruled Check.Refused (spec.fewRules pairs kept slots ++ (rule NotCertified uncertified ∷ [])) Check.Passed ⌝ }
 {
     if pairs < 6 {
         return Check::Refused(Refusal::TooFewPairs);

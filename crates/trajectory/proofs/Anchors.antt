@@ -6,7 +6,7 @@ use native.Mathlib.Omega.{arith}
 use lib.ListN.{length, getD, set, length-set}
 use lib.Ieee.{Float, nan}
 use Rattle.exact.specs.Float.{_⊕_, _⊖_, _⊗_, _⊘_}
-use Rattle.tridiagonal.specs.Columns.{col, Kept}
+use Rattle.tridiagonal.specs.Columns.{col, SameOutside}
 use Rattle.tridiagonal.proofs.Cells.{place, miss, update, kept-none, kept-set, kept-then}
 use Rattle.tridiagonal.proofs.Blocks.{Local, blocks-kept, blocks-step}
 use Rattle.trajectory.specs.Input.{Measured, indexAt, valueAt, sigmaAt, origin}
@@ -24,7 +24,7 @@ anchored-local w₀ n from m j at t w w' e s = record {
 anchored-none : (w₀ : List Float) (n from : ℕ) (m : Measured) (at t : ℕ) → Anchored w₀ n from m 0 at t w₀
 anchored-none w₀ n from m at t = record { diagonal = λ k h. sym (changed-none _ _ k); upper = λ k h. refl; right = λ k h. sym (changed-none _ _ k) }
 
-anchor-kept : (w : List Float) (at n i : ℕ) (a b : Float) (w' : List Float) → i < n → w' ≡ anchorAdded w at n i a b → Kept at (at + n * 3) w w'
+anchor-kept : (w : List Float) (at n i : ℕ) (a b : Float) (w' : List Float) → i < n → w' ≡ anchorAdded w at n i a b → SameOutside at (at + n * 3) w w'
 anchor-kept w at n i a b w' h e =
     rw e
     (kept-set at (at + n * 3) w (set w (at + i) _) (at + n * 2 + i) _ (omega arith) (omega arith)
@@ -73,7 +73,7 @@ module _ (w₀ : List Float) (n from : ℕ) (m : Measured) (j : ℕ) (w w1 w2 w3
       anchored-more w₀ n from m j at t (indexAt m j) w' _ _ inside h refl
       (amounts m (col w₀ from) t j _ _ _ _ (s .kept .high (from + j) (omega arith)) (place (m .sigma) q (j * 3 + t) e) (place (m .value) q (j * 3 + t) e) (place (m .value) t (0 * 3 + t) (omega arith))) r
 
-  kept-one : (w' w″ : List Float) (at q t : ℕ) → w″ ≡ stored w' at q t → Kept at (at + n * 3) w' w″
+  kept-one : (w' w″ : List Float) (at q t : ℕ) → w″ ≡ stored w' at q t → SameOutside at (at + n * 3) w' w″
   unfolding stored
   kept-one w' w″ at q t e = anchor-kept w' at n (indexAt m j) _ _ w″ inside e
 

@@ -8,7 +8,7 @@ use lib.Dec.{eqb}
 use lib.ListN.{length, getD, set, length-set}
 use lib.Ieee.{Float, nan}
 use Rattle.exact.specs.Float.{_⊕_, _⊖_, _⊗_, _⊘_}
-use Rattle.tridiagonal.specs.Columns.{col, Kept}
+use Rattle.tridiagonal.specs.Columns.{col, SameOutside}
 use Rattle.tridiagonal.proofs.Cells.{place, miss, miss2, miss3, update, kept-none, kept-set, kept-then}
 use Rattle.tridiagonal.proofs.Blocks.{Local, blocks-kept, blocks-step}
 use Rattle.trajectory.specs.Input.{Measured, indexAt, valueAt, sigmaAt}
@@ -26,7 +26,7 @@ linked-local w₀ n from m j at t w w' e s = record {
 linked-none : (w₀ : List Float) (n from : ℕ) (m : Measured) (at t : ℕ) → Linked w₀ n from m 0 at t w₀
 linked-none w₀ n from m at t = record { diagonal = λ k h. sym (changed-none _ _ k); upper = λ k h. sym (changed-none _ _ k); right = λ k h. sym (changed-none _ _ k) }
 
-link-kept : (w : List Float) (at n i : ℕ) (a b : Float) (w' : List Float) → i + 1 < n → w' ≡ linkAdded w at n i a b → Kept at (at + n * 3) w w'
+link-kept : (w : List Float) (at n i : ℕ) (a b : Float) (w' : List Float) → i + 1 < n → w' ≡ linkAdded w at n i a b → SameOutside at (at + n * 3) w w'
 link-kept w at n i a b w' h e =
     rw e
     (kept-set at (at + n * 3) w _ (at + n * 2 + (i + 1)) _ (omega arith) (omega arith)
@@ -95,7 +95,7 @@ module _ (w₀ : List Float) (n from : ℕ) (m : Measured) (j : ℕ) (w w1 w2 w3
       linked-more w₀ n from m j at t (indexAt m j) w' _ _ inside h refl
       (amounts m (col w₀ from) t j _ _ _ (s .kept .high (from + j) (omega arith)) (place (m .sigma) q (j * 3 + t) e) (place (m .value) q (j * 3 + t) e)) r
 
-  kept-one : (w' w″ : List Float) (at q : ℕ) → w″ ≡ stored w' at q → Kept at (at + n * 3) w' w″
+  kept-one : (w' w″ : List Float) (at q : ℕ) → w″ ≡ stored w' at q → SameOutside at (at + n * 3) w' w″
   unfolding stored
   kept-one w' w″ at q e = link-kept w' at n (indexAt m j) _ _ w″ inside e
 

@@ -8,7 +8,7 @@ use lib.ListN.{length, set}
 use lib.Ieee.{Float}
 use lib.Ieee.Scale.{finite}
 use Rattle.exact.specs.Float.{_⊕_, _⊖_}
-use Rattle.tridiagonal.specs.Columns.{col, Kept, Blocks, eachBelow}
+use Rattle.tridiagonal.specs.Columns.{col, SameOutside, Blocks, eachBelow}
 use Rattle.tridiagonal.specs.Tridiagonal.{solution}
 use Rattle.tridiagonal.specs.Steps.{block, Alike, allSolvable}
 use Rattle.trajectory.specs.Input.{Measured, Trajectory, indexAt}
@@ -58,7 +58,7 @@ pub record Linked (w : List Float) (n from : ℕ) (m : Measured) (j at t : ℕ) 
 
 -- the first j measurements are added to the three blocks, where P says it of one
 pub record Added (P : ℕ → ℕ → List Float → Type 0) (w : List Float) (n : ℕ) (w' : List Float) : Type 0 where
-  pub kept : Kept 0 (n * 9) w w'
+  pub kept : SameOutside 0 (n * 9) w w'
   pub blocks : Blocks n (λ at t. P at t w')
 
 -- the scales that stand after the blocks
@@ -84,12 +84,12 @@ allFinite w n = onBlocks (λ at. finiteRows w at n) n
 
 -- The equations in the three blocks, solved: true where each epoch is held, no pivot vanishes and each unknown is finite.
 pub record Settled (w : List Float) (n : ℕ) (ok : Bool) (w' : List Float) : Type 0 where
-  pub kept : Kept 0 (n * 9) w w'
+  pub kept : SameOutside 0 (n * 9) w w'
   pub answer : ok ≡ (allHeld w n && (allSolvable w n && onBlocks (λ at. finiteSolution (block w at n) n) n))
   pub solutions : ok ≡ true → Blocks n (λ at t. (k : ℕ) → k < n → col w' (at + n * 2) k ≡ solution (block w at n) n k)
 
 -- A pass: true where it does not fail, and then the solutions stand in place of the right sides.
 pub record PassDone (p : Trajectory) (w : List Float) (ok : Bool) (w' : List Float) : Type 0 where
-  pub kept : Kept 0 (p .n * 9) w w'
+  pub kept : SameOutside 0 (p .n * 9) w w'
   pub answer : ok ≡ passes p (scalesIn p w)
   pub solutions : ok ≡ true → Blocks (p .n) (λ at t. (k : ℕ) → k < p .n → col w' (at + p .n * 2) k ≡ solution (equationsOf p (scalesIn p w) t) (p .n) k)

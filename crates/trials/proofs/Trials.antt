@@ -15,7 +15,7 @@ use Rattle.median.specs.Sorted.{insertBy, sortedBy, medianOf}
 use Rattle.median.specs.Centre.{centreOf, deviationOf, centreAndScaleOf, centreScaleOf}
 use Rattle.clocks.specs.Clocks.{has, appearing, slotFrom, clocksIn, clocksOf}
 use Rattle.records.specs.Record.{unsigned, bitSet, usable}
-use Rattle.table.specs.Table.{timeBefore, standsBefore, sortedFrom, sorted, ranged, sound}
+use Rattle.table.specs.Table.{timeBefore, standsBefore, sortedFrom, sorted, ranged, soundTable}
 use Rattle.query.specs.Query.{near, firstOf, lastOf, through, nearOr, spanned, ruled, answerIn, answerAt, guarded, queryOf}
 use Rattle.smooth.proofs.Trials.{one-point, not-held}
 use Rattle.cholesky.proofs.FactorLaws.{factorTo-zero, factorTo-next, refused-more}
@@ -65,11 +65,11 @@ unfolding usable bitSet unsigned
 states c h = rw h
 
 pub half-way : m10
-unfolding queryOf guarded answerAt answerIn collect ruled nearOr spanned through near firstOf lastOf inRange abs sound ranged sorted sortedFrom standsBefore timeBefore totalOrder sign patternOf every lt le add sub mul div ofBits ofInt toBits isNan
+unfolding queryOf guarded answerAt answerIn collect ruled nearOr spanned through near firstOf lastOf inRange abs soundTable ranged sorted sortedFrom standsBefore timeBefore totalOrder sign patternOf every lt le add sub mul div ofBits ofInt toBits isNan
 half-way = refl
 
 pub gap-too-long : m11
-unfolding queryOf guarded answerAt answerIn collect ruled nearOr spanned through near firstOf lastOf inRange abs sound ranged sorted sortedFrom standsBefore timeBefore totalOrder sign patternOf every lt le add sub mul div ofBits ofInt toBits isNan
+unfolding queryOf guarded answerAt answerIn collect ruled nearOr spanned through near firstOf lastOf inRange abs soundTable ranged sorted sortedFrom standsBefore timeBefore totalOrder sign patternOf every lt le add sub mul div ofBits ofInt toBits isNan
 gap-too-long = refl
 
 -- THE FACT over the list

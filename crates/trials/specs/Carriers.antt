@@ -8,7 +8,6 @@ use Rattle.numeric.specs.declared.vec3.Vec3.{Vec3}
 use Rattle.tdcp.specs.Displacement.{Input, input}
 use Rattle.records.specs.declared.record.Carrier.{Carrier}
 use Rattle.records.specs.declared.record.Epoch.{Epoch}
-use Rattle.tdcp.specs.declared.displacement.Settings.{Settings}
 use Rattle.tdcp.specs.declared.displacement.Displacement.{Displacement}
 use Rattle.tdcp.specs.declared.displacement.Displacement.the-variants.{Refused, Moved}
 

@@ -5,7 +5,7 @@ use Prim.Native.Nat.{ℕ, _+_, _*_, _≤_, _<_}
 use native.Mathlib.Omega.{arith}
 use lib.ListN.{getD}
 use lib.Ieee.{Float, nan}
-use Rattle.tridiagonal.specs.Columns.{Kept, Blocks}
+use Rattle.tridiagonal.specs.Columns.{SameOutside, Blocks}
 
 -- the places from lo up to hi are as they were
 pub record Same (lo hi : ℕ) (w w' : List Float) : Type 0 where
@@ -15,8 +15,8 @@ pub record Same (lo hi : ℕ) (w w' : List Float) : Type 0 where
 abbrev pub Local : ℕ → (ℕ → ℕ → List Float → Type 0) → Type 0
 Local n P = (at t : ℕ) (w w' : List Float) → Same at (at + n * 3) w w' → P at t w → P at t w'
 
-module _ (n : ℕ) (w w1 w2 w3 : List Float) (k1 : Kept 0 (0 + n * 3) w w1) (k2 : Kept (n * 3) (n * 3 + n * 3) w1 w2) (k3 : Kept (n * 6) (n * 6 + n * 3) w2 w3) where
-  pub blocks-kept : Kept 0 (n * 9) w w3
+module _ (n : ℕ) (w w1 w2 w3 : List Float) (k1 : SameOutside 0 (0 + n * 3) w w1) (k2 : SameOutside (n * 3) (n * 3 + n * 3) w1 w2) (k3 : SameOutside (n * 6) (n * 6 + n * 3) w2 w3) where
+  pub blocks-kept : SameOutside 0 (n * 9) w w3
   blocks-kept = record {
     low = λ k h. absurd (omega arith);
     high = λ k h. k3 .high k (omega arith) ∙ k2 .high k (omega arith) ∙ k1 .high k (omega arith);

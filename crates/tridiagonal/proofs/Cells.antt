@@ -12,7 +12,7 @@ use lib.Seq.{getD-set-same, getD-set-other, getD-drop, getD-append-add, ext-getD
 use lib.Dec.{eqb}
 use lib.Ieee.{Float, nan}
 use borrow.Author.Tests.{eqb-true, eqb-false}
-use Rattle.tridiagonal.specs.Columns.{Kept, Filled}
+use Rattle.tridiagonal.specs.Columns.{SameOutside, Filled}
 
 -- equal places
 pub place : (xs : List Float) (i k : ℕ) → i ≡ k → getD xs i nan ≡ getD xs k nan
@@ -54,16 +54,16 @@ update w p at i k v f e h ev = go (eqb i k) refl
 
 -- ---- what is kept
 
-pub kept-none : (lo hi : ℕ) (w : List Float) → Kept lo hi w w
+pub kept-none : (lo hi : ℕ) (w : List Float) → SameOutside lo hi w w
 kept-none lo hi w = record { low = λ k h. refl; high = λ k h. refl }
 
-pub kept-set : (lo hi : ℕ) (w w' : List Float) (p : ℕ) (v : Float) → lo ≤ p → p < hi → Kept lo hi w w' → Kept lo hi w (set w' p v)
+pub kept-set : (lo hi : ℕ) (w w' : List Float) (p : ℕ) (v : Float) → lo ≤ p → p < hi → SameOutside lo hi w w' → SameOutside lo hi w (set w' p v)
 kept-set lo hi w w' p v a b s = record {
   low = λ k h. miss w' p k v (omega arith) ∙ s .low k h;
   high = λ k h. miss w' p k v (omega arith) ∙ s .high k h;
 }
 
-pub kept-then : (lo hi lo' hi' : ℕ) (w w' w″ : List Float) → lo ≤ lo' → hi' ≤ hi → Kept lo hi w w' → Kept lo' hi' w' w″ → Kept lo hi w w″
+pub kept-then : (lo hi lo' hi' : ℕ) (w w' w″ : List Float) → lo ≤ lo' → hi' ≤ hi → SameOutside lo hi w w' → SameOutside lo' hi' w' w″ → SameOutside lo hi w w″
 kept-then lo hi lo' hi' w w' w″ a b s t = record {
   low = λ k h. t .low k (omega arith) ∙ s .low k h;
   high = λ k h. t .high k (omega arith) ∙ s .high k h;

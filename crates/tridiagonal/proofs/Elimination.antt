@@ -9,7 +9,7 @@ use native.Mathlib.Omega.{arith}
 use lib.ListN.{length, set}
 use lib.Ieee.{Float}
 use Rattle.exact.specs.Float.{_⊖_, _⊗_, _⊘_}
-use Rattle.tridiagonal.specs.Columns.{col, Kept, Blocks}
+use Rattle.tridiagonal.specs.Columns.{col, SameOutside, Blocks}
 use Rattle.tridiagonal.specs.Tridiagonal.{Equations, vanishing, pivot, reduced, solvable}
 use Rattle.tridiagonal.specs.Steps.{block, rowEliminated, allSolvable, Left, Eliminated}
 use Rattle.tridiagonal.proofs.EachBelow.{each-none, each-next, each-not}
@@ -100,7 +100,7 @@ pub record Eliminating (w₀ : List Float) (n i : ℕ) (w : List Float) : Type 0
   pub inside : i < n
   pub room : n * 9 ≤ length w₀
   pub long : length w ≡ length w₀
-  pub kept : Kept 0 (n * 9) w₀ w
+  pub kept : SameOutside 0 (n * 9) w₀ w
   pub rows : Blocks n (λ at t. Rows w₀ n i at w)
 
 pub eliminating-none : (w₀ : List Float) (n : ℕ) → 0 < n → n * 9 ≤ length w₀ → Eliminating w₀ n 0 w₀
@@ -112,7 +112,7 @@ eliminating-none w₀ n h room = record {
   rows = record { x = rows-none w₀ n 0; y = rows-none w₀ n (n * 3); z = rows-none w₀ n (n * 6) };
 }
 
-row-kept : (w : List Float) (at n i : ℕ) (w' : List Float) → i + 1 < n → w' ≡ rowEliminated w at n i → Kept at (at + n * 3) w w'
+row-kept : (w : List Float) (at n i : ℕ) (w' : List Float) → i + 1 < n → w' ≡ rowEliminated w at n i → SameOutside at (at + n * 3) w w'
 row-kept w at n i w' h e =
     rw e
     (kept-set at (at + n * 3) w (set w (at + (i + 1)) _) (at + n * 2 + (i + 1)) _ (omega arith) (omega arith)
@@ -137,7 +137,7 @@ third-fails true true c e = e
 third-fails true false c e = refl
 third-fails false b c e = refl
 
-module _ (w₀ : List Float) (n i : ℕ) (w : List Float) (inside : i < n) (kept : Kept 0 (n * 9) w₀ w) where
+module _ (w₀ : List Float) (n i : ℕ) (w : List Float) (inside : i < n) (kept : SameOutside 0 (n * 9) w₀ w) where
   fails : allSolvable w₀ n ≡ false → Eliminated w₀ n false w
   fails e = record { kept = kept; answer = sym e; left = λ h. let u : _≡_ {A = ℕ} 0 1 = cc in absurd (omega arith) }
 
@@ -164,10 +164,10 @@ module _ (w₀ : List Float) (n i : ℕ) (w : List Float) (s : Eliminating w₀ 
   row-x-stops f = let g : w1 ≡ w = left-out b1 _ _ _ f e1 in rw g (stop-x w₀ n i w (s .inside) (s .kept) (s .rows .x) (sym t1 ∙ f))
 
   module _ (y1 : b1 ≡ true) (b2 : Bool) (w2 : List Float) (t2 : b2 ≡ not (vanishing (col w1 (n * 3) i))) (e2 : w2 ≡ cond b2 (rowEliminated w1 (n * 3) n i) w1) where
-    k1 : Kept 0 (0 + n * 3) w w1
+    k1 : SameOutside 0 (0 + n * 3) w w1
     k1 = row-kept w 0 n i w1 more (taken b1 _ _ _ y1 e1)
 
-    kept1 : Kept 0 (n * 9) w₀ w1
+    kept1 : SameOutside 0 (n * 9) w₀ w1
     kept1 = kept-then 0 (n * 9) 0 (0 + n * 3) w₀ w w1 (omega arith) (omega arith) (s .kept) k1
 
     y-rows : Rows w₀ n i (n * 3) w1
@@ -177,10 +177,10 @@ module _ (w₀ : List Float) (n i : ℕ) (w : List Float) (s : Eliminating w₀ 
     row-y-stops f = let g : w2 ≡ w1 = left-out b2 _ _ _ f e2 in rw g (stop-y w₀ n i w1 (s .inside) kept1 y-rows (sym t2 ∙ f))
 
     module _ (y2 : b2 ≡ true) (b3 : Bool) (w3 : List Float) (t3 : b3 ≡ not (vanishing (col w2 (n * 6) i))) (e3 : w3 ≡ cond b3 (rowEliminated w2 (n * 6) n i) w2) where
-      k2 : Kept (n * 3) (n * 3 + n * 3) w1 w2
+      k2 : SameOutside (n * 3) (n * 3 + n * 3) w1 w2
       k2 = row-kept w1 (n * 3) n i w2 more (taken b2 _ _ _ y2 e2)
 
-      kept2 : Kept 0 (n * 9) w₀ w2
+      kept2 : SameOutside 0 (n * 9) w₀ w2
       kept2 = kept-then 0 (n * 9) (n * 3) (n * 3 + n * 3) w₀ w1 w2 (omega arith) (omega arith) kept1 k2
 
       z-rows : Rows w₀ n i (n * 6) w2
@@ -191,7 +191,7 @@ module _ (w₀ : List Float) (n i : ℕ) (w : List Float) (s : Eliminating w₀ 
 
       pub eliminating-more : b3 ≡ true → length w1 ≡ length w → length w2 ≡ length w1 → length w3 ≡ length w2 → Eliminating w₀ n (i + 1) w3
       eliminating-more y3 l1 l2 l3 =
-          let k3 : Kept (n * 6) (n * 6 + n * 3) w2 w3 = row-kept w2 (n * 6) n i w3 more (taken b3 _ _ _ y3 e3) in
+          let k3 : SameOutside (n * 6) (n * 6 + n * 3) w2 w3 = row-kept w2 (n * 6) n i w3 more (taken b3 _ _ _ y3 e3) in
           let r1 : w1 ≡ rowEliminated w 0 n i = taken b1 _ _ _ y1 e1 in
           let r2 : w2 ≡ rowEliminated w1 (n * 3) n i = taken b2 _ _ _ y2 e2 in
           let r3 : w3 ≡ rowEliminated w2 (n * 6) n i = taken b3 _ _ _ y3 e3 in

@@ -11,7 +11,7 @@ use borrow.Author.Tests.{ltb-true, ltb-false}
 use lib.ListN.{length, set}
 use lib.Ieee.{Float}
 use Rattle.exact.specs.Float.{_⊖_, _⊗_, _⊘_}
-use Rattle.tridiagonal.specs.Columns.{col, Kept, Blocks}
+use Rattle.tridiagonal.specs.Columns.{col, SameOutside, Blocks}
 use Rattle.tridiagonal.specs.Tridiagonal.{Equations, eliminated, back, solution}
 use Rattle.tridiagonal.specs.Steps.{block, rowSolved, Left, Eliminated, Substituted, Solved}
 use Rattle.tridiagonal.proofs.Cells.{hit, miss, kept-none, kept-set, kept-then}
@@ -79,7 +79,7 @@ pub record Substituting (w₀ : List Float) (n k : ℕ) (w : List Float) : Type 
   pub inside : k ≤ n
   pub room : n * 9 ≤ length w₀
   pub long : length w ≡ length w₀
-  pub kept : Kept 0 (n * 9) w₀ w
+  pub kept : SameOutside 0 (n * 9) w₀ w
   pub found : Blocks n (λ at t. Found w₀ n k at w)
 
 pub substituting-none : (w₀ : List Float) (n : ℕ) → n * 9 ≤ length w₀ → Substituting w₀ n n w₀
@@ -91,12 +91,12 @@ substituting-none w₀ n room = record {
   found = record { x = found-none w₀ n 0; y = found-none w₀ n (n * 3); z = found-none w₀ n (n * 6) };
 }
 
-stored-kept : (w : List Float) (at n k : ℕ) (x : Float) (w' : List Float) → k < n → w' ≡ set w (at + n * 2 + k) x → Kept at (at + n * 3) w w'
+stored-kept : (w : List Float) (at n k : ℕ) (x : Float) (w' : List Float) → k < n → w' ≡ set w (at + n * 2 + k) x → SameOutside at (at + n * 3) w w'
 stored-kept w at n k x w' h e = rw e (kept-set at (at + n * 3) w w (at + n * 2 + k) x (omega arith) (omega arith) (kept-none at (at + n * 3) w))
 
 -- a store in each block
 step : (w₀ : List Float) (n k k' : ℕ) (w w1 w2 w3 : List Float) → Substituting w₀ n k w → k' < n → length w1 ≡ length w → length w2 ≡ length w1 → length w3 ≡ length w2
-    → Kept 0 (0 + n * 3) w w1 → Kept (n * 3) (n * 3 + n * 3) w1 w2 → Kept (n * 6) (n * 6 + n * 3) w2 w3
+    → SameOutside 0 (0 + n * 3) w w1 → SameOutside (n * 3) (n * 3 + n * 3) w1 w2 → SameOutside (n * 6) (n * 6 + n * 3) w2 w3
     → (Found w₀ n k 0 w → Found w₀ n k' 0 w1) → (Found w₀ n k (n * 3) w1 → Found w₀ n k' (n * 3) w2) → (Found w₀ n k (n * 6) w2 → Found w₀ n k' (n * 6) w3)
     → Substituting w₀ n k' w3
 step w₀ n k k' w w1 w2 w3 s h l1 l2 l3 k1 k2 k3 f g q = record {

@@ -11,13 +11,13 @@ abbrev pub col : List Float → ℕ → ℕ → Float
 col w at k = getD w (at + k) nan
 
 -- w' is w but for the places from lo up to hi
-pub record Kept (lo hi : ℕ) (w w' : List Float) : Type 0 where
+pub record SameOutside (lo hi : ℕ) (w w' : List Float) : Type 0 where
   pub low : (k : ℕ) → k < lo → getD w' k nan ≡ getD w k nan
   pub high : (k : ℕ) → hi ≤ k → getD w' k nan ≡ getD w k nan
 
 -- w' is w, with v at each place from lo up to hi
 pub record Filled (lo hi : ℕ) (v : Float) (w w' : List Float) : Type 0 where
-  pub kept : Kept lo hi w w'
+  pub kept : SameOutside lo hi w w'
   pub filled : (k : ℕ) → lo ≤ k → k < hi → getD w' k nan ≡ v
 
 -- P holds of the three blocks of three columns of n rows, those of x, y and z: of the place where each starts, and its axis

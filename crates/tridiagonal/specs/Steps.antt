@@ -7,7 +7,7 @@ use lib.Dec.{ltb}
 use lib.ListN.{set}
 use lib.Ieee.{Float}
 use Rattle.exact.specs.Float.{_⊖_, _⊗_, _⊘_}
-use Rattle.tridiagonal.specs.Columns.{col, Kept, Blocks}
+use Rattle.tridiagonal.specs.Columns.{col, SameOutside, Blocks}
 use Rattle.tridiagonal.specs.Tridiagonal.{Equations, pivot, reduced, solvable, back, solution}
 
 -- the n equations in the block that starts at a place: the diagonal, then the upper diagonal, then the right side
@@ -44,17 +44,17 @@ pub record Left (w : List Float) (at n : ℕ) (w' : List Float) : Type 0 where
 
 -- the elimination in the three blocks: true where no pivot vanishes
 pub record Eliminated (w : List Float) (n : ℕ) (ok : Bool) (w' : List Float) : Type 0 where
-  pub kept : Kept 0 (n * 9) w w'
+  pub kept : SameOutside 0 (n * 9) w w'
   pub answer : ok ≡ allSolvable w n
   pub left : ok ≡ true → Blocks n (λ at t. Left w at n w')
 
 -- the back substitution in the three blocks
 pub record Substituted (w : List Float) (n : ℕ) (w' : List Float) : Type 0 where
-  pub kept : Kept 0 (n * 9) w w'
+  pub kept : SameOutside 0 (n * 9) w w'
   pub unknowns : Blocks n (λ at t. (k : ℕ) → k < n → col w' (at + n * 2) k ≡ back (block w at n) (n - 1) (n - 1 - k))
 
 -- the two together: true where no pivot vanishes, and then the solutions stand in place of the right sides
 pub record Solved (w : List Float) (n : ℕ) (ok : Bool) (w' : List Float) : Type 0 where
-  pub kept : Kept 0 (n * 9) w w'
+  pub kept : SameOutside 0 (n * 9) w w'
   pub answer : ok ≡ allSolvable w n
   pub solutions : ok ≡ true → Blocks n (λ at t. (k : ℕ) → k < n → col w' (at + n * 2) k ≡ solution (block w at n) n k)

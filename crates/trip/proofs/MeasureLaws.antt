@@ -3,7 +3,7 @@ use mathlib.Core.Path.{_≡_, refl, sym, ap, _∙_, subst}
 use Prim.Native.Nat.{ℕ, zero, suc, _*_, _/_, _^_, _≤_, _<_}
 use native.Mathlib.Nat.{le-refl, zero-mul, zero-div, mul-le-mul-right, div-le-of-le-mul}
 use native.Mathlib.Omega.{arith}
-use mathlib.Core.Bool.{Bool, true, false, true≢false, false≢true, and-false, _&&_, _||_}
+use mathlib.Core.Bool.{Bool, true, false, true≢false, false≢true, and-false, cond, _&&_, _||_}
 use lib.Dec.{T, eqb, lit≤}
 use lib.Pow.{pow-pos}
 use lib.IntN.{ℤ, pos}
@@ -23,7 +23,7 @@ use Rattle.numeric.specs.declared.vec3.Vec3.{Vec3}
 use Rattle.numeric.proofs.RealLaws.{sum-finite-left, sum-finite-right}
 use Rattle.numeric.proofs.Growing.{at-most, le-below, from-zero}
 use Rattle.numeric.proofs.WholeLaws.{Greatest, whole-greatest}
-use Rattle.trip.specs.Measure.{millimetres, distance, measurable}
+use Rattle.trip.specs.Measure.{millimetres, millimetresOf, measurable, wayOf}
 
 -- ---- a root is not below 0
 
@@ -52,7 +52,7 @@ infinity-from-zero : le +0 (inf false) ≡ true
 unfolding le ofBits
 infinity-from-zero = refl
 
-root-from-zero : (x r y : Float) → IsRoot x r → le r y ≡ true → le +0 r ≡ true
+pub root-from-zero : (x r y : Float) → IsRoot x r → le r y ≡ true → le +0 r ≡ true
 root-from-zero nan r y i h = absurd (no-nan r y i h)
 root-from-zero (inf false) r y i h = rw i infinity-from-zero
 root-from-zero (inf true) r y i h = absurd (no-nan r y i h)
@@ -132,9 +132,9 @@ pub record Measured (d : Vec3) : Type 0 where
   pub from : le +0 (norm d) ≡ true
   pub upto : le (norm d) (whole 1000) ≡ true
   pub is-finite : T (finite (norm d))
-  pub short : distance d ≤ 1000000
+  pub short : millimetresOf d ≤ 1000000
   pub exact : value (norm d) ≡ pos (magnitude (norm d))
-  pub rounded-down : Greatest (distance d) 1000 (norm d)
+  pub rounded-down : Greatest (millimetresOf d) 1000 (norm d)
 
 pub length-from-zero : (d : Vec3) → le (norm d) (whole 1000) ≡ true → le +0 (norm d) ≡ true
 unfolding norm
@@ -143,8 +143,17 @@ length-from-zero d h =
     let x = squares ⊕ d .z ⊗ d .z in
     root-from-zero x (rootOf x) (whole 1000) (rootOf-root x (add-fits binary64 squares (d .z ⊗ d .z))) h
 
+-- what an addition adds of a length is at most 1,000,000 millimetres
+pub way-few : (d : Vec3) → wayOf (norm d) .millimetres ≤ 1000000
+unfolding wayOf
+way-few d = go (le (norm d) (whole 1000)) refl
+  where
+    go : (w : Bool) → le (norm d) (whole 1000) ≡ w → cond w (millimetres (norm d)) 0 ≤ 1000000
+    go true e = few (norm d) (length-from-zero d e) e
+    go false e = lit≤ tt
+
 pub measured : (d : Vec3) → measurable d ≡ true → Measured d
-unfolding measurable distance
+unfolding measurable millimetresOf
 measured d h =
     let k : le (norm d) (whole 1000) ≡ true = and-both (finite (d .x) && finite (d .y) && finite (d .z)) (le (norm d) (whole 1000)) h .1 in
     let z : le +0 (norm d) ≡ true = length-from-zero d k in

@@ -17,8 +17,8 @@ use Rattle.numeric.specs.Vec3.{norm}
 use Rattle.numeric.specs.Whole.{wholeTimes}
 use Rattle.numeric.specs.declared.refusal.Refusal.the-variants.{BadTrip}
 use Rattle.numeric.proofs.WholeLaws.{Greatest, whole-greatest}
-use Rattle.trip.specs.Measure.{distance, measurable}
-use Rattle.trip.specs.Trip.{Leg, carrierOf, pulsesOf, odometer, apart, greatest, greatestOf, reportOf, tripOf, sound, counted, added, kept, after, counting, narrow}
+use Rattle.trip.specs.Measure.{millimetresOf, measurable}
+use Rattle.trip.specs.Trip.{Leg, carrierOf, pulsesOf, odometer, apart, greatest, greatestOf, reportOf, tripOf, soundTrip, counted, added, kept, after, counting, narrow}
 use Rattle.trip.specs.declared.trip.Trip.{Trip}
 use Rattle.trip.specs.declared.trip.Step.the-variants.{Refused, Goes}
 use Rattle.trip.specs.declared.trip.Report.{Report}
@@ -53,7 +53,7 @@ one-more a b s m n p q h i j k e =
     (omega arith, rw e (omega arith))
 
 pub carrier-near : (legs : List Leg) → Near (carrierOf legs) (length legs) (exactOf legs)
-unfolding carrierOf distance
+unfolding carrierOf millimetresOf
 carrier-near [] = record { not-above = omega arith; near = omega arith }
 carrier-near (l ∷ legs) =
     let g : Greatest (wholeTimes 1000 (norm (l .displacement))) 1000 (norm (l .displacement)) = whole-greatest 1000 (norm (l .displacement)) in
@@ -65,8 +65,8 @@ carrier-near (l ∷ legs) =
 
 -- an epoch with a component that is an infinity or a NaN is refused by every trip, and leaves it
 module _ (t : Trip) (l : Leg) (h : (finite (l .displacement .x) && finite (l .displacement .y) && finite (l .displacement .z)) ≡ false) where
-  fails : (sound t && ltb (t .epochs) 65535 && measurable (l .displacement)) ≡ false
-  fails = rw (component-not-finite (l .displacement) h) (and-false (sound t && ltb (t .epochs) 65535))
+  fails : (soundTrip t && ltb (t .epochs) 65535 && measurable (l .displacement)) ≡ false
+  fails = rw (component-not-finite (l .displacement) h) (and-false (soundTrip t && ltb (t .epochs) 65535))
 
   pub not-finite-refused : added t (l .displacement) (l .pulses) ≡ Refused BadTrip
   unfolding added
@@ -78,7 +78,7 @@ module _ (t : Trip) (l : Leg) (h : (finite (l .displacement .x) && finite (l .di
 -- ---- nothing overflows: 64 bits hold every total and difference
 
 record Small (t : Trip) : Type 0 where
-  is-sound : sound t ≡ true
+  is-sound : soundTrip t ≡ true
   greatest : t .greatest ≤ 4294836225000000
 
 apart-small : (a b m : ℕ) → a ≤ m → b ≤ m → apart a b ≤ m
@@ -107,13 +107,13 @@ counted-small t millimetres pulses s l h k =
 
 after-small : (t : Trip) (l : Leg) → Small t → narrow l ≡ true → Small (after t l)
 unfolding after added kept narrow
-after-small t l s n = go (sound t && ltb (t .epochs) 65535 && measurable (l .displacement)) (accepted t (l .displacement))
+after-small t l s n = go (soundTrip t && ltb (t .epochs) 65535 && measurable (l .displacement)) (accepted t (l .displacement))
   where
-    go : (b : Bool) → (b ≡ true → Accepted t (l .displacement)) → Small (kept t (cond b (Goes (counted t (distance (l .displacement)) (l .pulses))) (Refused BadTrip)))
+    go : (b : Bool) → (b ≡ true → Accepted t (l .displacement)) → Small (kept t (cond b (Goes (counted t (millimetresOf (l .displacement)) (l .pulses))) (Refused BadTrip)))
     go false f = s
     go true f =
         let a = f refl in
-        counted-small t (distance (l .displacement)) (l .pulses) s (a .room) (measured (l .displacement) (a .is-measurable) .short) (leb-true (l .pulses) 65535 n)
+        counted-small t (millimetresOf (l .displacement)) (l .pulses) s (a .room) (measured (l .displacement) (a .is-measurable) .short) (leb-true (l .pulses) 65535 n)
 
 fold-small : (legs : List Leg) (t : Trip) → Small t → every narrow legs ≡ true → Small (fold after t legs)
 unfolding fold every

@@ -1,7 +1,7 @@
 -- The trip that calls leave, one after the other from the start, is that of the list of their accepted epochs, and so is its report, for every list. Assumes nothing.
 use mathlib.Core.Path.{_≡_, refl, sym, ap, ap₂, _∙_, subst}
 use mathlib.Core.List.{List, [], _∷_, _++_, append-assoc, append-nil}
-use mathlib.Core.Bool.{Bool, true, false, cond, _&&_, _||_, and-false}
+use mathlib.Core.Bool.{Bool, true, false, cond, _&&_, _||_, and-false, and-true}
 use Prim.Native.Nat.{ℕ, zero, suc, _+_, _-_, _≤_, _<_, max}
 use native.Mathlib.Nat.{le-refl, le-step}
 use native.Mathlib.Numerals.{add-one}
@@ -10,15 +10,16 @@ use lib.Dec.{ltb, eqb, lit≤}
 use lib.ListN.{length, take, length-append}
 use lib.Seq.{take-append-le, take-all, take-nil}
 use borrow.Author.Tests.{lt-ltb, eq-eqb, ne-eqb, ltb-true, ltb-false}
-use lib.Ieee.{Float, le}
+use lib.Ieee.{le}
 use Rattle.exact.specs.Float.{whole}
 use Rattle.walk.specs.Walk.{collect, fold, every}
 use Rattle.walk.proofs.Walk.{and-both}
 use Rattle.numeric.specs.Vec3.{norm}
 use Rattle.numeric.specs.declared.vec3.Vec3.{Vec3}
 use Rattle.numeric.specs.declared.refusal.Refusal.the-variants.{BadTrip}
-use Rattle.trip.specs.Measure.{millimetres, distance, measurable}
-use Rattle.trip.specs.Trip.{Leg, carrierOf, pulsesOf, odometer, apart, differenceAfter, greatest, firstWith, greatestOf, reachedOf, reportOf, tripOf, sound, started, counted, added, reported, Adds, Reports, kept, after, measurables, counting, narrow}
+use Rattle.trip.specs.Measure.{millimetresOf, measurable, wayOf}
+use Rattle.trip.specs.declared.measure.Way.{Way}
+use Rattle.trip.specs.Trip.{Leg, carrierOf, pulsesOf, odometer, apart, differenceAfter, greatest, firstWith, greatestOf, reachedOf, reportOf, tripOf, soundTrip, started, counted, added, reported, Adds, Reports, kept, after, measurables, counting, narrow}
 use Rattle.trip.specs.declared.trip.Trip.{Trip}
 use Rattle.trip.specs.declared.trip.Report.{Report}
 use Rattle.trip.specs.declared.trip.Step.{Step}
@@ -108,7 +109,7 @@ first-next f (suc n) = rw (past-first n) (go (ltb (greatest f (suc n)) (f (suc (
 
 -- ---- a list of epochs, and one more at its end
 
-carrier-more : (legs : List Leg) (l : Leg) → carrierOf (legs ++ (l ∷ [])) ≡ carrierOf legs + distance (l .displacement)
+carrier-more : (legs : List Leg) (l : Leg) → carrierOf (legs ++ (l ∷ [])) ≡ carrierOf legs + millimetresOf (l .displacement)
 unfolding carrierOf
 carrier-more [] l = omega arith
 carrier-more (k ∷ legs) l = omega (arith, carrier-more legs l)
@@ -131,7 +132,7 @@ module _ (rate : ℕ) (legs : List Leg) (l : Leg) where
   unfolding differenceAfter
   difference-old k h = rw (take-append-le k legs (l ∷ []) h)
 
-  difference-new : differenceAfter rate longer (suc (length legs)) ≡ apart (carrierOf legs + distance (l .displacement)) (odometer rate (pulsesOf legs + l .pulses))
+  difference-new : differenceAfter rate longer (suc (length legs)) ≡ apart (carrierOf legs + millimetresOf (l .displacement)) (odometer rate (pulsesOf legs + l .pulses))
   unfolding differenceAfter
   difference-new = rw (take-all (suc (length legs)) longer (rw (length-more legs l) (le-refl (suc (length legs)))), carrier-more legs l, pulses-more legs l)
 
@@ -143,15 +144,15 @@ module _ (rate : ℕ) (legs : List Leg) (l : Leg) where
   unfolding reachedOf
   first-old = first-same (differenceAfter rate longer) (differenceAfter rate legs) (greatestOf rate legs) (length legs) difference-old
 
-  greatest-more : greatestOf rate longer ≡ counted (tripOf rate legs) (distance (l .displacement)) (l .pulses) .greatest
+  greatest-more : greatestOf rate longer ≡ counted (tripOf rate legs) (millimetresOf (l .displacement)) (l .pulses) .greatest
   unfolding counted tripOf
   greatest-more = unfold greatestOf in ap (greatest (differenceAfter rate longer)) (length-more legs l) ∙ greatest-next (differenceAfter rate longer) (length legs) ∙ rw (difference-new, greatest-old)
 
-  reached-more : reachedOf rate longer ≡ counted (tripOf rate legs) (distance (l .displacement)) (l .pulses) .reached
+  reached-more : reachedOf rate longer ≡ counted (tripOf rate legs) (millimetresOf (l .displacement)) (l .pulses) .reached
   unfolding counted tripOf
   reached-more = unfold reachedOf greatestOf in rw (length-more legs l) (first-next (differenceAfter rate longer) (length legs) ∙ rw (difference-new, greatest-old, first-old, add-one))
 
-  pub more : tripOf rate longer ≡ counted (tripOf rate legs) (distance (l .displacement)) (l .pulses)
+  pub more : tripOf rate longer ≡ counted (tripOf rate legs) (millimetresOf (l .displacement)) (l .pulses)
   unfolding counted tripOf
   more = rw (length-more legs l, carrier-more legs l, pulses-more legs l, greatest-more, reached-more, add-one)
 
@@ -161,30 +162,43 @@ list-epochs : (t : Trip) (legs : List Leg) → t ≡ tripOf (t .rate) legs → t
 unfolding tripOf
 list-epochs t legs h = ap (λ (u : Trip). u .epochs) h
 
-list-counted : (t : Trip) (l : Leg) (legs : List Leg) → t ≡ tripOf (t .rate) legs → counted t (distance (l .displacement)) (l .pulses) ≡ tripOf (t .rate) (legs ++ (l ∷ []))
-list-counted t l legs h = ap (λ (u : Trip). counted u (distance (l .displacement)) (l .pulses)) h ∙ sym (more (t .rate) legs l)
+list-counted : (t : Trip) (l : Leg) (legs : List Leg) → t ≡ tripOf (t .rate) legs → counted t (millimetresOf (l .displacement)) (l .pulses) ≡ tripOf (t .rate) (legs ++ (l ∷ []))
+list-counted t l legs h = ap (λ (u : Trip). counted u (millimetresOf (l .displacement)) (l .pulses)) h ∙ sym (more (t .rate) legs l)
 
 list-added : (t : Trip) (l : Leg) (legs : List Leg) → t ≡ tripOf (t .rate) legs
-    → added t (l .displacement) (l .pulses) ≡ cond (sound t && ltb (length legs) 65535 && measurable (l .displacement)) (Goes (tripOf (t .rate) (legs ++ (l ∷ [])))) (Refused BadTrip)
+    → added t (l .displacement) (l .pulses) ≡ cond (soundTrip t && ltb (length legs) 65535 && measurable (l .displacement)) (Goes (tripOf (t .rate) (legs ++ (l ∷ [])))) (Refused BadTrip)
 unfolding added
 list-added t l legs h =
-    ap₂ (λ (n : ℕ) (u : Trip). cond (sound t && ltb n 65535 && measurable (l .displacement)) (Goes u) (Refused BadTrip)) (list-epochs t legs h) (list-counted t l legs h)
+    ap₂ (λ (n : ℕ) (u : Trip). cond (soundTrip t && ltb n 65535 && measurable (l .displacement)) (Goes u) (Refused BadTrip)) (list-epochs t legs h) (list-counted t l legs h)
 
 pub adds : (t : Trip) (l : Leg) {r : Step} → r ≡ added t (l .displacement) (l .pulses) → Adds t l r
 adds t l e = record { is = e; of-list = λ legs h. e ∙ list-added t l legs h }
 
--- the same from the length of the displacement, which alone decides
-module _ (t : Trip) (d : Vec3) (pulses : ℕ) {length : Float} (e : length ≡ norm d) {s : Bool} (s-is : s ≡ sound t) where
-  test-is : (s && ltb (t .epochs) 65535 && le length (whole 1000)) ≡ (sound t && ltb (t .epochs) 65535 && measurable d)
-  test-is = rw (by-length d, e, s-is)
+-- the same from the way of the displacement, which alone decides
+module _ (t : Trip) (d : Vec3) (pulses : ℕ) {way : Way} (e : way ≡ wayOf (norm d)) where
+  within-is : way .within ≡ measurable d
+  unfolding wayOf
+  within-is = rw (by-length d, e)
 
-  pub length-refused : (s && ltb (t .epochs) 65535 && le length (whole 1000)) ≡ false → Refused BadTrip ≡ added t d pulses
+  -- more than 1,000 m
+  pub way-refused : way .within ≡ false → Refused BadTrip ≡ added t d pulses
   unfolding added
-  length-refused h = rw (sym test-is ∙ h)
+  way-refused h = rw (sym within-is ∙ h, and-false (soundTrip t && ltb (t .epochs) 65535))
 
-  pub length-added : (s && ltb (t .epochs) 65535 && le length (whole 1000)) ≡ true → Goes (counted t (millimetres length) pulses) ≡ added t d pulses
-  unfolding added distance
-  length-added h = rw (sym test-is ∙ h, ← e)
+  module _ {s : Bool} (s-is : s ≡ soundTrip t) (w : way .within ≡ true) where
+    test-is : (s && ltb (t .epochs) 65535) ≡ (soundTrip t && ltb (t .epochs) 65535 && measurable d)
+    test-is = rw (sym within-is ∙ w, s-is) (sym (and-true (soundTrip t && ltb (t .epochs) 65535)))
+
+    -- a trip that is full or not sound
+    pub trip-refused : (s && ltb (t .epochs) 65535) ≡ false → Refused BadTrip ≡ added t d pulses
+    unfolding added
+    trip-refused h = rw (sym test-is ∙ h)
+
+    pub way-added : (s && ltb (t .epochs) 65535) ≡ true → Goes (counted t (way .millimetres) pulses) ≡ added t d pulses
+    unfolding added millimetresOf wayOf
+    way-added h =
+        let n : le (norm d) (whole 1000) ≡ true = sym (ap (λ (z : Way). z .within) e) ∙ w in
+        rw (sym test-is ∙ h, e, n)
 
 abbrev totals : Trip → ℕ → Report
 totals t rate = record { carrier = t .carrier; odometer = odometer rate (t .pulses); greatest = t .greatest; reached = t .reached }
@@ -193,9 +207,9 @@ list-totals : (t : Trip) (legs : List Leg) → t ≡ tripOf (t .rate) legs → t
 unfolding tripOf reportOf
 list-totals t legs h = ap (λ (u : Trip). totals u (t .rate)) h
 
-list-reported : (t : Trip) (legs : List Leg) → t ≡ tripOf (t .rate) legs → reported t ≡ cond (sound t) (Totals (reportOf (t .rate) legs)) (Unreported BadTrip)
+list-reported : (t : Trip) (legs : List Leg) → t ≡ tripOf (t .rate) legs → reported t ≡ cond (soundTrip t) (Totals (reportOf (t .rate) legs)) (Unreported BadTrip)
 unfolding reported
-list-reported t legs h = ap (λ (p : Report). cond (sound t) (Totals p) (Unreported BadTrip)) (list-totals t legs h)
+list-reported t legs h = ap (λ (p : Report). cond (soundTrip t) (Totals p) (Unreported BadTrip)) (list-totals t legs h)
 
 pub reports : (t : Trip) {r : Reported} → r ≡ reported t → Reports t r
 reports t e = record { is = e; of-list = λ legs h. e ∙ list-reported t legs h }
@@ -203,12 +217,12 @@ reports t e = record { is = e; of-list = λ legs h. e ∙ list-reported t legs h
 -- ---- one call
 
 module _ (t : Trip) (l : Leg) where
-  after-accepted : (sound t && ltb (t .epochs) 65535 && measurable (l .displacement)) ≡ true → after t l ≡ counted t (distance (l .displacement)) (l .pulses)
+  after-accepted : (soundTrip t && ltb (t .epochs) 65535 && measurable (l .displacement)) ≡ true → after t l ≡ counted t (millimetresOf (l .displacement)) (l .pulses)
   unfolding after added kept
   after-accepted h = rw h
 
   -- a refused addition leaves the trip unchanged
-  pub after-refused : (sound t && ltb (t .epochs) 65535 && measurable (l .displacement)) ≡ false → after t l ≡ t
+  pub after-refused : (soundTrip t && ltb (t .epochs) 65535 && measurable (l .displacement)) ≡ false → after t l ≡ t
   unfolding after added kept
   after-refused h = rw h
 
@@ -219,29 +233,29 @@ module _ (rate : ℕ) where
   Reaches : List Leg → List Leg → Type 0
   Reaches legs done = fold after (tripOf rate done) legs ≡ tripOf rate (done ++ take (65535 - length done) (measurables legs))
 
-  turn : (l : Leg) (legs done : List Leg) → sound (tripOf rate done) ≡ true → narrow l ≡ true → ((d : List Leg) → sound (tripOf rate d) ≡ true → Reaches legs d) → Reaches (l ∷ legs) done
+  turn : (l : Leg) (legs done : List Leg) → soundTrip (tripOf rate done) ≡ true → narrow l ≡ true → ((d : List Leg) → soundTrip (tripOf rate d) ≡ true → Reaches legs d) → Reaches (l ∷ legs) done
   unfolding Reaches fold measurables collect tripOf
   turn l legs done s n rest = go (measurable (l .displacement)) refl (ltb (length done) 65535) refl
     where
       go : (b : Bool) → measurable (l .displacement) ≡ b → (c : Bool) → ltb (length done) 65535 ≡ c
           → fold after (after (tripOf rate done) l) legs ≡ tripOf rate (done ++ take (65535 - length done) (cond b (l ∷ []) [] ++ measurables legs))
-      go false e c f = rw (after-refused (tripOf rate done) l (rw e (and-false (sound (tripOf rate done) && ltb (length done) 65535)))) (rest done s)
+      go false e c f = rw (after-refused (tripOf rate done) l (rw e (and-false (soundTrip (tripOf rate done) && ltb (length done) 65535)))) (rest done s)
       go true e false f =
           let full : 65535 ≤ length done = ltb-false (length done) 65535 f in
           let z : 65535 - length done ≡ 0 = omega arith in
-          rw (after-refused (tripOf rate done) l (rw (f, and-false (sound (tripOf rate done))))) (rest done s ∙ rw z)
+          rw (after-refused (tripOf rate done) l (rw (f, and-false (soundTrip (tripOf rate done))))) (rest done s ∙ rw z)
       go true e true f =
           let room : length done < 65535 = ltb-true (length done) 65535 f in
           let a : after (tripOf rate done) l ≡ tripOf rate (done ++ (l ∷ [])) = after-accepted (tripOf rate done) l (rw (s, f, e)) ∙ sym (more rate done l) in
           let z : 65535 - length done ≡ suc (65535 - length (done ++ (l ∷ []))) = rw (length-more done l) (omega arith) in
-          rw a (rest (done ++ (l ∷ [])) (subst (λ (t : Trip). sound t ≡ true) a (after-sound (tripOf rate done) l s n)) ∙ rw (z, append-assoc))
+          rw a (rest (done ++ (l ∷ [])) (subst (λ (t : Trip). soundTrip t ≡ true) a (after-sound (tripOf rate done) l s n)) ∙ rw (z, append-assoc))
 
-  from : (legs done : List Leg) → sound (tripOf rate done) ≡ true → every narrow legs ≡ true → Reaches legs done
+  from : (legs done : List Leg) → soundTrip (tripOf rate done) ≡ true → every narrow legs ≡ true → Reaches legs done
   unfolding Reaches fold every measurables collect
   from [] done s n = ap (tripOf rate) (sym (append-nil done) ∙ ap (λ (xs : List Leg). done ++ xs) (sym (take-nil (65535 - length done))))
   from (l ∷ legs) done s n = let m = and-both (narrow l) (every narrow legs) n in turn l legs done s (m .0) (λ d h. from legs d h (m .1))
 
-  pub start-sound : 0 < rate → sound (tripOf rate []) ≡ true
+  pub start-sound : 0 < rate → soundTrip (tripOf rate []) ≡ true
   unfolding tripOf carrierOf pulsesOf
   start-sound h = bounded _ (record { rated = h; few = lit≤ tt; carrier = lit≤ tt; pulses = lit≤ tt })
 
@@ -255,13 +269,13 @@ module _ (rate : ℕ) where
   trip-law legs h n = from legs [] (start-sound h) n
 
 -- a trip that is sound stays so
-pub fold-sound : (legs : List Leg) (t : Trip) → sound t ≡ true → every narrow legs ≡ true → sound (fold after t legs) ≡ true
+pub fold-sound : (legs : List Leg) (t : Trip) → soundTrip t ≡ true → every narrow legs ≡ true → soundTrip (fold after t legs) ≡ true
 unfolding fold every
 fold-sound [] t s n = s
 fold-sound (l ∷ legs) t s n = let m = and-both (narrow l) (every narrow legs) n in fold-sound legs (after t l) (after-sound t l s (m .0)) (m .1)
 
 -- the report of a sound trip that is a list's is the list's
-reported-list : (rate : ℕ) (legs : List Leg) → sound (tripOf rate legs) ≡ true → reported (tripOf rate legs) ≡ Totals (reportOf rate legs)
+reported-list : (rate : ℕ) (legs : List Leg) → soundTrip (tripOf rate legs) ≡ true → reported (tripOf rate legs) ≡ Totals (reportOf rate legs)
 unfolding reported reportOf tripOf
 reported-list rate legs h = rw h
 
@@ -269,7 +283,7 @@ reported-list rate legs h = rw h
 pub report-law : (rate : ℕ) (legs : List Leg) → 0 < rate → every narrow legs ≡ true → reported (fold after (tripOf rate []) legs) ≡ Totals (reportOf rate (counting legs))
 report-law rate legs h n =
     let e = trip-law rate legs h n in
-    ap reported e ∙ reported-list rate (counting legs) (subst (λ (t : Trip). sound t ≡ true) e (fold-sound legs (tripOf rate []) (start-sound rate h) n))
+    ap reported e ∙ reported-list rate (counting legs) (subst (λ (t : Trip). soundTrip t ≡ true) e (fold-sound legs (tripOf rate []) (start-sound rate h) n))
 
 -- ---- where no call is refused, all epochs count
 

@@ -8,7 +8,7 @@ use lib.ListN.{length, take}
 use Rattle.walk.specs.Walk.{collect}
 use Rattle.numeric.specs.declared.vec3.Vec3.{Vec3}
 use Rattle.numeric.specs.declared.refusal.Refusal.the-variants.{BadTrip, NoDistance}
-use Rattle.trip.specs.Measure.{distance, measurable}
+use Rattle.trip.specs.Measure.{millimetresOf, measurable}
 use Rattle.trip.specs.declared.trip.Trip.{Trip}
 use Rattle.trip.specs.declared.trip.Report.{Report}
 use Rattle.trip.specs.declared.trip.Step.{Step}
@@ -28,7 +28,7 @@ pub record Leg : Type 0 where
 -- each displacement's whole millimetres, added
 unfoldable pub carrierOf : List Leg → ℕ
 carrierOf [] = 0
-carrierOf (l ∷ legs) = distance (l .displacement) + carrierOf legs
+carrierOf (l ∷ legs) = millimetresOf (l .displacement) + carrierOf legs
 
 -- the running pulse count
 unfoldable pub pulsesOf : List Leg → ℕ
@@ -78,8 +78,8 @@ tripOf rate legs =
 -- ---- the calls
 
 -- 16, of a trip handed in: a rate of 0, more than 65,535 epochs, or more than 1,000,000 mm or 65,535 pulses times its epochs
-unfoldable pub sound : Trip → Bool
-sound t = ltb 0 (t .rate) && leb (t .epochs) 65535 && leb (t .carrier) (1000000 * t .epochs) && leb (t .pulses) (65535 * t .epochs)
+unfoldable pub soundTrip : Trip → Bool
+soundTrip t = ltb 0 (t .rate) && leb (t .epochs) 65535 && leb (t .carrier) (1000000 * t .epochs) && leb (t .pulses) (65535 * t .epochs)
 
 -- a trip just started; 16 for a pulse rate of 0
 unfoldable pub started : ℕ → Step
@@ -103,18 +103,18 @@ counted t millimetres pulses =
 
 -- one epoch more; 16 for a trip that is not sound, a full one, and a displacement not finite or longer than 1,000 m
 unfoldable pub added : Trip → Vec3 → ℕ → Step
-added t d pulses = cond (sound t && ltb (t .epochs) 65535 && measurable d) (Goes (counted t (distance d) pulses)) (Refused BadTrip)
+added t d pulses = cond (soundTrip t && ltb (t .epochs) 65535 && measurable d) (Goes (counted t (millimetresOf d) pulses)) (Refused BadTrip)
 
 unfoldable pub reported : Trip → Reported
 reported t =
-    cond (sound t)
+    cond (soundTrip t)
     (Totals (record { carrier = t .carrier; odometer = odometer (t .rate) (t .pulses); greatest = t .greatest; reached = t .reached }))
     (Unreported BadTrip)
 
 -- fuel per kilometre: millilitres times 1,000,000 divided by carrier millimetres, rounded down; 17, after 16, at zero carrier distance
 unfoldable pub fuelled : Trip → ℕ → Fuel
 fuelled t millilitres =
-    cond (not (sound t)) (Unfuelled BadTrip)
+    cond (not (soundTrip t)) (Unfuelled BadTrip)
     (cond (eqb (t .carrier) 0) (Unfuelled NoDistance)
     (PerKilometre (millilitres * 1000000 / t .carrier)))
 
@@ -124,11 +124,11 @@ fuelled t millilitres =
 pub record Adds (t : Trip) (l : Leg) (r : Step) : Type 0 where
   pub is : r ≡ added t (l .displacement) (l .pulses)
   pub of-list : (legs : List Leg) → t ≡ tripOf (t .rate) legs
-      → r ≡ cond (sound t && ltb (length legs) 65535 && measurable (l .displacement)) (Goes (tripOf (t .rate) (legs ++ (l ∷ [])))) (Refused BadTrip)
+      → r ≡ cond (soundTrip t && ltb (length legs) 65535 && measurable (l .displacement)) (Goes (tripOf (t .rate) (legs ++ (l ∷ [])))) (Refused BadTrip)
 
 pub record Reports (t : Trip) (r : Reported) : Type 0 where
   pub is : r ≡ reported t
-  pub of-list : (legs : List Leg) → t ≡ tripOf (t .rate) legs → r ≡ cond (sound t) (Totals (reportOf (t .rate) legs)) (Unreported BadTrip)
+  pub of-list : (legs : List Leg) → t ≡ tripOf (t .rate) legs → r ≡ cond (soundTrip t) (Totals (reportOf (t .rate) legs)) (Unreported BadTrip)
 
 -- ---- calls one after the other
 

@@ -1,12 +1,13 @@
 // A trip that the caller holds as six words: pulses per kilometre, epochs, carrier millimetres, pulses, greatest difference, its epoch.
 ghost use mathlib.Core.Path.{_≡_};
-ghost use mathlib.Core.Bool.{true};
-ghost use lib.Ieee.{le};
-ghost use Rattle.exact.specs.Float.{+0, whole};
+ghost use Prim.Native.Nat.{_≤_};
 ghost use Rattle.numeric.specs.Vec3.{norm};
 ghost use Rattle.numeric.specs.declared.vec3.Vec3.{Vec3};
+ghost use Rattle.trip.specs.Measure.{wayOf};
 ghost use Rattle.trip.specs.Trip.{started};
 ghost use Rattle.trip.specs.Words as spec;
+use crate::measure::Way;
+use crate::measure::way_of;
 use crate::trip::Fuel;
 use crate::trip::Reported;
 use crate::trip::Step;
@@ -48,15 +49,15 @@ pub fn words(t: Trip) -> [u64; 6]
     ]
 }
 
-// One epoch more for the trip that the words hold, of a displacement of this length.
-pub(crate) fn add_held(w: [u64; 6], length: f64, pulses: u16) -> Step
-    requires { ⌜ (le length (whole 1000) ≡ true → le +0 length ≡ true) ⌝ }
-    ensures { λ r. ⌜ ((d : Vec3) → length ≡ norm d → r ≡ spec.addedHeld (spec.heldOf w) d pulses) ⌝ }
+// One epoch more for the trip that the words hold, of a displacement of this way.
+pub(crate) fn add_held(w: [u64; 6], way: Way, pulses: u16) -> Step
+    requires { ⌜ way .millimetres ≤ 1000000 ⌝ }
+    ensures { λ r. ⌜ ((d : Vec3) → way ≡ wayOf (norm d) → r ≡ spec.addedHeld (spec.heldOf w) d pulses) ⌝ }
 {
     let before = held(w);
     match before {
         Step::Refused(r) => Step::Refused(r),
-        Step::Goes(t) => t.add_length(length, pulses),
+        Step::Goes(t) => t.add_way(way, pulses),
     }
 }
 
@@ -101,15 +102,15 @@ pub fn add_in(trip: &mut [u64; 6], delta: &[f64; 3], pulses: u16) -> u8
     ensures { λ r. ⌜ (let s = spec.addedWords (now (trip .entry)) (now (delta .entry)) pulses in
         (r ≡ spec.stepNumber s) × (now (trip .exit) ≡ spec.wordsAfter s (now (trip .entry)))) ⌝ }
 {
-    // The length first: its root is a call, over which no word has to be kept.
+    // The way first: it may need a root, which is a call, over which no word has to be kept.
     let d = Vec3 {
         x: delta[0],
         y: delta[1],
         z: delta[2],
     };
-    let length = d.norm();
+    let way = way_of(d);
     let w = *trip;
-    let answer = add_held(w, length, pulses);
+    let answer = add_held(w, way, pulses);
     match answer {
         Step::Refused(r) => r.number(),
         Step::Goes(t) => {

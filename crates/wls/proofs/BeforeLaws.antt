@@ -1,8 +1,8 @@
 -- THE LAW of request (v) for a fix: it is refused by 15, or it is the one from before the request; and where no range met is zero or not finite it is that one. Assumes nothing.
 use mathlib.Core.Logic.{_⊎_, inl, inr}
-use mathlib.Core.Path.{_≡_, refl, sym, ap, ap₂, _∙_}
+use mathlib.Core.Path.{_≡_, refl, sym, ap, _∙_}
 use mathlib.Core.Bool.{Bool, true, false, not, cond, _&&_}
-use mathlib.Core.List.{List, [], _∷_, map}
+use mathlib.Core.List.{List, [], _∷_}
 use Prim.Native.Nat.{ℕ, zero, suc, _+_}
 use native.Mathlib.Omega.{arith}
 use lib.Ieee.{Float}
@@ -20,12 +20,12 @@ use Rattle.robust.specs.declared.row.Row.{Row}
 use Rattle.clocks.specs.declared.clocks.Clocks.{Clocks}
 use Rattle.records.specs.declared.record.Observation.{Observation}
 use Rattle.estimator.specs.Rules.{Rule, rule, ruled}
-use Rattle.estimator.specs.Rounds.{End, Stopped, Reached, Fit, moved, short, ended, begun, after, fitFrom, lastRows, finiteAt, concluded}
+use Rattle.estimator.specs.Rounds.{End, Stopped, Reached, Fit, moved, shortStep, ended, begun, after, fitFrom, lastRows, finiteAt, concluded}
 use Rattle.estimator.specs.declared.rules.Check.{Check}
 use Rattle.estimator.specs.declared.rules.Check.the-variants.{Refused as Stops, Passed}
 use Rattle.estimator.proofs.RulesLaws.{checked, ruled-append, refused-by, passed-by}
 use Rattle.wls.specs.Front.{fixRules}
-use Rattle.wls.specs.Fix.{Input, sightAt, sightRules, rowAt, roundAt, limit, start, fitOver, kept, clocks, plainMatrix, dilutionOf, chiAt, qualityRules, endRules, solutionAt, foundOver, fixOf}
+use Rattle.wls.specs.Fix.{Input, sightAt, sightRules, roundAt, limit, start, fitOver, kept, clocks, plainMatrix, dilutionOf, chiAt, qualityRules, endRules, solutionAt, foundOver, fixOf}
 use Rattle.wls.specs.declared.fix.Settings.{Settings}
 use Rattle.wls.specs.declared.fix.Fix.{Fix}
 use Rattle.wls.specs.declared.fix.Fix.the-variants.{Refused, At}
@@ -102,7 +102,7 @@ module _ (settings : Settings) (k : Clocks) (os : List Observation) where
 
   after-either : (x : List Float) (next before : List Float → Fit) → ((y : List Float) → Either (next y) (before y)) → (o : Outcome) → Either (after n limit x next o) (after n limit x before o)
   after-either x next before h (NoRound r) = inr refl
-  after-either x next before h (Solved r) = begun-either r _ _ (pick (short limit (r .step)))
+  after-either x next before h (Solved r) = begun-either r _ _ (pick (shortStep limit (r .step)))
     where
       pick : (b : Bool) → Either (cond b (ended (moved n x (r .step))) (next (moved n x (r .step)))) (cond b (ended (moved n x (r .step))) (before (moved n x (r .step))))
       pick true = inr refl
@@ -132,7 +132,7 @@ module _ (settings : Settings) (k : Clocks) (os : List Observation) where
 
   after-same : (x : List Float) (next before : List Float → Fit) → ((y : List Float) → Clear y (before y) → next y ≡ before y) → (o : Outcome) → Clear x (after n limit x before o) → after n limit x next o ≡ after n limit x before o
   after-same x next before h (NoRound r) e = refl
-  after-same x next before h (Solved r) e = pick (short limit (r .step)) (clear-tail x r _ e)
+  after-same x next before h (Solved r) e = pick (shortStep limit (r .step)) (clear-tail x r _ e)
     where
       y : List Float
       y = moved n x (r .step)
@@ -151,7 +151,7 @@ module _ (settings : Settings) (k : Clocks) (os : List Observation) where
 
   after-left : (x y : List Float) (before : List Float → Fit) → ((z : List Float) → Clear z (before z) → before z .end ≡ Reached y → seenAt os y ≡ true) → (o : Outcome) → Clear x (after n limit x before o) → after n limit x before o .end ≡ Reached y → seenAt os y ≡ true
   after-left x y before h (NoRound r) e q = absurd (let z : _≡_ {A = ℕ} 0 1 = cc in omega arith)
-  after-left x y before h (Solved r) e q = pick (short limit (r .step)) (clear-tail x r _ e) q
+  after-left x y before h (Solved r) e q = pick (shortStep limit (r .step)) (clear-tail x r _ e) q
     where
       pick : (b : Bool) → every (seenAt os) (met n (moved n x (r .step)) (cond b (ended (moved n x (r .step))) (before (moved n x (r .step))) .rounds)) ≡ true
           → cond b (ended (moved n x (r .step))) (before (moved n x (r .step))) .end ≡ Reached y → seenAt os y ≡ true

@@ -7,6 +7,7 @@ use mathlib.Core.List.{List, []}
 use lib.ListN.{length, take}
 use lib.Ieee.{Float}
 use lib.Ieee.Scale.{finite}
+use Rattle.walk.specs.Walk.{Holds}
 use Rattle.cholesky.specs.Factor.{at, Factored, Refused as NoFactor, Lower, factorOf}
 use Rattle.cholesky.specs.Answer.{rowsAfter}
 use Rattle.cholesky.specs.Answer as factor
@@ -14,7 +15,7 @@ use Rattle.numeric.specs.declared.refusal.Refusal.{Refusal}
 use Rattle.numeric.specs.declared.refusal.Refusal.the-variants.{FitFailed, QualityNotFinite}
 use Rattle.robust.specs.declared.row.Row.{Row}
 use Rattle.estimator.specs.Rules.{Rule, ruled, rowRules}
-use Rattle.records.specs.Record.{Holds, countedObservations}
+use Rattle.records.specs.Record.{countedObservations}
 use Rattle.clocks.specs.Clocks.{clocksOf}
 use Rattle.records.specs.Mask.{constellations}
 use Rattle.wls.specs.Valid.{fixInputRules}

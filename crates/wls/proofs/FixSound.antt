@@ -16,7 +16,7 @@ use Rattle.walk.specs.Walk.{every}
 use Rattle.cholesky.specs.Factor.{at}
 use Rattle.robust.specs.declared.row.Row.{Row}
 use Rattle.numeric.specs.declared.refusal.Refusal.{Refusal}
-use Rattle.robust.specs.Round.{Round, Solved, Sound, FiniteResiduals}
+use Rattle.robust.specs.Round.{Round, Solved, SoundRound, FiniteResiduals}
 use Rattle.robust.proofs.RoundSound.{round-sound, round-rows}
 use Rattle.robust.proofs.ResidualsFinite.{round-residuals}
 use Rattle.wls.specs.Front.{fixRules}
@@ -37,7 +37,7 @@ use Rattle.wls.proofs.FrontLaws.{fix-enough, fix-rounds}
 never : (s : Solution) (r : Refusal) → Refused r ≡ At s → ⊥
 never s r e = let z : _≡_ {A = ℕ} 0 1 = cc in omega arith
 
-one-sound : (settings : Settings) (k : Clocks) (os : List Observation) (x : List Float) (r : Round) → roundAt settings k os x ≡ Solved r → T (finite (at (r .step) 0)) → Sound r
+one-sound : (settings : Settings) (k : Clocks) (os : List Observation) (x : List Float) (r : Round) → roundAt settings k os x ≡ Solved r → T (finite (at (r .step) 0)) → SoundRound r
 one-sound settings k os x r e = round-sound (map (rowAt settings k x) os) (3 + k .count) (settings .huber) r (round-solved settings k os x r e)
 
 one-finite : (settings : Settings) (k : Clocks) (os : List Observation) (x : List Float) (r : Round) → roundAt settings k os x ≡ Solved r → T (finite (at (r .step) 0)) → FiniteResiduals r
@@ -120,7 +120,7 @@ fix-accepted i s e =
       pdop-finite = subst (λ (z : Solution). T (finite (z .pdop))) is (g .pdop);
       used-counted = used;
       redundant = omega (arith, used, many .redundant);
-      sound-rounds = fix-each Sound one-sound i s e;
+      sound-rounds = fix-each SoundRound one-sound i s e;
       finite-residuals = fix-each FiniteResiduals one-finite i s e;
     }
   where

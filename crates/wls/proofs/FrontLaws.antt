@@ -7,6 +7,7 @@ use native.Mathlib.Omega.{arith}
 use lib.Dec.{T, ltb, eqb}
 use borrow.Author.Tests.{ltb-false, not-false}
 use lib.Ieee.Fits.{and-r}
+use Rattle.walk.specs.Walk.{Holds}
 use Rattle.numeric.specs.Real.{inRange}
 use Rattle.numeric.specs.declared.vec3.Vec3.{Vec3}
 use Rattle.numeric.specs.declared.refusal.Refusal.{Refusal}
@@ -16,7 +17,7 @@ use Rattle.records.specs.declared.record.Observations.{Observations}
 use Rattle.wls.specs.declared.fix.Settings.{Settings as FixSettings}
 use Rattle.estimator.specs.declared.rules.Check.the-variants.{Refused, Passed}
 use lib.ListN.{length}
-use Rattle.records.specs.Record.{Holds, countedObservations}
+use Rattle.records.specs.Record.{countedObservations}
 use Rattle.clocks.specs.Clocks.{clocksOf}
 use Rattle.records.specs.Mask.{constellations as observedConstellations}
 use Rattle.wls.specs.Front.{fixRows, fixRules}

@@ -21,7 +21,7 @@ use Rattle.wls.specs.declared.fix.Settings.{Settings}
 use Rattle.wls.specs.declared.fix.Solution.{Solution}
 use Rattle.wls.specs.declared.fix.Fix.{Fix}
 use Rattle.wls.specs.declared.fix.Fix.the-variants.{Refused, At}
-use Rattle.wls.proofs.BeforeLaws.{fitBefore, rulesBefore, answerBefore, foundBefore, fixBefore}
+use Rattle.wls.proofs.BeforeLaws.{fitBefore, rulesBefore, answerBefore, fixBefore}
 
 -- 14, of the figures
 abbrev pub figureRules : Float → Float → List Rule

@@ -20,7 +20,7 @@ use Rattle.numeric.proofs.OrderLaws.{pattern-back}
 use Rattle.root.specs.Root.{rootOf}
 use Rattle.robust.specs.Nine.{nine}
 use Rattle.robust.specs.Round.{wide, total, triangleOf}
-use Rattle.robust.specs.Columns.{Columns, columns, rowIn, rowsIn}
+use Rattle.robust.specs.Columns.{Columns, rowIn, rowsIn}
 use Rattle.robust.specs.declared.row.Row.{Row}
 use Rattle.robust.proofs.NineLaws.{nine-is}
 use Rattle.robust.proofs.Sums.{sumTo, sumTo-zero, sumTo-next, sum-places}

@@ -22,7 +22,7 @@ use Rattle.numeric.specs.declared.sight.Sight.{Sight}
 use Rattle.numeric.specs.declared.vec3.Vec3.{Vec3}
 use Rattle.numeric.specs.declared.refusal.Refusal.the-variants.{FitFailed, QualityNotFinite, OnReceiver}
 use Rattle.robust.specs.Nine.{nine}
-use Rattle.robust.specs.Round.{wide, total, triangleOf, Round, Outcome, Refused as NoRound, roundOf, Sound, FiniteResiduals}
+use Rattle.robust.specs.Round.{wide, total, triangleOf, Round, Outcome, Refused as NoRound, roundOf, SoundRound, FiniteResiduals}
 use Rattle.robust.specs.Sigma.{elevationSigma}
 use Rattle.robust.specs.declared.row.Row.{Row}
 use Rattle.clocks.specs.Clocks.{slot, clocksOf}
@@ -206,7 +206,7 @@ pub record Accepted (i : Input) (s : Solution) : Type 0 where
   pub pdop-finite : T (finite (s .pdop))
   pub used-counted : s .used ≡ length (kept i)
   pub redundant : 3 + clocks i .count < s .used
-  pub sound-rounds : Each Sound (roundsOf i)
+  pub sound-rounds : Each SoundRound (roundsOf i)
   pub finite-residuals : Each FiniteResiduals (roundsOf i)
 
 -- the answer is the definition's, for every input whatever, and what it gives out is finite

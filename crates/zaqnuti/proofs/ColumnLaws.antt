@@ -8,8 +8,7 @@ use lib.ListN.{length, take}
 use lib.Seq.{take-all}
 use borrow.Author.Tests.{leb-true}
 use Rattle.walk.proofs.Walk.{places-length, and-both}
-use Rattle.walk.specs.Walk.{places}
-use Rattle.records.specs.Record.{Holds}
+use Rattle.walk.specs.Walk.{places, Holds}
 use Rattle.epoch_columns.proofs.ColumnLaws.{Filling, filled}
 use Rattle.zaqnuti.specs.Columns.{RowColumns, rowsFit, ObservationColumns, observationsFit}
 

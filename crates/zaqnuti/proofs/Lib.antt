@@ -7,5 +7,3 @@ pub mod EstimateLaws
 pub mod EstimateValues
 pub mod CorrectionLaws
 pub mod TimeLaws
-pub mod BetweenLaws
-pub mod CityLaws

@@ -4,11 +4,10 @@ use mathlib.Core.Bool.{Bool, true, false}
 use mathlib.Core.List.{List}
 use Prim.Native.Nat.{ℕ}
 use lib.Ieee.{Float}
-use Rattle.walk.specs.Walk.{places}
+use Rattle.walk.specs.Walk.{places, Holds}
 use Rattle.numeric.specs.declared.refusal.Refusal.the-variants.{TooMany}
 use Rattle.robust.specs.Step.{Stepped, counted, refused, stepOf}
 use Rattle.robust.specs.declared.row.Rows.{Rows}
-use Rattle.records.specs.Record.{Holds}
 use Rattle.zaqnuti.specs.Columns.{RowColumns, rowFrom, rowsFrom, rowsFit}
 use Rattle.zaqnuti.specs.Numbers.{stepNumber, StepAnswers, columnStepOf}
 use Rattle.zaqnuti.proofs.ColumnLaws.{held-count, held-all}

@@ -1,84 +1,36 @@
--- The displacement and the fix of a caller's columns: the number, and what the lent results hold afterwards. Definitions only.
+-- The fix of a caller's columns: the number, and what the lent results hold afterwards. Definitions only.
 use Prim.Native.Nat.{ℕ}
 use mathlib.Core.Path.{_≡_}
-use mathlib.Core.Bool.{cond, _&&_}
+use mathlib.Core.Bool.{cond}
 use mathlib.Core.List.{List, map}
 use lib.ListN.{getD}
 use lib.Ieee.{Float, nan}
-use Rattle.exact.specs.Float.{+0}
 use Rattle.numeric.specs.Order.{patternOf}
 use Rattle.numeric.specs.declared.refusal.Refusal.the-variants.{TooMany}
 use Rattle.numeric.specs.declared.vec3.Vec3.{Vec3}
-use Rattle.tdcp.specs.declared.displacement.Settings.{Settings as DisplacementSettings}
-use Rattle.wls.specs.declared.fix.Settings.{Settings as FixSettings}
-use Rattle.tdcp.specs.Displacement as displacement
-use Rattle.tdcp.specs.Displacement.{displacementOf, displacementNumber, displacementFloats, displacementCounts}
+use Rattle.wls.specs.declared.fix.Settings.{Settings}
 use Rattle.wls.specs.Fix as fix
 use Rattle.wls.specs.Fix.{fixOf, positionOf, fixNumber, fixFloats, positionNumber, positionFloats}
-use Rattle.tdcp.specs.declared.displacement.Delta.{Delta}
 use Rattle.wls.specs.declared.fix.Solution.{Solution}
-use Rattle.tdcp.specs.declared.displacement.Displacement.{Displacement}
-use Rattle.tdcp.specs.declared.displacement.Displacement.the-variants as Displacement
 use Rattle.wls.specs.declared.fix.Fix.{Fix}
 use Rattle.wls.specs.declared.fix.Fix.the-variants as Fix
 use Rattle.wls.specs.declared.fix.Position.{Position}
 use Rattle.wls.specs.declared.fix.Position.the-variants as Position
-use Rattle.records.specs.Carriers.{CarrierColumns, epochOf, epochFits}
 use Rattle.zaqnuti.specs.Columns.{ObservationColumns, observationsOf, observationsFit}
-
--- ---- a displacement
-
--- five floats (screen, sigma_a, sigma_b, huber, mask) and the rounds; `agreement` is neither read nor checked
-abbrev pub displacementSettings : List Float → ℕ → DisplacementSettings
-displacementSettings s rounds =
-    record {
-      screen = getD s 0 nan;
-      «sigma_a» = getD s 1 nan;
-      «sigma_b» = getD s 2 nan;
-      huber = getD s 3 nan;
-      mask = getD s 4 nan;
-      rounds = rounds;
-      agreement = +0;
-    }
-
--- what is handed over: the first m carriers of p, then the first n of c
-abbrev pub displacementInput : CarrierColumns → ℕ → CarrierColumns → ℕ → Float → Vec3 → DisplacementSettings → displacement.Input
-displacementInput p m c n dt receiver settings = record { previous = epochOf p m; current = epochOf c n; dt = dt; receiver = receiver; settings = settings }
-
--- The displacement of that input. 2: one epoch has more than 64, or one of its columns is too short.
-unfoldable pub columnDisplacementOf : CarrierColumns → ℕ → CarrierColumns → ℕ → Float → Vec3 → DisplacementSettings → Displacement
-columnDisplacementOf p m c n dt receiver settings =
-    cond (epochFits p m && epochFits c n) (displacementOf (displacementInput p m c n dt receiver settings)) (Displacement.Refused TooMany)
-
--- the patterns of the displacement in metres, and how many pairs were used and screened out; a refusal leaves both as they were, to the last bit
-abbrev pub deltaAfter : Displacement → List ℕ → List ℕ
-deltaAfter (Displacement.Refused r) before = before
-deltaAfter (Displacement.Moved d) before = map patternOf (displacementFloats (Displacement.Moved d))
-
-abbrev pub countsAfter : Displacement → List ℕ → List ℕ
-countsAfter (Displacement.Refused r) before = before
-countsAfter (Displacement.Moved d) before = displacementCounts (Displacement.Moved d)
-
--- The number and the lent results afterwards are those of the displacement d of the input i. An accepted one has what an accepted displacement has, demand 3 of every round included.
-pub record DisplacementAnswers (i : displacement.Input) (d : Displacement) (number : ℕ) (delta₀ delta : List ℕ) (counts₀ counts : List ℕ) : Type 0 where
-  pub number-is : number ≡ displacementNumber d
-  pub delta-is : delta ≡ deltaAfter d delta₀
-  pub counts-are : counts ≡ countsAfter d counts₀
-  pub accepted : (v : Delta) → d ≡ Displacement.Moved v → displacement.Accepted i v
 
 -- ---- a fix
 
 -- four floats (sigma_a, sigma_b, huber, mask) and the rounds
-abbrev pub fixSettings : List Float → ℕ → FixSettings
+abbrev pub fixSettings : List Float → ℕ → Settings
 fixSettings s rounds =
     record { «sigma_a» = getD s 0 nan; «sigma_b» = getD s 1 nan; huber = getD s 2 nan; mask = getD s 3 nan; rounds = rounds }
 
 -- what is handed over: the first n observations
-abbrev pub fixInput : ObservationColumns → ℕ → Vec3 → FixSettings → fix.Input
+abbrev pub fixInput : ObservationColumns → ℕ → Vec3 → Settings → fix.Input
 fixInput c n guess settings = record { observations = observationsOf c n; guess = guess; settings = settings }
 
 -- The fix of that input. 2: there are more than 64, or a column is too short.
-unfoldable pub columnFixOf : ObservationColumns → ℕ → Vec3 → FixSettings → Fix
+unfoldable pub columnFixOf : ObservationColumns → ℕ → Vec3 → Settings → Fix
 columnFixOf c n guess settings = cond (observationsFit c n) (fixOf (fixInput c n guess settings)) (Fix.Refused TooMany)
 
 -- the patterns of x, y, z, chi and pdop, and how many observations were used; a refusal leaves both as they were, to the last bit

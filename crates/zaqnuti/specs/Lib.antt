@@ -3,5 +3,3 @@ pub mod Numbers
 pub mod Estimates
 pub mod Track
 pub mod Times
-pub mod Between
-pub mod City

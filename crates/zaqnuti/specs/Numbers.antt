@@ -14,6 +14,10 @@ use Rattle.robust.specs.Step.{Stepped, refused, stepOf}
 use Rattle.robust.specs.declared.round.Stepping.{Stepping}
 use Rattle.robust.specs.declared.round.Stepping.the-variants as Stepping
 use Rattle.clocks.specs.declared.clocks.Clocks.{Clocks}
+use Rattle.rearrange.specs.declared.«directory_of».Filing.{Filing}
+use Rattle.rearrange.specs.declared.«directory_of».Filing.the-variants as Filing
+use Rattle.rearrange.specs.declared.«signals_of».Listing.{Listing}
+use Rattle.rearrange.specs.declared.«signals_of».Listing.the-variants as Listing
 use Rattle.zaqnuti.specs.Columns.{RowColumns, rowsFrom, rowsFit}
 
 abbrev pub factorNumber : Factored → ℕ
@@ -42,3 +46,16 @@ clocksFrom slot count = record { slot = slot; count = count }
 abbrev pub sightAfter : Sighting → List ℕ → List ℕ
 sightAfter (NotSeen r) before = before
 sightAfter (Seen s) before = map patternOf (s .x ∷ s .y ∷ s .z ∷ s .range ∷ [])
+
+-- what a rearrangement answers: its number, and how many entries there are after it, m before
+abbrev pub filingNumber : Filing → ℕ
+filingNumber (Filing.Refused r) = numberOf r
+filingNumber (Filing.Entries k) = 0
+
+abbrev pub filingCount : Filing → ℕ → ℕ
+filingCount (Filing.Refused r) m = m
+filingCount (Filing.Entries k) m = k
+
+abbrev pub listingNumber : Listing → ℕ
+listingNumber (Listing.Refused r) = numberOf r
+listingNumber Listing.Listed = 0

@@ -1,16 +1,10 @@
 // The entry point of the displacement between two times.
 ghost use mathlib.Core.Path.{_≡_};
 ghost use Rattle.records.specs.Carriers.{vectorAt, carrierColumns};
-ghost use Rattle.zaqnuti.specs.Estimates.{displacementSettings, DisplacementAnswers};
+ghost use Rattle.tdcp_columns.specs.Displacement.{displacementSettings, timedInput, columnBetweenOf, DisplacementAnswers};
 ghost use Rattle.zaqnuti.specs.Times.{timeAt};
-ghost use Rattle.zaqnuti.specs.Between as spec;
-use crate::columns::epoch_fits;
-use crate::columns::vector;
-use crate::estimates::displacement_settings;
-use numeric::order::pattern;
-use numeric::refusal::Refusal;
-use tdcp::between::between_in;
-use tdcp::displacement::Displacement;
+use tdcp_columns::displacement::answer_in;
+use tdcp_columns::displacement::between_of;
 use time::time::GpsTime;
 
 // The displacement between two epochs whose times are known in nanoseconds since the start of week 0: 0, the displacement in metres in delta and how many pairs
@@ -38,39 +32,17 @@ pub extern "C" fn zaqnuti_displacement_between(
     counts: &mut [usize; 2],
 ) -> u8
     ensures { λ r. ⌜ DisplacementAnswers
-        (spec.timedInput (carrierColumns (now («previous_constellation» .entry)) (now («previous_svid» .entry)) (now («previous_band» .entry)) (now («previous_state» .entry)) (now («previous_floats» .entry))) «previous_count» (carrierColumns (now («current_constellation» .entry)) (now («current_svid» .entry)) (now («current_band» .entry)) (now («current_state» .entry)) (now («current_floats» .entry))) «current_count» (timeAt «previous_time») (timeAt «current_time») (vectorAt (now (receiver .entry)) 0) (displacementSettings (now (settings .entry)) rounds))
-        (spec.columnBetweenOf (carrierColumns (now («previous_constellation» .entry)) (now («previous_svid» .entry)) (now («previous_band» .entry)) (now («previous_state» .entry)) (now («previous_floats» .entry))) «previous_count» (carrierColumns (now («current_constellation» .entry)) (now («current_svid» .entry)) (now («current_band» .entry)) (now («current_state» .entry)) (now («current_floats» .entry))) «current_count» (timeAt «previous_time») (timeAt «current_time») (vectorAt (now (receiver .entry)) 0) (displacementSettings (now (settings .entry)) rounds))
+        (timedInput (carrierColumns (now («previous_constellation» .entry)) (now («previous_svid» .entry)) (now («previous_band» .entry)) (now («previous_state» .entry)) (now («previous_floats» .entry))) «previous_count» (carrierColumns (now («current_constellation» .entry)) (now («current_svid» .entry)) (now («current_band» .entry)) (now («current_state» .entry)) (now («current_floats» .entry))) «current_count» (timeAt «previous_time») (timeAt «current_time») (vectorAt (now (receiver .entry)) 0) (displacementSettings (now (settings .entry)) rounds))
+        (columnBetweenOf (carrierColumns (now («previous_constellation» .entry)) (now («previous_svid» .entry)) (now («previous_band» .entry)) (now («previous_state» .entry)) (now («previous_floats» .entry))) «previous_count» (carrierColumns (now («current_constellation» .entry)) (now («current_svid» .entry)) (now («current_band» .entry)) (now («current_state» .entry)) (now («current_floats» .entry))) «current_count» (timeAt «previous_time») (timeAt «current_time») (vectorAt (now (receiver .entry)) 0) (displacementSettings (now (settings .entry)) rounds))
         r (now (delta .entry)) (now (delta .exit)) (now (counts .entry)) (now (counts .exit)) ⌝ }
 {
-    if !epoch_fits(
-        previous_constellation,
-        previous_svid,
-        previous_band,
-        previous_state,
-        previous_floats,
-        previous_count,
-    ) {
-        return Refusal::TooMany.number();
-    }
-    if !epoch_fits(
-        current_constellation,
-        current_svid,
-        current_band,
-        current_state,
-        current_floats,
-        current_count,
-    ) {
-        return Refusal::TooMany.number();
-    }
-    let at = vector(receiver);
-    let s = displacement_settings(settings, rounds);
     let before = GpsTime {
         nanos: previous_time,
     };
     let after = GpsTime {
         nanos: current_time,
     };
-    let answer = between_in(
+    let answer = between_of(
         previous_constellation,
         previous_svid,
         previous_band,
@@ -85,19 +57,9 @@ pub extern "C" fn zaqnuti_displacement_between(
         current_count,
         before,
         after,
-        at,
-        s,
+        receiver,
+        settings,
+        rounds,
     );
-    match answer {
-        Displacement::Moved(d) => {
-            let v = d.delta;
-            let x = pattern(v.x);
-            let y = pattern(v.y);
-            let z = pattern(v.z);
-            *delta = [x, y, z];
-            *counts = [d.used, d.screened];
-            0
-        }
-        Displacement::Refused(r) => r.number(),
-    }
+    answer_in(answer, delta, counts)
 }

@@ -3,8 +3,7 @@ ghost use mathlib.Core.Path.{_≡_};
 ghost use mathlib.Core.Bool.{true};
 ghost use Prim.Native.Nat.{_+_, _*_, _<_};
 ghost use lib.ListN.{length};
-ghost use Rattle.records.specs.Carriers.{vectorAt, carrierColumns, epochFits};
-ghost use Rattle.records.specs.Record.{Holds};
+ghost use Rattle.walk.specs.Walk.{Holds};
 ghost use Rattle.zaqnuti.specs.Columns as spec;
 use numeric::vec3::Vec3;
 use records::carriers::vector_at;
@@ -12,17 +11,6 @@ use records::record::Observation;
 use records::record::Observations;
 use robust::row::Row;
 use robust::row::Rows;
-
-// Three floats as a vector.
-pub(crate) fn vector(v: &[f64; 3]) -> Vec3
-    ensures { λ r. ⌜ r ≡ vectorAt (now (v .entry)) 0 ⌝ }
-{
-    Vec3 {
-        x: v[0],
-        y: v[1],
-        z: v[2],
-    }
-}
 
 // Whether there are at most 64 rows and no column is shorter than they need.
 pub(crate) fn rows_fit(
@@ -84,27 +72,6 @@ pub(crate) fn rows_of(
         out.row[i] = r;
     }
     out
-}
-
-// Whether there are at most 64 carriers and no column is shorter than they need.
-pub(crate) fn epoch_fits(
-    constellation: &[u8],
-    svid: &[u16],
-    band: &[u32],
-    state: &[i32],
-    floats: &[f64],
-    n: usize,
-) -> bool
-    ensures { λ r. ⌜ r ≡ epochFits (carrierColumns (now (constellation .entry)) (now (svid .entry)) (now (band .entry)) (now (state .entry)) (now (floats .entry))) n ⌝ }
-{
-    if n > 64 {
-        return false;
-    }
-    (n <= constellation.len())
-        & (n <= svid.len())
-        & (n <= band.len())
-        & (n <= state.len())
-        & (6 * n <= floats.len())
 }
 
 // Whether there are at most 64 observations and no column is shorter than they need.

@@ -2,7 +2,7 @@
 ghost use mathlib.Core.Path.{_≡_};
 ghost use Rattle.table.specs.Widen.{widenOf, wideningNumber, bandsAfter};
 ghost use Rattle.directory.specs.Directory.{lentBlocks, blockCapacity, directoryIn};
-ghost use Rattle.addition.specs.Add.{Places};
+ghost use Rattle.addition.specs.Add.{additionNumber, entriesNow, samplesNow, Places};
 ghost use Rattle.epoch_columns.specs.Epoch.{pointOf, settingsOf, entryIn};
 use addition::add::Addition;
 use differential::record::Settings;
@@ -10,6 +10,20 @@ use epoch_columns::epoch::add_from;
 use numeric::vec3::Vec3;
 use table::widen::Widening;
 use table::widen::widen_bands;
+
+// Both counts afterwards and 0, or the number of the refusal, which leaves them as they were.
+fn added_in(answer: Addition, blocks: &mut usize, n: &mut usize) -> u8
+    ensures { λ r. ⌜ (r ≡ additionNumber answer) × (now (blocks .exit) ≡ entriesNow answer (now (blocks .entry))) × (now (n .exit) ≡ samplesNow answer (now (n .entry))) ⌝ }
+{
+    match answer {
+        Addition::Refused(why) => why.number(),
+        Addition::Added(counts) => {
+            *blocks = counts.entries;
+            *n = counts.samples;
+            0
+        }
+    }
+}
 
 // One base epoch of k ranges, with j states of eight floats each (position, velocity, clock, modelled) or the mark that there are none, to the directory of
 // `blocks` entries and n samples: 0 and the columns and both counts with its corrections, or the number of the refusal, which leaves them as they were.
@@ -96,14 +110,7 @@ pub extern "C" fn zaqnuti_add_epoch(
         to,
         settings,
     );
-    match answer {
-        Addition::Refused(why) => why.number(),
-        Addition::Added(counts) => {
-            *blocks = counts.entries;
-            *n = counts.samples;
-            0
-        }
-    }
+    added_in(answer, blocks, n)
 }
 
 // The first n bands of a table that was written with 8 bits for each, at the front of a column of 32 bits: 0, or the number of the refusal, which leaves

@@ -4,7 +4,8 @@ ghost use mathlib.Core.Path.{_≡_};
 ghost use Rattle.records.specs.Carriers.{vectorAt, carrierColumns};
 ghost use Rattle.trip.specs.Words.{heldOf};
 ghost use Rattle.drive.specs.Drive.{begunOf, underNew, tested};
-ghost use Rattle.drive.specs.Lent.{settingsOf, lent, DrivingAnswers, BegunAnswers, TravelAnswers};
+ghost use Rattle.tdcp_columns.specs.Displacement.{displacementSettings};
+ghost use Rattle.drive.specs.Lent.{lent, DrivingAnswers, BegunAnswers, TravelAnswers};
 use drive::lent::begin_in;
 use drive::lent::change_in;
 use drive::lent::travel_in;
@@ -19,7 +20,7 @@ pub extern "C" fn zaqnuti_trip_begin(
     in_force: &mut [u64; 5],
     in_force_rounds: &mut usize,
 ) -> u8
-    ensures { λ r. ⌜ BegunAnswers (begunOf (settingsOf (now (settings .entry)) rounds) «per_km») r
+    ensures { λ r. ⌜ BegunAnswers (begunOf (displacementSettings (now (settings .entry)) rounds) «per_km») r
         (now (trip .entry)) (now (trip .exit)) (now («in_force» .entry)) (now («in_force» .exit)) (now («in_force_rounds» .entry)) (now («in_force_rounds» .exit)) ⌝ }
 {
     begin_in(settings, rounds, per_km, trip, in_force, in_force_rounds)
@@ -34,7 +35,7 @@ pub extern "C" fn zaqnuti_trip_settings(
     in_force: &mut [u64; 5],
     in_force_rounds: &mut usize,
 ) -> u8
-    ensures { λ r. ⌜ DrivingAnswers (underNew (settingsOf (now (settings .entry)) rounds) (tested (heldOf (now (trip .entry))))) r
+    ensures { λ r. ⌜ DrivingAnswers (underNew (displacementSettings (now (settings .entry)) rounds) (tested (heldOf (now (trip .entry))))) r
         (now («in_force» .entry)) (now («in_force» .exit)) (now («in_force_rounds» .entry)) (now («in_force_rounds» .exit)) ⌝ }
 {
     change_in(trip, settings, rounds, in_force, in_force_rounds)
@@ -65,7 +66,7 @@ pub extern "C" fn zaqnuti_trip_displacement(
     delta: &mut [u64; 3],
     counts: &mut [usize; 2],
 ) -> u8
-    ensures { λ r. ⌜ TravelAnswers (lent (carrierColumns (now («previous_constellation» .entry)) (now («previous_svid» .entry)) (now («previous_band» .entry)) (now («previous_state» .entry)) (now («previous_floats» .entry))) «previous_count» (carrierColumns (now («current_constellation» .entry)) (now («current_svid» .entry)) (now («current_band» .entry)) (now («current_state» .entry)) (now («current_floats» .entry))) «current_count» dt (vectorAt (now (receiver .entry)) 0) (settingsOf (now («in_force» .entry)) «in_force_rounds»)) pulses
+    ensures { λ r. ⌜ TravelAnswers (lent (carrierColumns (now («previous_constellation» .entry)) (now («previous_svid» .entry)) (now («previous_band» .entry)) (now («previous_state» .entry)) (now («previous_floats» .entry))) «previous_count» (carrierColumns (now («current_constellation» .entry)) (now («current_svid» .entry)) (now («current_band» .entry)) (now («current_state» .entry)) (now («current_floats» .entry))) «current_count» dt (vectorAt (now (receiver .entry)) 0) (displacementSettings (now («in_force» .entry)) «in_force_rounds»)) pulses
         r (now (trip .entry)) (now (trip .exit)) (now (delta .entry)) (now (delta .exit)) (now (counts .entry)) (now (counts .exit)) ⌝ }
 {
     travel_in(

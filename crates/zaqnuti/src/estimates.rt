@@ -3,49 +3,26 @@ ghost use mathlib.Core.Path.{_≡_};
 ghost use Prim.Native.Nat.{min};
 ghost use Rattle.records.specs.Carriers.{vectorAt, carrierColumns};
 ghost use Rattle.zaqnuti.specs.Columns.{observationColumns};
+ghost use Rattle.tdcp_columns.specs.Displacement as columns;
 ghost use Rattle.zaqnuti.specs.Estimates as spec;
-use crate::columns::epoch_fits;
 use crate::columns::observations_fit;
 use crate::columns::observations_of;
-use crate::columns::vector;
 use numeric::order::pattern;
 use numeric::refusal::Refusal;
-use tdcp::displacement::Displacement;
-use tdcp::displacement::Settings as DisplacementSettings;
-use tdcp::displacement::delta_in;
+use tdcp_columns::displacement::answer_in;
+use tdcp_columns::displacement::displacement_of;
+use tdcp_columns::settings::rounds_of;
+use tdcp_columns::settings::vector;
 use wls::fix::Fix;
-use wls::fix::Settings as FixSettings;
+use wls::fix::Settings;
 use wls::fix::solve_full;
 
-// The rounds as an estimator takes them: from 51 on they are refused alike.
-pub(crate) fn rounds_of(rounds: usize) -> u32
-    ensures { λ r. ⌜ r ≡ min rounds 51 ⌝ }
-{
-    if rounds < 51 { rounds as u32 } else { 51 }
-}
-
-// The settings of a displacement.
-pub(crate) fn displacement_settings(s: &[f64; 5], rounds: usize) -> DisplacementSettings
-    ensures { λ r. ⌜ r ≡ spec.displacementSettings (now (s .entry)) (min rounds 51) ⌝ }
-{
-    let n = rounds_of(rounds);
-    DisplacementSettings {
-        screen: s[0],
-        sigma_a: s[1],
-        sigma_b: s[2],
-        huber: s[3],
-        mask: s[4],
-        rounds: n,
-        agreement: 0.0,
-    }
-}
-
 // The settings of a fix.
-pub(crate) fn fix_settings(s: &[f64; 4], rounds: usize) -> FixSettings
+pub(crate) fn fix_settings(s: &[f64; 4], rounds: usize) -> Settings
     ensures { λ r. ⌜ r ≡ spec.fixSettings (now (s .entry)) (min rounds 51) ⌝ }
 {
     let n = rounds_of(rounds);
-    FixSettings {
+    Settings {
         sigma_a: s[0],
         sigma_b: s[1],
         huber: s[2],
@@ -76,34 +53,12 @@ pub extern "C" fn zaqnuti_displacement(
     delta: &mut [u64; 3],
     counts: &mut [usize; 2],
 ) -> u8
-    ensures { λ r. ⌜ spec.DisplacementAnswers
-        (spec.displacementInput (carrierColumns (now («previous_constellation» .entry)) (now («previous_svid» .entry)) (now («previous_band» .entry)) (now («previous_state» .entry)) (now («previous_floats» .entry))) «previous_count» (carrierColumns (now («current_constellation» .entry)) (now («current_svid» .entry)) (now («current_band» .entry)) (now («current_state» .entry)) (now («current_floats» .entry))) «current_count» dt (vectorAt (now (receiver .entry)) 0) (spec.displacementSettings (now (settings .entry)) rounds))
-        (spec.columnDisplacementOf (carrierColumns (now («previous_constellation» .entry)) (now («previous_svid» .entry)) (now («previous_band» .entry)) (now («previous_state» .entry)) (now («previous_floats» .entry))) «previous_count» (carrierColumns (now («current_constellation» .entry)) (now («current_svid» .entry)) (now («current_band» .entry)) (now («current_state» .entry)) (now («current_floats» .entry))) «current_count» dt (vectorAt (now (receiver .entry)) 0) (spec.displacementSettings (now (settings .entry)) rounds))
+    ensures { λ r. ⌜ columns.DisplacementAnswers
+        (columns.displacementInput (carrierColumns (now («previous_constellation» .entry)) (now («previous_svid» .entry)) (now («previous_band» .entry)) (now («previous_state» .entry)) (now («previous_floats» .entry))) «previous_count» (carrierColumns (now («current_constellation» .entry)) (now («current_svid» .entry)) (now («current_band» .entry)) (now («current_state» .entry)) (now («current_floats» .entry))) «current_count» dt (vectorAt (now (receiver .entry)) 0) (columns.displacementSettings (now (settings .entry)) rounds))
+        (columns.columnDisplacementOf (carrierColumns (now («previous_constellation» .entry)) (now («previous_svid» .entry)) (now («previous_band» .entry)) (now («previous_state» .entry)) (now («previous_floats» .entry))) «previous_count» (carrierColumns (now («current_constellation» .entry)) (now («current_svid» .entry)) (now («current_band» .entry)) (now («current_state» .entry)) (now («current_floats» .entry))) «current_count» dt (vectorAt (now (receiver .entry)) 0) (columns.displacementSettings (now (settings .entry)) rounds))
         r (now (delta .entry)) (now (delta .exit)) (now (counts .entry)) (now (counts .exit)) ⌝ }
 {
-    if !epoch_fits(
-        previous_constellation,
-        previous_svid,
-        previous_band,
-        previous_state,
-        previous_floats,
-        previous_count,
-    ) {
-        return Refusal::TooMany.number();
-    }
-    if !epoch_fits(
-        current_constellation,
-        current_svid,
-        current_band,
-        current_state,
-        current_floats,
-        current_count,
-    ) {
-        return Refusal::TooMany.number();
-    }
-    let at = vector(receiver);
-    let s = displacement_settings(settings, rounds);
-    let answer = delta_in(
+    let answer = displacement_of(
         previous_constellation,
         previous_svid,
         previous_band,
@@ -117,21 +72,11 @@ pub extern "C" fn zaqnuti_displacement(
         current_floats,
         current_count,
         dt,
-        at,
-        s,
+        receiver,
+        settings,
+        rounds,
     );
-    match answer {
-        Displacement::Moved(d) => {
-            let v = d.delta;
-            let x = pattern(v.x);
-            let y = pattern(v.y);
-            let z = pattern(v.z);
-            *delta = [x, y, z];
-            *counts = [d.used, d.screened];
-            0
-        }
-        Displacement::Refused(r) => r.number(),
-    }
+    answer_in(answer, delta, counts)
 }
 
 // The fix of the first `count` observations of the columns.

@@ -1,15 +1,9 @@
 // The entry point of the city displacement.
 ghost use mathlib.Core.Path.{_≡_};
 ghost use Rattle.records.specs.Carriers.{vectorAt, carrierColumns};
-ghost use Rattle.zaqnuti.specs.Estimates.{displacementSettings, DisplacementAnswers};
-ghost use Rattle.zaqnuti.specs.City as spec;
-use crate::columns::epoch_fits;
-use crate::columns::vector;
-use crate::estimates::displacement_settings;
-use city::city::city_in;
-use numeric::order::pattern;
-use numeric::refusal::Refusal;
-use tdcp::displacement::Displacement;
+ghost use Rattle.tdcp_columns.specs.Displacement.{displacementSettings, leftInput, columnCityOf, DisplacementAnswers};
+use tdcp_columns::displacement::answer_in;
+use tdcp_columns::displacement::city_of;
 
 // The displacement between two epochs by GPS (1) and Galileo (6) on the chosen band: 0, the displacement in metres in delta and how many of their pairs were used and
 // screened out in counts; or the refusal's number, which leaves both as they were.
@@ -36,33 +30,11 @@ pub extern "C" fn zaqnuti_city_displacement(
     counts: &mut [usize; 2],
 ) -> u8
     ensures { λ r. ⌜ DisplacementAnswers
-        (spec.leftInput (carrierColumns (now («previous_constellation» .entry)) (now («previous_svid» .entry)) (now («previous_band» .entry)) (now («previous_state» .entry)) (now («previous_floats» .entry))) «previous_count» (carrierColumns (now («current_constellation» .entry)) (now («current_svid» .entry)) (now («current_band» .entry)) (now («current_state» .entry)) (now («current_floats» .entry))) «current_count» dt band (vectorAt (now (receiver .entry)) 0) (displacementSettings (now (settings .entry)) rounds))
-        (spec.columnCityOf (carrierColumns (now («previous_constellation» .entry)) (now («previous_svid» .entry)) (now («previous_band» .entry)) (now («previous_state» .entry)) (now («previous_floats» .entry))) «previous_count» (carrierColumns (now («current_constellation» .entry)) (now («current_svid» .entry)) (now («current_band» .entry)) (now («current_state» .entry)) (now («current_floats» .entry))) «current_count» dt band (vectorAt (now (receiver .entry)) 0) (displacementSettings (now (settings .entry)) rounds))
+        (leftInput (carrierColumns (now («previous_constellation» .entry)) (now («previous_svid» .entry)) (now («previous_band» .entry)) (now («previous_state» .entry)) (now («previous_floats» .entry))) «previous_count» (carrierColumns (now («current_constellation» .entry)) (now («current_svid» .entry)) (now («current_band» .entry)) (now («current_state» .entry)) (now («current_floats» .entry))) «current_count» dt band (vectorAt (now (receiver .entry)) 0) (displacementSettings (now (settings .entry)) rounds))
+        (columnCityOf (carrierColumns (now («previous_constellation» .entry)) (now («previous_svid» .entry)) (now («previous_band» .entry)) (now («previous_state» .entry)) (now («previous_floats» .entry))) «previous_count» (carrierColumns (now («current_constellation» .entry)) (now («current_svid» .entry)) (now («current_band» .entry)) (now («current_state» .entry)) (now («current_floats» .entry))) «current_count» dt band (vectorAt (now (receiver .entry)) 0) (displacementSettings (now (settings .entry)) rounds))
         r (now (delta .entry)) (now (delta .exit)) (now (counts .entry)) (now (counts .exit)) ⌝ }
 {
-    if !epoch_fits(
-        previous_constellation,
-        previous_svid,
-        previous_band,
-        previous_state,
-        previous_floats,
-        previous_count,
-    ) {
-        return Refusal::TooMany.number();
-    }
-    if !epoch_fits(
-        current_constellation,
-        current_svid,
-        current_band,
-        current_state,
-        current_floats,
-        current_count,
-    ) {
-        return Refusal::TooMany.number();
-    }
-    let at = vector(receiver);
-    let s = displacement_settings(settings, rounds);
-    let answer = city_in(
+    let answer = city_of(
         previous_constellation,
         previous_svid,
         previous_band,
@@ -77,19 +49,9 @@ pub extern "C" fn zaqnuti_city_displacement(
         current_count,
         dt,
         band,
-        at,
-        s,
+        receiver,
+        settings,
+        rounds,
     );
-    match answer {
-        Displacement::Moved(d) => {
-            let v = d.delta;
-            let x = pattern(v.x);
-            let y = pattern(v.y);
-            let z = pattern(v.z);
-            *delta = [x, y, z];
-            *counts = [d.used, d.screened];
-            0
-        }
-        Displacement::Refused(r) => r.number(),
-    }
+    answer_in(answer, delta, counts)
 }

@@ -8,7 +8,6 @@ ghost use Rattle.zaqnuti.specs.Columns.{rowColumns};
 ghost use Rattle.zaqnuti.specs.Numbers.{sightAfter, columnStepOf, StepAnswers};
 use crate::columns::rows_fit;
 use crate::columns::rows_of;
-use crate::columns::vector;
 use median::centre::Centre;
 use median::centre::centre_scale;
 use numeric::order::pattern;
@@ -18,6 +17,7 @@ use numeric::sight::geometry;
 use robust::round::Stepping;
 use robust::round::step;
 use robust::sigma::elevation_sigma;
+use tdcp_columns::settings::vector;
 
 // The centre and the scale of the residuals' patterns in out and 0, or 2 for more than 64, which leaves out as it was.
 #[no_mangle]

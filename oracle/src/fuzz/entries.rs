@@ -8,6 +8,7 @@ mod fix;
 mod forget;
 mod line;
 mod pieces;
+mod rearrange;
 mod times;
 mod track;
 mod trips;
@@ -35,6 +36,8 @@ pub const ENTRIES: &[Entry] = &[
     ("queries", corrections::queries),
     ("widen_bands", corrections::widen_bands),
     ("forget", forget::forget),
+    ("directory_of", rearrange::directory_of),
+    ("signals_of", rearrange::signals_of),
     ("smooth", track::smooth),
     ("times", times::times),
     ("trip", trips::trip),

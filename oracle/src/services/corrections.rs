@@ -30,18 +30,8 @@ pub const SERVICE: Service = Service {
 
 /// What the Rust builds of the epochs.
 pub fn reference(epochs: &[Epoch], base: [f64; 3], rover: [f64; 3], set: &Settings) -> Corrections {
-    let station = Base {
-        name: String::new(),
-        position: base,
-        epochs: epochs
-            .iter()
-            .map(|e| BaseEpoch {
-                tow: e.time,
-                ranges: e.ranges.clone(),
-            })
-            .collect(),
-    };
     let mut states = epochs.iter().map(|e| e.present.then(|| e.states.clone()));
+    let station = station(epochs, base);
     build(&station, rover, |_| states.next().unwrap(), set)
 }
 
@@ -582,14 +572,7 @@ fn time(random: &mut Random) {
     };
     let epochs: Vec<Epoch> = (0..60).map(|i| one(f64::from(i) * 30.0)).collect();
     let first = Columns::of(&epochs[0], Naming::PLAIN);
-    let station = Base {
-        name: String::new(),
-        position: base,
-        epochs: vec![BaseEpoch {
-            tow: epochs[0].time,
-            ranges: epochs[0].ranges.clone(),
-        }],
-    };
+    let alone = station(&epochs[..1], base);
     let states = &epochs[0].states;
     let mut table = Table::lent([2048; 7]);
     bench::row(
@@ -602,18 +585,20 @@ fn time(random: &mut Random) {
         },
         || {
             black_box(build(
-                black_box(&station),
+                black_box(&alone),
                 rover,
                 |_| Some(states.clone()),
                 &set,
             ));
         },
     );
+    let later: Vec<Epoch> = (60..64).map(|i| one(f64::from(i) * 30.0)).collect();
     let mut full = Table::lent([2048; 7]);
     for e in &epochs {
         Columns::of(e, Naming::PLAIN).add(&mut full, &base, &rover, &set);
     }
     let c = reference(&epochs, base, rover, &set);
+    more_epochs((&epochs, &later), (&full, &c), (&base, &rover), &set);
     // Signals and times that no predictor of branches learns.
     let each: Vec<((u8, u16, u32), f64)> = (0..4096)
         .map(|_| {
@@ -651,6 +636,79 @@ fn time(random: &mut Random) {
         let table = Table::lent([2048; 7]).with(&part.series, Naming::PLAIN);
         let name = format!("queries, {missing} % missing");
         each_of_one_call(&name, &table, &part, &each);
+    }
+}
+
+/// Epochs more to a table of many; beside it the Rust's `build` of each by itself, its samples put into the series and these sorted, as `build` sorts
+/// them, and then its `build` of all epochs up to each, which is its own way. Both sides begin anew with each round.
+fn more_epochs(
+    (epochs, later): (&[Epoch], &[Epoch]),
+    (full, c): (&Table, &Corrections),
+    (base, rover): (&[f64; 3], &[f64; 3]),
+    set: &Settings,
+) {
+    let columns: Vec<Columns> = later
+        .iter()
+        .map(|e| Columns::of(e, Naming::PLAIN))
+        .collect();
+    let mut table = full.clone();
+    let mut ours = || {
+        table.ts[..full.n].copy_from_slice(&full.ts[..full.n]);
+        table.xs[..full.n].copy_from_slice(&full.xs[..full.n]);
+        table.df[..full.m].copy_from_slice(&full.df[..full.m]);
+        table.dn[..full.m].copy_from_slice(&full.dn[..full.m]);
+        (table.m, table.n) = (full.m, full.n);
+        for e in &columns {
+            assert_eq!(e.add(black_box(&mut table), base, rover, set), 0);
+        }
+    };
+    let alone: Vec<Base> = later
+        .iter()
+        .map(|e| station(std::slice::from_ref(e), *base))
+        .collect();
+    let mut series = c.series.clone();
+    let (size, calls) = (full.n, later.len());
+    bench::row("add an epoch to a table", size, calls, &mut ours, || {
+        for (own, old) in series.values_mut().zip(c.series.values()) {
+            own.truncate(old.len());
+        }
+        for (e, one) in later.iter().zip(&alone) {
+            let states = |_| Some(e.states.clone());
+            forget::put(&mut series, &build(one, *rover, states, set).series);
+        }
+        black_box(&series);
+    });
+    let all: Vec<Epoch> = epochs.iter().chain(later).cloned().collect();
+    let states = |tow: f64| {
+        let at = all.iter().find(|e| e.time == tow);
+        at.map(|e| e.states.clone())
+    };
+    let whole: Vec<Base> = (epochs.len() + 1..=all.len())
+        .map(|n| station(&all[..n], *base))
+        .collect();
+    bench::row(
+        "add an epoch, all built anew",
+        size,
+        calls,
+        &mut ours,
+        || {
+            for one in &whole {
+                black_box(build(black_box(one), *rover, states, set));
+            }
+        },
+    );
+}
+
+/// A base with these epochs.
+fn station(epochs: &[Epoch], position: [f64; 3]) -> Base {
+    let epoch = |e: &Epoch| BaseEpoch {
+        tow: e.time,
+        ranges: e.ranges.clone(),
+    };
+    Base {
+        name: String::new(),
+        position,
+        epochs: epochs.iter().map(epoch).collect(),
     }
 }
 

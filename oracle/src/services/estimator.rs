@@ -27,6 +27,10 @@ pub trait Call<const F: usize, const C: usize>: Sized {
     }
     /// The Rust's answer within the rules, or the number of the refusal.
     fn theirs(input: &Self::Input) -> Result<Answer<F, C>, u8>;
+    /// Of an input that 14 turns away, whether chi and whether pdop is not finite.
+    fn not_finite(_: &Self::Input) -> [bool; 2] {
+        [false; 2]
+    }
     /// The Rust alone.
     fn rust(input: &Self::Input);
     /// A column that is shorter than the count needs, or columns that are longer.
@@ -62,6 +66,8 @@ pub fn compare<const F: usize, const C: usize, K: Call<F, C>>(
 ) {
     let mut numbers = Numbers::default();
     let (mut still, mut far, mut odd) = (0u64, 0u64, 0u64);
+    // Refused by 14: chi, pdop, both.
+    let mut quality = [0u64; 3];
     for _ in 0..count {
         let input = K::input(random);
         let mut call = K::of(&input);
@@ -79,6 +85,14 @@ pub fn compare<const F: usize, const C: usize, K: Call<F, C>>(
         };
         let their_number = *expected.as_ref().err().unwrap_or(&0);
         numbers.count(their_number);
+        if their_number == 14 {
+            match K::not_finite(&input) {
+                [true, false] => quality[0] += 1,
+                [false, true] => quality[1] += 1,
+                [true, true] => quality[2] += 1,
+                [false, false] => {}
+            }
+        }
         // A refusal keeps every bit; in an answer all NaNs are one value.
         let (theirs, same) = match expected {
             Ok(theirs) => {
@@ -102,8 +116,14 @@ pub fn compare<const F: usize, const C: usize, K: Call<F, C>>(
             )
         });
     }
+    let by = match quality {
+        [0, 0, 0] => String::new(),
+        [chi, pdop, both] => {
+            format!("; 14 by chi alone {chi}, by pdop alone {pdop}, by both {both}")
+        }
+    };
     tally.note(format!(
-        "{numbers}; accepted with zero rounds {still}, with a float above 1e9 {far}, with one that is not finite {odd}"
+        "{numbers}; accepted with zero rounds {still}, with a float above 1e9 {far}, with one that is not finite {odd}{by}"
     ));
 }
 

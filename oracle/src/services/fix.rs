@@ -83,6 +83,10 @@ impl estimator::Call<5, 1> for Call {
         Ok(([p.x, p.y, p.z, s.chi, s.pdop], [s.used]))
     }
 
+    fn not_finite(input: &Fix) -> [bool; 2] {
+        input.not_finite()
+    }
+
     #[inline]
     fn rust(input: &Fix) {
         black_box(input.rust());

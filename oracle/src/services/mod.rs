@@ -15,7 +15,7 @@ pub mod factor;
 mod fix;
 pub mod line;
 mod order;
-mod rearrange;
+pub mod rearrange;
 mod root;
 pub mod round;
 mod sight;
@@ -73,6 +73,8 @@ pub const KINDS: &[(u64, &str, Make)] = &[
     (22, "between", between::vectors),
     (23, "widen", corrections::stored::widen),
     (27, "trip", trip::vectors),
+    (33, "directory", rearrange::directories),
+    (34, "signals", rearrange::signals),
     (35, "forget", corrections::forget::vectors),
     (40, "read", wire::read),
     (41, "write", wire::write),

@@ -2,30 +2,34 @@
 //! with each fault, and columns of every length; every bit of every lent column and count after every call.
 
 use super::corrections::damaged::damage;
-use super::corrections::lent::Table;
+use super::corrections::lent::{in_range, Table};
 use super::corrections::odd;
+use super::corrections::stored::{blocks, samples, signal};
 use super::Service;
+use crate::bench;
 use crate::random::Random;
 use crate::tally::Tally;
+use crate::vectors::{of_each, turned, Case, Vectors};
+use std::hint::black_box;
 use zaqnuti::sys::{zaqnuti_directory_of, zaqnuti_signals_of};
 
 pub const SERVICE: Service = Service {
     name: "rearrange",
     count: 200_000,
     compare,
-    bench: None,
+    bench: Some(time),
 };
 
 /// A table with a signal for each sample.
 #[derive(Clone, Debug, PartialEq)]
-struct Signals {
-    cs: Vec<u8>,
-    vs: Vec<u16>,
-    bs: Vec<u32>,
+pub struct Signals {
+    pub cs: Vec<u8>,
+    pub vs: Vec<u16>,
+    pub bs: Vec<u32>,
 }
 
 impl Signals {
-    fn lent(lengths: [usize; 3]) -> Self {
+    pub fn lent(lengths: [usize; 3]) -> Self {
         Self {
             cs: vec![0x5A; lengths[0]],
             vs: vec![0x5A5A; lengths[1]],
@@ -42,10 +46,6 @@ impl Signals {
     }
 }
 
-fn in_range(x: f64) -> bool {
-    x.is_finite() && x.abs() <= 1e9
-}
-
 /// Number 4 of the form without a directory.
 fn sorted(s: &Signals, t: &Table) -> bool {
     (0..t.n).all(|i| in_range(t.ts[i]) && in_range(t.xs[i]))
@@ -55,8 +55,31 @@ fn sorted(s: &Signals, t: &Table) -> bool {
         })
 }
 
+/// The directory of a sorted table, in its place.
+fn file(s: &Signals, t: &mut Table) {
+    t.m = 0;
+    for i in 0..t.n {
+        if i > 0 && s.name(i - 1) == s.name(i) {
+            t.dn[t.m - 1] += 1;
+            continue;
+        }
+        (t.dc[t.m], t.dv[t.m], t.db[t.m]) = s.name(i);
+        (t.df[t.m], t.dn[t.m]) = (i, 1);
+        t.m += 1;
+    }
+}
+
+/// The signals of a sound table, in their places.
+fn list(t: &Table, s: &mut Signals) {
+    for j in 0..t.m {
+        for i in t.df[j]..t.df[j] + t.dn[j] {
+            (s.cs[i], s.vs[i], s.bs[i]) = t.name(j);
+        }
+    }
+}
+
 /// The directory by the model, or the refusal.
-fn filed(s: &Signals, t: &Table) -> Result<Table, u8> {
+pub fn filed(s: &Signals, t: &Table) -> Result<Table, u8> {
     if t.n > t.capacity().min(s.shortest()) {
         return Err(2);
     }
@@ -64,21 +87,12 @@ fn filed(s: &Signals, t: &Table) -> Result<Table, u8> {
         return Err(4);
     }
     let mut out = t.clone();
-    out.m = 0;
-    for i in 0..t.n {
-        if i > 0 && s.name(i - 1) == s.name(i) {
-            out.dn[out.m - 1] += 1;
-            continue;
-        }
-        (out.dc[out.m], out.dv[out.m], out.db[out.m]) = s.name(i);
-        (out.df[out.m], out.dn[out.m]) = (i, 1);
-        out.m += 1;
-    }
+    file(s, &mut out);
     Ok(out)
 }
 
 /// The signals by the model, or the refusal.
-fn listed(t: &Table, into: &Signals) -> Result<Signals, u8> {
+pub fn listed(t: &Table, into: &Signals) -> Result<Signals, u8> {
     let room = t.capacity().min(into.shortest());
     if t.m > room || t.n > room {
         return Err(2);
@@ -87,9 +101,7 @@ fn listed(t: &Table, into: &Signals) -> Result<Signals, u8> {
         return Err(4);
     }
     let mut out = into.clone();
-    for i in 0..t.n {
-        (out.cs[i], out.vs[i], out.bs[i]) = t.name(t.holding(i));
-    }
+    list(t, &mut out);
     Ok(out)
 }
 
@@ -187,7 +199,11 @@ fn table(random: &mut Random) -> (Signals, Table) {
             )
         })
         .collect();
-    rows.sort_by(|a, b| (a.0, a.1, a.2).cmp(&(b.0, b.1, b.2)).then(a.3.total_cmp(&b.3)));
+    rows.sort_by(|a, b| {
+        (a.0, a.1, a.2)
+            .cmp(&(b.0, b.1, b.2))
+            .then(a.3.total_cmp(&b.3))
+    });
     let mut s = Signals::lent(lengths(random, n));
     let mut t = Table::lent(lengths(random, n));
     t.n = n;
@@ -224,7 +240,10 @@ fn compare(tally: &mut Tally, random: &mut Random, count: u64) {
         };
         numbers[usize::from(want) / 2] += 1;
         tally.judge(number == want && t.bits() == after.bits(), || {
-            format!("directory_of {s:?} {} samples: {number}, not {want}", before.n)
+            format!(
+                "directory_of {s:?} {} samples: {number}, not {want}",
+                before.n
+            )
         });
         // The way back, from the directory made or from a damaged one.
         let mut from = after;
@@ -240,11 +259,131 @@ fn compare(tally: &mut Tally, random: &mut Random, count: u64) {
         };
         numbers[usize::from(want) / 2] += 1;
         tally.judge(number == want && into == after, || {
-            format!("signals_of {} entries, {} samples: {number}, not {want}", from.m, from.n)
+            format!(
+                "signals_of {} entries, {} samples: {number}, not {want}",
+                from.m, from.n
+            )
         });
     }
     tally.note(format!(
         "answered {}, refused by 2 {}, by 4 {}",
         numbers[0], numbers[1], numbers[2]
     ));
+}
+
+/// How many samples a stored case has at the most.
+const ROOM: usize = 32;
+
+/// How many samples, the lengths of the old columns 5 and of the directory's 5, each sample 5; number, and where it is 0 the directory's blocks 5 each
+/// behind their count.
+fn directory_case(random: &mut Random) -> Option<(u8, Case)> {
+    let (s, t) = table(random);
+    if t.n > ROOM {
+        return None;
+    }
+    let old = [s.cs.len(), s.vs.len(), s.bs.len(), t.ts.len(), t.xs.len()];
+    let new = [t.dc.len(), t.dv.len(), t.db.len(), t.df.len(), t.dn.len()];
+    let mut given = vec![t.n as u64];
+    given.extend(old.iter().chain(&new).map(|&length| length as u64));
+    for i in 0..t.n {
+        // Past the end of a short column zeros stand.
+        let at = |x: Option<&f64>| x.map_or(0, |x| x.to_bits());
+        let c = s.cs.get(i).map_or(0, |&c| c);
+        let v = s.vs.get(i).map_or(0, |&v| v);
+        let b = s.bs.get(i).map_or(0, |&b| b);
+        given.extend(signal(c, v, b));
+        given.extend([at(t.ts.get(i)), at(t.xs.get(i))]);
+    }
+    let (number, answer) = match filed(&s, &t) {
+        Err(number) => (number, vec![number.into()]),
+        Ok(d) => (0, [vec![0, d.m as u64], blocks(&d)].concat()),
+    };
+    Some((number, (given, answer)))
+}
+
+/// Directories of stored tables; the altered ones are copies of the last with two blocks or three.
+pub fn directories(random: &mut Random) -> Vectors {
+    let cases = of_each(&[(0, 18), (2, 6), (4, 8)], || directory_case(random));
+    altered(cases, |answer| (2..4).contains(&answer[1]))
+}
+
+/// Blocks 5 each and samples 2 each (32 at most), the lengths of the three columns; number, and where it is 0 the signals 3 each.
+fn signals_case(random: &mut Random) -> Option<(u8, Case)> {
+    let (s, old) = table(random);
+    let filed = filed(&s, &old).ok().filter(|t| t.n <= ROOM)?;
+    let mut t = Table::lent([ROOM; 7]);
+    for j in 0..filed.m {
+        let places = filed.df[j]..filed.df[j] + filed.dn[j];
+        let series: Vec<(f64, f64)> = places.map(|i| (filed.ts[i], filed.xs[i])).collect();
+        t.block(filed.name(j), &series);
+    }
+    if random.below(3) == 0 {
+        damage(random, &mut t);
+    }
+    let into = Signals::lent(lengths(random, t.n));
+    let mut given = samples(&t);
+    given.extend([into.cs.len(), into.vs.len(), into.bs.len()].map(|length| length as u64));
+    let (number, answer) = match listed(&t, &into) {
+        Err(number) => (number, vec![number.into()]),
+        Ok(s) => {
+            let each = (0..t.n).flat_map(|i| signal(s.cs[i], s.vs[i], s.bs[i]));
+            (0, [0].into_iter().chain(each).collect())
+        }
+    };
+    Some((number, (given, answer)))
+}
+
+/// Signals of directories; the altered ones are copies of the last of two samples or three.
+pub fn signals(random: &mut Random) -> Vectors {
+    let cases = of_each(&[(0, 18), (2, 6), (4, 8)], || signals_case(random));
+    altered(cases, |answer| (7..=10).contains(&answer.len()))
+}
+
+/// The cases, with a copy of the last accepted short one for each number of its answer.
+fn altered(cases: Vec<Case>, short: impl Fn(&[u64]) -> bool) -> Vectors {
+    let fits = |c: &&Case| c.1[0] == 0 && short(&c.1);
+    let last = cases.iter().rev().find(fits).expect("a short table");
+    let altered = (0..last.1.len()).map(|k| turned(last, k)).collect();
+    Vectors { cases, altered }
+}
+
+/// A full table of 32 signals, both ways; beside it the model, whose tests of the table are the library's.
+fn time(_random: &mut Random) {
+    let mut ours = Table::lent([2048; 7]);
+    for svid in 0..32 {
+        let series: Vec<(f64, f64)> = (0..64)
+            .map(|i| (f64::from(i) * 30.0, f64::from(i)))
+            .collect();
+        ours.block((1, svid, 1), &series);
+    }
+    let table = ours.clone();
+    let mut theirs = ours.clone();
+    let old = listed(&table, &Signals::lent([2048; 3])).expect("a sound table");
+    bench::row(
+        "directory_of",
+        table.n,
+        1,
+        || {
+            black_box(directory_of(black_box(&old), black_box(&mut ours)));
+        },
+        || {
+            if sorted(black_box(&old), &theirs) {
+                file(black_box(&old), black_box(&mut theirs));
+            }
+        },
+    );
+    let (mut ours, mut theirs) = (old.clone(), old);
+    bench::row(
+        "signals_of",
+        table.n,
+        1,
+        || {
+            black_box(signals_of(black_box(&table), black_box(&mut ours)));
+        },
+        || {
+            if black_box(&table).sound() {
+                list(black_box(&table), black_box(&mut theirs));
+            }
+        },
+    );
 }

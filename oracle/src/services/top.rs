@@ -54,6 +54,10 @@ macro_rules! under {
                 <$call>::theirs(input)
             }
 
+            fn not_finite(input: &$input) -> [bool; 2] {
+                <$call>::not_finite(input)
+            }
+
             fn rust(input: &$input) {
                 <$call>::rust(input);
             }

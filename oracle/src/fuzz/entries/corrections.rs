@@ -8,7 +8,7 @@ use crate::services::corrections::{self, lent as base, past};
 use drifters_gnss::differential::{self, Corrections, SatelliteState};
 use drifters_gnss::rinex::BaseRange;
 
-type Sample = (u8, u16, u32, f64, f64);
+pub(super) type Sample = (u8, u16, u32, f64, f64);
 
 /// In the table's order.
 fn order(a: &Sample, b: &Sample) -> std::cmp::Ordering {
@@ -23,8 +23,8 @@ pub(super) fn naming(b: &mut Bytes) -> Naming {
     *Naming::FAR.get(far % 8).unwrap_or(&Naming::PLAIN)
 }
 
-/// A table of few samples, sorted or not, in columns that may be longer or shorter.
-pub(super) fn table(b: &mut Bytes, naming: Naming) -> base::Table {
+/// Few samples, sorted or not.
+pub(super) fn rows(b: &mut Bytes, naming: Naming) -> Vec<Sample> {
     let n = b.below(40);
     let sorted = b.byte() > 20;
     b.plain_above(40);
@@ -49,6 +49,13 @@ pub(super) fn table(b: &mut Bytes, naming: Naming) -> base::Table {
     if sorted {
         samples.sort_by(order);
     }
+    samples
+}
+
+/// A table of few samples, sorted or not, in columns that may be longer or shorter.
+pub(super) fn table(b: &mut Bytes, naming: Naming) -> base::Table {
+    let samples = rows(b, naming);
+    let n = samples.len();
     let room = n + b.below(80);
     let mut t = base::Table::lent(std::array::from_fn(|_| room + b.below(3)));
     lay(&mut t, &samples);

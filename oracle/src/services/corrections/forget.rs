@@ -85,7 +85,7 @@ fn retained(series: &[(f64, f64)], time: f64) -> Vec<(f64, f64)> {
 }
 
 /// One series more for each signal of an epoch, in the order of time, those of equal times as they came.
-fn put(series: &mut Series, new: &Series) {
+pub(super) fn put(series: &mut Series, new: &Series) {
     for (key, samples) in new {
         let own = series.entry(*key).or_default();
         own.extend(samples);

@@ -13,7 +13,7 @@ use drifters_gnss::differential::{Corrections, Settings};
 const ROOM: usize = 32;
 
 /// The blocks of a table: constellation, svid, band, first sample, how many.
-fn blocks(t: &Table) -> Vec<u64> {
+pub fn blocks(t: &Table) -> Vec<u64> {
     (0..t.m.min(ROOM))
         .flat_map(|j| {
             let [c, v, b] = signal(t.dc[j], t.dv[j], t.db[j]);
@@ -71,7 +71,7 @@ pub(super) fn spoil(random: &mut Random, t: &mut Table) {
 }
 
 /// How many blocks, and each of them; how many samples, and each of them.
-pub(super) fn samples(t: &Table) -> Vec<u64> {
+pub fn samples(t: &Table) -> Vec<u64> {
     let mut out = vec![t.m as u64];
     out.extend(blocks(t));
     out.push(t.n as u64);
@@ -80,7 +80,7 @@ pub(super) fn samples(t: &Table) -> Vec<u64> {
 }
 
 /// The numbers of a signal.
-fn signal(c: u8, v: u16, b: u32) -> [u64; 3] {
+pub fn signal(c: u8, v: u16, b: u32) -> [u64; 3] {
     [u64::from(c), u64::from(v), u64::from(b)]
 }
 

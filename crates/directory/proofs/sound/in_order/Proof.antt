@@ -32,8 +32,8 @@ mul-count c = let a = c .before .before .before .before .before .before .before 
 shared-slice-read-count : tie.Need-shared-slice-read-count Inv-loop μ-loop
 shared-slice-read-count c = let a = c .before .before .before .before .before .before .before .before .before .before .before .args in omega (arith, c .before .before .before .before .before .before .before .before .before .before .before .pre .0, entries-length (a .dc .now) (a .dv .now) (a .db .now) (a .df .now) (a .dn .now))
 
-is-timely-requires : tie.Need-is-timely-requires Inv-loop μ-loop
-is-timely-requires c κs =
+in-turn-requires : tie.Need-in-turn-requires Inv-loop μ-loop
+in-turn-requires c κs =
     let s = c .before .before .before .before .before .before .before .before .before .before .before in
     let a = s .args in
     let h = c .before .before .before .loop in
@@ -51,7 +51,7 @@ returns c =
     let at = entry-at (a .dc .now) (a .dv .now) (a .db .now) (a .df .now) (a .dn .now) (h .i) l in
     let t = tile-at _ (a .m) (s .pre .0) _ (h .i) (c .before .before .before .before .loop-test .taken) (s .pre .1 .1) at in
     every-no _ _ (s .pre .0) (h .i) noEntry (c .before .before .before .before .loop-test .taken) (λ e. timely (blockTimes (take (a .n) (readingRows (a .ts .now) (a .xs .now))) e)) (h .inv .1)
-    (c .before .is-timely .ensures ∙ times-of (a .ts .now) (a .xs .now) (a .n) (s .pre .1 .0) (t .within) at) (not-true (c .before .is-timely .result) (c .if1 .taken))
+    (c .before .in-turn .ensures ∙ times-of (a .ts .now) (a .xs .now) (a .n) (s .pre .1 .0) (t .within) at) (not-true (c .before .in-turn .result) (c .if1 .taken))
 
 add-i : tie.Need-add-i Inv-loop μ-loop
 add-i c = omega (arith, c .before .before .before .before .before .before .before .before .before .before .before .before .before .fits)
@@ -69,7 +69,7 @@ loop-again c =
     let t = tile-at _ (a .m) (s .pre .0) _ (h .i) (c .before .before .before .before .loop-test .taken) (s .pre .1 .1) at in (
       omega arith,
       every-yes _ _ (s .pre .0) (h .i) noEntry (c .before .before .before .before .loop-test .taken) (λ e. timely (blockTimes (take (a .n) (readingRows (a .ts .now) (a .xs .now))) e)) (h .inv .1)
-          (c .before .is-timely .ensures ∙ times-of (a .ts .now) (a .xs .now) (a .n) (s .pre .1 .0) (t .within) at) (not-false (c .before .is-timely .result) (c .if1 .left)),
+          (c .before .in-turn .ensures ∙ times-of (a .ts .now) (a .xs .now) (a .n) (s .pre .1 .0) (t .within) at) (not-false (c .before .in-turn .result) (c .if1 .left)),
     )
 
 returns-2 : tie.Need-returns-2 Inv-loop μ-loop
@@ -86,7 +86,7 @@ in-order-spec =
     shared-slice-read-first
     mul-count
     shared-slice-read-count
-    is-timely-requires
+    in-turn-requires
     returns
     add-i
     loop-less

@@ -1,8 +1,8 @@
 -- `directory::sound::is_tiled` meets its contract. Assumes nothing.
 use native.Mathlib.Omega.{arith}
-use mathlib.Core.Path.{_≡_, refl, sym, _∙_}
+use mathlib.Core.Path.{_≡_, refl}
 use Prim.Native.Nat.{_≤_, _-_}
-use lib.ListN.{length, take, drop}
+use lib.ListN.{take, drop}
 use Rattle.directory.specs.Directory.{entryRows}
 use Rattle.directory.proofs.ColumnLaws.{entries-length, entry-at}
 use Rattle.directory.proofs.SoundLaws.{laidFrom, laid-end, laid-no, laid-on, laid-room}

@@ -2,18 +2,18 @@
 use mathlib.Core.Path.{_≡_, refl, sym, _∙_}
 use Rattle.trip.specs.Trip.{started}
 use Rattle.drive.specs.Drive.{begunOf}
-use Rattle.drive.specs.Lent.{settingsOf}
+use Rattle.tdcp_columns.specs.Displacement.{displacementSettings}
 use Rattle.drive.proofs.LentLaws.{new-capped, driving-answers, begun-answers}
 use borrow.Author.Needs.{needs}
 use Rattle.drive.proofs.lent.begin_in.Statement.{statement}
 use Rattle.drive.proofs.lent.begin_in.Tie as tie
 
 -- the answer is that of the settings as they were handed over
-made : (c : tie.After-begin) → (let s = c .before .before in c .begin .result ≡ begunOf (settingsOf (s .args .settings .now) (s .args .rounds)) (s .args .per-km))
-made c = let s = c .before .before in rw (c .begin .ensures, c .before .settings-of .ensures) (new-capped (s .args .settings .now) (s .args .rounds) (started (s .args .per-km)))
+made : (c : tie.After-begin) → (let s = c .before .before in c .begin .result ≡ begunOf (displacementSettings (s .args .settings .now) (s .args .rounds)) (s .args .per-km))
+made c = let s = c .before .before in rw (c .begin .ensures, c .before .displacement-settings .ensures) (new-capped (s .args .settings .now) (s .args .rounds) (started (s .args .per-km)))
 
-settings-of-requires : tie.Need-settings-of-requires
-settings-of-requires c κs = search needs
+displacement-settings-requires : tie.Need-displacement-settings-requires
+displacement-settings-requires c κs = search needs
 
 begin-requires : tie.Need-begin-requires
 begin-requires c κs = search needs
@@ -53,7 +53,7 @@ pub begin-in-spec : {M : Type 1} → statement M
 begin-in-spec =
     tie.close
     (tie.spec
-    settings-of-requires
+    displacement-settings-requires
     begin-requires
     enum-known-answer
     number-requires

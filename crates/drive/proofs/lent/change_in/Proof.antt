@@ -2,22 +2,22 @@
 use mathlib.Core.Path.{_≡_, refl, sym, _∙_}
 use Rattle.trip.specs.Words.{heldOf}
 use Rattle.drive.specs.Drive.{underNew, tested}
-use Rattle.drive.specs.Lent.{settingsOf}
+use Rattle.tdcp_columns.specs.Displacement.{displacementSettings}
 use Rattle.drive.proofs.LentLaws.{new-capped, driving-answers}
 use borrow.Author.Needs.{needs}
 use Rattle.drive.proofs.lent.change_in.Statement.{statement}
 use Rattle.drive.proofs.lent.change_in.Tie as tie
 
 -- the answer is that of the settings as they were handed over
-made : (c : tie.After-under-new) → (let s = c .before .before .before .before .before in c .under-new .result ≡ underNew (settingsOf (s .args .settings .now) (s .args .rounds)) (tested (heldOf (s .args .trip .now))))
+made : (c : tie.After-under-new) → (let s = c .before .before .before .before .before in c .under-new .result ≡ underNew (displacementSettings (s .args .settings .now) (s .args .rounds)) (tested (heldOf (s .args .trip .now))))
 made c =
     let t = c .before .before .before .before in
     let s = t .before in
-    rw (c .under-new .ensures, c .before .tested .ensures, c .before .before .held .ensures, t .settings-of .ensures)
+    rw (c .under-new .ensures, c .before .tested .ensures, c .before .before .held .ensures, t .displacement-settings .ensures)
     (new-capped (s .args .settings .now) (s .args .rounds) (tested (heldOf (s .args .trip .now))))
 
-settings-of-requires : tie.Need-settings-of-requires
-settings-of-requires c κs = search needs
+displacement-settings-requires : tie.Need-displacement-settings-requires
+displacement-settings-requires c κs = search needs
 
 held-requires : tie.Need-held-requires
 held-requires c κs = search needs
@@ -53,7 +53,7 @@ pub change-in-spec : {M : Type 1} → statement M
 change-in-spec =
     tie.close
     (tie.spec
-    settings-of-requires
+    displacement-settings-requires
     held-requires
     tested-requires
     under-new-requires

@@ -1,44 +1,26 @@
 -- `drive::lent::travel_in` meets its contract. Assumes nothing.
 use mathlib.Core.Path.{_≡_, refl, sym, _∙_}
-use Rattle.records.specs.Carriers.{vectorAt, CarrierColumns, carrierColumns}
-use Rattle.drive.specs.Lent.{settingsOf, Lent, lent, travelledIn}
-use Rattle.drive.proofs.LentLaws.{moved-capped, travel-answers}
+use Rattle.records.specs.Carriers.{vectorAt, carrierColumns}
+use Rattle.tdcp_columns.specs.Displacement.{displacementSettings}
+use Rattle.drive.specs.Lent.{Lent, lent, travelledIn}
+use Rattle.drive.proofs.LentLaws.{travel-answers}
 use borrow.Author.Needs.{needs}
 use Rattle.drive.proofs.lent.travel_in.Statement.{statement}
 use Rattle.drive.proofs.lent.travel_in.Tie as tie
 
-abbrev previous : tie.Start → CarrierColumns
-previous s = carrierColumns (s .args .previous-constellation .now) (s .args .previous-svid .now) (s .args .previous-band .now) (s .args .previous-state .now) (s .args .previous-floats .now)
-
-abbrev current : tie.Start → CarrierColumns
-current s = carrierColumns (s .args .current-constellation .now) (s .args .current-svid .now) (s .args .current-band .now) (s .args .current-state .now) (s .args .current-floats .now)
-
 -- what is lent
 abbrev given : tie.Start → Lent
-given s = lent (previous s) (s .args .previous-count) (current s) (s .args .current-count) (s .args .dt) (vectorAt (s .args .receiver .now) 0) (settingsOf (s .args .in-force .now) (s .args .in-force-rounds))
+given s =
+    lent
+    (carrierColumns (s .args .previous-constellation .now) (s .args .previous-svid .now) (s .args .previous-band .now) (s .args .previous-state .now) (s .args .previous-floats .now)) (s .args .previous-count)
+    (carrierColumns (s .args .current-constellation .now) (s .args .current-svid .now) (s .args .current-band .now) (s .args .current-state .now) (s .args .current-floats .now)) (s .args .current-count)
+    (s .args .dt) (vectorAt (s .args .receiver .now) 0) (displacementSettings (s .args .in-force .now) (s .args .in-force-rounds))
 
--- the answer is that of the settings in force as they were handed over
-made : (c : tie.After-travel-by) → (let s = c .before .before .before .before .before .before .before .before .before .before .before .before .before .before .before .before in c .travel-by .result ≡ travelledIn (given s) (s .args .pulses) (s .args .trip .now))
-made c =
-    let m = c .before .before .before in
-    let t = m .before .before .before .before in
-    let s = t .before .before .before .before .before .before .before .before .before in
-    rw (c .travel-by .ensures, c .before .held .ensures, m .moved-of .ensures, t .settings-of .ensures, moved-capped (previous s) (s .args .previous-count) (current s) (s .args .current-count) (s .args .dt) (vectorAt (s .args .receiver .now) 0) (s .args .in-force .now) (s .args .in-force-rounds))
+made : (c : tie.After-travel-by) → (let s = c .before .before .before .before .before .before .before .before .before .before .before .before in c .travel-by .result ≡ travelledIn (given s) (s .args .pulses) (s .args .trip .now))
+made c = rw (c .travel-by .ensures, c .before .held .ensures, c .before .before .before .displacement-of .ensures)
 
-settings-of-requires : tie.Need-settings-of-requires
-settings-of-requires c κs = search needs
-
-element-copy-out-t36 : tie.Need-element-copy-out-t36
-element-copy-out-t36 c = search needs
-
-element-copy-out-t39 : tie.Need-element-copy-out-t39
-element-copy-out-t39 c = search needs
-
-element-copy-out-t42 : tie.Need-element-copy-out-t42
-element-copy-out-t42 c = search needs
-
-moved-of-requires : tie.Need-moved-of-requires
-moved-of-requires c κs = search needs
+displacement-of-requires : tie.Need-displacement-of-requires
+displacement-of-requires c κs = search needs
 
 held-requires : tie.Need-held-requires
 held-requires c κs = search needs
@@ -81,11 +63,7 @@ pub travel-in-spec : {M : Type 1} → statement M
 travel-in-spec =
     tie.close
     (tie.spec
-    settings-of-requires
-    element-copy-out-t36
-    element-copy-out-t39
-    element-copy-out-t42
-    moved-of-requires
+    displacement-of-requires
     held-requires
     travel-by-requires
     enum-known-answer

@@ -1,5 +1,5 @@
 -- `estimator::rounds::is_short` meets its contract. Assumes nothing.
-use Rattle.estimator.specs.Rounds.{short}
+use Rattle.estimator.specs.Rounds.{shortStep}
 use borrow.Author.Needs.{needs}
 use Rattle.estimator.proofs.rounds.is_short.Statement.{statement}
 use Rattle.estimator.proofs.rounds.is_short.Tie as tie
@@ -20,7 +20,7 @@ hypot-requires-2 : tie.Need-hypot-requires-2
 hypot-requires-2 c κs = search needs
 
 returns : tie.Need-returns
-unfolding short
+unfolding shortStep
 returns c = rw (c .hypot2 .ensures, c .before .hypot .ensures)
 
 pub is-short-spec : {M : Type 1} → statement M

@@ -1,18 +1,13 @@
 -- `forget::retain::front_of` meets its contract. Assumes nothing.
-use mathlib.Core.Path.{_≡_}
-use mathlib.Core.Bool.{Bool, true, false}
-use Prim.Native.Nat.{ℕ, _+_, _-_, _≤_, _<_}
+use Prim.Native.Nat.{_-_}
 use native.Mathlib.Omega.{arith}
-use lib.Dec.{ltb}
-use lib.ListN.{getD}
-use lib.Ieee.{nan, lt}
 use borrow.Author.Tests.{not-true, not-false}
-use Rattle.forget.proofs.MoveLaws.{Passed, passed-none, passed-more, passed-stop, passed-all}
+use Rattle.forget.proofs.MoveLaws.{PassedFront, passed-none, passed-more, passed-stop, passed-all}
 use Rattle.forget.proofs.retain.front_of.Statement.{statement}
 use Rattle.forget.proofs.retain.front_of.Tie as tie
 
 abbrev Inv-loop : tie.InvT-loop
-Inv-loop ts first count time k₀ k = Passed ts first count time k
+Inv-loop ts first count time k₀ k = PassedFront ts first count time k
 
 abbrev μ-loop : tie.MeasureT-loop
 μ-loop ts first count time k₀ k = count - k

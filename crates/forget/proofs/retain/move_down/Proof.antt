@@ -1,8 +1,7 @@
 -- `forget::retain::move_down` meets its contract. Assumes nothing.
 use mathlib.Core.Path.{_≡_}
-use Prim.Native.Nat.{_+_, _-_, _≤_, _<_}
+use Prim.Native.Nat.{_-_, _≤_}
 use native.Mathlib.Omega.{arith}
-use lib.ListN.{length}
 use lib.Ieee.{nan}
 use Rattle.forget.proofs.MoveLaws.{Moving, moving-start, moving-turn, moving-end}
 use Rattle.forget.proofs.retain.move_down.Statement.{statement}

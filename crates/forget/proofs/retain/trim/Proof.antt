@@ -1,8 +1,6 @@
 -- `forget::retain::trim` meets its contract. Assumes nothing.
-use mathlib.Core.Path.{_≡_}
-use Prim.Native.Nat.{_+_, _-_, _≤_, _<_}
+use Prim.Native.Nat.{_-_}
 use native.Mathlib.Omega.{arith}
-use lib.ListN.{length}
 use Rattle.directory.specs.Directory.{lentBlocks}
 use Rattle.forget.proofs.TrimLaws.{Trimming, here, trimming-start, trimming-turn, trimming-count, trimming-end}
 use Rattle.forget.proofs.retain.trim.Statement.{statement}

@@ -1,8 +1,6 @@
 -- `query::search::entry_of` meets its contract. Assumes nothing.
-use Prim.Native.Nat.{_+_, _^_, _<_, _≤_}
-use mathlib.Core.Path.{_≡_, subst}
+use Prim.Native.Nat.{_+_, _<_}
 use native.Mathlib.Omega.{arith}
-use borrow.Author.Needs.{needs}
 use Rattle.query.specs.Search.{Halving, isUpTo}
 use Rattle.query.proofs.HalvingLaws.{halving-start, halving-next}
 use Rattle.query.proofs.search.entry_of.Statement.{statement}

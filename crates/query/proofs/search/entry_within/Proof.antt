@@ -2,9 +2,8 @@
 use Prim.Native.Nat.{_+_, _^_, _<_, _≤_}
 use mathlib.Core.Path.{_≡_, subst}
 use native.Mathlib.Omega.{arith}
-use borrow.Author.Needs.{needs}
 use Rattle.query.specs.Search.{Halving, isUpTo}
-use Rattle.query.proofs.HalvingLaws.{halving-next, halves, short}
+use Rattle.query.proofs.HalvingLaws.{halving-next, halves, one-left}
 use Rattle.query.proofs.search.entry_within.Statement.{statement}
 use Rattle.query.proofs.search.entry_within.Tie as tie
 
@@ -44,7 +43,7 @@ returns : tie.Need-returns Inv-loop μ-loop
 returns c =
     let h = c .before .loop in
     let a = c .before .before .before .before .before .args in
-    let one = short (h .len) (h .left) (c .loop-test .left) (h .inv .1 .1) in
+    let one = one-left (h .len) (h .left) (c .loop-test .left) (h .inv .1 .1) in
     let some = h .inv .1 .0 in
     let w = h .inv .0 .within in
     let e : h .lo + h .len ≡ h .lo + 1 = omega (arith, one, some) in

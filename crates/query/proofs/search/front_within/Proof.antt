@@ -1,10 +1,8 @@
 -- `query::search::front_within` meets its contract. Assumes nothing.
 use Prim.Native.Nat.{_+_, _^_, _<_, _≤_}
-use mathlib.Core.Path.{_≡_, subst}
 use native.Mathlib.Omega.{arith}
-use borrow.Author.Needs.{needs}
 use Rattle.query.specs.Search.{Halving, isBefore}
-use Rattle.query.proofs.HalvingLaws.{halving-half, halving-end, halves, short}
+use Rattle.query.proofs.HalvingLaws.{halving-half, halving-end, halves, one-left}
 use Rattle.query.proofs.search.front_within.Statement.{statement}
 use Rattle.query.proofs.search.front_within.Tie as tie
 
@@ -58,7 +56,7 @@ choose-before-requires-2 c κs = omega arith
 returns : tie.Need-returns Inv-loop μ-loop
 returns c =
     let h = c .before .before .before .loop in
-    halving-end _ _ _ (c .before .before .before .before .before .pre .1 .0) (h .lo) (h .len) _ (h .inv .0) (h .inv .1 .0) (short (h .len) (h .left) (c .before .before .loop-test .left) (h .inv .1 .1)) (c .choose-before2 .ensures .0)
+    halving-end _ _ _ (c .before .before .before .before .before .pre .1 .0) (h .lo) (h .len) _ (h .inv .0) (h .inv .1 .0) (one-left (h .len) (h .left) (c .before .before .loop-test .left) (h .inv .1 .1)) (c .choose-before2 .ensures .0)
 
 pub front-within-spec : {M : Type 1} → statement M
 front-within-spec =

@@ -6,7 +6,7 @@ use borrow.Author.Needs.{needs}
 use borrow.Author.Tests.{not-true, not-false}
 use Rattle.walk.specs.Walk.{every}
 use Rattle.walk.proofs.Walk.{every-yes, every-no, every-end}
-use Rattle.records.specs.Record.{sound, counted}
+use Rattle.records.specs.Record.{soundCarrier, counted}
 use Rattle.records.specs.Carriers.{CarrierColumns, carrierColumns, epochOf}
 use Rattle.records.proofs.RecordLaws.{blank}
 use Rattle.records.proofs.CarrierLaws.{carriers-room, carriers-long, carrier-is}
@@ -15,7 +15,7 @@ use Rattle.records.proofs.carriers.sound_in.Tie as tie
 
 abbrev Inv-loop : tie.InvT-loop
 Inv-loop constellation svid band state floats n i₀ i =
-    let e = epochOf (carrierColumns constellation svid band state floats) n in (i ≤ n) × (every sound (drop i (counted e)) ≡ every sound (counted e))
+    let e = epochOf (carrierColumns constellation svid band state floats) n in (i ≤ n) × (every soundCarrier (drop i (counted e)) ≡ every soundCarrier (counted e))
 
 abbrev μ-loop : tie.MeasureT-loop
 μ-loop constellation svid band state floats n i₀ i = n - i
@@ -37,8 +37,8 @@ returns c =
     let h = c .before .before .before .before .loop in
     let s = c .before .before .before .before .before .before .before .before .before in
     let t = c .before .before .before .loop-test .taken in
-    let is = c .before .is-sound .ensures ∙ ap sound (carrier-is (columns s) t (c .before .before .carrier-at .ensures)) in
-    every-no _ _ (carriers-long (columns s) (s .args .n)) (h .i) blank t sound (h .inv .1) is (not-true (c .before .is-sound .result) (c .if1 .taken))
+    let is = c .before .is-sound .ensures ∙ ap soundCarrier (carrier-is (columns s) t (c .before .before .carrier-at .ensures)) in
+    every-no _ _ (carriers-long (columns s) (s .args .n)) (h .i) blank t soundCarrier (h .inv .1) is (not-true (c .before .is-sound .result) (c .if1 .taken))
 
 add-i : tie.Need-add-i Inv-loop μ-loop
 add-i c = search needs
@@ -51,11 +51,11 @@ loop-again c =
     let h = c .before .before .before .before .loop in
     let s = c .before .before .before .before .before .before .before .before .before in
     let t = c .before .before .before .loop-test .taken in
-    let is = c .before .is-sound .ensures ∙ ap sound (carrier-is (columns s) t (c .before .before .carrier-at .ensures)) in
-    (search needs, every-yes _ _ (carriers-long (columns s) (s .args .n)) (h .i) blank t sound (h .inv .1) is (not-false (c .before .is-sound .result) (c .if1 .left)))
+    let is = c .before .is-sound .ensures ∙ ap soundCarrier (carrier-is (columns s) t (c .before .before .carrier-at .ensures)) in
+    (search needs, every-yes _ _ (carriers-long (columns s) (s .args .n)) (h .i) blank t soundCarrier (h .inv .1) is (not-false (c .before .is-sound .result) (c .if1 .left)))
 
 returns-2 : tie.Need-returns-2 Inv-loop μ-loop
-returns-2 c = let s = c .before .before .before .before .before .before in every-end _ _ (carriers-long (columns s) (s .args .n)) _ sound (c .before .loop .inv .1) (c .loop-test .left)
+returns-2 c = let s = c .before .before .before .before .before .before in every-end _ _ (carriers-long (columns s) (s .args .n)) _ soundCarrier (c .before .loop .inv .1) (c .loop-test .left)
 
 pub sound-in-spec : {M : Type 1} → statement M
 sound-in-spec =

@@ -6,17 +6,18 @@ use mathlib.Core.Bool.{_&&_}
 use mathlib.Core.List.{[], _∷_}
 use Prim.Native.Nat.{_≤_, _-_}
 use native.Mathlib.Omega.{arith}
-use lib.ListN.{length, drop}
+use lib.ListN.{length, take, drop}
 use borrow.Author.Needs.{needs}
-use Rattle.walk.specs.Walk.{collect}
+use Rattle.walk.specs.Walk.{every, collect}
 use Rattle.walk.proofs.Walk.{length-mapped, first-yes, first-no, first-end, Collecting, collecting-start, collecting-none, collecting-one, collecting-end}
 use Rattle.records.specs.Record.{counted, same, usable}
 use Rattle.records.specs.Carriers.{CarrierColumns, carrierColumns, epochOf}
-use Rattle.records.specs.Pair.{pairOf, firstPair}
+use Rattle.records.specs.Pair.{pairOf, firstPair, seen}
 use Rattle.records.specs.declared.record.Carrier.{Carrier}
 use Rattle.records.specs.declared.pair.Pair.{Pair}
 use Rattle.records.specs.declared.pair.Pairs.{Pairs}
 use Rattle.records.proofs.RecordLaws.{blank}
+use Rattle.records.proofs.KeepLaws.{every-next}
 use Rattle.records.proofs.CarrierLaws.{CarrierRoom, carriers-room, carriers-long, carrier-is}
 use Rattle.records.proofs.PairLaws.{givenBy, pair-tried, pair-not, pairs-looked}
 use Rattle.records.proofs.pair.pairs_in.Statement.{statement}
@@ -35,6 +36,7 @@ Inv-loop previous-constellation previous-svid previous-band previous-state previ
     let previous = counted (epochOf (carrierColumns previous-constellation previous-svid previous-band previous-state previous-floats) previous-count) in
     let current = epochOf (carrierColumns current-constellation current-svid current-band current-state current-floats) current-count in
     Collecting (givenBy receiver mask dt city band previous) (current .carriers) current-count 64 (collect (givenBy receiver mask dt city band previous) (counted current)) (out .pair) (out .count) i
+    × (out .seen ≡ every seen (take (out .count) (out .pair)))
 
 abbrev μ-loop : tie.MeasureT-loop
 μ-loop previous-constellation previous-svid previous-band previous-state previous-floats previous-count current-constellation current-svid current-band current-state current-floats current-count receiver mask dt city band out₀ i₀ out i = current-count - i
@@ -55,7 +57,8 @@ no-pairs-requires : tie.Need-no-pairs-requires Inv-loop2 μ-loop2 Inv-loop μ-lo
 no-pairs-requires c κs = search needs
 
 loop-holds : tie.Need-loop-holds Inv-loop2 μ-loop2 Inv-loop μ-loop
-loop-holds c = rw (c .no-pairs .ensures) (collecting-start _ _ _ _ _ (search length-mapped))
+unfolding every
+loop-holds c = rw (c .no-pairs .ensures .0) (collecting-start _ _ _ _ _ (search length-mapped), c .no-pairs .ensures .1)
 
 carrier-at-requires : tie.Need-carrier-at-requires Inv-loop2 μ-loop2 Inv-loop μ-loop
 carrier-at-requires c κs = let r = room-current (c .before .before .before .before .before .before .before .before .before .before .before) in search needs
@@ -75,14 +78,17 @@ is-partner-requires c κs = search needs
 pair-of-requires : tie.Need-pair-of-requires Inv-loop2 μ-loop2 Inv-loop μ-loop
 pair-of-requires c κs = search needs
 
+is-seen-requires : tie.Need-is-seen-requires Inv-loop2 μ-loop2 Inv-loop μ-loop
+is-seen-requires c κs = search needs
+
 mul-q : tie.Need-mul-q Inv-loop2 μ-loop2 Inv-loop μ-loop
-mul-q c = let e = ap (λ (o : Pairs). o .count) (c .before .before .before .before .before .loop2 .inv .2) in omega (arith, e, c .before .before .before .before .before .before .before .before .before .loop-test .taken, c .before .before .before .before .before .before .before .before .before .before .loop .inv .few, c .before .before .before .before .before .before .before .before .before .before .loop .inv .long, room-current (c .before .before .before .before .before .before .before .before .before .before .before .before .before .before .before .before .before .before .before .before) .few)
+mul-q c = let e = ap (λ (o : Pairs). o .count) (c .before .before .before .before .before .before .loop2 .inv .2) in omega (arith, e, c .before .before .before .before .before .before .before .before .before .before .loop-test .taken, c .before .before .before .before .before .before .before .before .before .before .before .loop .inv .0 .few, c .before .before .before .before .before .before .before .before .before .before .before .loop .inv .0 .long, room-current (c .before .before .before .before .before .before .before .before .before .before .before .before .before .before .before .before .before .before .before .before .before) .few)
 
 element-set-from-q : tie.Need-element-set-from-q Inv-loop2 μ-loop2 Inv-loop μ-loop
-element-set-from-q c = let e = ap (λ (o : Pairs). o .count) (c .before .before .before .before .before .loop2 .inv .2) in omega (arith, e, c .before .before .before .before .before .before .before .before .before .loop-test .taken, c .before .before .before .before .before .before .before .before .before .before .loop .inv .few, c .before .before .before .before .before .before .before .before .before .before .loop .inv .long, room-current (c .before .before .before .before .before .before .before .before .before .before .before .before .before .before .before .before .before .before .before .before) .few)
+element-set-from-q c = let e = ap (λ (o : Pairs). o .count) (c .before .before .before .before .before .before .loop2 .inv .2) in omega (arith, e, c .before .before .before .before .before .before .before .before .before .before .loop-test .taken, c .before .before .before .before .before .before .before .before .before .before .before .loop .inv .0 .few, c .before .before .before .before .before .before .before .before .before .before .before .loop .inv .0 .long, room-current (c .before .before .before .before .before .before .before .before .before .before .before .before .before .before .before .before .before .before .before .before .before) .few)
 
 add-out : tie.Need-add-out Inv-loop2 μ-loop2 Inv-loop μ-loop
-add-out c = let e = ap (λ (o : Pairs). o .count) (c .before .before .before .before .before .loop2 .inv .2) in omega (arith, e, c .before .before .before .before .before .before .before .before .before .loop-test .taken, c .before .before .before .before .before .before .before .before .before .before .loop .inv .few, c .before .before .before .before .before .before .before .before .before .before .loop .inv .long, room-current (c .before .before .before .before .before .before .before .before .before .before .before .before .before .before .before .before .before .before .before .before) .few)
+add-out c = let e = ap (λ (o : Pairs). o .count) (c .before .before .before .before .before .before .loop2 .inv .2) in omega (arith, e, c .before .before .before .before .before .before .before .before .before .before .loop-test .taken, c .before .before .before .before .before .before .before .before .before .before .before .loop .inv .0 .few, c .before .before .before .before .before .before .before .before .before .before .before .loop .inv .0 .long, room-current (c .before .before .before .before .before .before .before .before .before .before .before .before .before .before .before .before .before .before .before .before .before) .few)
 
 add-j : tie.Need-add-j Inv-loop2 μ-loop2 Inv-loop μ-loop
 add-j c = omega (arith, c .before .before .before .loop2-test .taken, room-previous (c .before .before .before .before .before .before .before .before .before .before .before .before .before .before .before .before .before .before .before) .few)
@@ -111,7 +117,9 @@ unfolding firstPair
 loop-again c =
     let s = c .before .before .before .before .before .before .before .before .before .before .before .before .before .before in
     let test = c .before .before .before .loop-test .taken in
-    let inv = c .before .before .before .before .loop .inv in
+    let o = c .before .before .before .before .loop .out in
+    let inv = c .before .before .before .before .loop .inv .0 in
+    let flag = c .before .before .before .before .loop .inv .1 in
     let is-it = c .before .is-wanted .ensures in
     let x = c .before .before .carrier-at in
     let m = s .args .previous-count in
@@ -121,24 +129,27 @@ loop-again c =
     let few = room-current s .few in
     let gives = sym (ap (givenBy (s .args .receiver) (s .args .mask) (s .args .dt) (s .args .city) (s .args .band) all) (carrier-is (current s) test (x .ensures))) in
     ⊎-elim
-    (λ w. rw (w .3, w .1 .inv .2) (collecting-none _ _ _ _ fits few inv blank test (gives ∙ pair-tried (s .args .receiver) (s .args .mask) (s .args .dt) (s .args .city) (s .args .band) all (x .result) is-it (w .0 .taken) (sym (first-end _ _ long _ _ _ (w .1 .inv .1) (w .2 .left))))))
+    (λ w. rw (w .3, w .1 .inv .2) (collecting-none _ _ _ _ fits few inv blank test (gives ∙ pair-tried (s .args .receiver) (s .args .mask) (s .args .dt) (s .args .city) (s .args .band) all (x .result) is-it (w .0 .taken) (sym (first-end _ _ long _ _ _ (w .1 .inv .1) (w .2 .left)))), flag))
     (⊎-elim
     (λ w.
     let p = carrier-is (previous s) (w .2 .taken) (w .3 .ensures) in
     let is = w .4 .ensures ∙ ap (λ (p : Carrier). same p (x .result) && usable p) p in
     let found = sym (first-yes _ _ long _ blank (w .2 .taken) _ _ [] (w .1 .inv .1) is (w .5 .taken)) in
     let made = ap (λ (p : Carrier). pairOf (s .args .receiver) (s .args .dt) (x .result) p ∷ []) (sym p) ∙ ap (λ (q : Pair). q ∷ []) (sym (w .6 .ensures)) in
-    rw (w .7, w .1 .inv .2) (collecting-one _ _ _ _ fits few inv blank test _ (gives ∙ pair-tried (s .args .receiver) (s .args .mask) (s .args .dt) (s .args .city) (s .args .band) all (x .result) is-it (w .0 .taken) (found ∙ made))))
-    (λ w. rw (w .1) (collecting-none _ _ _ _ fits few inv blank test (gives ∙ pair-not (s .args .receiver) (s .args .mask) (s .args .dt) (s .args .city) (s .args .band) all (x .result) is-it (w .0 .left)))))
+    rw (w .8, w .1 .inv .2) (collecting-one _ _ _ _ fits few inv blank test _ (gives ∙ pair-tried (s .args .receiver) (s .args .mask) (s .args .dt) (s .args .city) (s .args .band) all (x .result) is-it (w .0 .taken) (found ∙ made)), every-next seen (o .pair) (o .count) (w .6 .result) (omega (arith, inv .few, inv .long, few, test)) flag (w .7 .ensures)))
+    (λ w. rw (w .1) (collecting-none _ _ _ _ fits few inv blank test (gives ∙ pair-not (s .args .receiver) (s .args .mask) (s .args .dt) (s .args .city) (s .args .band) all (x .result) is-it (w .0 .left)), flag)))
     (c .if1 .came)
 
 returns : tie.Need-returns Inv-loop2 μ-loop2 Inv-loop μ-loop
 returns c =
     let s = c .before .before .before .before .before .before .before .before .before .before .before in
-    let e = collecting-end _ _ _ _ (carriers-long (current s) (s .args .current-count)) (room-current s .few) (c .before .loop .inv) (c .loop-test .left) in
+    let e = collecting-end _ _ _ _ (carriers-long (current s) (s .args .current-count)) (room-current s .few) (c .before .loop .inv .0) (c .loop-test .left) in
     let a = s .args in
     let is = pairs-looked (a .receiver) (a .mask) (a .dt) (a .city) (a .band) (counted (epochOf (previous s) (a .previous-count))) (counted (epochOf (current s) (a .current-count))) in
-    record { room = omega (arith, e .few, room-current s .few); count = e .count ∙ ap length is; all = e .all ∙ is }
+    record {
+      held = record { room = omega (arith, e .few, room-current s .few); count = e .count ∙ ap length is; all = e .all ∙ is };
+      all-seen = c .before .loop .inv .1 ∙ ap (every seen) (e .all ∙ is);
+    }
 
 pub pairs-in-spec : {M : Type 1} → statement M
 pairs-in-spec =
@@ -156,6 +167,7 @@ pairs-in-spec =
     carrier-at-requires-2
     is-partner-requires
     pair-of-requires
+    is-seen-requires
     mul-q
     element-set-from-q
     add-out

@@ -1,5 +1,5 @@
 -- `records::record::is_sound` meets its contract. Assumes nothing.
-use Rattle.records.specs.Record.{sound}
+use Rattle.records.specs.Record.{soundCarrier}
 use borrow.Author.Needs.{needs}
 use Rattle.records.proofs.record.is_sound.Statement.{statement}
 use Rattle.records.proofs.record.is_sound.Tie as tie
@@ -20,7 +20,7 @@ is-finite-requires : tie.Need-is-finite-requires
 is-finite-requires c κs = search needs
 
 returns : tie.Need-returns
-unfolding sound
+unfolding soundCarrier
 returns c = cc
 
 pub is-sound-spec : {M : Type 1} → statement M

@@ -6,7 +6,7 @@ use native.Mathlib.Omega.{arith}
 use borrow.Author.Needs.{needs}
 use borrow.Author.Tests.{not-true, not-false, le-ltb}
 use lib.ListN.{take, drop}
-use Rattle.table.specs.Table.{lent, ranged, rows, sound}
+use Rattle.table.specs.Table.{lent, ranged, rows, soundTable}
 use Rattle.table.proofs.Places.{timeKey, below-place}
 use Rattle.table.proofs.TableLaws.{soundFrom, sound-starts, pass-end, pass-low, pass-out, pass-on}
 use Rattle.table.proofs.sample.is_sound.Statement.{statement}
@@ -14,7 +14,7 @@ use Rattle.table.proofs.sample.is_sound.Tie as tie
 
 abbrev Inv-loop : tie.InvT-loop
 Inv-loop cs vs bs ts xs n signal₀ time₀ i₀ signal time i =
-    (i ≤ n) × (soundFrom (signal * 2 ^ 64 + timeKey time) (drop i (take n (rows (lent cs vs bs ts xs)))) ≡ sound (take n (rows (lent cs vs bs ts xs))))
+    (i ≤ n) × (soundFrom (signal * 2 ^ 64 + timeKey time) (drop i (take n (rows (lent cs vs bs ts xs)))) ≡ soundTable (take n (rows (lent cs vs bs ts xs))))
 
 abbrev μ-loop : tie.MeasureT-loop
 μ-loop cs vs bs ts xs n signal₀ time₀ i₀ signal time i = n - i

@@ -6,7 +6,7 @@ use lib.ListN.{length, take}
 use lib.Seq.{length-take-le}
 use lib.Ieee.{nan}
 use Rattle.robust.specs.Columns.{columns, rowsIn}
-use Rattle.estimator.specs.Rounds.{short}
+use Rattle.estimator.specs.Rounds.{shortStep}
 use Rattle.records.specs.Kept.{pairsIn}
 use Rattle.tdcp.specs.Displacement.{sigmaOf, rowWith, rowAt, roundAt, limit, fitOver}
 use Rattle.records.specs.declared.pair.Pair.{Pair}
@@ -188,7 +188,7 @@ is-short-requires : tie.Need-is-short-requires Inv-loop μ-loop Inv-loop3 μ-loo
 is-short-requires c κs = search needs
 
 returns-2 : tie.Need-returns-2 Inv-loop μ-loop Inv-loop3 μ-loop3 Inv-loop2 μ-loop2
-returns-2 c = let s = c .before .before .before .before .before .before .before .before .before .before .before .before .before .before .before .before .before .before .before .args in let ps = given (c .before .before .before .before .before .before .before .before .before .before .before .before .before .before .before .before .before .before .before) in let l = c .before .before .before .before .before .before .before .before .before .before .before .before .before .before .before .loop2 in let t = c .before .before .before .before .before .before .before .before .before .before .before in let g = c .before .before .before .before .before .round-step in let q = solving (s .settings) (s .k) ps (l .at) _ _ (g .result) _ _ (all t) refl (g .ensures) in let m = c .before .before .move-by in let h = c .before .is-short in let u = h .ensures ∙ ap (λ z. short z (g .last .1 .1 .1 .1 .1 .1 .1 .1 .0)) five-places in let v = c .before .before .before .enum-told .given .1 in ended-reached _ _ _ (left-stops (roundAt (s .settings) (s .k) ps) (3 + s .k .count) limit (s .settings .rounds) (fitOver (s .settings) (s .k) ps) (l .i) (l .at) (omega arith) (g .result) _ _ q v (m .result) (h .result) (m .ensures) u (c .if2 .taken) (l .inv .3))
+returns-2 c = let s = c .before .before .before .before .before .before .before .before .before .before .before .before .before .before .before .before .before .before .before .args in let ps = given (c .before .before .before .before .before .before .before .before .before .before .before .before .before .before .before .before .before .before .before) in let l = c .before .before .before .before .before .before .before .before .before .before .before .before .before .before .before .loop2 in let t = c .before .before .before .before .before .before .before .before .before .before .before in let g = c .before .before .before .before .before .round-step in let q = solving (s .settings) (s .k) ps (l .at) _ _ (g .result) _ _ (all t) refl (g .ensures) in let m = c .before .before .move-by in let h = c .before .is-short in let u = h .ensures ∙ ap (λ z. shortStep z (g .last .1 .1 .1 .1 .1 .1 .1 .1 .0)) five-places in let v = c .before .before .before .enum-told .given .1 in ended-reached _ _ _ (left-stops (roundAt (s .settings) (s .k) ps) (3 + s .k .count) limit (s .settings .rounds) (fitOver (s .settings) (s .k) ps) (l .i) (l .at) (omega arith) (g .result) _ _ q v (m .result) (h .result) (m .ensures) u (c .if2 .taken) (l .inv .3))
 
 add-i : tie.Need-add-i Inv-loop μ-loop Inv-loop3 μ-loop3 Inv-loop2 μ-loop2
 add-i c = let known = c .before .before .before .before .before .before .before .before .before .before .before .before .before .before .struct-known .given in omega (arith, c .before .before .before .before .before .before .before .before .before .before .before .before .before .if1 .taken)
@@ -197,7 +197,7 @@ loop2-less : tie.Need-loop2-less Inv-loop μ-loop Inv-loop3 μ-loop3 Inv-loop2 �
 loop2-less c = omega arith
 
 loop2-again : tie.Need-loop2-again Inv-loop μ-loop Inv-loop3 μ-loop3 Inv-loop2 μ-loop2
-loop2-again c = let s = c .before .before .before .before .before .before .before .before .before .before .before .before .before .before .before .before .before .before .before .args in let ps = given (c .before .before .before .before .before .before .before .before .before .before .before .before .before .before .before .before .before .before .before) in let l = c .before .before .before .before .before .before .before .before .before .before .before .before .before .before .before .loop2 in let t = c .before .before .before .before .before .before .before .before .before .before .before in let g = c .before .before .before .before .before .round-step in let q = solving (s .settings) (s .k) ps (l .at) _ _ (g .result) _ _ (all t) refl (g .ensures) in let m = c .before .before .move-by in let h = c .before .is-short in let u = h .ensures ∙ ap (λ z. short z (g .last .1 .1 .1 .1 .1 .1 .1 .1 .0)) five-places in let v = c .before .before .before .enum-told .given .1 in (omega arith, l .inv .1, t .before .loop3 .inv .1 .long, left-goes (roundAt (s .settings) (s .k) ps) (3 + s .k .count) limit (s .settings .rounds) (fitOver (s .settings) (s .k) ps) (l .i) (l .at) (omega arith) (g .result) _ _ q v (m .result) (h .result) (m .ensures) u (c .if2 .left) (l .inv .3))
+loop2-again c = let s = c .before .before .before .before .before .before .before .before .before .before .before .before .before .before .before .before .before .before .before .args in let ps = given (c .before .before .before .before .before .before .before .before .before .before .before .before .before .before .before .before .before .before .before) in let l = c .before .before .before .before .before .before .before .before .before .before .before .before .before .before .before .loop2 in let t = c .before .before .before .before .before .before .before .before .before .before .before in let g = c .before .before .before .before .before .round-step in let q = solving (s .settings) (s .k) ps (l .at) _ _ (g .result) _ _ (all t) refl (g .ensures) in let m = c .before .before .move-by in let h = c .before .is-short in let u = h .ensures ∙ ap (λ z. shortStep z (g .last .1 .1 .1 .1 .1 .1 .1 .1 .0)) five-places in let v = c .before .before .before .enum-told .given .1 in (omega arith, l .inv .1, t .before .loop3 .inv .1 .long, left-goes (roundAt (s .settings) (s .k) ps) (3 + s .k .count) limit (s .settings .rounds) (fitOver (s .settings) (s .k) ps) (l .i) (l .at) (omega arith) (g .result) _ _ q v (m .result) (h .result) (m .ensures) u (c .if2 .left) (l .inv .3))
 
 returns-3 : tie.Need-returns-3 Inv-loop μ-loop Inv-loop3 μ-loop3 Inv-loop2 μ-loop2
 returns-3 c = let s = c .before .before .before .before .before .before .args in let ps = given (c .before .before .before .before .before .before) in let l = c .before .before .loop2 in ended-reached _ _ _ (left-end (roundAt (s .settings) (s .k) ps) (3 + s .k .count) limit (s .settings .rounds) (fitOver (s .settings) (s .k) ps) (l .i) (l .at) (omega arith) (l .inv .3))

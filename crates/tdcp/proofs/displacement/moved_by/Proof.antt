@@ -4,7 +4,12 @@ use native.Mathlib.Omega.{arith}
 use lib.ListN.{length, take, length-take}
 use lib.Seq.{length-take-le}
 use Rattle.walk.proofs.Walk.{length-mapped}
-use Rattle.tdcp.proofs.DisplacementCall.{no-more, refused-counts, few-clocks, stopped, reached}
+use borrow.Author.Tests.{not-true, not-false}
+use Rattle.estimator.specs.declared.rules.Check.the-variants.{Passed}
+use Rattle.estimator.proofs.RulesLaws.{checked}
+use Rattle.tdcp.specs.Front.{sightRules}
+use Rattle.tdcp.proofs.SightLaws.{all-seen, one-unseen}
+use Rattle.tdcp.proofs.DisplacementCall.{refused-sights, no-more, refused-counts, few-clocks, stopped, reached}
 use borrow.Author.Needs.{needs}
 use Rattle.tdcp.proofs.displacement.moved_by.Statement.{statement}
 use Rattle.tdcp.proofs.displacement.moved_by.Tie as tie
@@ -13,14 +18,21 @@ use Rattle.tdcp.proofs.displacement.moved_by.Tie as tie
 long : (c : tie.Start) → c .args .all .count ≡ length (take (c .args .all .count) (c .args .all .pair))
 long c = let e : length (c .args .all .pair) ≡ 64 = search length-mapped in sym (length-take-le _ _ (omega arith))
 
+-- 15 lets them pass
+let-pass : (c : tie.Else1) → Passed ≡ checked (sightRules (take (c .before .before .before .before .before .before .before .before .args .all .count) (c .before .before .before .before .before .before .before .before .args .all .pair)))
+let-pass c = let t = c .before .before .before .before .before .before .before .before in all-seen _ (t .pre .1) (not-false (t .args .all .seen) (c .if1 .left))
+
 keep-into-requires : tie.Need-keep-into-requires
 keep-into-requires c κs = search needs
+
+returns : tie.Need-returns
+returns c = let t = c .before .before .before .before .before .before .before .before in let s = t .args in refused-sights (s .city) (s .settings) (take (s .all .count) (s .all .pair)) (one-unseen _ (t .pre .1) (not-true (s .all .seen) (c .if1 .taken)))
 
 array-share-prefix-constellation : tie.Need-array-share-prefix-constellation
 array-share-prefix-constellation c = search needs
 
 slice-aggregate-clocks-of : tie.Need-slice-aggregate-clocks-of
-slice-aggregate-clocks-of c = let k = c .before .keep-into .ensures in sym (length-take-le _ _ (omega (arith, k .room, k .constellation-long)))
+slice-aggregate-clocks-of c = let k = c .before .before .keep-into .ensures in sym (length-take-le _ _ (omega (arith, k .room, k .constellation-long)))
 
 clocks-of-requires : tie.Need-clocks-of-requires
 clocks-of-requires c κs = search needs
@@ -29,7 +41,7 @@ array-share-prefix-constellation-2 : tie.Need-array-share-prefix-constellation-2
 array-share-prefix-constellation-2 c = search needs
 
 slice-aggregate-is-uncertified : tie.Need-slice-aggregate-is-uncertified
-slice-aggregate-is-uncertified c = let k = c .before .before .before .keep-into .ensures in sym (length-take-le _ _ (omega (arith, k .room, k .constellation-long)))
+slice-aggregate-is-uncertified c = let k = c .before .before .before .before .keep-into .ensures in sym (length-take-le _ _ (omega (arith, k .room, k .constellation-long)))
 
 is-uncertified-requires : tie.Need-is-uncertified-requires
 is-uncertified-requires c κs = search needs
@@ -40,8 +52,8 @@ check-pairs-requires c κs = search needs
 enum-known-r : tie.Need-enum-known-r
 enum-known-r c = search needs
 
-returns : tie.Need-returns
-returns c = let t = c .before .before .before .before .before .before .before .before .before .before .before .before .before .before .before in let s = t .args in let k = c .before .before .before .before .before .before .before .before .keep-into .ensures in refused-counts (s .city) (s .settings) (take (s .all .count) (s .all .pair)) (s .all .count) (long t) (t .pre .1) _ k (c .before .before .before .before .before .before .clocks-of .ensures) (c .before .before .before .before .is-uncertified .ensures) (sym (c .before .r .given .1) ∙ c .before .before .before .check-pairs .ensures)
+returns-2 : tie.Need-returns-2
+returns-2 c = let t = c .before .before .before .before .before .before .before .before .before .before .before .before .before .before .before .before in let s = t .args in let k = c .before .before .before .before .before .before .before .before .before .keep-into .ensures in refused-counts (s .city) (s .settings) (take (s .all .count) (s .all .pair)) (s .all .count) (long t) (let-pass (c .before .before .before .before .before .before .before .before)) _ k (c .before .before .before .before .before .before .clocks-of .ensures) (c .before .before .before .before .is-uncertified .ensures) (sym (c .before .r .given .1) ∙ c .before .before .before .check-pairs .ensures)
 
 enum-told : tie.Need-enum-told
 enum-told c = search needs
@@ -50,34 +62,35 @@ array-share-prefix-observed : tie.Need-array-share-prefix-observed
 array-share-prefix-observed c = search needs
 
 slice-aggregate-fit-pairs : tie.Need-slice-aggregate-fit-pairs
-slice-aggregate-fit-pairs c = let k = c .before .before .before .before .before .before .before .before .before .before .before .before .before .keep-into .ensures in sym (length-take-le _ _ (omega (arith, k .room, k .observed-long)))
+slice-aggregate-fit-pairs c = let k = c .before .before .before .before .before .before .before .before .before .before .before .before .before .before .keep-into .ensures in sym (length-take-le _ _ (omega (arith, k .room, k .observed-long)))
 
 fit-pairs-requires : tie.Need-fit-pairs-requires
-fit-pairs-requires c κs = let t = c .before .before .before .before .before .before .before .before .before .before .before .before .before .before .before .before .before .before .before .before .before in let s = t .args in let k = c .before .before .before .before .before .before .before .before .before .before .before .before .before .before .keep-into .ensures in (simp length-take (omega (arith, k .room)), few-clocks (s .city) (s .settings) (take (s .all .count) (s .all .pair)) (s .all .count) (long t) (t .pre .1) _ k (c .before .before .before .before .before .before .before .before .before .before .before .before .clocks-of .ensures) (c .before .before .before .before .before .before .before .before .before .before .is-uncertified .ensures) (sym (c .before .before .before .before .before .before .before .enum-told .given .1) ∙ c .before .before .before .before .before .before .before .before .before .check-pairs .ensures))
+fit-pairs-requires c κs = let t = c .before .before .before .before .before .before .before .before .before .before .before .before .before .before .before .before .before .before .before .before .before .before in let s = t .args in let k = c .before .before .before .before .before .before .before .before .before .before .before .before .before .before .before .keep-into .ensures in (simp length-take (omega (arith, k .room)), few-clocks (s .city) (s .settings) (take (s .all .count) (s .all .pair)) (s .all .count) (long t) (let-pass (c .before .before .before .before .before .before .before .before .before .before .before .before .before .before)) _ k (c .before .before .before .before .before .before .before .before .before .before .before .before .clocks-of .ensures) (c .before .before .before .before .before .before .before .before .before .before .is-uncertified .ensures) (sym (c .before .before .before .before .before .before .before .enum-told .given .1) ∙ c .before .before .before .before .before .before .before .before .before .check-pairs .ensures))
 
 enum-known-r-2 : tie.Need-enum-known-r-2
 enum-known-r-2 c = search needs
 
-returns-2 : tie.Need-returns-2
-returns-2 c = let t = c .before .before .before .before .before .before .before .before .before .before .before .before .before .before .before .before .before .before .before .before .before .before .before .before .before in let s = t .args in let k = c .before .before .before .before .before .before .before .before .before .before .before .before .before .before .before .before .before .before .keep-into .ensures in stopped (s .city) (s .settings) (take (s .all .count) (s .all .pair)) (s .all .count) (long t) (t .pre .1) _ k (c .before .before .before .before .before .before .before .before .before .before .before .before .before .before .before .before .clocks-of .ensures) (c .before .before .before .before .before .before .before .before .before .before .before .before .before .before .is-uncertified .ensures) (sym (c .before .before .before .before .before .before .before .before .before .before .before .enum-told .given .1) ∙ c .before .before .before .before .before .before .before .before .before .before .before .before .before .check-pairs .ensures) (rw (c .before .r2 .given .1) at (c .before .before .before .fit-pairs .ensures))
+returns-3 : tie.Need-returns-3
+returns-3 c = let t = c .before .before .before .before .before .before .before .before .before .before .before .before .before .before .before .before .before .before .before .before .before .before .before .before .before .before in let s = t .args in let k = c .before .before .before .before .before .before .before .before .before .before .before .before .before .before .before .before .before .before .before .keep-into .ensures in stopped (s .city) (s .settings) (take (s .all .count) (s .all .pair)) (s .all .count) (long t) (let-pass (c .before .before .before .before .before .before .before .before .before .before .before .before .before .before .before .before .before .before)) _ k (c .before .before .before .before .before .before .before .before .before .before .before .before .before .before .before .before .clocks-of .ensures) (c .before .before .before .before .before .before .before .before .before .before .before .before .before .before .is-uncertified .ensures) (sym (c .before .before .before .before .before .before .before .before .before .before .before .enum-told .given .1) ∙ c .before .before .before .before .before .before .before .before .before .before .before .before .before .check-pairs .ensures) (rw (c .before .r2 .given .1) at (c .before .before .before .fit-pairs .ensures))
 
 enum-told-2 : tie.Need-enum-told-2
 enum-told-2 c = search needs
 
 sub-moved-to : tie.Need-sub-moved-to
-sub-moved-to c = let t = c .before .before .before .before .before .before .before .before .before .before .before .before .before .before .before .before .before .before .before .before .before .before .before .before in let s = t .args in let k = c .before .before .before .before .before .before .before .before .before .before .before .before .before .before .before .before .before .keep-into .ensures in no-more (s .city) (s .settings) (take (s .all .count) (s .all .pair)) (s .all .count) (long t) (t .pre .1) _ k (c .before .before .before .before .before .before .before .before .before .before .before .before .before .before .before .clocks-of .ensures) (c .before .before .before .before .before .before .before .before .before .before .before .before .before .is-uncertified .ensures)
+sub-moved-to c = let t = c .before .before .before .before .before .before .before .before .before .before .before .before .before .before .before .before .before .before .before .before .before .before .before .before .before in let s = t .args in let k = c .before .before .before .before .before .before .before .before .before .before .before .before .before .before .before .before .before .before .keep-into .ensures in no-more (s .city) (s .settings) (take (s .all .count) (s .all .pair)) (s .all .count) (long t) (let-pass (c .before .before .before .before .before .before .before .before .before .before .before .before .before .before .before .before .before)) _ k (c .before .before .before .before .before .before .before .before .before .before .before .before .before .before .before .clocks-of .ensures) (c .before .before .before .before .before .before .before .before .before .before .before .before .before .is-uncertified .ensures)
 
 moved-to-requires : tie.Need-moved-to-requires
 moved-to-requires c κs = search needs
 
-returns-3 : tie.Need-returns-3
-returns-3 c = let t = c .before .before .before .before .before .before .before .before .before .before .before .before .before .before .before .before .before .before .before .before .before .before .before .before .before in let s = t .args in let k = c .before .before .before .before .before .before .before .before .before .before .before .before .before .before .before .before .before .before .keep-into .ensures in c .moved-to .ensures ∙ reached (s .city) (s .settings) (take (s .all .count) (s .all .pair)) (s .all .count) (long t) (t .pre .1) _ k (c .before .before .before .before .before .before .before .before .before .before .before .before .before .before .before .before .clocks-of .ensures) (c .before .before .before .before .before .before .before .before .before .before .before .before .before .before .is-uncertified .ensures) (sym (c .before .before .before .before .before .before .before .before .before .before .before .enum-told .given .1) ∙ c .before .before .before .before .before .before .before .before .before .before .before .before .before .check-pairs .ensures) (rw (c .before .enum-told2 .given .1) at (c .before .before .before .fit-pairs .ensures))
+returns-4 : tie.Need-returns-4
+returns-4 c = let t = c .before .before .before .before .before .before .before .before .before .before .before .before .before .before .before .before .before .before .before .before .before .before .before .before .before .before in let s = t .args in let k = c .before .before .before .before .before .before .before .before .before .before .before .before .before .before .before .before .before .before .before .keep-into .ensures in c .moved-to .ensures ∙ reached (s .city) (s .settings) (take (s .all .count) (s .all .pair)) (s .all .count) (long t) (let-pass (c .before .before .before .before .before .before .before .before .before .before .before .before .before .before .before .before .before .before)) _ k (c .before .before .before .before .before .before .before .before .before .before .before .before .before .before .before .before .clocks-of .ensures) (c .before .before .before .before .before .before .before .before .before .before .before .before .before .before .is-uncertified .ensures) (sym (c .before .before .before .before .before .before .before .before .before .before .before .enum-told .given .1) ∙ c .before .before .before .before .before .before .before .before .before .before .before .before .before .check-pairs .ensures) (rw (c .before .enum-told2 .given .1) at (c .before .before .before .fit-pairs .ensures))
 
 pub moved-by-spec : {M : Type 1} → statement M
 moved-by-spec =
     tie.close
     (tie.spec
     keep-into-requires
+    returns
     array-share-prefix-constellation
     slice-aggregate-clocks-of
     clocks-of-requires
@@ -86,14 +99,14 @@ moved-by-spec =
     is-uncertified-requires
     check-pairs-requires
     enum-known-r
-    returns
+    returns-2
     enum-told
     array-share-prefix-observed
     slice-aggregate-fit-pairs
     fit-pairs-requires
     enum-known-r-2
-    returns-2
+    returns-3
     enum-told-2
     sub-moved-to
     moved-to-requires
-    returns-3)
+    returns-4)

@@ -11,11 +11,11 @@ use Rattle.numeric.specs.Order.{isNanPattern, isQuiet, payload, payloadOrder, u
 use Rattle.median.specs.Sorted.{insertBy, sortedBy, medianOf}
 use Rattle.median.specs.Centre.{centreOf}
 use Rattle.estimator.specs.Rules.{ruled, rowRules}
-use Rattle.records.specs.Record.{placeable, isElevation, sound, unsigned, bitSet, usable, same}
+use Rattle.records.specs.Record.{placeable, isElevation, soundCarrier, unsigned, bitSet, usable, same}
 use Rattle.clocks.specs.Clocks.{has, appearing, slotFrom, clocksIn, clocksOf}
 use Rattle.records.specs.Pair.{pairOf, firstPair, pairAt, pairsOf}
 use Rattle.records.specs.Screen.{centre, within, keptOf}
-use Rattle.tdcp.specs.Valid.{settingsPass, badInterval, epochRules, intervalRules, displacementCounts}
+use Rattle.tdcp.specs.Valid.{settingsPass, badInterval, epochRules, intervalRules, fewRules}
 use Rattle.tdcp.specs.Front.{sightRules, countRules, cityRules, pairRules}
 use Rattle.estimator.specs.Rounds.{fitFrom, finiteAt}
 use Rattle.tdcp.specs.Displacement.{fitOver, fitBy, endRules, movedBy, movedIn, displacementOf}
@@ -33,7 +33,7 @@ record Used : Type 0 where
   in-minus-1 : usedOf (displacementOf (sixIn (negsuc 0))) ≡ 0
 
 used : Used
-unfolding displacementOf movedIn movedBy endRules finiteAt fitBy fitOver fitFrom ruled every first collect abs inRange placeable isElevation sound unsigned bitSet usable same has appearing slotFrom clocksIn clocksOf pairOf firstPair pairAt pairsOf centre within keptOf settingsPass badInterval epochRules intervalRules displacementCounts rowRules pairRules sightRules countRules cityRules onReceiver sightOf gap along turned travelAngle travelSine travelCosine norm vec-minus rootOf sign exponent digits isNanPattern isQuiet payload payloadOrder unordered totalOrder patternOf insertBy sortedBy medianOf centreOf ofInt ofBits toBits neg add sub mul div le lt eq isNan
+unfolding displacementOf movedIn movedBy endRules finiteAt fitBy fitOver fitFrom ruled every first collect abs inRange placeable isElevation soundCarrier unsigned bitSet usable same has appearing slotFrom clocksIn clocksOf pairOf firstPair pairAt pairsOf centre within keptOf settingsPass badInterval epochRules intervalRules fewRules rowRules pairRules sightRules countRules cityRules onReceiver sightOf gap along turned travelAngle travelSine travelCosine norm vec-minus rootOf sign exponent digits isNanPattern isQuiet payload payloadOrder unordered totalOrder patternOf insertBy sortedBy medianOf centreOf ofInt ofBits toBits neg add sub mul div le lt eq isNan
 used = record { in-1 = refl; in-0 = refl; in-3 = refl; in-5 = refl; in-minus-1 = refl }
 
 used-in-requires : tie.Need-used-in-requires

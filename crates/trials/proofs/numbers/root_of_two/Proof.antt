@@ -1,5 +1,4 @@
 use mathlib.Core.Path.{_≡_, refl, ap, _∙_}
-use Prim.Native.Nat.{ℕ}
 use lib.Ieee.{binary64, ofBits, isNan, toBits}
 use Rattle.root.specs.Root.{rootOf}
 use Rattle.numeric.specs.Order.{patternOf}

@@ -14,14 +14,14 @@ enum-known-before c = search needs
 enum-known-before-2 : tie.Need-enum-known-before-2
 enum-known-before-2 c = search needs
 
-add-length-requires : tie.Need-add-length-requires
-add-length-requires c κs = search needs
+add-way-requires : tie.Need-add-way-requires
+add-way-requires c κs = search needs
 
 returns : tie.Need-returns
 returns c = let b = c .before in λ d e. add-refused _ _ _ _ (sym (b .before2 .given .1) ∙ b .before .before .held .ensures)
 
 returns-2 : tie.Need-returns-2
-returns-2 c = let b = c .before .before in λ d e. add-goes _ _ _ _ (c .add-length .ensures d e .is) (sym (b .before3 .given .1) ∙ b .before .before .held .ensures)
+returns-2 c = let b = c .before .before in λ d e. add-goes _ _ _ _ (c .add-way .ensures d e .is) (sym (b .before3 .given .1) ∙ b .before .before .held .ensures)
 
 pub add-held-spec : {M : Type 1} → statement M
 add-held-spec =
@@ -30,6 +30,6 @@ add-held-spec =
     held-requires
     enum-known-before
     enum-known-before-2
-    add-length-requires
+    add-way-requires
     returns
     returns-2)

@@ -1,7 +1,7 @@
 -- `trip::words::add_in` meets its contract. Assumes nothing.
 use mathlib.Core.Path.{sym, _∙_}
 use borrow.Author.Needs.{needs}
-use Rattle.trip.proofs.MeasureLaws.{length-from-zero}
+use Rattle.trip.proofs.MeasureLaws.{way-few}
 use Rattle.trip.proofs.WordLaws.{step-refused, step-goes}
 use Rattle.trip.proofs.words.add_in.Statement.{statement}
 use Rattle.trip.proofs.words.add_in.Tie as tie
@@ -15,11 +15,11 @@ element-copy-out-t15 c = search needs
 element-copy-out-t18 : tie.Need-element-copy-out-t18
 element-copy-out-t18 c = search needs
 
-norm-requires : tie.Need-norm-requires
-norm-requires c κs = search needs
+way-of-requires : tie.Need-way-of-requires
+way-of-requires c κs = search needs
 
 add-held-requires : tie.Need-add-held-requires
-add-held-requires c κs = rw (c .before .norm .ensures) (length-from-zero _)
+add-held-requires c κs = rw (c .before .way-of .ensures) (way-few _)
 
 enum-known-answer : tie.Need-enum-known-answer
 enum-known-answer c = search needs
@@ -37,13 +37,13 @@ returns : tie.Need-returns
 returns c =
     let b = c .before .before in
     let a = b .before .before in
-    step-refused _ _ _ (c .number .ensures) (sym (b .answer .given .1) ∙ a .add-held .ensures _ (a .before .before .norm .ensures))
+    step-refused _ _ _ (c .number .ensures) (sym (b .answer .given .1) ∙ a .add-held .ensures _ (a .before .before .way-of .ensures))
 
 returns-2 : tie.Need-returns-2
 returns-2 c =
     let b = c .before .before in
     let a = b .before .before in
-    step-goes _ _ _ (c .words .ensures) (sym (b .answer2 .given .1) ∙ a .add-held .ensures _ (a .before .before .norm .ensures))
+    step-goes _ _ _ (c .words .ensures) (sym (b .answer2 .given .1) ∙ a .add-held .ensures _ (a .before .before .way-of .ensures))
 
 pub add-in-spec : {M : Type 1} → statement M
 add-in-spec =
@@ -52,7 +52,7 @@ add-in-spec =
     element-copy-out-t12
     element-copy-out-t15
     element-copy-out-t18
-    norm-requires
+    way-of-requires
     add-held-requires
     enum-known-answer
     number-requires

@@ -10,7 +10,7 @@ use lib.Seq.{length-take-le}
 use Rattle.walk.specs.Walk.{places}
 use Rattle.walk.proofs.Walk.{length-mapped}
 use Rattle.robust.specs.Columns.{columns, rowsIn}
-use Rattle.estimator.specs.Rounds.{Fit, short}
+use Rattle.estimator.specs.Rounds.{Fit, shortStep}
 use Rattle.estimator.specs.declared.rules.Check.the-variants.{Passed}
 use Rattle.estimator.proofs.RulesLaws.{checked}
 use Rattle.wls.specs.Fix.{sightRules, rowAt, roundAt, limit, start, chiAt, Long, RowsAt}
@@ -147,7 +147,7 @@ returns-3 c =
     let q = solving (s .args .settings) (s .args .k) (os s) (l .state) _ (rows t) (seen t) _ (g .result) _ _ (l .inv .1) (g .ensures) in
     let m = c .before .before .before .before .before .before .before .before .before .before .before .move-by in
     let h = c .before .before .before .before .before .before .before .before .before .before .is-short in
-    let u = h .ensures ∙ ap (λ z. short z (g .last .1 .1 .1 .1 .1 .1 .1 .1 .0)) three-places in
+    let u = h .ensures ∙ ap (λ z. shortStep z (g .last .1 .1 .1 .1 .1 .1 .1 .1 .0)) three-places in
     let v = c .before .before .before .before .before .before .before .before .before .before .before .before .enum-told2 .given .1 in
     c .found-at .ensures (sightRules (os s) (m .result)) (chiAt (s .args .settings) (s .args .k) (os s) (m .result)) (c .before .before .before .before .before .before .before .chi-at .ensures (s .args .settings) (t .before .before .before .before .before .before .before .before .before .before .before .sigmas-of .ensures))
     ∙ reached-at (s .args .settings) (s .args .k) (os s) (s .args .guess) (l .inv .1)
@@ -169,7 +169,7 @@ loop-again c =
     let q = solving (s .args .settings) (s .args .k) (os s) (l .state) _ (rows t) (seen t) _ (g .result) _ _ (l .inv .1) (g .ensures) in
     let m = c .before .before .move-by in
     let h = c .before .is-short in
-    let u = h .ensures ∙ ap (λ z. short z (g .last .1 .1 .1 .1 .1 .1 .1 .1 .0)) three-places in
+    let u = h .ensures ∙ ap (λ z. shortStep z (g .last .1 .1 .1 .1 .1 .1 .1 .1 .0)) three-places in
     let v = c .before .before .before .enum-told2 .given .1 in
     (omega (arith, t .before .before .before .before .before .before .before .before .if1 .taken), l .inv .1, s .pre .0, rowed t .long, left-goes (at s) (3 + s .args .k .count) limit (s .args .settings .rounds) (whole s) (l .i) (l .state) (t .before .before .before .before .before .before .before .before .if1 .taken) (g .result) _ _ q v (m .result) (h .result) (m .ensures) u (c .if2 .left) (l .inv .4), rows-go (at s) (3 + s .args .k .count) limit (s .args .settings .rounds) (whole s) (l .i) (l .state) (t .before .before .before .before .before .before .before .before .if1 .taken) (g .result) _ _ q v (m .result) (h .result) (m .ensures) u (rowsIn (columns (l .x) (l .y) (l .z) (l .clock) (t .before .before .before .before .before .before .before .before .before .before .before .sigmas-of .result) (take (l .used) (l .residual)))) _ (made-rows (s .args .settings) (s .args .k) (os s) (l .state) _ (rows t)) (c .if2 .left) (l .inv .5))
 

@@ -1,39 +1,32 @@
 -- `zaqnuti::corrections::zaqnuti_add_epoch` meets its contract. Assumes nothing.
-use mathlib.Core.Path.{refl}
 use Rattle.zaqnuti.proofs.CorrectionLaws.{adds-number}
 use borrow.Author.Needs.{needs}
 use Rattle.zaqnuti.proofs.corrections.zaqnuti_add_epoch.Statement.{statement}
 use Rattle.zaqnuti.proofs.corrections.zaqnuti_add_epoch.Tie as tie
 
-array-read-t41 : tie.Need-array-read-t41
-array-read-t41 c = search needs
+array-read-t39 : tie.Need-array-read-t39
+array-read-t39 c = search needs
 
-array-read-t44 : tie.Need-array-read-t44
-array-read-t44 c = search needs
+array-read-t42 : tie.Need-array-read-t42
+array-read-t42 c = search needs
 
-array-read-t47 : tie.Need-array-read-t47
-array-read-t47 c = search needs
+array-read-t45 : tie.Need-array-read-t45
+array-read-t45 c = search needs
 
-array-read-t41-2 : tie.Need-array-read-t41-2
-array-read-t41-2 c = search needs
+array-read-t39-2 : tie.Need-array-read-t39-2
+array-read-t39-2 c = search needs
 
-array-read-t47-2 : tie.Need-array-read-t47-2
-array-read-t47-2 c = search needs
+array-read-t45-2 : tie.Need-array-read-t45-2
+array-read-t45-2 c = search needs
 
-array-read-t44-2 : tie.Need-array-read-t44-2
-array-read-t44-2 c = search needs
+array-read-t42-2 : tie.Need-array-read-t42-2
+array-read-t42-2 c = search needs
 
 add-from-requires : tie.Need-add-from-requires
 add-from-requires c κs = search needs
 
-enum-known-answer : tie.Need-enum-known-answer
-enum-known-answer c = search needs
-
-number-requires : tie.Need-number-requires
-number-requires c κs = search needs
-
-enum-known-answer-2 : tie.Need-enum-known-answer-2
-enum-known-answer-2 c = search needs
+added-in-requires : tie.Need-added-in-requires
+added-in-requires c κs = search needs
 
 same-length : tie.Need-same-length
 same-length c = search needs
@@ -57,46 +50,20 @@ same-length-7 : tie.Need-same-length-7
 same-length-7 c = search needs
 
 returns : tie.Need-returns
-returns c = adds-number _ _ (c .before .before .answer .given .1) (c .number .ensures) (c .before .before .before .before .before .before .before .before .before .before .before .before .before .before .before .before .before .before .add-from .ensures)
-
-same-length-8 : tie.Need-same-length-8
-same-length-8 c = search needs
-
-same-length-9 : tie.Need-same-length-9
-same-length-9 c = search needs
-
-same-length-10 : tie.Need-same-length-10
-same-length-10 c = search needs
-
-same-length-11 : tie.Need-same-length-11
-same-length-11 c = search needs
-
-same-length-12 : tie.Need-same-length-12
-same-length-12 c = search needs
-
-same-length-13 : tie.Need-same-length-13
-same-length-13 c = search needs
-
-same-length-14 : tie.Need-same-length-14
-same-length-14 c = search needs
-
-returns-2 : tie.Need-returns-2
-returns-2 c = adds-number _ _ (c .before .answer2 .given .1) refl (c .before .before .before .before .before .before .before .before .before .before .before .before .before .before .before .before .before .add-from .ensures)
+returns c = adds-number (c .before .before .before .before .before .before .before .before .before .before .before .before .before .before .before .before .before .add-from .ensures) (c .added-in .ensures)
 
 pub zaqnuti-add-epoch-spec : {M : Type 1} → statement M
 zaqnuti-add-epoch-spec =
     tie.close
     (tie.spec
-    array-read-t41
-    array-read-t44
-    array-read-t47
-    array-read-t41-2
-    array-read-t47-2
-    array-read-t44-2
+    array-read-t39
+    array-read-t42
+    array-read-t45
+    array-read-t39-2
+    array-read-t45-2
+    array-read-t42-2
     add-from-requires
-    enum-known-answer
-    number-requires
-    enum-known-answer-2
+    added-in-requires
     same-length
     same-length-2
     same-length-3
@@ -104,12 +71,4 @@ zaqnuti-add-epoch-spec =
     same-length-5
     same-length-6
     same-length-7
-    returns
-    same-length-8
-    same-length-9
-    same-length-10
-    same-length-11
-    same-length-12
-    same-length-13
-    same-length-14
-    returns-2)
+    returns)

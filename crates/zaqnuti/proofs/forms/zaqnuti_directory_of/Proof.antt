@@ -1,5 +1,4 @@
 -- `zaqnuti::forms::zaqnuti_directory_of` meets its contract. Assumes nothing.
-use mathlib.Core.Path.{refl}
 use lib.ListN.{length}
 use Rattle.table.specs.Table.{lent}
 use Rattle.directory.specs.Directory.{entryRows, lentBlocks}
@@ -12,14 +11,8 @@ use Rattle.zaqnuti.proofs.forms.zaqnuti_directory_of.Tie as tie
 directory-of-requires : tie.Need-directory-of-requires
 directory-of-requires c κs = search needs
 
-enum-known-answer : tie.Need-enum-known-answer
-enum-known-answer c = search needs
-
-number-requires : tie.Need-number-requires
-number-requires c κs = search needs
-
-enum-known-answer-2 : tie.Need-enum-known-answer-2
-enum-known-answer-2 c = search needs
+filing-in-requires : tie.Need-filing-in-requires
+filing-in-requires c κs = search needs
 
 same-length : tie.Need-same-length
 same-length c = search needs
@@ -38,46 +31,19 @@ same-length-5 c = search needs
 
 returns : tie.Need-returns
 returns c =
-    let a = c .before .before .before .before .before .before .before .before .before .before .before .before .before .before .before .before .before .before .before .before .before .before .before .before .before .before .before .before .before .before .args in
-    files-number (filedOf (a .n) (length (entryRows (a .dc .now) (a .dv .now) (a .db .now) (a .df .now) (a .dn .now))) (lent (a .cs .now) (a .vs .now) (a .bs .now) (a .ts .now) (a .xs .now))) (lentBlocks (a .dc .now) (a .dv .now) (a .db .now) (a .df .now) (a .dn .now) (a .ts .now) (a .xs .now)) (c .before .before .before .before .before .before .before .before .before .before .before .before .before .before .directory-of .ensures) _ _ _ (c .before .before .answer .given .1) (c .number .ensures)
-
-same-length-6 : tie.Need-same-length-6
-same-length-6 c = search needs
-
-same-length-7 : tie.Need-same-length-7
-same-length-7 c = search needs
-
-same-length-8 : tie.Need-same-length-8
-same-length-8 c = search needs
-
-same-length-9 : tie.Need-same-length-9
-same-length-9 c = search needs
-
-same-length-10 : tie.Need-same-length-10
-same-length-10 c = search needs
-
-returns-2 : tie.Need-returns-2
-returns-2 c =
-    let a = c .before .before .before .before .before .before .before .before .before .before .before .before .before .before .before .before .before .before .before .before .before .before .before .before .before .before .before .before .before .args in
-    files-number (filedOf (a .n) (length (entryRows (a .dc .now) (a .dv .now) (a .db .now) (a .df .now) (a .dn .now))) (lent (a .cs .now) (a .vs .now) (a .bs .now) (a .ts .now) (a .xs .now))) (lentBlocks (a .dc .now) (a .dv .now) (a .db .now) (a .df .now) (a .dn .now) (a .ts .now) (a .xs .now)) (c .before .before .before .before .before .before .before .before .before .before .before .before .before .directory-of .ensures) (c .before .before .before .before .before .before .before .before .before .before .before .before .before .before .before .before .before .before .before .before .before .before .before .before .before .before .before .before .before .args .m .now) _ _ (c .before .answer2 .given .1) refl
+    let a = c .before .before .before .before .before .before .before .before .before .before .before .before .before .before .before .before .before .before .before .before .before .before .before .before .before .before .before .before .args in
+    files-number (filedOf (a .n) (length (entryRows (a .dc .now) (a .dv .now) (a .db .now) (a .df .now) (a .dn .now))) (lent (a .cs .now) (a .vs .now) (a .bs .now) (a .ts .now) (a .xs .now)))
+    (lentBlocks (a .dc .now) (a .dv .now) (a .db .now) (a .df .now) (a .dn .now) (a .ts .now) (a .xs .now)) (c .before .before .before .before .before .before .before .before .before .before .before .before .directory-of .ensures) _ (c .filing-in .ensures)
 
 pub zaqnuti-directory-of-spec : {M : Type 1} → statement M
 zaqnuti-directory-of-spec =
     tie.close
     (tie.spec
     directory-of-requires
-    enum-known-answer
-    number-requires
-    enum-known-answer-2
+    filing-in-requires
     same-length
     same-length-2
     same-length-3
     same-length-4
     same-length-5
-    returns
-    same-length-6
-    same-length-7
-    same-length-8
-    same-length-9
-    same-length-10
-    returns-2)
+    returns)

@@ -1,0 +1,101 @@
+-- `median::median::of_highest` meets its contract: the four highest of the numbers from j on. Assumes nothing.
+use Prim.Native.Nat.{ℕ, _-_, _^_, _≤_}
+use native.Mathlib.Omega.{arith}
+use mathlib.Core.Path.{_≡_, ap, _∙_}
+use lib.ListN.{take, drop, length}
+use lib.Seq.{length-take-le}
+use borrow.Author.Needs.{needs}
+use Rattle.median.specs.Select.{placed}
+use Rattle.median.proofs.SelectFew.{each-below, from-end, from-before, Highest, highest-none, highest-more, highest-at}
+use Rattle.median.proofs.median.of_highest.Statement.{statement}
+use Rattle.median.proofs.median.of_highest.Tie as tie
+
+abbrev Inv-loop : tie.InvT-loop
+Inv-loop k n m a₀ b₀ c₀ d₀ j₀ a b c d j = (j ≤ n) × Highest (2 ^ 63 - 1) (drop j (take n k)) a b c d
+
+abbrev μ-loop : tie.MeasureT-loop
+μ-loop k n m a₀ b₀ c₀ d₀ j₀ a b c d j = j
+
+loop-holds : tie.Need-loop-holds Inv-loop μ-loop
+loop-holds c = (omega arith, rw (from-end (c .args .k .now) (c .args .n) (omega (arith, c .pre .2, c .pre .3))) (highest-none (2 ^ 63 - 1)))
+
+sub-j : tie.Need-sub-j Inv-loop μ-loop
+sub-j c = omega arith
+
+mul-x : tie.Need-mul-x Inv-loop μ-loop
+mul-x c = omega arith
+
+element-copy-out-x : tie.Need-element-copy-out-x Inv-loop μ-loop
+element-copy-out-x c = omega arith
+
+lesser-requires : tie.Need-lesser-requires Inv-loop μ-loop
+lesser-requires c κs = search needs
+
+greater-requires : tie.Need-greater-requires Inv-loop μ-loop
+greater-requires c κs = search needs
+
+lesser-requires-2 : tie.Need-lesser-requires-2 Inv-loop μ-loop
+lesser-requires-2 c κs = search needs
+
+greater-requires-2 : tie.Need-greater-requires-2 Inv-loop μ-loop
+greater-requires-2 c κs = search needs
+
+lesser-requires-3 : tie.Need-lesser-requires-3 Inv-loop μ-loop
+lesser-requires-3 c κs = search needs
+
+greater-requires-3 : tie.Need-greater-requires-3 Inv-loop μ-loop
+greater-requires-3 c κs = search needs
+
+greater-requires-4 : tie.Need-greater-requires-4 Inv-loop μ-loop
+greater-requires-4 c κs = search needs
+
+loop-less : tie.Need-loop-less Inv-loop μ-loop
+loop-less c = omega arith
+
+loop-again : tie.Need-loop-again Inv-loop μ-loop
+loop-again c =
+    let r = c .before .before .before .before .before .before .before in
+    let t = r .before .before in
+    let s = t .before in
+    let k = s .args .k .now in
+    let n = s .args .n in
+    let j = t .loop .j in (
+      omega arith,
+      rw (c .greater4 .ensures, c .before .greater3 .ensures, c .before .before .lesser3 .ensures, c .before .before .before .greater2 .ensures, c .before .before .before .before .lesser2 .ensures, c .before .before .before .before .before .greater .ensures, c .before .before .before .before .before .before .lesser .ensures, from-before k n (omega arith) j (omega arith) (omega arith))
+          (highest-more (2 ^ 63 - 1) (drop j (take n k)) _ (each-below k n (omega arith) (s .pre .4) (j - 1) (omega arith)) (t .loop .inv .1)),
+    )
+
+one-of-requires : tie.Need-one-of-requires Inv-loop μ-loop
+one-of-requires c κs = search needs
+
+returns : tie.Need-returns Inv-loop μ-loop
+returns c =
+    let t = c .before in
+    let s = t .before .before in
+    let k = s .args .k .now in
+    let n = s .args .n in
+    let e : t .before .loop .j ≡ 0 = omega arith in
+    let len : length (take n k) ≡ n = length-take-le n k (omega arith) in
+    c .one-of .ensures ∙ highest-at (2 ^ 63 - 1) (take n k) (s .args .m) (omega arith) (s .pre .1) (rw e at (t .before .loop .inv .1)) ∙ ap (λ (i : ℕ). placed (i - 1 - s .args .m) (take n k)) len
+
+pub of-highest-spec : {M : Type 1} → statement M
+of-highest-spec =
+    tie.close
+    (tie.spec
+    Inv-loop
+    μ-loop
+    loop-holds
+    sub-j
+    mul-x
+    element-copy-out-x
+    lesser-requires
+    greater-requires
+    lesser-requires-2
+    greater-requires-2
+    lesser-requires-3
+    greater-requires-3
+    greater-requires-4
+    loop-less
+    loop-again
+    one-of-requires
+    returns)

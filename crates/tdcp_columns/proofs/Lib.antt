@@ -1,0 +1,4 @@
+pub mod RoundLaws
+pub mod FitLaws
+pub mod AnswerLaws
+pub mod AnswerValues
