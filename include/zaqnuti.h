@@ -58,10 +58,10 @@
  *
  *     fix             25,088
  *     position        25,088
- *     displacement    16,640
+ *     displacement    16,896
  *     between         16,128
  *     city            16,128
- *     line            40,704
+ *     line            40,960
  *     records         24,320
  *     read_records       256
  *     write_records      256
@@ -75,8 +75,8 @@
  *     times              256
  *     trip               256
  *     north_east_down    256
- *     trip_displacement 16,640
- *     round            8,704
+ *     trip_displacement 17,152
+ *     round            8,960
  *     centre             768
  *     geometry           256
  *     factor           1,024

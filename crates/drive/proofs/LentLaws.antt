@@ -11,7 +11,7 @@ use Rattle.tdcp.proofs.CountedLaws.{many-rounds}
 use Rattle.trip.specs.declared.trip.Step.{Step}
 use Rattle.drive.specs.Drive.{underNew}
 use Rattle.tdcp_columns.specs.Displacement.{displacementSettings}
-use Rattle.tdcp_columns.proofs.RoundLaws.{capped}
+use Rattle.estimator.proofs.RoundsLaws.{capped}
 use Rattle.tdcp_columns.proofs.FitLaws.{moved-fit}
 use Rattle.drive.specs.Lent.{drivingNumber, inForceAfter, roundsAfter, startedAfter, DrivingAnswers, BegunAnswers, Lent, inputOf, movedOf, travelledIn, travelNumber, tripAfter, deltaAfter, countsAfter, TravelAnswers}
 use Rattle.drive.specs.declared.drive.Driving.{Driving}

@@ -12,8 +12,9 @@ use Rattle.walk.proofs.Walk.{places-all, or-no}
 use Rattle.numeric.specs.Real.{inRange}
 use Rattle.numeric.specs.declared.vec3.Vec3.{Vec3}
 use Rattle.numeric.specs.declared.refusal.Refusal.the-variants.{TooMany, SettingOutOfRange, RecordOutOfRange, TableFull}
-use Rattle.directory.specs.Directory.{Directory, blockCapacity, directoryIn, soundDirectory}
-use Rattle.addition.specs.Add.{Placed, addedIn, directoryWith, refusedIn}
+use Rattle.directory.specs.Directory.{Blocks, Directory, blockCapacity, directoryIn, soundDirectory}
+use Rattle.addition.specs.Add.{Placed, Places, addedIn, additionNumber, additionOf, directoryWith, entriesNow, refusedIn, samplesNow}
+use Rattle.addition.specs.declared.add.Addition.{Addition}
 use Rattle.differential.specs.Record.{placeInRange, rangeInRange, rangesOf, stateInRange, statesCount, statesOf}
 use Rattle.differential.specs.Raw.{rawsOf}
 use Rattle.differential.specs.Sample.{epochSamples, samplesOf}
@@ -139,3 +140,8 @@ pub entry-call : (h : Owned) (time : Float) (k : ℕ) (rc rv rb : List ℕ) (rp 
     ≡ callOf base rover set h (record { epoch = epochOf time k rc rv rb rp; states = statesIn present j sc sv sb sf })
 unfolding entryIn
 entry-call h time k rc rv rb rp present j sc sv sb sf base rover set e = rw e
+
+-- ---- the number and both counts, x being the answer of the call inside
+pub adds-number : {o : Placed} {x : Addition} {m m′ n n′ number : ℕ} {l l′ : Blocks} → (x ≡ additionOf o) × Places o (additionNumber x) m (entriesNow x m) n (samplesNow x n) l l′
+    → (number ≡ additionNumber x) × (m′ ≡ entriesNow x m) × (n′ ≡ samplesNow x n) → Places o number m m′ n n′ l l′
+adds-number a (r, i, k) = rw (r, i, k) (a .1)

@@ -1,3 +1,2 @@
 -- What the proofs of more than one function use, and the theorems.
-pub mod ColumnLaws
 pub mod EpochLaws

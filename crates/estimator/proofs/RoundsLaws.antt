@@ -1,6 +1,6 @@
 -- The rounds as the code's loops have them: what is left to do. Assumes nothing.
 use mathlib.Core.Path.{_≡_, refl, sym, ap, _∙_, subst, subst₂}
-use Prim.Native.Nat.{ℕ, suc, _+_, _-_, _≤_, _<_}
+use Prim.Native.Nat.{ℕ, suc, _+_, _-_, _≤_, _<_, min}
 use native.Mathlib.Nat.{not-suc-le-zero}
 use native.Mathlib.Decide.{ℕ-discrete, decLt}
 use native.Mathlib.Omega.{arith}
@@ -22,6 +22,14 @@ use Rattle.numeric.specs.declared.refusal.Refusal.{Refusal}
 use Rattle.estimator.specs.declared.rules.Check.the-variants as Check
 use Rattle.robust.proofs.NineLaws.{nine-is}
 use Rattle.estimator.specs.Rounds.{End, Stopped, Reached, Fit, moved, shortStep, after, fitFrom, lastRows, Ended}
+
+-- rounds above 50, which every estimator refuses alike, so that 51 stand for them all
+pub capped : {A : Type 0} (f : ℕ → A) {r : A} → ((k : ℕ) → 50 < k → f k ≡ r) → (rounds : ℕ) → f (min rounds 51) ≡ f rounds
+capped f many rounds = go (decLt 50 rounds)
+  where
+    go : Dec (50 < rounds) → f (min rounds 51) ≡ f rounds
+    go (yes h) = many (min rounds 51) (omega arith) ∙ sym (many rounds h)
+    go (no h) = let e : min rounds 51 ≡ rounds = omega arith in ap f e
 
 -- 1e-3 and 1e-5, as a compiler reads them
 pub three-places : bits 0x3F50_624D_D2F1_A9FC ≡ decimal 1 3

@@ -1,6 +1,6 @@
 // What the rounds of a fix and of a displacement share.
 ghost use mathlib.Core.Path.{_≡_};
-ghost use Prim.Native.Nat.{ℕ, _≤_};
+ghost use Prim.Native.Nat.{ℕ, _≤_, min};
 ghost use Rattle.cholesky.specs.Factor.{at};
 ghost use Rattle.estimator.specs.Rounds as spec;
 use numeric::real::hypot;
@@ -29,4 +29,11 @@ pub fn state_at(x: [f64; 9], s: usize) -> f64
     ensures { λ r. ⌜ r ≡ at x s ⌝ }
 {
     if s < 9 { x[s] } else { 0.0 / 0.0 }
+}
+
+// The rounds as an estimator takes them: from 51 on they are refused alike.
+pub fn rounds_of(rounds: usize) -> u32
+    ensures { λ r. ⌜ r ≡ min rounds 51 ⌝ }
+{
+    if rounds < 51 { rounds as u32 } else { 51 }
 }

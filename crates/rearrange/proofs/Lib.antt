@@ -2,3 +2,4 @@
 pub mod FileLaws
 pub mod ListLaws
 pub mod AnswerLaws
+pub mod NumberLaws

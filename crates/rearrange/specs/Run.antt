@@ -3,6 +3,7 @@ use Prim.Native.Nat.{ℕ, _≤_, _<_}
 use mathlib.Core.Path.{_≡_}
 use mathlib.Core.List.{List}
 use lib.ListN.{length, getD}
+use Rattle.numeric.specs.Refusal.{numberOf}
 use Rattle.directory.specs.Rearrange.{Filed, unfiled, entriesAre, Listed, unlisted, samplesAre}
 use Rattle.rearrange.specs.declared.«directory_of».Filing.{Filing}
 use Rattle.rearrange.specs.declared.«directory_of».Filing.the-variants as Filing
@@ -18,6 +19,19 @@ filingOf (entriesAre es) = Filing.Entries (length es)
 abbrev pub listingOf : Listed → Listing
 listingOf (unlisted r) = Listing.Refused r
 listingOf (samplesAre t) = Listing.Listed
+
+-- the number of an answer, and how many entries there are after it, m before
+abbrev pub filingNumber : Filing → ℕ
+filingNumber (Filing.Refused r) = numberOf r
+filingNumber (Filing.Entries k) = 0
+
+abbrev pub filingCount : Filing → ℕ → ℕ
+filingCount (Filing.Refused r) m = m
+filingCount (Filing.Entries k) m = k
+
+abbrev pub listingNumber : Listing → ℕ
+listingNumber (Listing.Refused r) = numberOf r
+listingNumber Listing.Listed = 0
 
 -- the satellite at the place x is that at i
 abbrev pub SameAt : List ℕ → List ℕ → List ℕ → ℕ → ℕ → Type 0

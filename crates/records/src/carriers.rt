@@ -23,6 +23,17 @@ pub fn vector_at(v: &[f64], k: usize) -> Vec3
     }
 }
 
+// Three floats as a vector.
+pub fn vector(v: &[f64; 3]) -> Vec3
+    ensures { λ r. ⌜ r ≡ spec.vectorAt (now (v .entry)) 0 ⌝ }
+{
+    Vec3 {
+        x: v[0],
+        y: v[1],
+        z: v[2],
+    }
+}
+
 // Carrier i of the columns.
 pub(crate) fn carrier_at(
     constellation: &[u8],

@@ -2,13 +2,11 @@
 ghost use mathlib.Core.Path.{_≡_};
 ghost use mathlib.Core.Bool.{_&&_};
 ghost use Rattle.records.specs.Carriers.{vectorAt, carrierColumns, epochFits};
-ghost use Rattle.tdcp.specs.Displacement.{displacementNumber};
 ghost use Rattle.tdcp_columns.specs.Displacement as spec;
 use crate::settings::displacement_settings;
-use crate::settings::vector;
 use city::city::city_in;
-use numeric::order::pattern;
 use numeric::refusal::Refusal;
+use records::carriers::vector;
 use tdcp::between::between_in;
 use tdcp::displacement::Displacement;
 use tdcp::displacement::delta_in;
@@ -246,22 +244,4 @@ pub fn city_of(
         at,
         s,
     )
-}
-
-// 0, the displacement in metres in delta and how many pairs were used and screened out in counts; or the refusal's number, which leaves both as they were.
-pub fn answer_in(answer: Displacement, delta: &mut [u64; 3], counts: &mut [usize; 2]) -> u8
-    ensures { λ r. ⌜ (r ≡ displacementNumber answer) × (now (delta .exit) ≡ spec.deltaAfter answer (now (delta .entry))) × (now (counts .exit) ≡ spec.countsAfter answer (now (counts .entry))) ⌝ }
-{
-    match answer {
-        Displacement::Moved(d) => {
-            let v = d.delta;
-            let x = pattern(v.x);
-            let y = pattern(v.y);
-            let z = pattern(v.z);
-            *delta = [x, y, z];
-            *counts = [d.used, d.screened];
-            0
-        }
-        Displacement::Refused(r) => r.number(),
-    }
 }

@@ -1,9 +1,4 @@
-pub mod ColumnLaws
-pub mod ColumnValues
 pub mod FactorNumber
-pub mod StepNumber
 pub mod SightNumber
-pub mod EstimateLaws
-pub mod EstimateValues
 pub mod CorrectionLaws
 pub mod TimeLaws

@@ -3,8 +3,7 @@ ghost use mathlib.Core.Path.{_≡_};
 ghost use Rattle.records.specs.Carriers.{vectorAt, carrierColumns};
 ghost use Rattle.tdcp_columns.specs.Displacement.{displacementSettings, timedInput, columnBetweenOf, DisplacementAnswers};
 ghost use Rattle.zaqnuti.specs.Times.{timeAt};
-use tdcp_columns::displacement::answer_in;
-use tdcp_columns::displacement::between_of;
+use tdcp_columns::lent::between_into;
 use time::time::GpsTime;
 
 // The displacement between two epochs whose times are known in nanoseconds since the start of week 0: 0, the displacement in metres in delta and how many pairs
@@ -42,7 +41,7 @@ pub extern "C" fn zaqnuti_displacement_between(
     let after = GpsTime {
         nanos: current_time,
     };
-    let answer = between_of(
+    between_into(
         previous_constellation,
         previous_svid,
         previous_band,
@@ -60,6 +59,7 @@ pub extern "C" fn zaqnuti_displacement_between(
         receiver,
         settings,
         rounds,
-    );
-    answer_in(answer, delta, counts)
+        delta,
+        counts,
+    )
 }

@@ -2,28 +2,11 @@
 ghost use mathlib.Core.Path.{_≡_};
 ghost use Rattle.table.specs.Widen.{widenOf, wideningNumber, bandsAfter};
 ghost use Rattle.directory.specs.Directory.{lentBlocks, blockCapacity, directoryIn};
-ghost use Rattle.addition.specs.Add.{additionNumber, entriesNow, samplesNow, Places};
+ghost use Rattle.addition.specs.Add.{Places};
 ghost use Rattle.epoch_columns.specs.Epoch.{pointOf, settingsOf, entryIn};
-use addition::add::Addition;
-use differential::record::Settings;
-use epoch_columns::epoch::add_from;
-use numeric::vec3::Vec3;
+use epoch_columns::lent::add_into;
 use table::widen::Widening;
 use table::widen::widen_bands;
-
-// Both counts afterwards and 0, or the number of the refusal, which leaves them as they were.
-fn added_in(answer: Addition, blocks: &mut usize, n: &mut usize) -> u8
-    ensures { λ r. ⌜ (r ≡ additionNumber answer) × (now (blocks .exit) ≡ entriesNow answer (now (blocks .entry))) × (now (n .exit) ≡ samplesNow answer (now (n .entry))) ⌝ }
-{
-    match answer {
-        Addition::Refused(why) => why.number(),
-        Addition::Added(counts) => {
-            *blocks = counts.entries;
-            *n = counts.samples;
-            0
-        }
-    }
-}
 
 // One base epoch of k ranges, with j states of eight floats each (position, velocity, clock, modelled) or the mark that there are none, to the directory of
 // `blocks` entries and n samples: 0 and the columns and both counts with its corrections, or the number of the refusal, which leaves them as they were.
@@ -64,36 +47,16 @@ pub extern "C" fn zaqnuti_add_epoch(
         (now (blocks .entry)) (now (blocks .exit)) (now (n .entry)) (now (n .exit)) l
         (lentBlocks (now (dc .exit)) (now (dv .exit)) (now (db .exit)) (now (df .exit)) (now (dn .exit)) (now (ts .exit)) (now (xs .exit)))) ⌝ }
 {
-    let b = *base;
-    let r = *rover;
-    let o = *on;
-    let from = Vec3 {
-        x: b[0],
-        y: b[1],
-        z: b[2],
-    };
-    let to = Vec3 {
-        x: r[0],
-        y: r[1],
-        z: r[2],
-    };
-    let settings = Settings {
-        max_gap: gap,
-        max_correction: max,
-        constellations: o,
-    };
-    let entries = *blocks;
-    let samples = *n;
-    let answer = add_from(
+    add_into(
         dc,
         dv,
         db,
         df,
         dn,
-        entries,
+        blocks,
         ts,
         xs,
-        samples,
+        n,
         time,
         k,
         rc,
@@ -106,11 +69,12 @@ pub extern "C" fn zaqnuti_add_epoch(
         sv,
         sb,
         sf,
-        from,
-        to,
-        settings,
-    );
-    added_in(answer, blocks, n)
+        base,
+        rover,
+        gap,
+        max,
+        on,
+    )
 }
 
 // The first n bands of a table that was written with 8 bits for each, at the front of a column of 32 bits: 0, or the number of the refusal, which leaves

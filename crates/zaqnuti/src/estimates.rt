@@ -1,35 +1,12 @@
 // Entry points of the displacement and the fix. What a caller lends as doubles is taken as their patterns, so that a refusal is promised to leave every bit.
 ghost use mathlib.Core.Path.{_≡_};
-ghost use Prim.Native.Nat.{min};
 ghost use Rattle.records.specs.Carriers.{vectorAt, carrierColumns};
-ghost use Rattle.zaqnuti.specs.Columns.{observationColumns};
 ghost use Rattle.tdcp_columns.specs.Displacement as columns;
-ghost use Rattle.zaqnuti.specs.Estimates as spec;
-use crate::columns::observations_fit;
-use crate::columns::observations_of;
-use numeric::order::pattern;
-use numeric::refusal::Refusal;
-use tdcp_columns::displacement::answer_in;
-use tdcp_columns::displacement::displacement_of;
-use tdcp_columns::settings::rounds_of;
-use tdcp_columns::settings::vector;
-use wls::fix::Fix;
-use wls::fix::Settings;
-use wls::fix::solve_full;
-
-// The settings of a fix.
-pub(crate) fn fix_settings(s: &[f64; 4], rounds: usize) -> Settings
-    ensures { λ r. ⌜ r ≡ spec.fixSettings (now (s .entry)) (min rounds 51) ⌝ }
-{
-    let n = rounds_of(rounds);
-    Settings {
-        sigma_a: s[0],
-        sigma_b: s[1],
-        huber: s[2],
-        mask: s[3],
-        rounds: n,
-    }
-}
+ghost use Rattle.wls_columns.specs.Columns.{observationColumns};
+ghost use Rattle.wls_columns.specs.Fix as spec;
+use tdcp_columns::lent::displacement_into;
+use wls_columns::fix::fix_into;
+use wls_columns::fix::position_into;
 
 // The displacement between two epochs: 0, the displacement in metres in delta and how many pairs were used and screened out in counts; or the refusal's number, which leaves both as they were.
 #[no_mangle]
@@ -58,7 +35,7 @@ pub extern "C" fn zaqnuti_displacement(
         (columns.columnDisplacementOf (carrierColumns (now («previous_constellation» .entry)) (now («previous_svid» .entry)) (now («previous_band» .entry)) (now («previous_state» .entry)) (now («previous_floats» .entry))) «previous_count» (carrierColumns (now («current_constellation» .entry)) (now («current_svid» .entry)) (now («current_band» .entry)) (now («current_state» .entry)) (now («current_floats» .entry))) «current_count» dt (vectorAt (now (receiver .entry)) 0) (columns.displacementSettings (now (settings .entry)) rounds))
         r (now (delta .entry)) (now (delta .exit)) (now (counts .entry)) (now (counts .exit)) ⌝ }
 {
-    let answer = displacement_of(
+    displacement_into(
         previous_constellation,
         previous_svid,
         previous_band,
@@ -75,28 +52,9 @@ pub extern "C" fn zaqnuti_displacement(
         receiver,
         settings,
         rounds,
-    );
-    answer_in(answer, delta, counts)
-}
-
-// The fix of the first `count` observations of the columns.
-fn fix_from(
-    constellation: &[u8],
-    floats: &[f64],
-    count: usize,
-    guess: &[f64; 3],
-    settings: &[f64; 4],
-    rounds: usize,
-) -> Fix
-    ensures { λ r. ⌜ r ≡ spec.columnFixOf (observationColumns (now (constellation .entry)) (now (floats .entry))) count (vectorAt (now (guess .entry)) 0) (spec.fixSettings (now (settings .entry)) rounds) ⌝ }
-{
-    if !observations_fit(constellation, floats, count) {
-        return Fix::Refused(Refusal::TooMany);
-    }
-    let observations = observations_of(constellation, floats, count);
-    let at = vector(guess);
-    let s = fix_settings(settings, rounds);
-    solve_full(observations, at, s)
+        delta,
+        counts,
+    )
 }
 
 // The position from one epoch: 0, x, y, z, chi and pdop in solution and how many observations were used in used; or the refusal's number, which leaves both as they were.
@@ -116,21 +74,16 @@ pub extern "C" fn zaqnuti_fix(
         (spec.columnFixOf (observationColumns (now (constellation .entry)) (now (floats .entry))) count (vectorAt (now (guess .entry)) 0) (spec.fixSettings (now (settings .entry)) rounds))
         r (now (solution .entry)) (now (solution .exit)) (now (used .entry)) (now (used .exit)) ⌝ }
 {
-    let answer = fix_from(constellation, floats, count, guess, settings, rounds);
-    match answer {
-        Fix::At(f) => {
-            let p = f.position;
-            let x = pattern(p.x);
-            let y = pattern(p.y);
-            let z = pattern(p.z);
-            let chi = pattern(f.chi);
-            let pdop = pattern(f.pdop);
-            *solution = [x, y, z, chi, pdop];
-            *used = f.used;
-            0
-        }
-        Fix::Refused(r) => r.number(),
-    }
+    fix_into(
+        constellation,
+        floats,
+        count,
+        guess,
+        settings,
+        rounds,
+        solution,
+        used,
+    )
 }
 
 // The same fix by its position alone (`solve` of wls.rs): 0 and x, y, z in position; or the refusal's number, which leaves position as it was.
@@ -149,16 +102,13 @@ pub extern "C" fn zaqnuti_position(
         (spec.columnFixOf (observationColumns (now (constellation .entry)) (now (floats .entry))) count (vectorAt (now (guess .entry)) 0) (spec.fixSettings (now (settings .entry)) rounds))
         r (now (position .entry)) (now (position .exit)) ⌝ }
 {
-    let answer = fix_from(constellation, floats, count, guess, settings, rounds);
-    match answer {
-        Fix::At(f) => {
-            let p = f.position;
-            let x = pattern(p.x);
-            let y = pattern(p.y);
-            let z = pattern(p.z);
-            *position = [x, y, z];
-            0
-        }
-        Fix::Refused(r) => r.number(),
-    }
+    position_into(
+        constellation,
+        floats,
+        count,
+        guess,
+        settings,
+        rounds,
+        position,
+    )
 }

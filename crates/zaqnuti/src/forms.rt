@@ -5,34 +5,8 @@ ghost use lib.ListN.{length};
 ghost use Rattle.table.specs.Table.{lent};
 ghost use Rattle.directory.specs.Directory.{lentBlocks, entryRows};
 ghost use Rattle.directory.specs.Rearrange.{filedOf, filedNumber, entriesAfter, filedColumns, listedOf, listedNumber, listedColumns};
-ghost use Rattle.zaqnuti.specs.Numbers.{filingNumber, filingCount, listingNumber};
-use rearrange::directory_of::Filing;
-use rearrange::directory_of::directory_of;
-use rearrange::signals_of::Listing;
-use rearrange::signals_of::signals_of;
-
-// How many entries there are in m and 0, or the number of the refusal, which leaves m as it was.
-fn filing_in(answer: Filing, m: &mut usize) -> u8
-    ensures { λ r. ⌜ (r ≡ filingNumber answer) × (now (m .exit) ≡ filingCount answer (now (m .entry))) ⌝ }
-{
-    match answer {
-        Filing::Refused(why) => why.number(),
-        Filing::Entries(count) => {
-            *m = count;
-            0
-        }
-    }
-}
-
-// 0, or the number of the refusal.
-fn listing_number(answer: Listing) -> u8
-    ensures { λ r. ⌜ r ≡ listingNumber answer ⌝ }
-{
-    match answer {
-        Listing::Refused(why) => why.number(),
-        Listing::Listed => 0,
-    }
-}
+use rearrange::lent::directory_into;
+use rearrange::lent::signals_into;
 
 // The directory of the n samples of a table, which shares its times and corrections: 0 and the directory's columns and count, or the number of the refusal,
 // which leaves them as they were.
@@ -56,8 +30,7 @@ pub extern "C" fn zaqnuti_directory_of(
         (r ≡ filedNumber o) × ((now (m .exit) ≡ entriesAfter o (now (m .entry)))
         × (lentBlocks (now (dc .exit)) (now (dv .exit)) (now (db .exit)) (now (df .exit)) (now (dn .exit)) (now (ts .entry)) (now (xs .entry)) ≡ filedColumns o l))) ⌝ }
 {
-    let answer = directory_of(cs, vs, bs, ts, xs, n, dc, dv, db, df, dn);
-    filing_in(answer, m)
+    directory_into(cs, vs, bs, ts, xs, n, dc, dv, db, df, dn, m)
 }
 
 // The signals of the table that a directory of m entries and n samples stands for: 0 and the three columns, or the number of the refusal, which leaves them
@@ -82,6 +55,5 @@ pub extern "C" fn zaqnuti_signals_of(
         (lentBlocks (now (dc .entry)) (now (dv .entry)) (now (db .entry)) (now (df .entry)) (now (dn .entry)) (now (ts .entry)) (now (xs .entry))) in
         (r ≡ listedNumber o) × (lent (now (cs .exit)) (now (vs .exit)) (now (bs .exit)) (now (ts .entry)) (now (xs .entry)) ≡ listedColumns o l)) ⌝ }
 {
-    let answer = signals_of(dc, dv, db, df, dn, m, ts, xs, n, cs, vs, bs);
-    listing_number(answer)
+    signals_into(dc, dv, db, df, dn, m, ts, xs, n, cs, vs, bs)
 }

@@ -1,6 +1,5 @@
 // The static library for C and Rust: an entry point for each service and each call of its own. None of them keeps any state.
 pub mod between;
-mod columns;
 pub mod corrections;
 pub mod directions;
 pub mod drives;

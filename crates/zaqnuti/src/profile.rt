@@ -2,8 +2,7 @@
 ghost use mathlib.Core.Path.{_≡_};
 ghost use Rattle.records.specs.Carriers.{vectorAt, carrierColumns};
 ghost use Rattle.tdcp_columns.specs.Displacement.{displacementSettings, leftInput, columnCityOf, DisplacementAnswers};
-use tdcp_columns::displacement::answer_in;
-use tdcp_columns::displacement::city_of;
+use tdcp_columns::lent::city_into;
 
 // The displacement between two epochs by GPS (1) and Galileo (6) on the chosen band: 0, the displacement in metres in delta and how many of their pairs were used and
 // screened out in counts; or the refusal's number, which leaves both as they were.
@@ -34,7 +33,7 @@ pub extern "C" fn zaqnuti_city_displacement(
         (columnCityOf (carrierColumns (now («previous_constellation» .entry)) (now («previous_svid» .entry)) (now («previous_band» .entry)) (now («previous_state» .entry)) (now («previous_floats» .entry))) «previous_count» (carrierColumns (now («current_constellation» .entry)) (now («current_svid» .entry)) (now («current_band» .entry)) (now («current_state» .entry)) (now («current_floats» .entry))) «current_count» dt band (vectorAt (now (receiver .entry)) 0) (displacementSettings (now (settings .entry)) rounds))
         r (now (delta .entry)) (now (delta .exit)) (now (counts .entry)) (now (counts .exit)) ⌝ }
 {
-    let answer = city_of(
+    city_into(
         previous_constellation,
         previous_svid,
         previous_band,
@@ -52,6 +51,7 @@ pub extern "C" fn zaqnuti_city_displacement(
         receiver,
         settings,
         rounds,
-    );
-    answer_in(answer, delta, counts)
+        delta,
+        counts,
+    )
 }

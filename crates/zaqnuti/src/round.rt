@@ -4,20 +4,17 @@ ghost use Rattle.median.specs.Centre.{centreScaleOf, centreNumber, centreAfter}
 ghost use Rattle.numeric.specs.Sight as sight;
 ghost use Rattle.robust.specs.Sigma.{elevationSigma};
 ghost use Rattle.records.specs.Carriers.{vectorAt};
-ghost use Rattle.zaqnuti.specs.Columns.{rowColumns};
-ghost use Rattle.zaqnuti.specs.Numbers.{sightAfter, columnStepOf, StepAnswers};
-use crate::columns::rows_fit;
-use crate::columns::rows_of;
+ghost use Rattle.wls_columns.specs.Columns.{rowColumns};
+ghost use Rattle.wls_columns.specs.Step.{columnStepOf, StepAnswers};
+ghost use Rattle.zaqnuti.specs.Numbers.{sightAfter};
 use median::centre::Centre;
 use median::centre::centre_scale;
 use numeric::order::pattern;
-use numeric::refusal::Refusal;
 use numeric::sight::Sighting;
 use numeric::sight::geometry;
-use robust::round::Stepping;
-use robust::round::step;
+use records::carriers::vector;
 use robust::sigma::elevation_sigma;
-use tdcp_columns::settings::vector;
+use wls_columns::round::round_into;
 
 // The centre and the scale of the residuals' patterns in out and 0, or 2 for more than 64, which leaves out as it was.
 #[no_mangle]
@@ -77,13 +74,5 @@ pub extern "C" fn zaqnuti_round(
 ) -> u8
     ensures { λ r. ⌜ StepAnswers (columnStepOf (rowColumns (now (units .entry)) (now (clocks .entry)) (now (residuals .entry)) (now (sigmas .entry))) rows unknowns huber (now (dx .entry))) r (now (dx .exit)) ⌝ }
 {
-    if !rows_fit(units, clocks, residuals, sigmas, rows) {
-        return Refusal::TooMany.number();
-    }
-    let handed = rows_of(units, clocks, residuals, sigmas, rows);
-    let answer = step(handed, unknowns, huber, dx);
-    match answer {
-        Stepping::Refused(r) => r.number(),
-        Stepping::Done => 0,
-    }
+    round_into(units, clocks, residuals, sigmas, rows, unknowns, huber, dx)
 }

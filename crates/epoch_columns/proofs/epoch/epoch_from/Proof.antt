@@ -3,7 +3,7 @@ use mathlib.Core.Path.{refl}
 use Prim.Native.Nat.{_-_}
 use native.Mathlib.Omega.{arith}
 use Rattle.epoch_columns.specs.Epoch.{rangeAt}
-use Rattle.epoch_columns.proofs.ColumnLaws.{Filling, filling-start, filling-next, filled}
+use Rattle.walk.proofs.Filling.{Filling, filling-start, filling-next, filled}
 use borrow.Author.Needs.{needs}
 use Rattle.epoch_columns.proofs.epoch.epoch_from.Statement.{statement}
 use Rattle.epoch_columns.proofs.epoch.epoch_from.Tie as tie

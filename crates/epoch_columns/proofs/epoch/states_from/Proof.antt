@@ -3,7 +3,7 @@ use mathlib.Core.Path.{refl}
 use Prim.Native.Nat.{_-_}
 use native.Mathlib.Omega.{arith}
 use Rattle.epoch_columns.specs.Epoch.{stateAt}
-use Rattle.epoch_columns.proofs.ColumnLaws.{Filling, filling-start, filling-next, filled}
+use Rattle.walk.proofs.Filling.{Filling, filling-start, filling-next, filled}
 use Rattle.epoch_columns.proofs.epoch.states_from.Statement.{statement}
 use Rattle.epoch_columns.proofs.epoch.states_from.Tie as tie
 

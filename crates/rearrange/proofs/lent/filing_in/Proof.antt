@@ -1,0 +1,24 @@
+-- `rearrange::lent::filing_in` meets its contract. Assumes nothing.
+use mathlib.Core.Path.{refl}
+use borrow.Author.Needs.{needs}
+use Rattle.rearrange.proofs.lent.filing_in.Statement.{statement}
+use Rattle.rearrange.proofs.lent.filing_in.Tie as tie
+
+enum-known-answer : tie.Need-enum-known-answer
+enum-known-answer c = search needs
+
+number-requires : tie.Need-number-requires
+number-requires c κs = search needs
+
+enum-known-answer-2 : tie.Need-enum-known-answer-2
+enum-known-answer-2 c = search needs
+
+returns : tie.Need-returns
+returns c = rw (c .before .before .answer .given .1) (c .number .ensures, refl)
+
+returns-2 : tie.Need-returns-2
+returns-2 c = search needs
+
+pub filing-in-spec : {M : Type 1} → statement M
+filing-in-spec =
+    tie.close (tie.spec enum-known-answer number-requires enum-known-answer-2 returns returns-2)

@@ -1,0 +1,23 @@
+-- `rearrange::lent::listing_number` meets its contract. Assumes nothing.
+use borrow.Author.Needs.{needs}
+use Rattle.rearrange.proofs.lent.listing_number.Statement.{statement}
+use Rattle.rearrange.proofs.lent.listing_number.Tie as tie
+
+enum-known-answer : tie.Need-enum-known-answer
+enum-known-answer c = search needs
+
+number-requires : tie.Need-number-requires
+number-requires c κs = search needs
+
+enum-told : tie.Need-enum-told
+enum-told c = search needs
+
+returns : tie.Need-returns
+returns c = rw (c .before .before .answer .given .1) (c .number .ensures)
+
+returns-2 : tie.Need-returns-2
+returns-2 c = search needs
+
+pub listing-number-spec : {M : Type 1} → statement M
+listing-number-spec =
+    tie.close (tie.spec enum-known-answer number-requires enum-told returns returns-2)

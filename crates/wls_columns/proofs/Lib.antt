@@ -1,0 +1,5 @@
+pub mod ColumnLaws
+pub mod ColumnValues
+pub mod FixLaws
+pub mod FixValues
+pub mod StepLaws

@@ -1,0 +1,26 @@
+-- The round of a caller's columns: its number, and what the lent step holds afterwards. Definitions only.
+use Prim.Native.Nat.{ℕ}
+use mathlib.Core.Path.{_≡_}
+use mathlib.Core.Bool.{cond}
+use mathlib.Core.List.{List}
+use lib.Ieee.{Float}
+use Rattle.numeric.specs.Refusal.{numberOf}
+use Rattle.numeric.specs.declared.refusal.Refusal.the-variants.{TooMany}
+use Rattle.robust.specs.Step.{Stepped, refused, stepOf}
+use Rattle.robust.specs.declared.round.Stepping.{Stepping}
+use Rattle.robust.specs.declared.round.Stepping.the-variants as Stepping
+use Rattle.wls_columns.specs.Columns.{RowColumns, rowsFrom, rowsFit}
+
+-- what a round called by itself answers
+abbrev pub stepNumber : Stepping → ℕ
+stepNumber (Stepping.Refused r) = numberOf r
+stepNumber Stepping.Done = 0
+
+-- the number and the lent dx afterwards are those of the step s
+pub record StepAnswers (s : Stepped) (number : ℕ) (dx : List Float) : Type 0 where
+  pub number-is : number ≡ stepNumber (s .answer)
+  pub dx-is : dx ≡ s .dx
+
+-- the round of the first n rows of the columns: refused by 2 where those are more than 64 or a column is too short
+unfoldable pub columnStepOf : RowColumns → ℕ → ℕ → Float → List Float → Stepped
+columnStepOf c n unknowns huber dx = cond (rowsFit c n) (stepOf (rowsFrom c n) unknowns huber dx) (refused TooMany dx)

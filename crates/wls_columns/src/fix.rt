@@ -1,0 +1,112 @@
+// The fix of a caller's columns, its settings as four floats and the rounds, and its answer in lent memory. What a caller lends as doubles is taken as their patterns,
+// so that a refusal is promised to leave every bit.
+ghost use mathlib.Core.Path.{_≡_};
+ghost use Prim.Native.Nat.{min};
+ghost use Rattle.records.specs.Carriers.{vectorAt};
+ghost use Rattle.wls_columns.specs.Columns.{observationColumns};
+ghost use Rattle.wls_columns.specs.Fix as spec;
+use crate::columns::observations_fit;
+use crate::columns::observations_of;
+use estimator::rounds::rounds_of;
+use numeric::order::pattern;
+use numeric::refusal::Refusal;
+use records::carriers::vector;
+use wls::fix::Fix;
+use wls::fix::Settings;
+use wls::fix::solve_full;
+
+// The settings of a fix.
+fn fix_settings(s: &[f64; 4], rounds: usize) -> Settings
+    ensures { λ r. ⌜ r ≡ spec.fixSettings (now (s .entry)) (min rounds 51) ⌝ }
+{
+    let n = rounds_of(rounds);
+    Settings {
+        sigma_a: s[0],
+        sigma_b: s[1],
+        huber: s[2],
+        mask: s[3],
+        rounds: n,
+    }
+}
+
+// The fix of the first `count` observations of the columns.
+fn fix_from(
+    constellation: &[u8],
+    floats: &[f64],
+    count: usize,
+    guess: &[f64; 3],
+    settings: &[f64; 4],
+    rounds: usize,
+) -> Fix
+    ensures { λ r. ⌜ r ≡ spec.columnFixOf (observationColumns (now (constellation .entry)) (now (floats .entry))) count (vectorAt (now (guess .entry)) 0) (spec.fixSettings (now (settings .entry)) rounds) ⌝ }
+{
+    if !observations_fit(constellation, floats, count) {
+        return Fix::Refused(Refusal::TooMany);
+    }
+    let observations = observations_of(constellation, floats, count);
+    let at = vector(guess);
+    let s = fix_settings(settings, rounds);
+    solve_full(observations, at, s)
+}
+
+// The position from one epoch: 0, x, y, z, chi and pdop in solution and how many observations were used in used; or the refusal's number, which leaves both as they were.
+pub fn fix_into(
+    constellation: &[u8],
+    floats: &[f64],
+    count: usize,
+    guess: &[f64; 3],
+    settings: &[f64; 4],
+    rounds: usize,
+    solution: &mut [u64; 5],
+    used: &mut usize,
+) -> u8
+    ensures { λ r. ⌜ spec.FixAnswers
+        (spec.fixInput (observationColumns (now (constellation .entry)) (now (floats .entry))) count (vectorAt (now (guess .entry)) 0) (spec.fixSettings (now (settings .entry)) rounds))
+        (spec.columnFixOf (observationColumns (now (constellation .entry)) (now (floats .entry))) count (vectorAt (now (guess .entry)) 0) (spec.fixSettings (now (settings .entry)) rounds))
+        r (now (solution .entry)) (now (solution .exit)) (now (used .entry)) (now (used .exit)) ⌝ }
+{
+    let answer = fix_from(constellation, floats, count, guess, settings, rounds);
+    match answer {
+        Fix::At(f) => {
+            let p = f.position;
+            let x = pattern(p.x);
+            let y = pattern(p.y);
+            let z = pattern(p.z);
+            let chi = pattern(f.chi);
+            let pdop = pattern(f.pdop);
+            *solution = [x, y, z, chi, pdop];
+            *used = f.used;
+            0
+        }
+        Fix::Refused(r) => r.number(),
+    }
+}
+
+// The same fix by its position alone (`solve` of wls.rs): 0 and x, y, z in position; or the refusal's number, which leaves position as it was.
+pub fn position_into(
+    constellation: &[u8],
+    floats: &[f64],
+    count: usize,
+    guess: &[f64; 3],
+    settings: &[f64; 4],
+    rounds: usize,
+    position: &mut [u64; 3],
+) -> u8
+    ensures { λ r. ⌜ spec.PositionAnswers
+        (spec.fixInput (observationColumns (now (constellation .entry)) (now (floats .entry))) count (vectorAt (now (guess .entry)) 0) (spec.fixSettings (now (settings .entry)) rounds))
+        (spec.columnFixOf (observationColumns (now (constellation .entry)) (now (floats .entry))) count (vectorAt (now (guess .entry)) 0) (spec.fixSettings (now (settings .entry)) rounds))
+        r (now (position .entry)) (now (position .exit)) ⌝ }
+{
+    let answer = fix_from(constellation, floats, count, guess, settings, rounds);
+    match answer {
+        Fix::At(f) => {
+            let p = f.position;
+            let x = pattern(p.x);
+            let y = pattern(p.y);
+            let z = pattern(p.z);
+            *position = [x, y, z];
+            0
+        }
+        Fix::Refused(r) => r.number(),
+    }
+}

@@ -1,0 +1,4 @@
+// The fix and the round of a caller's columns, and their answers in lent memory.
+mod columns;
+pub mod fix;
+pub mod round;
