@@ -58,8 +58,8 @@ fn is_certain(b: u64, a: u64) -> bool
     (square <= n) & (n <= square + 2 * a) & (a < 65536000) & (a * 1000 % 65536 < 64536)
 }
 
-// The way of the length whose square is given. Most are seen without the root.
-fn way_of_square(square: f64) -> Way
+// The way of the length whose square is given. Most are seen without the root. Two functions call it, so that a compiler hands it the square in a register.
+pub(crate) fn way_of_square(square: f64) -> Way
     ensures { λ r. ⌜ r ≡ spec.wayOf (rootOf square) ⌝ }
 {
     if 9.5367431640625e-7 < square {
