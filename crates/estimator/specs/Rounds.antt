@@ -12,9 +12,9 @@ use Rattle.cholesky.specs.Factor.{at}
 use Rattle.numeric.specs.Real.{hypot}
 use Rattle.numeric.specs.declared.vec3.Vec3.{Vec3}
 use Rattle.numeric.specs.declared.refusal.Refusal.{Refusal}
-use Rattle.robust.specs.Nine.{nine}
+use Rattle.normal.specs.Nine.{nine}
 use Rattle.robust.specs.Round.{Round, Outcome, Refused, Solved}
-use Rattle.robust.specs.declared.row.Row.{Row}
+use Rattle.normal.specs.declared.row.Row.{Row}
 use Rattle.estimator.specs.Rules.{Rule, ruled}
 use Rattle.estimator.specs.declared.rules.Check.{Check}
 use Rattle.estimator.specs.declared.rules.Check.the-variants as Check

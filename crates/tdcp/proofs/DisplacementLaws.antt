@@ -10,11 +10,11 @@ use Rattle.walk.proofs.Walk.{places-map, places-take, places-ext}
 use Rattle.walk.specs.Walk.{places}
 use Rattle.robust.specs.Round.{roundOf}
 use Rattle.clocks.specs.Clocks.{slot}
-use Rattle.robust.specs.Columns.{Columns, columns, rowsIn}
-use Rattle.robust.specs.Columns as round
-use Rattle.robust.proofs.ColumnLaws.{filled-at}
-use Rattle.robust.specs.Normal.{Solving}
-use Rattle.robust.specs.declared.row.Row.{Row}
+use Rattle.normal.specs.Columns.{Columns, columns, rowsIn}
+use Rattle.normal.specs.Columns as round
+use Rattle.normal.proofs.ColumnLaws.{filled-at}
+use Rattle.robust.specs.Solving.{Solving}
+use Rattle.normal.specs.declared.row.Row.{Row}
 use Rattle.robust.specs.declared.round.Stepping.{Stepping}
 use Rattle.clocks.specs.declared.clocks.Clocks.{Clocks}
 use Rattle.records.specs.declared.pair.Pair.{Pair}

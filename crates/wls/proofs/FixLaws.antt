@@ -5,14 +5,14 @@ use mathlib.Core.List.{List, [], map}
 use lib.ListN.{length, take}
 use lib.Ieee.{Float, nan}
 use Rattle.robust.specs.Round.{Round, Outcome, Solved, roundOf}
-use Rattle.robust.specs.Normal.{Solving}
-use Rattle.robust.specs.Columns.{columns, rowsIn}
-use Rattle.robust.specs.declared.row.Row.{Row}
+use Rattle.robust.specs.Solving.{Solving}
+use Rattle.normal.specs.Columns.{columns, rowsIn}
+use Rattle.normal.specs.declared.row.Row.{Row}
 use Rattle.robust.specs.declared.round.Stepping.{Stepping}
 use Rattle.numeric.specs.declared.refusal.Refusal.{Refusal}
 use Rattle.numeric.specs.declared.vec3.Vec3.{Vec3}
 use Rattle.robust.proofs.RoundSound.{round-rows}
-use Rattle.robust.proofs.ColumnLaws.{rows-are}
+use Rattle.normal.proofs.ColumnLaws.{rows-are}
 use Rattle.clocks.specs.declared.clocks.Clocks.{Clocks}
 use Rattle.records.specs.declared.record.Observation.{Observation}
 use Rattle.wls.specs.declared.fix.Settings.{Settings}

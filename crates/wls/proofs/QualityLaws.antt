@@ -18,14 +18,14 @@ use Rattle.cholesky.specs.Factor.{at, zeros, solutionOf}
 use Rattle.numeric.specs.Real.{square}
 use Rattle.numeric.proofs.OrderLaws.{pattern-back}
 use Rattle.root.specs.Root.{rootOf}
-use Rattle.robust.specs.Nine.{nine}
-use Rattle.robust.specs.Round.{wide, total, triangleOf}
-use Rattle.robust.specs.Columns.{Columns, rowIn, rowsIn}
-use Rattle.robust.specs.declared.row.Row.{Row}
-use Rattle.robust.proofs.NineLaws.{nine-is}
-use Rattle.robust.proofs.Sums.{sumTo, sumTo-zero, sumTo-next, sum-places}
-use Rattle.robust.proofs.FormedLaws.{sums, sums-next, sums-triangle}
-use Rattle.robust.proofs.ColumnLaws.{filled-at}
+use Rattle.normal.specs.Nine.{nine}
+use Rattle.normal.specs.Equations.{wide, total, triangleOf}
+use Rattle.normal.specs.Columns.{Columns, rowIn, rowsIn}
+use Rattle.normal.specs.declared.row.Row.{Row}
+use Rattle.normal.proofs.NineLaws.{nine-is}
+use Rattle.normal.proofs.Sums.{sumTo, sumTo-zero, sumTo-next, sum-places}
+use Rattle.normal.proofs.FormedLaws.{sums, sums-next, sums-triangle}
+use Rattle.normal.proofs.ColumnLaws.{filled-at}
 use Rattle.clocks.specs.Clocks.{slot}
 use Rattle.clocks.specs.declared.clocks.Clocks.{Clocks}
 use Rattle.records.specs.declared.record.Observation.{Observation}

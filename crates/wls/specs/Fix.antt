@@ -21,10 +21,11 @@ use Rattle.numeric.specs.Refusal.{numberOf}
 use Rattle.numeric.specs.declared.sight.Sight.{Sight}
 use Rattle.numeric.specs.declared.vec3.Vec3.{Vec3}
 use Rattle.numeric.specs.declared.refusal.Refusal.the-variants.{FitFailed, QualityNotFinite, OnReceiver}
-use Rattle.robust.specs.Nine.{nine}
-use Rattle.robust.specs.Round.{wide, total, triangleOf, Round, Outcome, Refused as NoRound, roundOf, SoundRound, FiniteResiduals}
+use Rattle.normal.specs.Nine.{nine}
+use Rattle.normal.specs.Equations.{wide, total, triangleOf}
+use Rattle.robust.specs.Round.{Round, Outcome, Refused as NoRound, roundOf, SoundRound, FiniteResiduals}
 use Rattle.robust.specs.Sigma.{elevationSigma}
-use Rattle.robust.specs.declared.row.Row.{Row}
+use Rattle.normal.specs.declared.row.Row.{Row}
 use Rattle.clocks.specs.Clocks.{slot, clocksOf}
 use Rattle.estimator.specs.Rules.{Rule, rule, ruled}
 use Rattle.estimator.specs.declared.rules.Check.{Check}

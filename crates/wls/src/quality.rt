@@ -3,21 +3,21 @@ ghost use mathlib.Core.Path.{_≡_};
 ghost use mathlib.Core.List.{map};
 ghost use Prim.Native.Nat.{_≤_};
 ghost use lib.ListN.{length, take};
-ghost use Rattle.robust.specs.Columns.{columns, rowsIn};
+ghost use Rattle.normal.specs.Columns.{columns, rowsIn};
 ghost use Rattle.wls.specs.declared.fix.Settings.{Settings};
 ghost use Rattle.wls.specs.Fix as spec;
 use cholesky::factor::solve_lent;
 use clocks::clocks::Clocks;
 use estimator::rounds::state_at;
+use normal::equations::unused;
+use normal::row::Row;
+use normal::row::wide;
 use numeric::real::square;
 use numeric::refusal::Refusal;
 use numeric::sight::Sighting;
 use numeric::sight::geometry;
 use numeric::vec3::Vec3;
 use records::record::Observations;
-use robust::round::unused;
-use robust::row::Row;
-use robust::row::wide;
 use root::sqrt::sqrt;
 
 // The degrees of freedom of so many rows and n unknowns, at least 1.

@@ -5,7 +5,7 @@ use mathlib.Core.List.{List, map}
 use lib.ListN.{length, take}
 use lib.Seq.{length-take-le}
 use lib.Ieee.{nan}
-use Rattle.robust.specs.Columns.{columns, rowsIn}
+use Rattle.normal.specs.Columns.{columns, rowsIn}
 use Rattle.estimator.specs.Rounds.{shortStep}
 use Rattle.records.specs.Kept.{pairsIn}
 use Rattle.tdcp.specs.Displacement.{sigmaOf, rowWith, rowAt, roundAt, limit, fitOver}

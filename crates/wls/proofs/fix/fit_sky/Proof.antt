@@ -9,7 +9,7 @@ use Rattle.records.specs.declared.record.Observation.{Observation}
 use lib.Seq.{length-take-le}
 use Rattle.walk.specs.Walk.{places}
 use Rattle.walk.proofs.Walk.{length-mapped}
-use Rattle.robust.specs.Columns.{columns, rowsIn}
+use Rattle.normal.specs.Columns.{columns, rowsIn}
 use Rattle.estimator.specs.Rounds.{Fit, shortStep}
 use Rattle.estimator.specs.declared.rules.Check.the-variants.{Passed}
 use Rattle.estimator.proofs.RulesLaws.{checked}

@@ -6,7 +6,7 @@ use lib.ListN.{length, take}
 use Rattle.walk.proofs.Walk.{length-mapped}
 use Rattle.clocks.specs.Clocks.{slot}
 use Rattle.numeric.specs.declared.sight.Sight.{Sight}
-use Rattle.robust.proofs.ColumnLaws.{Column, column-start, column-next}
+use Rattle.normal.proofs.ColumnLaws.{Column, column-start, column-next}
 use Rattle.records.specs.declared.record.Observation.{Observation}
 use Rattle.wls.specs.Fix.{sightAt, residualAt}
 use Rattle.numeric.proofs.SightLaws.{seen-by}

@@ -2,10 +2,10 @@
 use mathlib.Core.Path.{_≡_, _∙_, subst}
 use Prim.Native.Nat.{_+_, _*_, _-_, _≤_, _<_}
 use lib.ListN.{length}
-use Rattle.robust.specs.Round.{triangleOf}
-use Rattle.robust.specs.Columns.{Columns, columns, rowIn}
-use Rattle.robust.proofs.NormalLaws.{Summing, summing-start, summing-next, summing-open, summing-close, summing-more, summing-end}
-use Rattle.robust.proofs.FormedLaws.{sums-zero}
+use Rattle.normal.specs.Equations.{triangleOf}
+use Rattle.normal.specs.Columns.{Columns, columns, rowIn}
+use Rattle.normal.proofs.NormalLaws.{Summing, summing-start, summing-next, summing-open, summing-close, summing-more, summing-end}
+use Rattle.normal.proofs.FormedLaws.{sums-zero}
 use Rattle.wls.proofs.QualityLaws.{plain, plain-next, plain-is}
 use borrow.Author.Needs.{needs}
 use native.Mathlib.Omega.{arith}
