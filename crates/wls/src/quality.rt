@@ -9,8 +9,9 @@ ghost use Rattle.wls.specs.Fix as spec;
 use cholesky::factor::solve_lent;
 use clocks::clocks::Clocks;
 use estimator::rounds::state_at;
+use normal::equations::add_triangle;
+use normal::equations::row_at;
 use normal::equations::unused;
-use normal::row::Row;
 use normal::row::wide;
 use numeric::real::square;
 use numeric::refusal::Refusal;
@@ -82,26 +83,9 @@ pub(crate) fn plain_matrix(
     unused(n, a);
     let mut e = [0.0; 9];
     for k in 0..count {
-        let u = x[k];
-        let v = y[k];
-        let h = z[k];
-        let q = clock[k];
-        let s = sigma[k];
-        let p = residual[k];
-        let unit = Vec3 { x: u, y: v, z: h };
-        let r = Row {
-            unit: unit,
-            clock: q,
-            residual: p,
-            sigma: s,
-        };
+        let r = row_at(x, y, z, clock, sigma, residual, k);
         wide(r, &mut e);
-        for i in 0..n {
-            let t = e[i];
-            for j in 0..i + 1 {
-                a[i][j] = a[i][j] + t * e[j];
-            }
-        }
+        add_triangle(n, &e, &e, a);
     }
 }
 
