@@ -109,12 +109,6 @@ forget-history time t (drop other ∷ es) r e =
     ap (λ (m : List Sample). history m es) (forget-swap other time t) ∙ forget-history time (forget other t) es (forget-rises other 0 t r) e
 
 -- ---- the table after events
-history-rises : (t : List Sample) (es : List Event) → rises 0 t ≡ true → rises 0 (history t es) ≡ true
-unfolding fold happen
-history-rises t [] r = r
-history-rises t (add ss ∷ es) r = history-rises (insertAll t ss) es (insertAll-rises t ss r)
-history-rises t (drop time ∷ es) r = history-rises (forget time t) es (forget-rises time 0 t r)
-
 pub history-sound : (t : List Sample) (es : List Event) → soundTable t ≡ true → every inRangeAll es ≡ true → soundTable (history t es) ≡ true
 unfolding fold happen every inRangeAll
 history-sound t [] s r = s
