@@ -1,7 +1,6 @@
 -- What a row adds at every place, one place after the other, and to the sums of the rows before it. Assumes nothing.
 use mathlib.Core.Path.{_≡_, refl, sym, ap, _∙_, fun-ext}
 use Prim.Native.Nat.{ℕ, _+_, _≤_, _<_}
-use native.Mathlib.Nat.{not-suc-le-zero}
 use native.Mathlib.Decide.{ℕ-discrete, decLt}
 use native.Mathlib.Omega.{arith}
 use mathlib.Core.Bool.{cond, _&&_}
@@ -12,7 +11,7 @@ use lib.ListN.{length, set, replicate, length-set, getD-replicate}
 use lib.Seq.{getD-set-same, getD-set-other}
 use lib.Ieee.{Float, nan}
 use Rattle.exact.specs.Float.{_⊕_, _⊗_, +0, 1·0}
-use Rattle.cholesky.specs.Factor.{at, row, cell}
+use Rattle.cholesky.specs.Factor.{at, cell}
 use Rattle.normal.specs.Nine.{nine, Square}
 use Rattle.normal.specs.Equations.{triangleOf}
 use Rattle.normal.specs.Formed.{unused, times, sideAdded, rowAdded, triangleAdded, store}

@@ -15,7 +15,7 @@ use lib.Ieee.Scale.{finite}
 use Rattle.walk.specs.Walk.{places}
 use Rattle.exact.specs.Float.{_⊗_, +0, 1·0, bits}
 use Rattle.exact.proofs.Ops.{mul-finite}
-use Rattle.cholesky.specs.Factor.{at, row, cell}
+use Rattle.cholesky.specs.Factor.{at, row}
 use Rattle.median.specs.declared.centre.CentreScale.{CentreScale}
 use Rattle.normal.specs.Nine.{nine}
 use Rattle.normal.specs.Weight.{weight}

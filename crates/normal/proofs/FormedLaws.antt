@@ -1,15 +1,15 @@
 -- The sums that the code has after k rows, the normal equations that they make, and which of their unknowns are unused. Assumes nothing.
-use mathlib.Core.Path.{_≡_, refl, sym, ap, _∙_, fun-ext, subst}
+use mathlib.Core.Path.{_≡_, refl, ap, _∙_, fun-ext}
 use Prim.Native.Nat.{ℕ, _+_, _≤_, _<_}
 use native.Mathlib.Omega.{arith}
-use mathlib.Core.Bool.{Bool, true, false, cond, _&&_}
+use mathlib.Core.Bool.{cond, _&&_}
 use mathlib.Core.List.{List}
 use lib.Dec.{ltb, leb, eqb}
 use borrow.Author.Tests.{le-ltb, le-leb, eq-eqb, ne-eqb}
 use lib.Ieee.{Float, nan}
 use Rattle.walk.specs.Walk.{places}
 use Rattle.exact.specs.Float.{_⊕_, _⊗_, +0, 1·0, bits}
-use Rattle.cholesky.specs.Factor.{at, Factored, Refused, Lower, factorOf, solutionOf, Unused, UnusedPlaces}
+use Rattle.cholesky.specs.Factor.{at, Unused, UnusedPlaces}
 use Rattle.median.specs.declared.centre.CentreScale.{CentreScale}
 use Rattle.normal.specs.Nine.{nine}
 use Rattle.normal.specs.Weight.{weight}

@@ -8,7 +8,7 @@ use mathlib.Core.Bool.{Bool, true, false, cond, _&&_, _||_}
 use mathlib.Core.List.{List, _∷_}
 use lib.Dec.{ltb, leb, eqb}
 use borrow.Author.Tests.{lt-ltb, le-ltb, eq-eqb, ne-eqb}
-use lib.ListN.{length, getD, set, length-set, replicate, getD-replicate}
+use lib.ListN.{length, getD, length-set, replicate, getD-replicate}
 use lib.Seq.{getD-set-same, getD-set-other}
 use lib.Ieee.{Float, nan}
 use Rattle.exact.specs.Float.{_⊕_, _⊗_, +0, 1·0, bits}
@@ -17,7 +17,7 @@ use Rattle.median.specs.declared.centre.CentreScale.{CentreScale}
 use Rattle.normal.specs.Weight.{weight}
 use Rattle.normal.specs.Equations.{wide}
 use Rattle.normal.specs.Nine.{Square}
-use Rattle.normal.specs.Formed.{unused, store, raise, clockAdded, clockSide, noSights, sightAdded}
+use Rattle.normal.specs.Formed.{unused, raise, clockAdded, clockSide, noSights, sightAdded}
 use Rattle.normal.specs.declared.row.Row.{Row}
 use Rattle.normal.specs.declared.equations.Sights.{Sights}
 use Rattle.normal.proofs.NineLaws.{cell-at, square-nine, square-store, cell-same, cell-other}

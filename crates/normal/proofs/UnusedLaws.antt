@@ -1,20 +1,17 @@
 -- The matrix of n unknowns before any row is added, as the code marks it. Assumes nothing.
 use mathlib.Core.Path.{_≡_, refl, sym, ap, _∙_, subst}
-use Prim.Native.Nat.{ℕ, _+_, _*_, _≤_, _<_}
-use native.Mathlib.Nat.{not-suc-le-zero}
+use Prim.Native.Nat.{ℕ, _+_, _≤_, _<_}
 use native.Mathlib.Decide.{ℕ-discrete, decLt}
 use native.Mathlib.Omega.{arith}
 use mathlib.Core.Bool.{cond, _&&_}
 use mathlib.Core.List.{List}
-use lib.Dec.{ltb, leb, eqb}
-use borrow.Author.Tests.{lt-ltb, le-ltb, le-leb, lt-leb, eq-eqb, ne-eqb}
-use lib.ListN.{length, set, replicate, length-set, getD-replicate}
-use lib.Seq.{getD-set-same, getD-set-other}
+use lib.Dec.{leb, eqb}
+use borrow.Author.Tests.{le-leb, lt-leb, eq-eqb, ne-eqb}
+use lib.ListN.{length, replicate, getD-replicate}
 use lib.Ieee.{Float, nan}
 use Rattle.exact.specs.Float.{+0, 1·0}
-use Rattle.cholesky.specs.Factor.{at, row, cell}
-use Rattle.normal.specs.Nine.{nine, Square}
-use Rattle.normal.specs.Equations.{triangleOf}
+use Rattle.cholesky.specs.Factor.{at, cell}
+use Rattle.normal.specs.Nine.{Square}
 use Rattle.normal.specs.Formed.{unused, store}
 use Rattle.normal.proofs.NineLaws.{square-is, square-store, cell-same, cell-other}
 

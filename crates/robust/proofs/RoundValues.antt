@@ -3,9 +3,9 @@ use mathlib.Core.Path.{_≡_, refl}
 use Prim.Native.Nat.{ℕ}
 use mathlib.Core.List.{[], _∷_}
 use lib.ListN.{replicate}
-use lib.Ieee.{nan, add, sub, mul, div, lt, le, eq, isNan, ofInt, ofBits, toBits}
+use lib.Ieee.{add, sub, mul, div, lt, le, eq, isNan, ofInt, ofBits, toBits}
 use Rattle.exact.specs.Products.{lessProducts}
-use Rattle.exact.specs.Float.{_⊘_, +0, 1·0, bits, whole, decimal}
+use Rattle.exact.specs.Float.{+0, 1·0, bits, whole}
 use Rattle.root.specs.Root.{rootOf}
 use Rattle.numeric.specs.Real.{abs, max}
 use Rattle.exact.specs.Pattern.{sign}

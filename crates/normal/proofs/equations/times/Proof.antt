@@ -1,5 +1,5 @@
 -- `normal::equations::times` meets its contract. Assumes nothing.
-use Prim.Native.Nat.{_≤_, _-_}
+use Prim.Native.Nat.{_-_}
 use mathlib.Core.Path.{_≡_}
 use Rattle.normal.proofs.AddedLaws.{timesTo, times-start, times-next, times-end}
 use native.Mathlib.Omega.{arith}

@@ -16,11 +16,11 @@ use Rattle.numeric.specs.Real.{inRange}
 use Rattle.numeric.specs.declared.refusal.Refusal.{Refusal}
 use Rattle.numeric.specs.declared.refusal.Refusal.the-variants.{TooMany, SettingOutOfRange, RecordOutOfRange}
 use Rattle.directory.specs.Directory.{Directory, flat, soundDirectory}
 use Rattle.query.specs.Query.{answerAt, guarded, queryIn, queryNumber, metresAfter, GivesFinite, PassedQuery}
 use Rattle.query.specs.declared.query.Correction.{Correction}
 use Rattle.query.specs.declared.query.Correction.the-variants as Correction
-use Rattle.query.specs.declared.queries.Asking.the-variants.{Refused, Answered}
-use Rattle.query.specs.Queries.{Reply, refusal, answers, placesShort, queryAt, queriesIn, askingOf, askingNumber, written, numberAfter, EachFinite, Replies}
+use Rattle.queries.specs.declared.queries.Asking.the-variants.{Refused, Answered}
+use Rattle.queries.specs.Queries.{Reply, refusal, answers, placesShort, queryAt, queriesIn, askingOf, askingNumber, written, numberAfter, EachFinite, Replies}
 
 -- ---- a column with answers written to it
 module _ {A : Type 0} (f : Correction → A → A) where

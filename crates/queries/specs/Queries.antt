@@ -12,10 +12,10 @@ use Rattle.numeric.specs.Refusal.{numberOf}
 use Rattle.numeric.specs.declared.refusal.Refusal.{Refusal}
 use Rattle.numeric.specs.declared.refusal.Refusal.the-variants.{TooMany, SettingOutOfRange, RecordOutOfRange}
 use Rattle.directory.specs.Directory.{Directory, soundDirectory}
 use Rattle.query.specs.Query.{queryIn, queryNumber, metresAfter, GivesFinite}
 use Rattle.query.specs.declared.query.Correction.{Correction}
-use Rattle.query.specs.declared.queries.Asking.{Asking}
-use Rattle.query.specs.declared.queries.Asking.the-variants.{Refused, Answered}
+use Rattle.queries.specs.declared.queries.Asking.{Asking}
+use Rattle.queries.specs.declared.queries.Asking.the-variants.{Refused, Answered}
 
 -- ---- what a call comes to
 

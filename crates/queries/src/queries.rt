@@ -3,14 +3,14 @@ ghost use mathlib.Core.Path.{_≡_};
 ghost use mathlib.Core.Bool.{false};
 ghost use Rattle.walk.specs.Walk.{places};
 ghost use Rattle.directory.specs.Directory.{lentBlocks, blockCapacity, directoryIn};
 ghost use Rattle.query.specs.Query.{queryNumber, metresAfter, PassedQuery};
-ghost use Rattle.query.specs.Queries.{placesShort, queryAt, queriesIn, answers, askingOf, askingNumber, Replies};
-use crate::query::Correction;
-use crate::query::answer_of;
+ghost use Rattle.queries.specs.Queries.{placesShort, queryAt, queriesIn, answers, askingOf, askingNumber, Replies};
 use directory::entry::block_capacity;
 use directory::sound::is_sound_directory;
 use numeric::real::in_range;
 use numeric::refusal::Refusal;
+use query::query::Correction;
+use query::query::answer_of;
 
 // What a call of many queries says: why it answers none, or that each place has its answer.
 pub enum Asking {

@@ -1,8 +1,8 @@
 // The calls as a caller in C or Rust makes them: a number, and in lent memory what is given.
 ghost use mathlib.Core.Path.{_≡_};
 ghost use Rattle.directory.specs.Directory.{lentBlocks, blockCapacity, directoryIn};
 ghost use Rattle.query.specs.Query.{queryIn, queryNumber, patternAfter, GivesFinite};
-ghost use Rattle.query.specs.Queries.{queriesIn, Replies};
+ghost use Rattle.queries.specs.Queries.{queriesIn, Replies};
 use crate::queries::Asking;
 use crate::queries::queries;
 use numeric::order::pattern;
