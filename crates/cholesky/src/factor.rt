@@ -91,7 +91,7 @@ fn sum(i: usize, j: usize, a: &[[f64; 9]; 9], l: &[[f64; 9]; 9]) -> f64
     s
 }
 
-// Makes the elements of column j from row i on, above row n; d is the column's diagonal.
+// Makes the elements of column j in the rows from i up to, not including, n; d is the column's diagonal.
 fn fill(j: usize, d: f64, i: usize, n: usize, a: &[[f64; 9]; 9], l: &mut [[f64; 9]; 9])
     requires { ⌜ (j ≤ 7) × (j < i) × (i ≤ n) × (n ≤ 9) ⌝ }
     ensures { λ _. ⌜ now (l .exit) ≡ filled (n - i) j d i (now (a .entry)) (now (l .entry)) ⌝ }

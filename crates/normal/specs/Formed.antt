@@ -7,7 +7,8 @@ use lib.Dec.{ltb, leb, eqb}
 use lib.ListN.{set}
 use lib.Ieee.{Float}
 use Rattle.exact.specs.Float.{_⊕_, _⊗_, +0, 1·0}
-use Rattle.cholesky.specs.Factor.{at, row, cell}
+use Rattle.cholesky.specs.Factor.{at, cell}
+use Rattle.cholesky.specs.Columns.{store}
 use Rattle.numeric.specs.declared.vec3.Vec3.{Vec3}
 use Rattle.normal.specs.Nine.{nine}
 use Rattle.normal.specs.Equations.{matrixOf, rightOf}
@@ -60,10 +61,7 @@ sightAdded s w u d =
       z = s .z ⊕ w ⊗ u .z ⊗ d;
     }
 
--- v in row i and column j
-abbrev pub store : List (List Float) → ℕ → ℕ → Float → List (List Float)
-store a i j v = set a i (set (row a i) j v)
-
+-- v added in row i and column j
 abbrev pub raise : List (List Float) → ℕ → ℕ → Float → List (List Float)
 raise a i j v = store a i j (cell a i j ⊕ v)
 
