@@ -72,8 +72,7 @@ small-range (fin s m e) h = at-most (m * up e * 1) (1000000000 * down e) (le-tra
 
 kept-range : (max x : Float) → inRange max ≡ true → kept max x ≡ true → inRange x ≡ true
 unfolding kept
-kept-range max x g k =
-    small-range x (kept-small 1000000000 max x (range-small max g) (and-right (not (lt max (abs x))) _ k) (not-true (lt max (abs x)) (and-left _ (finite x) k)))
+kept-range max x g k = small-range x (kept-small 1000000000 max x (range-small max g) (and-right (not (lt max (abs x))) _ k) (not-true (lt max (abs x)) (and-left _ (finite x) k)))
 
 -- ---- all samples of an epoch are
 every-append : {A : Type 0} (p : A → Bool) (xs ys : List A) → every p xs ≡ true → every p ys ≡ true → every p (xs ++ ys) ≡ true

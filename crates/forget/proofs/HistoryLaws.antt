@@ -170,8 +170,7 @@ pub history-query : (t : List Sample) (es : List Event) (room : ℕ) (gap : Floa
     → soundTable t ≡ true → every inRangeAll es ≡ true → allowed q es ≡ true → length (history t (undropped es)) ≤ room
     → queryOf (length (history t es)) room (history t es) gap c v b q ≡ queryOf (length (history t (undropped es))) room (history t (undropped es)) gap c v b q
 unfolding queryOf
-history-query t es room gap c v b q s r a l =
-    guard-same (length (history t es)) (length (history t (undropped es))) room (history t es) (history t (undropped es)) gap q (answerAt (history t es) gap c v b q)
+history-query t es room gap c v b q s r a l = guard-same (length (history t es)) (length (history t (undropped es))) room (history t es) (history t (undropped es)) gap q (answerAt (history t es) gap c v b q)
     (le-trans (history-length t es q (sorted-of t s) a) l) l (history-sound t es s r) (history-sound t (undropped es) s (undropped-ranged es r))
     ∙ ap (guarded (ltb room (length (history t (undropped es)))) (soundTable (history t (undropped es))) gap q) (history-law t es gap c v b q (sorted-rises t ∙ sorted-of t s) a)
 
