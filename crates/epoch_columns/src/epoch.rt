@@ -84,24 +84,6 @@ fn state_at(sc: &[u8], sv: &[u16], sb: &[u32], sf: &[f64], i: usize) -> State
     }
 }
 
-// No state.
-fn no_state() -> State {
-    let zero = Vec3 {
-        x: 0.0,
-        y: 0.0,
-        z: 0.0,
-    };
-    State {
-        constellation: 0,
-        svid: 0,
-        band: 0,
-        position: zero,
-        velocity: zero,
-        clock: 0.0,
-        modelled: 0.0,
-    }
-}
-
 // How many states are looked at.
 fn wanted(present: bool, j: usize) -> usize
     ensures { λ r. ⌜ r ≡ cond present j 0 ⌝ }
@@ -124,7 +106,21 @@ pub(crate) fn states_from(
     ensures { λ r. ⌜ StatesRead present (cond present j 0) (places (stateAt (now (sc .entry)) (now (sv .entry)) (now (sb .entry)) (now (sf .entry))) (cond present j 0)) r ⌝ }
 {
     let m = wanted(present, j);
-    let mut states = [no_state(); 64];
+    let zero = Vec3 {
+        x: 0.0,
+        y: 0.0,
+        z: 0.0,
+    };
+    let nothing = State {
+        constellation: 0,
+        svid: 0,
+        band: 0,
+        position: zero,
+        velocity: zero,
+        clock: 0.0,
+        modelled: 0.0,
+    };
+    let mut states = [nothing; 64];
     for i in 0..m {
         states[i] = state_at(sc, sv, sb, sf, i);
     }

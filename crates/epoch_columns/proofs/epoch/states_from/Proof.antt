@@ -16,9 +16,6 @@ abbrev μ-loop : tie.MeasureT-loop
 wanted-requires : tie.Need-wanted-requires Inv-loop μ-loop
 wanted-requires c κs = search needs
 
-no-state-requires : tie.Need-no-state-requires Inv-loop μ-loop
-no-state-requires c κs = search needs
-
 loop-holds : tie.Need-loop-holds Inv-loop μ-loop
 loop-holds c = filling-start _ _ _ refl
 
@@ -39,12 +36,12 @@ loop-less c = search needs
 
 loop-again : tie.Need-loop-again Inv-loop μ-loop
 loop-again c =
-    let w = c .before .before .before .before in
+    let w = c .before .before .before in
     let s = w .before .before .before .before .before in
     rw (c .state-at .ensures) (filling-next _ _ _ (rw (← w .wanted .ensures) at (s .pre .0)) (c .before .before .loop .inv) (c .before .loop-test .taken))
 
 returns : tie.Need-returns Inv-loop μ-loop
-returns c = rw (← c .before .before .before .wanted .ensures) record { mark = refl; count = refl; states-are = filled _ _ _ (c .before .loop .inv) (c .loop-test .left) }
+returns c = rw (← c .before .before .wanted .ensures) record { mark = refl; count = refl; states-are = filled _ _ _ (c .before .loop .inv) (c .loop-test .left) }
 
 pub states-from-spec : {M : Type 1} → statement M
 states-from-spec =
@@ -53,7 +50,6 @@ states-from-spec =
     Inv-loop
     μ-loop
     wanted-requires
-    no-state-requires
     loop-holds
     state-at-requires
     mul-states
