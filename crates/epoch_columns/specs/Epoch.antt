@@ -7,6 +7,7 @@ use mathlib.Core.Path.{_≡_}
 use lib.ListN.{length, getD, take}
 use lib.Ieee.{Float, nan}
 use Rattle.walk.specs.Walk.{places}
+use Rattle.numeric.specs.Vec3.{vectorAt}
 use Rattle.numeric.specs.declared.vec3.Vec3.{Vec3}
 use Rattle.numeric.specs.declared.refusal.Refusal.the-variants.{TooMany}
 use Rattle.directory.specs.Directory.{Directory}
@@ -26,10 +27,6 @@ rangeAt cs vs bs ps i = record { constellation = getD cs i 0; svid = getD vs i 0
 
 abbrev pub epochOf : Float → ℕ → List ℕ → List ℕ → List ℕ → List Float → BaseEpoch
 epochOf time k cs vs bs ps = record { count = k; time = time; ranges = places (rangeAt cs vs bs ps) k }
-
--- the vector whose coordinates are the floats at k, k + 1 and k + 2
-abbrev pub vectorAt : List Float → ℕ → Vec3
-vectorAt v k = record { x = getD v k nan; y = getD v (k + 1) nan; z = getD v (k + 2) nan }
 
 -- the state at i of columns of constellations, svids and bands, and of eight floats for each: position, velocity, clock, modelled
 abbrev pub stateAt : List ℕ → List ℕ → List ℕ → List Float → ℕ → State

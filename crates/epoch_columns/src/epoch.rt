@@ -6,12 +6,13 @@ ghost use mathlib.Core.Bool.{cond};
 ghost use Prim.Native.Nat.{_+_, _*_, _≤_, _<_};
 ghost use lib.ListN.{length};
 ghost use Rattle.walk.specs.Walk.{places};
-ghost use Rattle.epoch_columns.specs.Epoch.{rangeAt, vectorAt, stateAt, unreadable, EpochRead, StatesRead};
+ghost use Rattle.epoch_columns.specs.Epoch.{rangeAt, stateAt, unreadable, EpochRead, StatesRead};
 use differential::record::BaseEpoch;
 use differential::record::Range;
 use differential::record::State;
 use differential::record::States;
 use numeric::vec3::Vec3;
+use numeric::vec3::vector_at;
 
 // The epoch of the first k ranges.
 pub(crate) fn epoch_from(
@@ -49,18 +50,6 @@ pub(crate) fn epoch_from(
         count: k,
         time: time,
         ranges: ranges,
-    }
-}
-
-// The vector of the three floats from k on.
-fn vector_at(v: &[f64], k: usize) -> Vec3
-    requires { ⌜ k + 2 < length (now v) ⌝ }
-    ensures { λ r. ⌜ r ≡ vectorAt (now (v .entry)) k ⌝ }
-{
-    Vec3 {
-        x: v[k],
-        y: v[k + 1],
-        z: v[k + 2],
     }
 }
 

@@ -2,7 +2,8 @@
 ghost use mathlib.Core.Path.{_≡_};
 ghost use Rattle.directory.specs.Directory.{lentBlocks, blockCapacity, directoryIn};
 ghost use Rattle.addition.specs.Add.{additionNumber, entriesNow, samplesNow, Places};
-ghost use Rattle.epoch_columns.specs.Epoch.{vectorAt, settingsOf, entryIn};
+ghost use Rattle.numeric.specs.Vec3.{vectorAt};
+ghost use Rattle.epoch_columns.specs.Epoch.{settingsOf, entryIn};
 use crate::epoch::epoch_from;
 use crate::epoch::is_unreadable;
 use crate::epoch::states_from;
@@ -10,7 +11,7 @@ use addition::add::Addition;
 use differential::add_epoch::add_epoch;
 use differential::record::Settings;
 use numeric::refusal::Refusal;
-use numeric::vec3::Vec3;
+use numeric::vec3::vector;
 
 // Both counts afterwards and 0, or the number of the refusal, which leaves them as they were.
 fn added_in(answer: Addition, blocks: &mut usize, n: &mut usize) -> u8
@@ -23,17 +24,6 @@ fn added_in(answer: Addition, blocks: &mut usize, n: &mut usize) -> u8
             *n = counts.samples;
             0
         }
-    }
-}
-
-// Three floats as a vector.
-fn vector(v: &[f64; 3]) -> Vec3
-    ensures { λ r. ⌜ r ≡ vectorAt (now (v .entry)) 0 ⌝ }
-{
-    Vec3 {
-        x: v[0],
-        y: v[1],
-        z: v[2],
     }
 }
 

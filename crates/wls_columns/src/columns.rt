@@ -8,7 +8,7 @@ ghost use Rattle.wls_columns.specs.Columns as spec;
 use normal::row::Row;
 use normal::row::Rows;
 use numeric::vec3::Vec3;
-use records::carriers::vector_at;
+use numeric::vec3::vector_at;
 use records::record::Observation;
 use records::record::Observations;
 
