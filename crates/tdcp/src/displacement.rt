@@ -3,15 +3,13 @@ ghost use mathlib.Core.Path.{_≡_};
 ghost use mathlib.Core.Bool.{true};
 ghost use lib.ListN.{length, take};
 ghost use Prim.Native.Nat.{ℕ, _≤_};
-ghost use Rattle.exact.specs.Float.{_⊕_, _⊖_, _⊗_};
-ghost use Rattle.cholesky.specs.Factor.{at};
 ghost use Rattle.walk.specs.Walk.{every};
-ghost use Rattle.numeric.specs.Order.{patternOf};
 ghost use Rattle.records.specs.Carriers.{carrierColumns, epochOf, epochFits};
 ghost use Rattle.records.specs.Kept.{pairsIn};
 ghost use Rattle.records.specs.Pair.{seen};
 ghost use Rattle.estimator.specs.Rounds.{Ended};
 ghost use Rattle.tdcp.specs.Displacement as spec;
+ghost use Rattle.tdcp.specs.Rows as code;
 use crate::valid::check_in;
 use crate::valid::check_pairs;
 use crate::valid::is_bad_interval;
@@ -60,9 +58,57 @@ pub enum Displacement {
 
 // What was observed, less what the state x says of the line of sight u, v, w and the clock s, as a pattern.
 pub(crate) fn residual_of(o: f64, u: f64, v: f64, w: f64, s: usize, x: [f64; 9]) -> u64
-    ensures { λ r. ⌜ r ≡ patternOf (o ⊖ (u ⊗ at x 0 ⊕ v ⊗ at x 1 ⊕ w ⊗ at x 2) ⊖ at x s) ⌝ }
+    ensures { λ r. ⌜ r ≡ code.residualOf o u v w s x ⌝ }
 {
     pattern(o - (u * x[0] + v * x[1] + w * x[2]) - state_at(x, s))
+}
+
+// The residual of each pair at a state.
+fn residuals_at(
+    x: &[f64; 64],
+    y: &[f64; 64],
+    z: &[f64; 64],
+    clock: &[usize; 64],
+    observed: &[f64],
+    at: [f64; 9],
+    residual: &mut [u64; 64],
+)
+    requires { ⌜ (length (now observed) ≤ 64) × (length (now residual) ≡ 64) ⌝ }
+    ensures { λ _. ⌜ code.ResidualsAt (now (x .entry)) (now (y .entry)) (now (z .entry)) (now (clock .entry)) (now (observed .entry)) at (now (residual .exit)) ⌝ }
+{
+    let count = observed.len();
+    for j in 0..count {
+        let o = observed[j];
+        let u = x[j];
+        let v = y[j];
+        let w = z[j];
+        let s = clock[j];
+        let d = residual_of(o, u, v, w, s, at);
+        residual[j] = d;
+    }
+}
+
+// The clock and the sigma of each pair, which no round changes.
+fn weigh(
+    settings: Settings,
+    k: Clocks,
+    constellation: &[u8; 64],
+    elevation: &[f64; 64],
+    count: usize,
+    clock: &mut [usize; 64],
+    sigma: &mut [f64; 64],
+)
+    requires { ⌜ (count ≤ 64) × (length (now clock) ≡ 64) × (length (now sigma) ≡ 64) ⌝ }
+    ensures { λ _. ⌜ code.Weighed settings k (now (constellation .entry)) (now (elevation .entry)) count (now (clock .exit)) (now (sigma .exit)) ⌝ }
+{
+    for j in 0..count {
+        let c = constellation[j];
+        let e = elevation[j];
+        let s = k.slot(c);
+        let t = elevation_sigma(e, settings.sigma_a, settings.sigma_b);
+        clock[j] = s;
+        sigma[j] = t;
+    }
 }
 
 // The rounds over the pairs of the columns: the state that they reach in state, or state as it was where one is refused.
@@ -83,27 +129,20 @@ pub(crate) fn fit_pairs(
     let count = observed.len();
     let mut clock = [0usize; 64];
     let mut sigma = [0.0; 64];
-    for j in 0..count {
-        let c = constellation[j];
-        let e = elevation[j];
-        let s = k.slot(c);
-        let t = elevation_sigma(e, settings.sigma_a, settings.sigma_b);
-        clock[j] = s;
-        sigma[j] = t;
-    }
+    weigh(
+        settings,
+        k,
+        constellation,
+        elevation,
+        count,
+        &mut clock,
+        &mut sigma,
+    );
     let mut residual = [0u64; 64];
     let mut at = [0.0; 9];
     let mut i: u32 = 0;
     while i < settings.rounds {
-        for j in 0..count {
-            let o = observed[j];
-            let u = x[j];
-            let v = y[j];
-            let w = z[j];
-            let s = clock[j];
-            let d = residual_of(o, u, v, w, s, at);
-            residual[j] = d;
-        }
+        residuals_at(x, y, z, &clock, observed, at, &mut residual);
         let n = 3 + k.count;
         let mut dx = [0.0; 9];
         if let Stepping::Refused(r) = round_step(
