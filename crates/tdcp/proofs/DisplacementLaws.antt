@@ -22,7 +22,7 @@ use Rattle.cholesky.specs.Factor.{zeros}
 use Rattle.estimator.specs.Rounds.{fitFrom}
 use Rattle.records.specs.Kept.{pairIn, pairsIn, Kept}
 use Rattle.tdcp.specs.Displacement.{sigmaOf, rowWith, rowAt, roundAt, limit, fitOver}
-use Rattle.tdcp.specs.Rows.{Weighed, ResidualsAt}
+use Rattle.tdcp.specs.Rows.{ClocksAt, SigmasAt, ResidualsAt}
 use Rattle.estimator.proofs.RoundsLaws.{Left, left-start}
 
 -- what the logic has for a pair past the end
@@ -43,7 +43,7 @@ module _ (settings : Settings) (k : Clocks) (ps : List Pair) where
 
 -- ---- the rows of a round at the state s, in the columns that the code made
 module _ (settings : Settings) (k : Clocks) (x y z : List Float) (constellation : List ℕ) (elevation observed : List Float) (few : length observed ≤ 64) (s : List Float)
-    {clock : List ℕ} {sigma : List Float} {residual : List ℕ} (weighed : Weighed settings k constellation elevation (length observed) clock sigma) (made : ResidualsAt x y z clock observed s residual) where
+    {clock : List ℕ} {sigma : List Float} {residual : List ℕ} (clocks : ClocksAt k constellation (length observed) clock) (weighed : SigmasAt settings elevation (length observed) sigma) (made : ResidualsAt x y z clock observed s residual) where
   abbrev pair : ℕ → Pair
   pair = pairIn x y z constellation elevation observed
 
@@ -53,7 +53,7 @@ module _ (settings : Settings) (k : Clocks) (x y z : List Float) (constellation 
   row-is : (i : ℕ) → i < length observed → round.rowIn all i ≡ rowAt settings k s (pair i)
   unfolding rowWith sigmaOf
   row-is i h =
-      let c = weighed .clocks i h in
+      let c = clocks .clocks i h in
       let g = weighed .sigmas i h in
       let r = getD-take (length observed) residual i 0 h ∙ made .residuals i h in
       rw (r, c, g)

@@ -88,27 +88,32 @@ fn residuals_at(
     }
 }
 
-// The clock and the sigma of each pair, which no round changes.
-fn weigh(
-    settings: Settings,
-    k: Clocks,
-    constellation: &[u8; 64],
-    elevation: &[f64; 64],
-    count: usize,
-    clock: &mut [usize; 64],
-    sigma: &mut [f64; 64],
-)
-    requires { ⌜ (count ≤ 64) × (length (now clock) ≡ 64) × (length (now sigma) ≡ 64) ⌝ }
-    ensures { λ _. ⌜ code.Weighed settings k (now (constellation .entry)) (now (elevation .entry)) count (now (clock .exit)) (now (sigma .exit)) ⌝ }
+// The clock of each pair, which no round changes.
+fn clocks_at(k: Clocks, constellation: &[u8; 64], count: usize) -> [usize; 64]
+    requires { ⌜ count ≤ 64 ⌝ }
+    ensures { λ r. ⌜ code.ClocksAt k (now (constellation .entry)) count r ⌝ }
 {
+    let mut clock = [0usize; 64];
     for j in 0..count {
         let c = constellation[j];
-        let e = elevation[j];
         let s = k.slot(c);
-        let t = elevation_sigma(e, settings.sigma_a, settings.sigma_b);
         clock[j] = s;
+    }
+    clock
+}
+
+// The sigma of each pair, which no round changes.
+fn sigmas_at(settings: Settings, elevation: &[f64; 64], count: usize) -> [f64; 64]
+    requires { ⌜ count ≤ 64 ⌝ }
+    ensures { λ r. ⌜ code.SigmasAt settings (now (elevation .entry)) count r ⌝ }
+{
+    let mut sigma = [0.0; 64];
+    for j in 0..count {
+        let e = elevation[j];
+        let t = elevation_sigma(e, settings.sigma_a, settings.sigma_b);
         sigma[j] = t;
     }
+    sigma
 }
 
 // The rounds over the pairs of the columns: the state that they reach in state, or state as it was where one is refused.
@@ -127,17 +132,8 @@ pub(crate) fn fit_pairs(
     ensures { λ r. ⌜ Ended (spec.fitOver settings k (pairsIn (now (x .entry)) (now (y .entry)) (now (z .entry)) (now (constellation .entry)) (now (elevation .entry)) (now (observed .entry))) .end) r (now (state .entry)) (now (state .exit)) ⌝ }
 {
     let count = observed.len();
-    let mut clock = [0usize; 64];
-    let mut sigma = [0.0; 64];
-    weigh(
-        settings,
-        k,
-        constellation,
-        elevation,
-        count,
-        &mut clock,
-        &mut sigma,
-    );
+    let clock = clocks_at(k, constellation, count);
+    let sigma = sigmas_at(settings, elevation, count);
     let mut residual = [0u64; 64];
     let mut at = [0.0; 9];
     let mut i: u32 = 0;
@@ -189,6 +185,39 @@ fn moved_to(x: [f64; 9], used: usize, screened: usize) -> Displacement
     Displacement::Refused(Refusal::FitFailed)
 }
 
+// What the rounds over the pairs of the columns come to: the displacement at the state that they reach, or why one is refused.
+fn moved_over(
+    settings: Settings,
+    k: Clocks,
+    x: &[f64; 64],
+    y: &[f64; 64],
+    z: &[f64; 64],
+    constellation: &[u8; 64],
+    elevation: &[f64; 64],
+    observed: &[f64],
+    screened: usize,
+) -> Displacement
+    requires { ⌜ (length (now observed) ≤ 64) × (k .count ≤ 6) ⌝ }
+    ensures { λ r. ⌜ r ≡ code.movedOver settings k (pairsIn (now (x .entry)) (now (y .entry)) (now (z .entry)) (now (constellation .entry)) (now (elevation .entry)) (now (observed .entry))) screened ⌝ }
+{
+    let used = observed.len();
+    let mut state = [0.0; 9];
+    if let Check::Refused(r) = fit_pairs(
+        settings,
+        k,
+        x,
+        y,
+        z,
+        constellation,
+        elevation,
+        observed,
+        &mut state,
+    ) {
+        return Displacement::Refused(r);
+    }
+    moved_to(state, used, screened)
+}
+
 // What every displacement shares, from the pairs on: 15, the screen, rules 7 to 9 and in the city profile 20, the rounds, and 10. 15 is asked behind the screen:
 // a way out before it keeps the pairs a second time.
 pub(crate) fn moved_by(settings: Settings, all: Pairs, city: bool) -> Displacement
@@ -221,8 +250,7 @@ pub(crate) fn moved_by(settings: Settings, all: Pairs, city: bool) -> Displaceme
     if let Check::Refused(r) = check_pairs(pairs, used, clocks.count, uncertified) {
         return Displacement::Refused(r);
     }
-    let mut state = [0.0; 9];
-    if let Check::Refused(r) = fit_pairs(
+    moved_over(
         settings,
         clocks,
         &x,
@@ -231,11 +259,8 @@ pub(crate) fn moved_by(settings: Settings, all: Pairs, city: bool) -> Displaceme
         &constellation,
         &elevation,
         &observed[..used],
-        &mut state,
-    ) {
-        return Displacement::Refused(r);
-    }
-    moved_to(state, used, pairs - used)
+        pairs - used,
+    )
 }
 
 // The receiver's position change between two epochs, dt seconds apart. The receiver's position sets the geometry only.

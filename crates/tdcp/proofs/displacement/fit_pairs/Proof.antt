@@ -27,34 +27,37 @@ abbrev given : tie.Start Inv-loop μ-loop → List Pair
 given c = pairsIn (c .args .x .now) (c .args .y .now) (c .args .z .now) (c .args .constellation .now) (c .args .elevation .now) (c .args .observed .now)
 
 -- the columns of a round, all made
-rows : (t : tie.After-residuals-at Inv-loop μ-loop) → let s = t .before .before .before .before .before .before .before .before .before .before .args in let w = t .before .before .before .before .before .before .weigh .last in rowsIn (columns (s .x .now) (s .y .now) (s .z .now) (w .1 .1 .1 .1 .1 .0) (w .1 .1 .1 .1 .1 .1 .0) (take (length (s .observed .now)) (t .residuals-at .last .1 .1 .1 .1 .1 .1 .0))) ≡ map (rowAt (s .settings) (s .k) (t .before .before .before .before .before .loop .at)) (given (t .before .before .before .before .before .before .before .before .before .before))
+rows : (t : tie.After-residuals-at Inv-loop μ-loop) → let s = t .before .before .before .before .before .before .before .before .before .args in rowsIn (columns (s .x .now) (s .y .now) (s .z .now) (t .before .before .before .before .before .before .before .clocks-at .result) (t .before .before .before .before .before .before .sigmas-at .result) (take (length (s .observed .now)) (t .residuals-at .last .1 .1 .1 .1 .1 .1 .0))) ≡ map (rowAt (s .settings) (s .k) (t .before .before .before .before .before .loop .at)) (given (t .before .before .before .before .before .before .before .before .before))
 rows t =
-    let s = t .before .before .before .before .before .before .before .before .before .before .args in
-    rows-in (s .settings) (s .k) (s .x .now) (s .y .now) (s .z .now) (s .constellation .now) (s .elevation .now) (s .observed .now) (t .before .before .before .before .before .before .before .before .before .before .pre .0) (t .before .before .before .before .before .loop .at) (t .before .before .before .before .before .before .weigh .ensures) (t .residuals-at .ensures)
+    let s = t .before .before .before .before .before .before .before .before .before .args in
+    rows-in (s .settings) (s .k) (s .x .now) (s .y .now) (s .z .now) (s .constellation .now) (s .elevation .now) (s .observed .now) (t .before .before .before .before .before .before .before .before .before .pre .0) (t .before .before .before .before .before .loop .at) (t .before .before .before .before .before .before .before .clocks-at .ensures) (t .before .before .before .before .before .before .sigmas-at .ensures) (t .residuals-at .ensures)
+
+clocks-at-requires : tie.Need-clocks-at-requires Inv-loop μ-loop
+clocks-at-requires c κs = c .before .pre .0
+
+sigmas-at-requires : tie.Need-sigmas-at-requires Inv-loop μ-loop
+sigmas-at-requires c κs = c .before .before .pre .0
+
+loop-holds : tie.Need-loop-holds Inv-loop μ-loop
+loop-holds c = let s = c .before .before .before in (omega arith, refl, refl, going (s .args .settings) (s .args .k) (given s))
+
+residuals-at-requires : tie.Need-residuals-at-requires Inv-loop μ-loop
+residuals-at-requires c κs = (c .before .before .before .before .before .before .before .before .pre .0, c .before .before .before .before .loop .inv .2)
 
 add-n : tie.Need-add-n Inv-loop μ-loop
 add-n c = omega arith
 
-weigh-requires : tie.Need-weigh-requires Inv-loop μ-loop
-weigh-requires c κs = (c .before .before .before .pre .0, refl, refl)
-
-loop-holds : tie.Need-loop-holds Inv-loop μ-loop
-loop-holds c = let s = c .before .before .before .before in (omega arith, refl, refl, going (s .args .settings) (s .args .k) (given s))
-
-residuals-at-requires : tie.Need-residuals-at-requires Inv-loop μ-loop
-residuals-at-requires c κs = (c .before .before .before .before .before .before .before .before .before .pre .0, c .before .before .before .before .loop .inv .2)
-
 array-share-prefix-residual : tie.Need-array-share-prefix-residual Inv-loop μ-loop
-array-share-prefix-residual c = let t = c .before .before .before in omega (arith, t .residuals-at .ensures .long, t .before .before .before .before .before .before .before .before .before .before .pre .0)
+array-share-prefix-residual c = let t = c .before .before .before in omega (arith, t .residuals-at .ensures .long, t .before .before .before .before .before .before .before .before .before .pre .0)
 
 slice-aggregate-round-step : tie.Need-slice-aggregate-round-step Inv-loop μ-loop
-slice-aggregate-round-step c = let t = c .before .before .before .before in sym (length-take-le _ _ (omega (arith, t .residuals-at .ensures .long, t .before .before .before .before .before .before .before .before .before .before .pre .0)))
+slice-aggregate-round-step c = let t = c .before .before .before .before in sym (length-take-le _ _ (omega (arith, t .residuals-at .ensures .long, t .before .before .before .before .before .before .before .before .before .pre .0)))
 
 round-step-requires : tie.Need-round-step-requires Inv-loop μ-loop
 round-step-requires c κs =
     let t = c .before .before .before .before .before in
-    let e = length-take-le (length (t .before .before .before .before .before .before .before .before .before .before .args .observed .now)) (t .residuals-at .last .1 .1 .1 .1 .1 .1 .0) (omega (arith, t .residuals-at .ensures .long, t .before .before .before .before .before .before .before .before .before .before .pre .0)) in
-    (omega (arith, e, t .before .before .before .before .before .before .before .before .before .before .pre .0), omega (arith, t .before .before .before .before .before .before .before .before .before .before .pre .1))
+    let e = length-take-le (length (t .before .before .before .before .before .before .before .before .before .args .observed .now)) (t .residuals-at .last .1 .1 .1 .1 .1 .1 .0) (omega (arith, t .residuals-at .ensures .long, t .before .before .before .before .before .before .before .before .before .pre .0)) in
+    (omega (arith, e, t .before .before .before .before .before .before .before .before .before .pre .0), omega (arith, t .before .before .before .before .before .before .before .before .before .pre .1))
 
 enum-known-r : tie.Need-enum-known-r Inv-loop μ-loop
 enum-known-r c = search needs
@@ -62,8 +65,8 @@ enum-known-r c = search needs
 returns : tie.Need-returns Inv-loop μ-loop
 returns c =
     let t = c .before .before .before .before .before .before .before .before .before in
-    let s = t .before .before .before .before .before .before .before .before .before .before .args in
-    let ps = given (t .before .before .before .before .before .before .before .before .before .before) in
+    let s = t .before .before .before .before .before .before .before .before .before .args in
+    let ps = given (t .before .before .before .before .before .before .before .before .before) in
     let l = t .before .before .before .before .before .loop in
     let g = c .before .before .before .round-step in
     let q = solving (s .settings) (s .k) ps (l .at) _ _ (g .result) _ _ (rows t) refl (g .ensures) in
@@ -81,8 +84,8 @@ is-short-requires c κs = search needs
 returns-2 : tie.Need-returns-2 Inv-loop μ-loop
 returns-2 c =
     let t = c .before .before .before .before .before .before .before .before .before .before .before in
-    let s = t .before .before .before .before .before .before .before .before .before .before .args in
-    let ps = given (t .before .before .before .before .before .before .before .before .before .before) in
+    let s = t .before .before .before .before .before .before .before .before .before .args in
+    let ps = given (t .before .before .before .before .before .before .before .before .before) in
     let l = t .before .before .before .before .before .loop in
     let g = c .before .before .before .before .before .round-step in
     let q = solving (s .settings) (s .k) ps (l .at) _ _ (g .result) _ _ (rows t) refl (g .ensures) in
@@ -101,8 +104,8 @@ loop-less c = omega arith
 loop-again : tie.Need-loop-again Inv-loop μ-loop
 loop-again c =
     let t = c .before .before .before .before .before .before .before .before .before .before .before in
-    let s = t .before .before .before .before .before .before .before .before .before .before .args in
-    let ps = given (t .before .before .before .before .before .before .before .before .before .before) in
+    let s = t .before .before .before .before .before .before .before .before .before .args in
+    let ps = given (t .before .before .before .before .before .before .before .before .before) in
     let l = t .before .before .before .before .before .loop in
     let g = c .before .before .before .before .before .round-step in
     let q = solving (s .settings) (s .k) ps (l .at) _ _ (g .result) _ _ (rows t) refl (g .ensures) in
@@ -114,8 +117,8 @@ loop-again c =
 
 returns-3 : tie.Need-returns-3 Inv-loop μ-loop
 returns-3 c =
-    let s = c .before .before .before .before .before .before .before .args in
-    let ps = given (c .before .before .before .before .before .before .before) in
+    let s = c .before .before .before .before .before .before .args in
+    let ps = given (c .before .before .before .before .before .before) in
     let l = c .before .before .loop in
     ended-reached _ _ _ (left-end (roundAt (s .settings) (s .k) ps) (3 + s .k .count) limit (s .settings .rounds) (fitOver (s .settings) (s .k) ps) (l .i) (l .at) (omega arith) (l .inv .3))
 
@@ -125,7 +128,8 @@ fit-pairs-spec =
     (tie.spec
     Inv-loop
     μ-loop
-    weigh-requires
+    clocks-at-requires
+    sigmas-at-requires
     loop-holds
     residuals-at-requires
     add-n
