@@ -1,8 +1,8 @@
--- `queries::calls::query_call` meets its contract. Assumes nothing.
+-- `query_calls::calls::query_call` meets its contract. Assumes nothing.
 use borrow.Author.Needs.{needs}
-use Rattle.queries.proofs.CallLaws.{one-refused, one-given, one-kept}
-use Rattle.queries.proofs.calls.query_call.Statement.{statement}
-use Rattle.queries.proofs.calls.query_call.Tie as tie
+use Rattle.query_calls.proofs.CallLaws.{one-refused, one-given, one-kept}
+use Rattle.query_calls.proofs.calls.query_call.Statement.{statement}
+use Rattle.query_calls.proofs.calls.query_call.Tie as tie
 
 slice-aggregate-queries : tie.Need-slice-aggregate-queries
 slice-aggregate-queries c = search needs

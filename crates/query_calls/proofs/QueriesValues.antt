@@ -11,7 +11,7 @@ use Rattle.numeric.specs.declared.refusal.Refusal.the-variants.{TooMany}
 use Rattle.table.specs.Table.{timeBefore}
 use Rattle.directory.specs.Directory.{Directory, ascends, tiles, timely, timelyFrom, blockTimes, inReach, soundDirectory, block, flat}
 use Rattle.query.specs.Query.{near, firstOf, lastOf, through, nearOr, spanned, ruled, answerIn, answerAt, guarded, queryIn, metresAfter}
-use Rattle.queries.specs.Queries.{Reply, refusal, placesShort, queriesIn, written, placesAfter, numberAfter}
+use Rattle.query_calls.specs.Queries.{Reply, refusal, placesShort, queriesIn, written, placesAfter, numberAfter}
 
 -- samples (10 s, 1 m) and (20 s, 3 m) of one satellite
 abbrev one-block : Directory

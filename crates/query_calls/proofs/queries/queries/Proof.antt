@@ -1,10 +1,10 @@
--- `queries::queries::queries` meets its contract. Assumes nothing.
+-- `query_calls::queries::queries` meets its contract. Assumes nothing.
 use mathlib.Core.Path.{sym, _∙_}
 use borrow.Author.Needs.{needs}
 use Rattle.query.proofs.QueryLaws.{roomy}
-use Rattle.queries.proofs.QueriesLaws.{refused-reply, answered-reply, many, short-lent, gap-out, not-sound, passes, all-answered}
-use Rattle.queries.proofs.queries.queries.Statement.{statement}
-use Rattle.queries.proofs.queries.queries.Tie as tie
+use Rattle.query_calls.proofs.QueriesLaws.{refused-reply, answered-reply, many, short-lent, gap-out, not-sound, passes, all-answered}
+use Rattle.query_calls.proofs.queries.queries.Statement.{statement}
+use Rattle.query_calls.proofs.queries.queries.Tie as tie
 
 block-capacity-requires : tie.Need-block-capacity-requires
 block-capacity-requires c κs = search needs

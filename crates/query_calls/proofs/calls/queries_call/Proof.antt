@@ -1,9 +1,9 @@
--- `queries::calls::queries_call` meets its contract. Assumes nothing.
-use Rattle.queries.proofs.CallLaws.{replies-number}
+-- `query_calls::calls::queries_call` meets its contract. Assumes nothing.
+use Rattle.query_calls.proofs.CallLaws.{replies-number}
 use mathlib.Core.Path.{refl}
 use borrow.Author.Needs.{needs}
-use Rattle.queries.proofs.calls.queries_call.Statement.{statement}
-use Rattle.queries.proofs.calls.queries_call.Tie as tie
+use Rattle.query_calls.proofs.calls.queries_call.Statement.{statement}
+use Rattle.query_calls.proofs.calls.queries_call.Tie as tie
 
 queries-requires : tie.Need-queries-requires
 queries-requires c κs = search needs

@@ -14,8 +14,8 @@ use Rattle.numeric.specs.declared.refusal.Refusal.the-variants.{TooMany, Settin
 use Rattle.directory.specs.Directory.{Directory, soundDirectory}
 use Rattle.query.specs.Query.{queryIn, queryNumber, metresAfter, GivesFinite}
 use Rattle.query.specs.declared.query.Correction.{Correction}
-use Rattle.queries.specs.declared.queries.Asking.{Asking}
-use Rattle.queries.specs.declared.queries.Asking.the-variants.{Refused, Answered}
+use Rattle.query_calls.specs.declared.queries.Asking.{Asking}
+use Rattle.query_calls.specs.declared.queries.Asking.the-variants.{Refused, Answered}
 
 -- ---- what a call comes to
 

@@ -19,8 +19,8 @@ use Rattle.directory.specs.Directory.{Directory, flat, soundDirectory}
 use Rattle.query.specs.Query.{answerAt, guarded, queryIn, queryNumber, metresAfter, GivesFinite, PassedQuery}
 use Rattle.query.specs.declared.query.Correction.{Correction}
 use Rattle.query.specs.declared.query.Correction.the-variants as Correction
-use Rattle.queries.specs.declared.queries.Asking.the-variants.{Refused, Answered}
-use Rattle.queries.specs.Queries.{Reply, refusal, answers, placesShort, queryAt, queriesIn, askingOf, askingNumber, written, numberAfter, EachFinite, Replies}
+use Rattle.query_calls.specs.declared.queries.Asking.the-variants.{Refused, Answered}
+use Rattle.query_calls.specs.Queries.{Reply, refusal, answers, placesShort, queryAt, queriesIn, askingOf, askingNumber, written, numberAfter, EachFinite, Replies}
 
 -- ---- a column with answers written to it
 module _ {A : Type 0} (f : Correction → A → A) where

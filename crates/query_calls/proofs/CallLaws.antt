@@ -13,12 +13,12 @@ use Rattle.numeric.specs.declared.refusal.Refusal.{Refusal}
 use Rattle.numeric.specs.declared.refusal.Refusal.the-variants.{BrokenForm, TooMany, SettingOutOfRange, RecordOutOfRange, BadInterval, BadTrack, TooFewPairs, TooFewRows, TooManySlots, FitFailed, TableFull, NoCorrection, BadTime, QualityNotFinite, OnReceiver, BadTrip, NoDistance, BadDropTime, NotTurned, NotCertified, BrokenRecords}
 use Rattle.directory.specs.Directory.{Directory}
 use Rattle.query.specs.Query.{queryIn, queryNumber, metresAfter, patternAfter, GivesFinite}
-use Rattle.queries.specs.Queries.{Reply, refusal, answers, placesShort, queriesIn, askingOf, askingNumber, Replies}
+use Rattle.query_calls.specs.Queries.{Reply, refusal, answers, placesShort, queriesIn, askingOf, askingNumber, Replies}
 use Rattle.query.specs.declared.query.Correction.{Correction}
 use Rattle.query.specs.declared.query.Correction.the-variants as Correction
-use Rattle.queries.specs.declared.queries.Asking.{Asking}
-use Rattle.queries.specs.declared.queries.Asking.the-variants as Asking
-use Rattle.queries.proofs.QueriesLaws.{number-at, metres-at, finite-there, each-refused}
+use Rattle.query_calls.specs.declared.queries.Asking.{Asking}
+use Rattle.query_calls.specs.declared.queries.Asking.the-variants as Asking
+use Rattle.query_calls.proofs.QueriesLaws.{number-at, metres-at, finite-there, each-refused}
 
 -- no refusal has the number 0
 not-zero : (r : Refusal) → numberOf r ≡ 0 → ⊥

@@ -1,9 +1,9 @@
--- `queries::queries::number_of` meets its contract. Assumes nothing.
+-- `query_calls::queries::number_of` meets its contract. Assumes nothing.
 use mathlib.Core.Path.{sym, ap, _∙_}
 use borrow.Author.Needs.{needs}
 use Rattle.query.specs.Query.{queryNumber}
-use Rattle.queries.proofs.queries.number_of.Statement.{statement}
-use Rattle.queries.proofs.queries.number_of.Tie as tie
+use Rattle.query_calls.proofs.queries.number_of.Statement.{statement}
+use Rattle.query_calls.proofs.queries.number_of.Tie as tie
 
 enum-known-a : tie.Need-enum-known-a
 enum-known-a c = search needs

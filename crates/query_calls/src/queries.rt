@@ -4,7 +4,7 @@ ghost use mathlib.Core.Bool.{false};
 ghost use Rattle.walk.specs.Walk.{places};
 ghost use Rattle.directory.specs.Directory.{lentBlocks, blockCapacity, directoryIn};
 ghost use Rattle.query.specs.Query.{queryNumber, metresAfter, PassedQuery};
-ghost use Rattle.queries.specs.Queries.{placesShort, queryAt, queriesIn, answers, askingOf, askingNumber, Replies};
+ghost use Rattle.query_calls.specs.Queries.{placesShort, queryAt, queriesIn, answers, askingOf, askingNumber, Replies};
 use directory::entry::block_capacity;
 use directory::sound::is_sound_directory;
 use numeric::real::in_range;

@@ -2,7 +2,7 @@
 ghost use mathlib.Core.Path.{_≡_};
 ghost use Rattle.directory.specs.Directory.{lentBlocks, blockCapacity, directoryIn};
 ghost use Rattle.query.specs.Query.{queryIn, queryNumber, patternAfter, GivesFinite};
-ghost use Rattle.queries.specs.Queries.{queriesIn, Replies};
+ghost use Rattle.query_calls.specs.Queries.{queriesIn, Replies};
 use crate::queries::Asking;
 use crate::queries::queries;
 use numeric::order::pattern;

@@ -1,12 +1,12 @@
--- `queries::queries::fill` meets its contract. Assumes nothing.
+-- `query_calls::queries::fill` meets its contract. Assumes nothing.
 use Prim.Native.Nat.{_-_}
 use native.Mathlib.Omega.{arith}
 use borrow.Author.Needs.{needs}
 use Rattle.directory.specs.Directory.{lentBlocks, blockCapacity, directoryIn}
-use Rattle.queries.specs.Queries.{queryAt}
-use Rattle.queries.proofs.QueriesLaws.{Filling, filling-start, filling-next, filling-end, filling-numbers, filling-metres, not-short}
-use Rattle.queries.proofs.queries.fill.Statement.{statement}
-use Rattle.queries.proofs.queries.fill.Tie as tie
+use Rattle.query_calls.specs.Queries.{queryAt}
+use Rattle.query_calls.proofs.QueriesLaws.{Filling, filling-start, filling-next, filling-end, filling-numbers, filling-metres, not-short}
+use Rattle.query_calls.proofs.queries.fill.Statement.{statement}
+use Rattle.query_calls.proofs.queries.fill.Tie as tie
 
 abbrev Inv-loop : tie.InvT-loop
 Inv-loop dc dv db df dn m ts xs n gap c v b t count numbers₀ metres₀ i₀ numbers metres i =
