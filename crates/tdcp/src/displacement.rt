@@ -88,32 +88,28 @@ fn residuals_at(
     }
 }
 
-// The clock of each pair, which no round changes.
-fn clocks_at(k: Clocks, constellation: &[u8; 64], count: usize) -> [usize; 64]
-    requires { ⌜ count ≤ 64 ⌝ }
-    ensures { λ r. ⌜ code.ClocksAt k (now (constellation .entry)) count r ⌝ }
+// Writes the clock of each pair, which no round changes.
+fn clocks_into(k: Clocks, constellation: &[u8; 64], count: usize, clock: &mut [usize; 64])
+    requires { ⌜ (count ≤ 64) × (length (now clock) ≡ 64) ⌝ }
+    ensures { λ _. ⌜ code.ClocksAt k (now (constellation .entry)) count (now (clock .exit)) ⌝ }
 {
-    let mut clock = [0usize; 64];
     for j in 0..count {
         let c = constellation[j];
         let s = k.slot(c);
         clock[j] = s;
     }
-    clock
 }
 
-// The sigma of each pair, which no round changes.
-fn sigmas_at(settings: Settings, elevation: &[f64; 64], count: usize) -> [f64; 64]
-    requires { ⌜ count ≤ 64 ⌝ }
-    ensures { λ r. ⌜ code.SigmasAt settings (now (elevation .entry)) count r ⌝ }
+// Writes the sigma of each pair, which no round changes.
+fn sigmas_into(settings: Settings, elevation: &[f64; 64], count: usize, sigma: &mut [f64; 64])
+    requires { ⌜ (count ≤ 64) × (length (now sigma) ≡ 64) ⌝ }
+    ensures { λ _. ⌜ code.SigmasAt settings (now (elevation .entry)) count (now (sigma .exit)) ⌝ }
 {
-    let mut sigma = [0.0; 64];
     for j in 0..count {
         let e = elevation[j];
         let t = elevation_sigma(e, settings.sigma_a, settings.sigma_b);
         sigma[j] = t;
     }
-    sigma
 }
 
 // The rounds over the pairs of the columns: the state that they reach in state, or state as it was where one is refused.
@@ -132,8 +128,10 @@ pub(crate) fn fit_pairs(
     ensures { λ r. ⌜ Ended (spec.fitOver settings k (pairsIn (now (x .entry)) (now (y .entry)) (now (z .entry)) (now (constellation .entry)) (now (elevation .entry)) (now (observed .entry))) .end) r (now (state .entry)) (now (state .exit)) ⌝ }
 {
     let count = observed.len();
-    let clock = clocks_at(k, constellation, count);
-    let sigma = sigmas_at(settings, elevation, count);
+    let mut clock = [0usize; 64];
+    clocks_into(k, constellation, count, &mut clock);
+    let mut sigma = [0.0; 64];
+    sigmas_into(settings, elevation, count, &mut sigma);
     let mut residual = [0u64; 64];
     let mut at = [0.0; 9];
     let mut i: u32 = 0;

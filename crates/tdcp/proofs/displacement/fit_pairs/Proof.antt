@@ -27,37 +27,37 @@ abbrev given : tie.Start Inv-loop μ-loop → List Pair
 given c = pairsIn (c .args .x .now) (c .args .y .now) (c .args .z .now) (c .args .constellation .now) (c .args .elevation .now) (c .args .observed .now)
 
 -- the columns of a round, all made
-rows : (t : tie.After-residuals-at Inv-loop μ-loop) → let s = t .before .before .before .before .before .before .before .before .before .args in rowsIn (columns (s .x .now) (s .y .now) (s .z .now) (t .before .before .before .before .before .before .before .clocks-at .result) (t .before .before .before .before .before .before .sigmas-at .result) (take (length (s .observed .now)) (t .residuals-at .last .1 .1 .1 .1 .1 .1 .0))) ≡ map (rowAt (s .settings) (s .k) (t .before .before .before .before .before .loop .at)) (given (t .before .before .before .before .before .before .before .before .before))
+rows : (t : tie.After-residuals-at Inv-loop μ-loop) → let s = t .before .before .before .before .before .before .before .before .before .before .before .args in rowsIn (columns (s .x .now) (s .y .now) (s .z .now) (t .before .before .before .before .before .before .before .before .clocks-into .last .1 .1 .1 .0) (t .before .before .before .before .before .before .sigmas-into .last .1 .1 .1 .0) (take (length (s .observed .now)) (t .residuals-at .last .1 .1 .1 .1 .1 .1 .0))) ≡ map (rowAt (s .settings) (s .k) (t .before .before .before .before .before .loop .at)) (given (t .before .before .before .before .before .before .before .before .before .before .before))
 rows t =
-    let s = t .before .before .before .before .before .before .before .before .before .args in
-    rows-in (s .settings) (s .k) (s .x .now) (s .y .now) (s .z .now) (s .constellation .now) (s .elevation .now) (s .observed .now) (t .before .before .before .before .before .before .before .before .before .pre .0) (t .before .before .before .before .before .loop .at) (t .before .before .before .before .before .before .before .clocks-at .ensures) (t .before .before .before .before .before .before .sigmas-at .ensures) (t .residuals-at .ensures)
+    let s = t .before .before .before .before .before .before .before .before .before .before .before .args in
+    rows-in (s .settings) (s .k) (s .x .now) (s .y .now) (s .z .now) (s .constellation .now) (s .elevation .now) (s .observed .now) (t .before .before .before .before .before .before .before .before .before .before .before .pre .0) (t .before .before .before .before .before .loop .at) (t .before .before .before .before .before .before .before .before .clocks-into .ensures) (t .before .before .before .before .before .before .sigmas-into .ensures) (t .residuals-at .ensures)
 
-clocks-at-requires : tie.Need-clocks-at-requires Inv-loop μ-loop
-clocks-at-requires c κs = c .before .pre .0
+clocks-into-requires : tie.Need-clocks-into-requires Inv-loop μ-loop
+clocks-into-requires c κs = (c .before .before .pre .0, refl)
 
-sigmas-at-requires : tie.Need-sigmas-at-requires Inv-loop μ-loop
-sigmas-at-requires c κs = c .before .before .pre .0
+sigmas-into-requires : tie.Need-sigmas-into-requires Inv-loop μ-loop
+sigmas-into-requires c κs = (c .before .before .before .before .pre .0, refl)
 
 loop-holds : tie.Need-loop-holds Inv-loop μ-loop
-loop-holds c = let s = c .before .before .before in (omega arith, refl, refl, going (s .args .settings) (s .args .k) (given s))
+loop-holds c = let s = c .before .before .before .before .before in (omega arith, refl, refl, going (s .args .settings) (s .args .k) (given s))
 
 residuals-at-requires : tie.Need-residuals-at-requires Inv-loop μ-loop
-residuals-at-requires c κs = (c .before .before .before .before .before .before .before .before .pre .0, c .before .before .before .before .loop .inv .2)
+residuals-at-requires c κs = (c .before .before .before .before .before .before .before .before .before .before .pre .0, c .before .before .before .before .loop .inv .2)
 
 add-n : tie.Need-add-n Inv-loop μ-loop
 add-n c = omega arith
 
 array-share-prefix-residual : tie.Need-array-share-prefix-residual Inv-loop μ-loop
-array-share-prefix-residual c = let t = c .before .before .before in omega (arith, t .residuals-at .ensures .long, t .before .before .before .before .before .before .before .before .before .pre .0)
+array-share-prefix-residual c = let t = c .before .before .before in omega (arith, t .residuals-at .ensures .long, t .before .before .before .before .before .before .before .before .before .before .before .pre .0)
 
 slice-aggregate-round-step : tie.Need-slice-aggregate-round-step Inv-loop μ-loop
-slice-aggregate-round-step c = let t = c .before .before .before .before in sym (length-take-le _ _ (omega (arith, t .residuals-at .ensures .long, t .before .before .before .before .before .before .before .before .before .pre .0)))
+slice-aggregate-round-step c = let t = c .before .before .before .before in sym (length-take-le _ _ (omega (arith, t .residuals-at .ensures .long, t .before .before .before .before .before .before .before .before .before .before .before .pre .0)))
 
 round-step-requires : tie.Need-round-step-requires Inv-loop μ-loop
 round-step-requires c κs =
     let t = c .before .before .before .before .before in
-    let e = length-take-le (length (t .before .before .before .before .before .before .before .before .before .args .observed .now)) (t .residuals-at .last .1 .1 .1 .1 .1 .1 .0) (omega (arith, t .residuals-at .ensures .long, t .before .before .before .before .before .before .before .before .before .pre .0)) in
-    (omega (arith, e, t .before .before .before .before .before .before .before .before .before .pre .0), omega (arith, t .before .before .before .before .before .before .before .before .before .pre .1))
+    let e = length-take-le (length (t .before .before .before .before .before .before .before .before .before .before .before .args .observed .now)) (t .residuals-at .last .1 .1 .1 .1 .1 .1 .0) (omega (arith, t .residuals-at .ensures .long, t .before .before .before .before .before .before .before .before .before .before .before .pre .0)) in
+    (omega (arith, e, t .before .before .before .before .before .before .before .before .before .before .before .pre .0), omega (arith, t .before .before .before .before .before .before .before .before .before .before .before .pre .1))
 
 enum-known-r : tie.Need-enum-known-r Inv-loop μ-loop
 enum-known-r c = search needs
@@ -65,8 +65,8 @@ enum-known-r c = search needs
 returns : tie.Need-returns Inv-loop μ-loop
 returns c =
     let t = c .before .before .before .before .before .before .before .before .before in
-    let s = t .before .before .before .before .before .before .before .before .before .args in
-    let ps = given (t .before .before .before .before .before .before .before .before .before) in
+    let s = t .before .before .before .before .before .before .before .before .before .before .before .args in
+    let ps = given (t .before .before .before .before .before .before .before .before .before .before .before) in
     let l = t .before .before .before .before .before .loop in
     let g = c .before .before .before .round-step in
     let q = solving (s .settings) (s .k) ps (l .at) _ _ (g .result) _ _ (rows t) refl (g .ensures) in
@@ -76,7 +76,7 @@ enum-told : tie.Need-enum-told Inv-loop μ-loop
 enum-told c = search needs
 
 move-by-requires : tie.Need-move-by-requires Inv-loop μ-loop
-move-by-requires c κs = search needs
+move-by-requires c κs = omega (arith, c .before .before .before .before .before .before .before .before .before .before .before .before .before .before .before .before .before .before .before .pre .1)
 
 is-short-requires : tie.Need-is-short-requires Inv-loop μ-loop
 is-short-requires c κs = search needs
@@ -84,8 +84,8 @@ is-short-requires c κs = search needs
 returns-2 : tie.Need-returns-2 Inv-loop μ-loop
 returns-2 c =
     let t = c .before .before .before .before .before .before .before .before .before .before .before in
-    let s = t .before .before .before .before .before .before .before .before .before .args in
-    let ps = given (t .before .before .before .before .before .before .before .before .before) in
+    let s = t .before .before .before .before .before .before .before .before .before .before .before .args in
+    let ps = given (t .before .before .before .before .before .before .before .before .before .before .before) in
     let l = t .before .before .before .before .before .loop in
     let g = c .before .before .before .before .before .round-step in
     let q = solving (s .settings) (s .k) ps (l .at) _ _ (g .result) _ _ (rows t) refl (g .ensures) in
@@ -104,8 +104,8 @@ loop-less c = omega arith
 loop-again : tie.Need-loop-again Inv-loop μ-loop
 loop-again c =
     let t = c .before .before .before .before .before .before .before .before .before .before .before in
-    let s = t .before .before .before .before .before .before .before .before .before .args in
-    let ps = given (t .before .before .before .before .before .before .before .before .before) in
+    let s = t .before .before .before .before .before .before .before .before .before .before .before .args in
+    let ps = given (t .before .before .before .before .before .before .before .before .before .before .before) in
     let l = t .before .before .before .before .before .loop in
     let g = c .before .before .before .before .before .round-step in
     let q = solving (s .settings) (s .k) ps (l .at) _ _ (g .result) _ _ (rows t) refl (g .ensures) in
@@ -117,8 +117,8 @@ loop-again c =
 
 returns-3 : tie.Need-returns-3 Inv-loop μ-loop
 returns-3 c =
-    let s = c .before .before .before .before .before .before .args in
-    let ps = given (c .before .before .before .before .before .before) in
+    let s = c .before .before .before .before .before .before .before .before .args in
+    let ps = given (c .before .before .before .before .before .before .before .before) in
     let l = c .before .before .loop in
     ended-reached _ _ _ (left-end (roundAt (s .settings) (s .k) ps) (3 + s .k .count) limit (s .settings .rounds) (fitOver (s .settings) (s .k) ps) (l .i) (l .at) (omega arith) (l .inv .3))
 
@@ -128,8 +128,8 @@ fit-pairs-spec =
     (tie.spec
     Inv-loop
     μ-loop
-    clocks-at-requires
-    sigmas-at-requires
+    clocks-into-requires
+    sigmas-into-requires
     loop-holds
     residuals-at-requires
     add-n

@@ -1,6 +1,5 @@
--- `tdcp::displacement::sigmas_at` meets its contract. Assumes nothing.
+-- `tdcp::displacement::sigmas_into` meets its contract. Assumes nothing.
 use Prim.Native.Nat.{ℕ, _-_, _≤_}
-use mathlib.Core.Path.{refl}
 use mathlib.Core.List.{List}
 use lib.ListN.{getD}
 use lib.Ieee.{Float, nan}
@@ -9,8 +8,8 @@ use Rattle.records.proofs.KeepLaws.{Filled, filled-start, filled-more}
 use Rattle.tdcp.specs.declared.displacement.Settings.{Settings}
 use borrow.Author.Needs.{needs}
 use native.Mathlib.Omega.{arith}
-use Rattle.tdcp.proofs.displacement.sigmas_at.Statement.{statement}
-use Rattle.tdcp.proofs.displacement.sigmas_at.Tie as tie
+use Rattle.tdcp.proofs.displacement.sigmas_into.Statement.{statement}
+use Rattle.tdcp.proofs.displacement.sigmas_into.Tie as tie
 
 -- the sigma of each place
 abbrev sigmaAt : Settings → List Float → ℕ → Float
@@ -23,7 +22,7 @@ abbrev μ-loop : tie.MeasureT-loop
 μ-loop settings elevation count sigma₀ j₀ sigma j = count - j
 
 loop-holds : tie.Need-loop-holds Inv-loop μ-loop
-loop-holds c = let s = c .args in (omega arith, filled-start (sigmaAt (s .settings) (s .elevation .now)) nan _ refl)
+loop-holds c = let s = c .args in (omega arith, filled-start (sigmaAt (s .settings) (s .elevation .now)) nan _ (c .pre .1))
 
 mul-e : tie.Need-mul-e Inv-loop μ-loop
 mul-e c = omega arith
@@ -37,8 +36,8 @@ elevation-sigma-requires c κs = search needs
 mul-sigma : tie.Need-mul-sigma Inv-loop μ-loop
 mul-sigma c = omega arith
 
-array-write-sigma : tie.Need-array-write-sigma Inv-loop μ-loop
-array-write-sigma c = omega arith
+element-write-sigma : tie.Need-element-write-sigma Inv-loop μ-loop
+element-write-sigma c = omega arith
 
 add-j : tie.Need-add-j Inv-loop μ-loop
 add-j c = omega arith
@@ -52,8 +51,8 @@ loop-again c = let s = c .before .before .before .before .args in let h = c .bef
 returns : tie.Need-returns Inv-loop μ-loop
 returns c = let h = c .before .loop in record { sigmas = λ i b. h .inv .1 .at i (omega arith) }
 
-pub sigmas-at-spec : {M : Type 1} → statement M
-sigmas-at-spec =
+pub sigmas-into-spec : {M : Type 1} → statement M
+sigmas-into-spec =
     tie.close
     (tie.spec
     Inv-loop
@@ -63,7 +62,7 @@ sigmas-at-spec =
     element-copy-out-e
     elevation-sigma-requires
     mul-sigma
-    array-write-sigma
+    element-write-sigma
     add-j
     loop-less
     loop-again

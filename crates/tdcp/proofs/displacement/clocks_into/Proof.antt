@@ -1,6 +1,5 @@
--- `tdcp::displacement::clocks_at` meets its contract. Assumes nothing.
+-- `tdcp::displacement::clocks_into` meets its contract. Assumes nothing.
 use Prim.Native.Nat.{ℕ, _-_, _≤_}
-use mathlib.Core.Path.{refl}
 use mathlib.Core.List.{List}
 use lib.ListN.{getD}
 use Rattle.clocks.specs.Clocks.{slot}
@@ -8,8 +7,8 @@ use Rattle.clocks.specs.declared.clocks.Clocks.{Clocks}
 use Rattle.records.proofs.KeepLaws.{Filled, filled-start, filled-more}
 use borrow.Author.Needs.{needs}
 use native.Mathlib.Omega.{arith}
-use Rattle.tdcp.proofs.displacement.clocks_at.Statement.{statement}
-use Rattle.tdcp.proofs.displacement.clocks_at.Tie as tie
+use Rattle.tdcp.proofs.displacement.clocks_into.Statement.{statement}
+use Rattle.tdcp.proofs.displacement.clocks_into.Tie as tie
 
 -- the clock of each place
 abbrev clockAt : Clocks → List ℕ → ℕ → ℕ
@@ -22,7 +21,7 @@ abbrev μ-loop : tie.MeasureT-loop
 μ-loop k constellation count clock₀ j₀ clock j = count - j
 
 loop-holds : tie.Need-loop-holds Inv-loop μ-loop
-loop-holds c = let s = c .args in (omega arith, filled-start (clockAt (s .k) (s .constellation .now)) 0 _ refl)
+loop-holds c = let s = c .args in (omega arith, filled-start (clockAt (s .k) (s .constellation .now)) 0 _ (c .pre .1))
 
 element-copy-out-c : tie.Need-element-copy-out-c Inv-loop μ-loop
 element-copy-out-c c = omega arith
@@ -33,8 +32,8 @@ slot-requires c κs = search needs
 mul-clock : tie.Need-mul-clock Inv-loop μ-loop
 mul-clock c = omega arith
 
-array-write-clock : tie.Need-array-write-clock Inv-loop μ-loop
-array-write-clock c = omega arith
+element-write-clock : tie.Need-element-write-clock Inv-loop μ-loop
+element-write-clock c = omega arith
 
 add-j : tie.Need-add-j Inv-loop μ-loop
 add-j c = omega arith
@@ -48,8 +47,8 @@ loop-again c = let s = c .before .before .before .before .args in let h = c .bef
 returns : tie.Need-returns Inv-loop μ-loop
 returns c = let h = c .before .loop in record { clocks = λ i b. h .inv .1 .at i (omega arith) }
 
-pub clocks-at-spec : {M : Type 1} → statement M
-clocks-at-spec =
+pub clocks-into-spec : {M : Type 1} → statement M
+clocks-into-spec =
     tie.close
     (tie.spec
     Inv-loop
@@ -58,7 +57,7 @@ clocks-at-spec =
     element-copy-out-c
     slot-requires
     mul-clock
-    array-write-clock
+    element-write-clock
     add-j
     loop-less
     loop-again
