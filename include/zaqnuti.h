@@ -56,11 +56,11 @@
  * ends at its guard page. These are of x86-64; `packaging/aarch64 stack` prints
  * those of aarch64, and docs/TIMES.md has them.
  *
- *     fix             25,088
- *     position        25,088
- *     displacement    16,896
- *     between         16,128
- *     city            16,128
+ *     fix             22,784
+ *     position        22,784
+ *     displacement    17,152
+ *     between         16,384
+ *     city            16,384
  *     line            40,960
  *     records         24,320
  *     read_records       256

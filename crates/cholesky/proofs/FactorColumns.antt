@@ -70,9 +70,6 @@ module _ (w : List (List Float)) (i : ℕ) (x : List Float) where
   pub kept : (k : ℕ) → k ≢ i → row (set w i x) k ≡ row w k
   kept k d = getD-set-other w i k x [] d
 
-  kept-squares : (k : ℕ) → k ≢ i → (z : Float) (n : ℕ) → lessProducts z (cell w k) (cell w k) n ≡ lessProducts z (cell (set w i x) k) (cell (set w i x) k) n
-  kept-squares k d z n = ap (λ (r : List Float). lessProducts z (at r) (at r) n) (sym (kept k d))
-
   kept-above : (n : ℕ) → n ≤ i → Agree n w (set w i x)
   kept-above n b k kb = sym (kept k (omega arith))
 
@@ -133,7 +130,7 @@ module _ (a w : List (List Float)) (m j i : ℕ) (mb : m ≤ 9) (b : j < i) (c :
   pub diagonal-kept : d ≡ cell (set w i (set (row w i) j (s ⊘ d))) j j
   diagonal-kept = q ∙ ap (λ (r : List Float). at r j) (sym (kept w i (set (row w i) j (s ⊘ d)) j (omega arith)))
 
-  -- a pivot so far: of row i, one square more, and of another row, as it was
+  -- the pivot of row i so far, one square more
   pub pivot-next : (z u : Float) → u ≡ lessProducts z (cell w i) (cell w i) j
       → u ⊖ (s ⊘ d) ⊗ (s ⊘ d) ≡ lessProducts z (cell (set w i (set (row w i) j (s ⊘ d))) i) (cell (set w i (set (row w i) j (s ⊘ d))) i) (j + 1)
   unfolding y
@@ -144,10 +141,6 @@ module _ (a w : List (List Float)) (m j i : ℕ) (mb : m ≤ 9) (b : j < i) (c :
       let before : (k : ℕ) → k < j → cell w i k ≡ cell (set w i y) i k = λ k kb. sym (ap (λ (r : List Float). at r k) own ∙ getD-set-other (row w i) j k (s ⊘ d) nan (omega arith)) in
       ap₂ (λ (t v : Float). t ⊖ v ⊗ v) (f ∙ less-ext z z (cell w i) (cell (set w i y) i) (cell w i) (cell (set w i y) i) j refl before before) (sym here)
       ∙ sym (less-next z (cell (set w i y) i) (cell (set w i y) i) j)
-
-  pub pivot-kept : (r : ℕ) → r ≢ i → (z : Float) (n : ℕ)
-      → lessProducts z (cell w r) (cell w r) n ≡ lessProducts z (cell (set w i (set (row w i) j (s ⊘ d))) r) (cell (set w i (set (row w i) j (s ⊘ d))) r) n
-  pivot-kept r f z n = kept-squares w i (set (row w i) j (s ⊘ d)) r f z n
 
   pub columns-element : Columns m (j + 1) (i + 1) a (set w i (set (row w i) j (s ⊘ d)))
   unfolding y

@@ -6,6 +6,7 @@ pub mod FactorColumns
 pub mod FactorElements
 pub mod FactorFinite
 pub mod FactorUsed
+pub mod ColumnLaws
 pub mod SolveUsed
 pub mod Answers
 pub mod SoundSystem

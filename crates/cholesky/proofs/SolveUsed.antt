@@ -87,8 +87,7 @@ last-finite i l b f k kb (no g) =
 forward-finite : (n : ℕ) (l : List (List Float)) (b : List Float) → 0 < n → T (finite (at (forwardTo n l b) (n - 1))) → (k : ℕ) → k < n → T (finite (at (forwardTo n l b) k))
 forward-finite zero l b h f k kb = absurd (lt-irrefl 0 h)
 forward-finite (suc i) l b h f k kb =
-    let e : suc i - 1 ≡ i = omega arith in
-    last-finite i l b (subst (λ (z : ℕ). T (finite (at (forwardTo (suc i) l b) z))) e f) k kb (ℕ-discrete k i)
+    let e : suc i - 1 ≡ i = omega arith in last-finite i l b (subst (λ (z : ℕ). T (finite (at (forwardTo (suc i) l b) z))) e f) k kb (ℕ-discrete k i)
 
 -- +0 put at a place that holds it
 put-zero : (y : List Float) (i : ℕ) (v : Float) → v ≡ +0 → at y i ≡ +0 → set y i v ≡ y

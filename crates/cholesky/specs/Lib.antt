@@ -1,3 +1,4 @@
 pub mod Factor
+pub mod Columns
 pub mod Answer
 pub mod Sound

@@ -56,9 +56,9 @@ epochIn m n room d e s base rover set =
 
 -- ---- what the contracts of the steps say
 
--- numbers 2, 3 and 4 for all but the table
-unfoldable pub recordsTest : ℕ → ℕ → BaseEpoch → States → Vec3 → Vec3 → Settings → Test
-recordsTest n room e s base rover set =
-    cond (tooMany n room e s) (Refused TooMany)
+-- numbers 2, 3 and 4 for all but the table's records
+unfoldable pub recordsTest : ℕ → ℕ → ℕ → BaseEpoch → States → Vec3 → Vec3 → Settings → Test
+recordsTest m n room e s base rover set =
+    cond (ltb room m || tooMany n room e s) (Refused TooMany)
     (cond (not (settingsInRange set)) (Refused SettingOutOfRange)
     (cond (not (recordsInRange e s base rover)) (Refused RecordOutOfRange) Passed))

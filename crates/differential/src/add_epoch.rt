@@ -20,8 +20,9 @@ use numeric::refusal::Refusal;
 use numeric::vec3::Vec3;
 use table::add::Test;
 
-// Numbers 2, 3 and 4 of all but the table, in this order; room is the capacity of the table's columns.
+// Numbers 2, 3 and 4 of all but the table's records, in this order; room is the capacity of the table's columns, m its entries and n its samples.
 fn records_tested(
+    m: usize,
     n: usize,
     room: usize,
     epoch: BaseEpoch,
@@ -30,11 +31,11 @@ fn records_tested(
     rover: Vec3,
     settings: Settings,
 ) -> Test
-    ensures { λ r. ⌜ r ≡ recordsTest n room epoch states base rover settings ⌝ }
+    ensures { λ r. ⌜ r ≡ recordsTest m n room epoch states base rover settings ⌝ }
 {
     let k = epoch.count;
-    let m = states_count(states);
-    if (room < n) | (64 < k) | (64 < m) {
+    let j = states_count(states);
+    if (room < m) | ((room < n) | (64 < k) | (64 < j)) {
         return Test::Refused(Refusal::TooMany);
     }
     if !(in_range(settings.max_gap) & in_range(settings.max_correction)) {
@@ -46,7 +47,7 @@ fn records_tested(
     if !ranges_in_range(epoch, k) {
         return Test::Refused(Refusal::RecordOutOfRange);
     }
-    if !states_in_range(states, m) {
+    if !states_in_range(states, j) {
         return Test::Refused(Refusal::RecordOutOfRange);
     }
     Test::Passed
@@ -74,10 +75,7 @@ pub fn add_epoch(
         (r ≡ additionOf o) × Places o (additionNumber r) m (entriesNow r m) n (samplesNow r n) l (lentBlocks (now (dc .exit)) (now (dv .exit)) (now (db .exit)) (now (df .exit)) (now (dn .exit)) (now (ts .exit)) (now (xs .exit)))) ⌝ }
 {
     let room = block_capacity(dc, dv, db, df, dn, ts, xs);
-    if room < m {
-        return Addition::Refused(Refusal::TooMany);
-    }
-    let test = records_tested(n, room, epoch, states, base, rover, settings);
+    let test = records_tested(m, n, room, epoch, states, base, rover, settings);
     match test {
         Test::Refused(r) => Addition::Refused(r),
         Test::Passed => {

@@ -349,8 +349,7 @@ digit g h j k l m = omega arith
 pub ascends-entries : (g j place : ℕ) (t : List Sample) → rises (g * 2 ^ 64 + j) t ≡ true → every narrow t ≡ true → ascends g (entriesFrom place t) ≡ true
 unfolding rises every entriesFrom
 ascends-entries g j place [] r h = unfold ascends in refl
-ascends-entries g j place (s ∷ t) r h =
-    ascends-joined g s place (entriesFrom (suc place) t)
+ascends-entries g j place (s ∷ t) r h = ascends-joined g s place (entriesFrom (suc place) t)
     (digit g (signalOf s) j (timeKey (s .time)) (key-lt (s .time)) (leb-true (g * 2 ^ 64 + j) (placeOf s) (and-left _ _ r)))
     (narrow-of s (and-left _ _ h)) (narrow-entries (suc place) t (and-right (narrow s) _ h))
     (ascends-entries (signalOf s) (timeKey (s .time)) (suc place) t (and-right (leb (g * 2 ^ 64 + j) (placeOf s)) _ r) (and-right (narrow s) _ h))
@@ -371,8 +370,7 @@ tiles-entries : (place : ℕ) (t : List Sample) → tiles place (place + length 
 unfolding entriesFrom
 tiles-entries place [] = unfold tiles in eq-eqb place (place + 0) (omega arith)
 tiles-entries place (s ∷ t) =
-    let z : place + suc (length t) ≡ suc place + length t = omega arith in
-    tiles-joined s place (place + suc (length t)) (entriesFrom (suc place) t) (rw z (tiles-entries (suc place) t))
+    let z : place + suc (length t) ≡ suc place + length t = omega arith in tiles-joined s place (place + suc (length t)) (entriesFrom (suc place) t) (rw z (tiles-entries (suc place) t))
 
 -- the parts of a list that rises
 rises-left : (p : ℕ) (a b : List Sample) → rises p (a ++ b) ≡ true → rises p a ≡ true

@@ -97,8 +97,7 @@ legs-narrow : (es : List Event) (s : Settings) → every narrowEvent es ≡ true
 unfolding every narrowEvent legsUnder
 legs-narrow [] s n = refl
 legs-narrow (epoch m pulses ∷ es) s n =
-    let b = and-both (leb pulses 65535) (every narrowEvent es) n in
-    move-narrow pulses (displacementOf (inputOf s m)) (legsUnder s es) (b .0) (legs-narrow es s (b .1))
+    let b = and-both (leb pulses 65535) (every narrowEvent es) n in move-narrow pulses (displacementOf (inputOf s m)) (legsUnder s es) (b .0) (legs-narrow es s (b .1))
 legs-narrow (change r ∷ es) s n = legs-narrow es (changedTo s r) n
 
 -- a trip begins where its settings and its rate pass

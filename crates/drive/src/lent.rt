@@ -2,7 +2,8 @@
 ghost use mathlib.Core.Path.{_≡_};
 ghost use mathlib.Core.List.{map};
 ghost use Rattle.numeric.specs.Order.{patternOf};
-ghost use Rattle.records.specs.Carriers.{vectorAt, carrierColumns};
+ghost use Rattle.records.specs.Carriers.{carrierColumns};
+ghost use Rattle.numeric.specs.Vec3.{vectorAt};
 ghost use Rattle.tdcp_columns.specs.Displacement.{displacementSettings};
 ghost use Rattle.trip.specs.Words.{heldOf};
 ghost use Rattle.drive.specs.Drive.{begunOf, underNew, tested};

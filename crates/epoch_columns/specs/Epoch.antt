@@ -7,6 +7,7 @@ use mathlib.Core.Path.{_≡_}
 use lib.ListN.{length, getD, take}
 use lib.Ieee.{Float, nan}
 use Rattle.walk.specs.Walk.{places}
+use Rattle.numeric.specs.Vec3.{vectorAt}
 use Rattle.numeric.specs.declared.vec3.Vec3.{Vec3}
 use Rattle.numeric.specs.declared.refusal.Refusal.the-variants.{TooMany}
 use Rattle.directory.specs.Directory.{Directory}
@@ -34,18 +35,14 @@ stateAt cs vs bs fs i =
       constellation = getD cs i 0;
       svid = getD vs i 0;
       band = getD bs i 0;
-      position = record { x = getD fs (i * 8) nan; y = getD fs (i * 8 + 1) nan; z = getD fs (i * 8 + 2) nan };
-      velocity = record { x = getD fs (i * 8 + 3) nan; y = getD fs (i * 8 + 4) nan; z = getD fs (i * 8 + 5) nan };
+      position = vectorAt fs (i * 8);
+      velocity = vectorAt fs (i * 8 + 3);
       clock = getD fs (i * 8 + 6) nan;
       modelled = getD fs (i * 8 + 7) nan;
     }
 
 abbrev pub statesIn : Bool → ℕ → List ℕ → List ℕ → List ℕ → List Float → States
 statesIn present m cs vs bs fs = record { present = present; count = m; states = places (stateAt cs vs bs fs) m }
-
--- three floats as a point
-abbrev pub pointOf : List Float → Vec3
-pointOf p = record { x = getD p 0 nan; y = getD p 1 nan; z = getD p 2 nan }
 
 abbrev pub settingsOf : Float → Float → List Bool → Settings
 settingsOf gap max on = record { «max_gap» = gap; «max_correction» = max; constellations = on }
@@ -74,3 +71,7 @@ pub record StatesRead (present : Bool) (m : ℕ) (l : List State) (s : States) :
   pub mark : s .present ≡ present
   pub count : s .count ≡ m
   pub states-are : take m (s .states) ≡ l
+
+-- more than 64 ranges or states, or a lent column is shorter than they need
+unfoldable pub unreadable : ℕ → List ℕ → List ℕ → List ℕ → List Float → ℕ → List ℕ → List ℕ → List ℕ → List Float → Bool
+unreadable k rc rv rb rp m sc sv sb sf = ltb 64 k || ltb 64 m || recordsShort k rc rv rb rp m sc sv sb sf

@@ -2,11 +2,16 @@
 ghost use mathlib.Core.Path.{_≡_};
 ghost use Rattle.directory.specs.Directory.{lentBlocks, blockCapacity, directoryIn};
 ghost use Rattle.addition.specs.Add.{additionNumber, entriesNow, samplesNow, Places};
-ghost use Rattle.epoch_columns.specs.Epoch.{pointOf, settingsOf, entryIn};
-use crate::epoch::add_from;
+ghost use Rattle.numeric.specs.Vec3.{vectorAt};
+ghost use Rattle.epoch_columns.specs.Epoch.{settingsOf, entryIn};
+use crate::epoch::epoch_from;
+use crate::epoch::is_unreadable;
+use crate::epoch::states_from;
 use addition::add::Addition;
+use differential::add_epoch::add_epoch;
 use differential::record::Settings;
-use numeric::vec3::Vec3;
+use numeric::refusal::Refusal;
+use numeric::vec3::vector;
 
 // Both counts afterwards and 0, or the number of the refusal, which leaves them as they were.
 fn added_in(answer: Addition, blocks: &mut usize, n: &mut usize) -> u8
@@ -19,6 +24,17 @@ fn added_in(answer: Addition, blocks: &mut usize, n: &mut usize) -> u8
             *n = counts.samples;
             0
         }
+    }
+}
+
+// The greatest gap, the greatest correction and the constellations in use as settings.
+fn settings_of(gap: f64, max: f64, on: &[bool; 8]) -> Settings
+    ensures { λ r. ⌜ r ≡ settingsOf gap max (now (on .entry)) ⌝ }
+{
+    Settings {
+        max_gap: gap,
+        max_correction: max,
+        constellations: *on,
     }
 }
 
@@ -56,31 +72,21 @@ pub fn add_into(
         Places (entryIn (now (blocks .entry)) (now (n .entry)) (blockCapacity l) (directoryIn (now (blocks .entry)) (now (n .entry)) l) time
         k (now (rc .entry)) (now (rv .entry)) (now (rb .entry)) (now (rp .entry))
         present j (now (sc .entry)) (now (sv .entry)) (now (sb .entry)) (now (sf .entry))
-        (pointOf (now (base .entry))) (pointOf (now (rover .entry))) (settingsOf gap max (now (on .entry)))) r
+        (vectorAt (now (base .entry)) 0) (vectorAt (now (rover .entry)) 0) (settingsOf gap max (now (on .entry)))) r
         (now (blocks .entry)) (now (blocks .exit)) (now (n .entry)) (now (n .exit)) l
         (lentBlocks (now (dc .exit)) (now (dv .exit)) (now (db .exit)) (now (df .exit)) (now (dn .exit)) (now (ts .exit)) (now (xs .exit)))) ⌝ }
 {
-    let b = *base;
-    let r = *rover;
-    let o = *on;
-    let from = Vec3 {
-        x: b[0],
-        y: b[1],
-        z: b[2],
-    };
-    let to = Vec3 {
-        x: r[0],
-        y: r[1],
-        z: r[2],
-    };
-    let settings = Settings {
-        max_gap: gap,
-        max_correction: max,
-        constellations: o,
-    };
+    if is_unreadable(k, rc, rv, rb, rp, present, j, sc, sv, sb, sf) {
+        return Refusal::TooMany.number();
+    }
+    let epoch = epoch_from(time, k, rc, rv, rb, rp);
+    let states = states_from(present, j, sc, sv, sb, sf);
+    let from = vector(base);
+    let to = vector(rover);
+    let settings = settings_of(gap, max, on);
     let entries = *blocks;
     let samples = *n;
-    let answer = add_from(
+    let answer = add_epoch(
         dc,
         dv,
         db,
@@ -90,18 +96,8 @@ pub fn add_into(
         ts,
         xs,
         samples,
-        time,
-        k,
-        rc,
-        rv,
-        rb,
-        rp,
-        present,
-        j,
-        sc,
-        sv,
-        sb,
-        sf,
+        epoch,
+        states,
         from,
         to,
         settings,

@@ -14,13 +14,13 @@ use lib.Ieee.{Float, nan, div, ofInt, ofBits}
 use Rattle.exact.specs.Float.{_⊕_, bits, decimal}
 use Rattle.cholesky.specs.Factor.{at}
 use Rattle.robust.specs.Round.{Round, Outcome, Refused, Solved}
-use Rattle.robust.specs.Normal.{Solving}
-use Rattle.robust.specs.declared.row.Row.{Row}
+use Rattle.robust.specs.Solving.{Solving}
+use Rattle.normal.specs.declared.row.Row.{Row}
 use Rattle.robust.specs.declared.round.Stepping.{Stepping}
 use Rattle.robust.specs.declared.round.Stepping.the-variants as Stepping
 use Rattle.numeric.specs.declared.refusal.Refusal.{Refusal}
 use Rattle.estimator.specs.declared.rules.Check.the-variants as Check
-use Rattle.robust.proofs.NineLaws.{nine-is}
+use Rattle.normal.proofs.NineLaws.{nine-is}
 use Rattle.estimator.specs.Rounds.{End, Stopped, Reached, Fit, moved, shortStep, after, fitFrom, lastRows, Ended}
 
 -- rounds above 50, which every estimator refuses alike, so that 51 stand for them all

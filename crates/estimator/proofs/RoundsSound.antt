@@ -17,10 +17,10 @@ use Rattle.exact.proofs.Ops.{add-finite}
 use Rattle.walk.specs.Walk.{every}
 use Rattle.cholesky.specs.Factor.{at}
 use Rattle.numeric.specs.declared.refusal.Refusal.{Refusal}
-use Rattle.robust.specs.Nine.{nine}
+use Rattle.normal.specs.Nine.{nine}
 use Rattle.robust.specs.Round.{Round, Outcome, Refused, Solved}
-use Rattle.robust.specs.declared.row.Row.{Row}
-use Rattle.robust.proofs.NineLaws.{nine-at}
+use Rattle.normal.specs.declared.row.Row.{Row}
+use Rattle.normal.proofs.NineLaws.{nine-at}
 use Rattle.estimator.specs.Rules.{Rule}
 use Rattle.estimator.specs.Rounds.{End, Stopped, Reached, Fit, moved, shortStep, ended, begun, after, fitFrom, lastRows, finiteAt, concluded, Each}
 use Rattle.estimator.specs.declared.rules.Check.the-variants.{Passed}

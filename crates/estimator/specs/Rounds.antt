@@ -10,11 +10,12 @@ use lib.Ieee.Scale.{finite}
 use Rattle.exact.specs.Float.{_⊕_}
 use Rattle.cholesky.specs.Factor.{at}
 use Rattle.numeric.specs.Real.{hypot}
+use Rattle.numeric.specs.Vec3.{vectorAt}
 use Rattle.numeric.specs.declared.vec3.Vec3.{Vec3}
 use Rattle.numeric.specs.declared.refusal.Refusal.{Refusal}
-use Rattle.robust.specs.Nine.{nine}
+use Rattle.normal.specs.Nine.{nine}
 use Rattle.robust.specs.Round.{Round, Outcome, Refused, Solved}
-use Rattle.robust.specs.declared.row.Row.{Row}
+use Rattle.normal.specs.declared.row.Row.{Row}
 use Rattle.estimator.specs.Rules.{Rule, ruled}
 use Rattle.estimator.specs.declared.rules.Check.{Check}
 use Rattle.estimator.specs.declared.rules.Check.the-variants as Check
@@ -64,7 +65,7 @@ lastRows rows (r ∷ rs) = lastRows (r .rows) rs
 
 -- the position or displacement of a state
 abbrev pub vector : List Float → Vec3
-vector x = record { x = at x 0; y = at x 1; z = at x 2 }
+vector x = vectorAt x 0
 
 -- it is finite
 unfoldable pub finiteAt : List Float → Bool

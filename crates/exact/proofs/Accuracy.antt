@@ -15,8 +15,8 @@ use Rattle.exact.proofs.Sharper.{sumℤ, sum, lower, sizeL, sizeX, Shar
 use Rattle.exact.proofs.Num.{Num, num, _∸_, _·_}
 use Rattle.exact.proofs.Ops.{val, scale-pos}
 use Rattle.exact.proofs.Products.{dot}
-use Rattle.exact.proofs.Bridge.{stands--, stands-dot, stands-scaled, stands-val}
-use Rattle.exact.proofs.Number.{Is, gap, natAbs-gap, is-+, is--, is-*ℕ, is-∣∣, is-scaled, is-scaledℕ, is-over, is-0, is-1, is-2^-, is-Σ, is-dot, is-exactly, is-∣exactly∣, le-of-is}
+use Rattle.exact.proofs.Bridge.{stands-minus, stands-dot, stands-scaled, stands-val}
+use Rattle.exact.proofs.Number.{Is, gap, natAbs-gap, is-+, is-minus, is-*ℕ, is-∣∣, is-scaled, is-scaledℕ, is-over, is-0, is-1, is-2^-, is-Σ, is-dot, is-exactly, is-∣exactly∣, le-of-is}
 
 -- ---- the bound as it is claimed, from the sharper one: M is 2 ^ 48, N is 2 ^ 52, K is 2 ^ 1070, c is 2 ^ 1022
 loosen : (M N K c S R P F X : ℕ) → K ≡ M * c → c * N ≡ S → R * M ≤ P + N * ((S + F) * (S + F + X)) → K * R ≤ c * P + (S + F) * (S + F) * (S + X)
@@ -72,7 +72,7 @@ module _ (n : ℕ) (a l : ℕ → ℕ → Float) (b x : ℕ → Float) (i : ℕ)
   residual-is : Is (Σ n (λ j. symmetric a i j *ₑ column x j) -ₑ column b i) residual (scale * scale)
   unfolding residual
   residual-is =
-      is-- (is-dot (λ j. symmetric a i j) (column x) (λ j. val (entry a i j)) (λ j. val (x j)) scale scale n (λ j. is-exactly (entry a i j)) (λ j. is-exactly (x j))) (is-scaled scale (is-exactly (b i)))
+      is-minus (is-dot (λ j. symmetric a i j) (column x) (λ j. val (entry a i j)) (λ j. val (x j)) scale scale n (λ j. is-exactly (entry a i j)) (λ j. is-exactly (x j))) (is-scaled scale (is-exactly (b i)))
 
   error : ℕ
   error = natAbs (sumℤ (λ j. value (entry a i j) *ℤ value (x j)) n -ℤ pos scale *ℤ value (b i))
@@ -81,7 +81,7 @@ module _ (n : ℕ) (a l : ℕ → ℕ → Float) (b x : ℕ → Float) (i : ℕ)
   unfolding error residual
   error-is =
       natAbs-gap (sumℤ (λ j. value (entry a i j) *ℤ value (x j)) n -ℤ pos scale *ℤ value (b i)) (dot (λ j. val (entry a i j)) (λ j. val (x j)) n ∸ scale · val (b i))
-      (stands-- (sumℤ (λ j. value (entry a i j) *ℤ value (x j)) n) (pos scale *ℤ value (b i)) (dot (λ j. val (entry a i j)) (λ j. val (x j)) n) (scale · val (b i))
+      (stands-minus (sumℤ (λ j. value (entry a i j) *ℤ value (x j)) n) (pos scale *ℤ value (b i)) (dot (λ j. val (entry a i j)) (λ j. val (x j)) n) (scale · val (b i))
       (stands-dot (λ j. value (entry a i j)) (λ j. value (x j)) (λ j. val (entry a i j)) (λ j. val (x j)) n (λ k. stands-val (entry a i k)) (λ k. stands-val (x k)))
       (stands-scaled scale (value (b i)) (val (b i)) (stands-val (b i))))
 

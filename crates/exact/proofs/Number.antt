@@ -16,7 +16,7 @@ use Rattle.exact.proofs.Sharper.{sum}
 use Rattle.exact.proofs.Num.{Num, num, none, _∔_, _∸_, _⊙_, _·_, abs, apart, Plain, plain-⊙}
 use Rattle.exact.proofs.Ops.{val, sgn, val-plain}
 use Rattle.exact.proofs.Products.{dot}
-use Rattle.exact.proofs.Bridge.{Stands, stands-+, stands--, stands-*, stands-val, abs-val}
+use Rattle.exact.proofs.Bridge.{Stands, stands-+, stands-minus, stands-*, stands-val, abs-val}
 
 -- x is the fraction u / d
 pub record Is (x : Number) (u : Num) (d : ℕ) : Type 0 where
@@ -52,14 +52,14 @@ minus-is : (v w u t : Num) (P Q d : ℕ) → v .p * d + u .n * P ≡ u .p * P + 
     → ((v ⊙ num Q 0) ∸ (w ⊙ num P 0)) .p * d + (u ∸ t) .n * (P * Q) ≡ (u ∸ t) .p * (P * Q) + ((v ⊙ num Q 0) ∸ (w ⊙ num P 0)) .n * d
 minus-is v w u t P Q d h k = omega (arith, ap (λ (z : ℕ). z * Q) h, ap (λ (z : ℕ). z * P) k)
 
-pub is-- : {x y : Number} {u t : Num} {d : ℕ} → Is x u d → Is y t d → Is (x -ₑ y) (u ∸ t) d
+pub is-minus : {x y : Number} {u t : Num} {d : ℕ} → Is x u d → Is y t d → Is (x -ₑ y) (u ∸ t) d
 unfolding _-ₑ_
-is-- {x} {y} {u} {t} {d} h k =
+is-minus {x} {y} {u} {t} {d} h k =
     let P = 2 ^ x .places in
     let Q = 2 ^ y .places in
     record {
       v = (h .v ⊙ num Q 0) ∸ (k .v ⊙ num P 0);
-      stands = stands-- (x .whole *ℤ pos Q) (y .whole *ℤ pos P) (h .v ⊙ num Q 0) (k .v ⊙ num P 0) (times (x .whole) (h .v) Q (h .stands)) (times (y .whole) (k .v) P (k .stands));
+      stands = stands-minus (x .whole *ℤ pos Q) (y .whole *ℤ pos P) (h .v ⊙ num Q 0) (k .v ⊙ num P 0) (times (x .whole) (h .v) Q (h .stands)) (times (y .whole) (k .v) P (k .stands));
       is = rw (pow-add 2 (x .places) (y .places)) (minus-is (h .v) (k .v) u t P Q d (h .is) (k .is));
     }
 
@@ -190,20 +190,17 @@ module _ {x y : Number} {u t : Num} {d : ℕ} (D : 0 < d) (h : Is x u d) (k : Is
 
   pub is-of-le : x ≤ₑ y → u .p + t .n ≤ t .p + u .n
   unfolding _≤ₑ_ P Q
-  is-of-le l =
-      uncross (h .v) (k .v) u t P Q d (mul-pos (pow-pos (x .places)) (pow-pos (y .places))) (h .is) (k .is)
+  is-of-le l = uncross (h .v) (k .v) u t P Q d (mul-pos (pow-pos (x .places)) (pow-pos (y .places))) (h .is) (k .is)
       (order (x .whole *ℤ pos Q) (y .whole *ℤ pos P) (h .v ⊙ num Q 0) (k .v ⊙ num P 0) (times (x .whole) (h .v) Q (h .stands)) (times (y .whole) (k .v) P (k .stands)) l)
 
   pub lt-of-is : u .p + t .n < t .p + u .n → x <ₑ y
   unfolding _<ₑ_ P Q
-  lt-of-is l =
-      ordered-lt (x .whole *ℤ pos Q) (y .whole *ℤ pos P) (h .v ⊙ num Q 0) (k .v ⊙ num P 0) (times (x .whole) (h .v) Q (h .stands)) (times (y .whole) (k .v) P (k .stands))
+  lt-of-is l = ordered-lt (x .whole *ℤ pos Q) (y .whole *ℤ pos P) (h .v ⊙ num Q 0) (k .v ⊙ num P 0) (times (x .whole) (h .v) Q (h .stands)) (times (y .whole) (k .v) P (k .stands))
       (cross-lt (h .v) (k .v) u t P Q d (mul-pos (pow-pos (x .places)) (pow-pos (y .places))) (h .is) (k .is) l)
 
   pub is-of-lt : x <ₑ y → u .p + t .n < t .p + u .n
   unfolding _<ₑ_ P Q
-  is-of-lt l =
-      uncross-lt (h .v) (k .v) u t P Q d D (h .is) (k .is)
+  is-of-lt l = uncross-lt (h .v) (k .v) u t P Q d D (h .is) (k .is)
       (order-lt (x .whole *ℤ pos Q) (y .whole *ℤ pos P) (h .v ⊙ num Q 0) (k .v ⊙ num P 0) (times (x .whole) (h .v) Q (h .stands)) (times (y .whole) (k .v) P (k .stands)) l)
 
 -- ---- the sign

@@ -18,7 +18,7 @@ use Rattle.exact.specs.Number.{Number, _-ₑ_, _*ₑ_, ∣_∣, _≤ₑ_
 use Rattle.exact.specs.Rounded.{isSignMinus, Even, limit, Nearest, Rounded}
 use Rattle.exact.proofs.Num.{Num, num, _∸_, _⊙_, _·_, apart}
 use Rattle.exact.proofs.Ops.{scale-pos, val, sgn}
-use Rattle.exact.proofs.Number.{Is, gap, is--, is-*, is-*ℕ, is-∣∣, is-scaled, is-same, is-over, is-exactly, le-of-is, is-of-le, lt-of-is, is-of-lt}
+use Rattle.exact.proofs.Number.{Is, gap, is-minus, is-*, is-*ℕ, is-∣∣, is-scaled, is-same, is-over, is-exactly, le-of-is, is-of-le, lt-of-is, is-of-lt}
 use Rattle.exact.proofs.Grid.{last-digit, grid, Against, equal, beaten, tied, kept-digits, no-farther, against, below-next}
 use Rattle.exact.proofs.Units.{representable, last-bit, same-float, round-finite, round-magnitude, round-sign, round-infinite, round-value}
 
@@ -114,7 +114,7 @@ module _ (s t : Bool) (A B E : ℕ) (P : 0 < E) (Q : 0 < B) {a b : Number} (ha :
 
   distance : (w : Float) → T (finite w) → Is ∣ exactly w *ₑ b -ₑ a ∣ (num (far s t (isSignMinus w) (magnitude w) A B scale) 0) (scale * E)
   unfolding far
-  distance w f = is-∣∣ (is-- (is-* (subst (λ (u : Num). Is (exactly w) u scale) (val-is w f) (is-exactly w)) hb) (is-scaled scale ha))
+  distance w f = is-∣∣ (is-minus (is-* (subst (λ (u : Num). Is (exactly w) u scale) (val-is w f) (is-exactly w)) hb) (is-scaled scale ha))
 
   over-pos : 0 < scale * E
   over-pos = mul-pos scale-pos P

@@ -109,12 +109,6 @@ forget-history time t (drop other ∷ es) r e =
     ap (λ (m : List Sample). history m es) (forget-swap other time t) ∙ forget-history time (forget other t) es (forget-rises other 0 t r) e
 
 -- ---- the table after events
-history-rises : (t : List Sample) (es : List Event) → rises 0 t ≡ true → rises 0 (history t es) ≡ true
-unfolding fold happen
-history-rises t [] r = r
-history-rises t (add ss ∷ es) r = history-rises (insertAll t ss) es (insertAll-rises t ss r)
-history-rises t (drop time ∷ es) r = history-rises (forget time t) es (forget-rises time 0 t r)
-
 pub history-sound : (t : List Sample) (es : List Event) → soundTable t ≡ true → every inRangeAll es ≡ true → soundTable (history t es) ≡ true
 unfolding fold happen every inRangeAll
 history-sound t [] s r = s
@@ -176,8 +170,7 @@ pub history-query : (t : List Sample) (es : List Event) (room : ℕ) (gap : Floa
     → soundTable t ≡ true → every inRangeAll es ≡ true → allowed q es ≡ true → length (history t (undropped es)) ≤ room
     → queryOf (length (history t es)) room (history t es) gap c v b q ≡ queryOf (length (history t (undropped es))) room (history t (undropped es)) gap c v b q
 unfolding queryOf
-history-query t es room gap c v b q s r a l =
-    guard-same (length (history t es)) (length (history t (undropped es))) room (history t es) (history t (undropped es)) gap q (answerAt (history t es) gap c v b q)
+history-query t es room gap c v b q s r a l = guard-same (length (history t es)) (length (history t (undropped es))) room (history t es) (history t (undropped es)) gap q (answerAt (history t es) gap c v b q)
     (le-trans (history-length t es q (sorted-of t s) a) l) l (history-sound t es s r) (history-sound t (undropped es) s (undropped-ranged es r))
     ∙ ap (guarded (ltb room (length (history t (undropped es)))) (soundTable (history t (undropped es))) gap q) (history-law t es gap c v b q (sorted-rises t ∙ sorted-of t s) a)
 

@@ -215,8 +215,7 @@ module _ (time : Float) (m n : ℕ) (l₀ : Blocks) (fm : m ≤ length (entriesI
         front-is : k ≡ front time (block (take n (readingsIn l₀)) e)
         front-is =
             let q = going-at (inv .counts) 0 i (omega arith) in
-            let w = lying .long in
-            front-next time (block (take n (readingsIn l₀)) e) k (omega (arith, f .within, w, q))
+            let w = lying .long in front-next time (block (take n (readingsIn l₀)) e) k (omega (arith, f .within, w, q))
             (λ j z. ap (λ (x : Float). lt x time) (time-at j (omega (arith, f .within))) ∙ f .earlier j z)
             (λ z. ap (λ (x : Float). lt x time) (time-at k (omega (arith, w, q))) ∙ f .next (omega (arith, w, q)))
 

@@ -5,12 +5,13 @@ use mathlib.Core.List.{List}
 use lib.Ieee.{Float}
 use Rattle.numeric.specs.declared.vec3.Vec3.{Vec3}
 use Rattle.frames.specs.Frames.{northEastDown, compassNumber, GivesFinite}
-use Rattle.frames.specs.Lent.{vectorOf, nedAfter, Answered}
+use Rattle.numeric.specs.Vec3.{vectorAt}
+use Rattle.frames.specs.Lent.{nedAfter, Answered}
 use Rattle.frames.specs.declared.frames.Compass.{Compass}
 use Rattle.frames.proofs.FramesLaws.{Promised}
 
 -- q is the answer that was taken apart, c the one that was given
-pub answered : (position displacement : List Float) (r v : Vec3) (c q : Compass) {number : ℕ} {ned₀ ned : List ℕ} → r ≡ vectorOf position → v ≡ vectorOf displacement → q ≡ c → Promised r v c
+pub answered : (position displacement : List Float) (r v : Vec3) (c q : Compass) {number : ℕ} {ned₀ ned : List ℕ} → r ≡ vectorAt position 0 → v ≡ vectorAt displacement 0 → q ≡ c → Promised r v c
     → number ≡ compassNumber q → ned ≡ nedAfter q ned₀ → Answered position displacement number ned₀ ned
 answered position displacement r v c q {number} {ned₀} {ned} er ev e h n l =
     let s = e ∙ h .0 ∙ ap₂ northEastDown er ev in

@@ -68,8 +68,7 @@ sum-zero (fin s zero e) (fin t zero d) z o =
 sums-zero : (a b c x y z : Float) → T (isZero x) → T (isZero y) → T (isZero z) → T (finite (a ⊗ x ⊕ b ⊗ y ⊕ c ⊗ z)) → T (isZero (a ⊗ x ⊕ b ⊗ y ⊕ c ⊗ z))
 sums-zero a b c x y z o p q f =
     let g = add-finite (a ⊗ x ⊕ b ⊗ y) (c ⊗ z) f in
-    let h = add-finite (a ⊗ x) (b ⊗ y) (g .0) in
-    sum-zero (a ⊗ x ⊕ b ⊗ y) (c ⊗ z) (sum-zero (a ⊗ x) (b ⊗ y) (product-zero a x (h .0) o) (product-zero b y (h .1) p)) (product-zero c z (g .1) q)
+    let h = add-finite (a ⊗ x) (b ⊗ y) (g .0) in sum-zero (a ⊗ x ⊕ b ⊗ y) (c ⊗ z) (sum-zero (a ⊗ x) (b ⊗ y) (product-zero a x (h .0) o) (product-zero b y (h .1) p)) (product-zero c z (g .1) q)
 
 -- ---- the answer
 pub record NoWay (w : Ned) : Type 0 where

@@ -1,22 +1,11 @@
 // North, east, down of floats that a caller lends. The result is taken as patterns, so that a refusal is promised to leave every bit.
 ghost use mathlib.Core.Path.{_≡_};
-ghost use Rattle.frames.specs.Lent.{vectorOf, Answered};
+ghost use Rattle.frames.specs.Lent.{Answered};
 use crate::frames::Compass;
 use crate::frames::north_east_down;
 use numeric::order::pattern;
 use numeric::refusal::Refusal;
-use numeric::vec3::Vec3;
-
-// The vector of three floats.
-fn vector(v: &[f64; 3]) -> Vec3
-    ensures { λ r. ⌜ r ≡ vectorOf (now (v .entry)) ⌝ }
-{
-    Vec3 {
-        x: v[0],
-        y: v[1],
-        z: v[2],
-    }
-}
+use numeric::vec3::vector;
 
 // The displacement at the position along north, east and down in ned and 0, or 19, which leaves ned as it was.
 pub fn ned_into(position: &[f64; 3], displacement: &[f64; 3], ned: &mut [u64; 3]) -> u8

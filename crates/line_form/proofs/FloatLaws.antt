@@ -67,8 +67,7 @@ unfolding digitsText hex
 digits-value zero p l = omega arith
 digits-value (suc k) p l =
     let m : p / 16 < 16 ^ k = omega arith in
-    let r : p % 16 < 16 = omega arith in
-    hex-append 0 (digitsText 16 k (p / 16)) (glyph (p % 16)) ∙ (let e = digits-value k (p / 16) m in let v = glyph-value (p % 16) r in omega (arith, e, v))
+    let r : p % 16 < 16 = omega arith in hex-append 0 (digitsText 16 k (p / 16)) (glyph (p % 16)) ∙ (let e = digits-value k (p / 16) m in let v = glyph-value (p % 16) r in omega (arith, e, v))
 
 digits-digits : (k p : ℕ) → every isHexDigit (digitsText 16 k p) ≡ true
 unfolding digitsText every

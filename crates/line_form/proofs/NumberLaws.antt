@@ -30,8 +30,7 @@ digits-value : (k n : ℕ) → n < 10 ^ k → decimalValue 0 (digitsText 10 k n)
 unfolding digitsText decimalValue
 digits-value zero n l = omega arith
 digits-value (suc k) n l =
-    let m : n / 10 < 10 ^ k = omega arith in
-    decimal-append 0 (digitsText 10 k (n / 10)) (glyph (n % 10))
+    let m : n / 10 < 10 ^ k = omega arith in decimal-append 0 (digitsText 10 k (n / 10)) (glyph (n % 10))
     ∙ (let e = digits-value k (n / 10) m in let g = glyph-below-ten (n % 10) (omega arith) in omega (arith, e, g))
 
 digits-digits : (k n : ℕ) → every isDigit (digitsText 10 k n) ≡ true
@@ -80,8 +79,7 @@ digits-lead (suc f) n h l = go (ltb n 10) refl (λ m. digits-lead f (n / 10) m (
     go : (t : Bool) → ltb n 10 ≡ t → (0 < n / 10 → leads (digitsText 10 (digitCount f (n / 10)) (n / 10)) ≡ true) → leads (digitsText 10 (cond t 1 (suc (digitCount f (n / 10)))) n) ≡ true
     go true e q = one n h (ltb-true n 10 e)
     go false e q =
-        let m = ltb-false n 10 e in
-        leads-append (digitsText 10 (digitCount f (n / 10)) (n / 10)) (glyph (n % 10) ∷ []) (q (omega arith))
+        let m = ltb-false n 10 e in leads-append (digitsText 10 (digitCount f (n / 10)) (n / 10)) (glyph (n % 10) ∷ []) (q (omega arith))
 
 digits-plain : (n : ℕ) → n < 10 ^ 21 → plain (decimalText n) ≡ true
 unfolding digitCount digitsText plain

@@ -112,8 +112,7 @@ module _ (c : ℕ) (s : List ℕ) (at r : ℕ) (h : at ≤ length s) (is : r ≡
   part-last e = split-last c (drop at s) (omega (arith, length-drop at s))
 
   pub part-next : r < length s → split c (drop at s) ≡ take (r - at) (drop at s) ∷ split c (drop (r + 1) s)
-  part-next l =
-      split-part c (drop at s) (omega (arith, length-drop at s))
+  part-next l = split-part c (drop at s) (omega (arith, length-drop at s))
       ∙ ap (λ (k : ℕ). take k (drop at s) ∷ split c (drop (suc (countBefore c (drop at s))) (drop at s))) len
       ∙ ap (λ (t : List ℕ). take (r - at) (drop at s) ∷ split c t) (drop-drop (suc (countBefore c (drop at s))) at s)
       ∙ ap (λ (k : ℕ). take (r - at) (drop at s) ∷ split c (drop k s)) next

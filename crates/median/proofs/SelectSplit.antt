@@ -79,8 +79,7 @@ module _ (p x : ℕ) (a h : List ℕ) (n : ℕ) (u : Each (λ (y : ℕ). y < p) 
 
   rest-from : (q : ℕ) → q ≤ p → Each (λ (y : ℕ). q ≤ y) rest
   unfolding rest
-  rest-from q l =
-      each-append (λ (y : ℕ). q ≤ y) (replicate n p) (sortedBy leb h) (each-replicate (λ (y : ℕ). q ≤ y) n p l)
+  rest-from q l = each-append (λ (y : ℕ). q ≤ y) (replicate n p) (sortedBy leb h) (each-replicate (λ (y : ℕ). q ≤ y) n p l)
       (sorted-each leb (λ (y : ℕ). q ≤ y) h (each-weaker (λ (y : ℕ). p < y) (λ (y : ℕ). q ≤ y) (λ y g. omega arith) h f))
 
   front-below : (q : ℕ) → p ≤ q → Each (λ (y : ℕ). y < q) (sortedBy leb a)

@@ -104,8 +104,7 @@ product-grows (fin true m e) y n d h f = absurd h
 product-grows (fin false m e) nan n d h f = absurd h
 product-grows (fin false m e) (inf t) n d h f = absurd h
 product-grows (fin false m e) (fin true k j) n d h f = absurd h
-product-grows (fin false m e) (fin false k j) n d h f =
-    round-grows (m * up e * (n * up d)) (down e * down d) (k * up j * (n * up d)) (down j * down d) (mul-pos (down-pos e) (down-pos d)) (mul-pos (down-pos j) (down-pos d))
+product-grows (fin false m e) (fin false k j) n d h f = round-grows (m * up e * (n * up d)) (down e * down d) (k * up j * (n * up d)) (down j * down d) (mul-pos (down-pos e) (down-pos d)) (mul-pos (down-pos j) (down-pos d))
     (times (m * up e) (down e) (k * up j) (down j) (n * up d) (down d) h) f
 
 pub sum-grows : (x y : Float) (n : ℕ) (d : ℤ) → x ≼ y → T (finite (y ⊕ fin false n d)) → x ⊕ fin false n d ≼ y ⊕ fin false n d

@@ -1,5 +1,7 @@
 // Vectors of three floats.
 ghost use mathlib.Core.Path.{_≡_};
+ghost use Prim.Native.Nat.{_+_, _<_};
+ghost use lib.ListN.{length};
 ghost use Rattle.numeric.specs.Vec3 as spec;
 use root::sqrt::sqrt;
 use root::sqrt::sqrt_beside;
@@ -45,5 +47,28 @@ impl Vec3 {
         ensures { λ s. ⌜ s ≡ spec.norm self ⌝ }
     {
         sqrt_beside(self.x * self.x + self.y * self.y + self.z * self.z, r)
+    }
+}
+
+// The vector of the three floats from k on.
+pub fn vector_at(v: &[f64], k: usize) -> Vec3
+    requires { ⌜ k + 2 < length (now v) ⌝ }
+    ensures { λ r. ⌜ r ≡ spec.vectorAt (now (v .entry)) k ⌝ }
+{
+    Vec3 {
+        x: v[k],
+        y: v[k + 1],
+        z: v[k + 2],
+    }
+}
+
+// Three floats as a vector.
+pub fn vector(v: &[f64; 3]) -> Vec3
+    ensures { λ r. ⌜ r ≡ spec.vectorAt (now (v .entry)) 0 ⌝ }
+{
+    Vec3 {
+        x: v[0],
+        y: v[1],
+        z: v[2],
     }
 }

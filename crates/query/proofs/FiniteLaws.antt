@@ -124,8 +124,7 @@ above-small b (fin true m e) p h = absurd p
 above-small b (fin false m e) p h = p
 
 rounded-positive : (k a : ℕ) → 0 < a → Small k (round binary64 false a (2 ^ 1074)) → T (positive (round binary64 false a (2 ^ 1074)))
-rounded-positive k a h =
-    above-small k (round binary64 false a (2 ^ 1074))
+rounded-positive k a h = above-small k (round binary64 false a (2 ^ 1074))
     (above-of-le (round binary64 false 1 (2 ^ 1074)) (round binary64 false a (2 ^ 1074)) one-unit
     (round-mono binary64 1 (2 ^ 1074) a (2 ^ 1074) (pow-pos 1074) (pow-pos 1074) (mul-le-mul-right {m = 1} {n = a} (2 ^ 1074) h)))
 
@@ -234,8 +233,7 @@ spanned-finite g gap t (the a) (the b) f i j = go (lt gap (b .time ⊖ a .time))
 
 ruled-finite : (g : ℕ) (gap t : Float) (a b : Found) → T (fits binary64 t) → All (Passing (earlier g t)) a → All (Passing (later g t)) b → GivesFinite (ruled gap t a b)
 unfolding ruled
-ruled-finite g gap t a b f i j =
-    near-finite (later g t) t b (nearOr t a (spanned gap t a b)) j (near-finite (earlier g t) t a (spanned gap t a b) i (spanned-finite g gap t a b f i j))
+ruled-finite g gap t a b f i j = near-finite (later g t) t b (nearOr t a (spanned gap t a b)) j (near-finite (earlier g t) t a (spanned gap t a b) i (spanned-finite g gap t a b f i j))
 
 pub answer-finite : (l : List Sample) (gap : Float) (c v b : ℕ) (t : Float) → soundTable l ≡ true → TimesHeld l → T (fits binary64 t) → GivesFinite (answerAt l gap c v b t)
 unfolding answerAt answerIn TimesHeld

@@ -6,8 +6,6 @@ pub mod PlaceLaws
 pub mod BlockLaws
 pub mod PastLaws
 pub mod FiniteLaws
-pub mod QueriesLaws
-pub mod CallLaws
 pub mod FormLaws
 pub mod Values
 pub mod WidenedLaws

@@ -1,18 +1,17 @@
--- Worked values of the query, among them (m10) and (m11) of docs/SCOPE.md, and of many queries. Assumes nothing.
+-- Worked values of the query, among them (m10) and (m11) of docs/SCOPE.md. Assumes nothing.
 use mathlib.Core.Path.{_≡_, refl}
 use mathlib.Core.Bool.{false}
 use mathlib.Core.List.{List, [], _∷_}
 use lib.Ieee.{Float, nan, inf, lt, le, eq, add, sub, mul, div, ofBits, ofInt, toBits, isNan}
 use Rattle.exact.specs.Float.{whole, bits, +0}
-use Rattle.walk.specs.Walk.{every, collect, places}
+use Rattle.walk.specs.Walk.{every, collect}
 use Rattle.exact.specs.Pattern.{sign}
 use Rattle.numeric.specs.Order.{totalOrder, patternOf}
 use Rattle.numeric.specs.Real.{abs, inRange}
 use Rattle.numeric.specs.declared.refusal.Refusal.the-variants.{NoCorrection, RecordOutOfRange, TooMany}
 use Rattle.table.specs.Table.{timeBefore, standsBefore, sortedFrom, sorted, ranged, soundTable}
 use Rattle.directory.specs.Directory.{Directory, ascends, tiles, timely, timelyFrom, blockTimes, inReach, soundDirectory, block, flat}
-use Rattle.query.specs.Query.{near, firstOf, lastOf, through, nearOr, spanned, ruled, answerIn, answerAt, guarded, queryIn, queryOf, metresAfter}
-use Rattle.query.specs.Queries.{Reply, refusal, placesShort, queriesIn, written, placesAfter, numberAfter}
+use Rattle.query.specs.Query.{near, firstOf, lastOf, through, nearOr, spanned, ruled, answerIn, answerAt, guarded, queryIn, queryOf}
 use Rattle.query.specs.Past.{bridged, between, answerBefore, queryBefore}
 use Rattle.table.specs.declared.sample.Sample.{Sample}
 use Rattle.query.specs.declared.query.Correction.{Correction}
@@ -105,20 +104,3 @@ crowded = refl
 pub gap-at-end : queryIn 1 2 2048 (record { entries = record { constellation = 1; svid = 5; band = 1; start = 0; count = 1 } ∷ []; readings = one-block .readings }) (whole 90) 1 5 1 (whole 15) ≡ Refused RecordOutOfRange
 unfolding queryIn guarded soundDirectory inReach ascends tiles timely timelyFrom blockTimes flat block answerAt answerIn collect ruled nearOr spanned through near firstOf lastOf inRange abs timeBefore totalOrder sign patternOf every lt le eq add sub mul div ofBits ofInt toBits isNan
 gap-at-end = refl
-
--- three queries in one call, at 15 s, past the end and above 1e9: each place has its number, and metres only where there are some
-abbrev three : Reply
-three = queriesIn 1 2 2048 one-block (whole 90) (1 ∷ 1 ∷ 1 ∷ []) (5 ∷ 5 ∷ 5 ∷ []) (1 ∷ 1 ∷ 1 ∷ []) (whole 15 ∷ whole 21 ∷ whole 2000000000 ∷ []) 3 (7 ∷ 7 ∷ 7 ∷ 7 ∷ []) (whole 8 ∷ whole 8 ∷ whole 8 ∷ [])
-
-pub three-numbers : placesAfter numberAfter three (7 ∷ 7 ∷ 7 ∷ 7 ∷ []) ≡ 0 ∷ 12 ∷ 4 ∷ 7 ∷ []
-unfolding queriesIn placesShort places written queryIn guarded soundDirectory inReach ascends tiles timely timelyFrom blockTimes flat block answerAt answerIn collect ruled nearOr spanned through near firstOf lastOf inRange abs timeBefore totalOrder sign patternOf every lt le eq add sub mul div ofBits ofInt toBits isNan
-three-numbers = refl
-
-pub three-metres : placesAfter metresAfter three (whole 8 ∷ whole 8 ∷ whole 8 ∷ []) ≡ whole 2 ∷ whole 8 ∷ whole 8 ∷ []
-unfolding queriesIn placesShort places written queryIn guarded soundDirectory inReach ascends tiles timely timelyFrom blockTimes flat block answerAt answerIn collect ruled nearOr spanned through near firstOf lastOf inRange abs timeBefore totalOrder sign patternOf every lt le eq add sub mul div ofBits ofInt toBits isNan
-three-metres = refl
-
--- a lent column that is too short is 2
-pub short-column : queriesIn 1 2 2048 one-block (whole 90) (1 ∷ []) (5 ∷ []) (1 ∷ []) (whole 15 ∷ []) 1 [] (whole 8 ∷ []) ≡ refusal TooMany
-unfolding queriesIn placesShort
-short-column = refl

@@ -1,4 +1,3 @@
 pub mod Query
 pub mod Past
-pub mod Queries
 pub mod Search

@@ -140,7 +140,7 @@ fn look_up(
 }
 
 // The answer of one query, where the directory and the gap have passed their tests.
-pub(crate) fn answer_of(
+pub fn answer_of(
     dc: &[u8],
     dv: &[u16],
     db: &[u32],

@@ -8,13 +8,9 @@ use lib.ListN.{getD, length, take}
 use lib.IntN.{ℤ, pos}
 use lib.Ieee.{Float, nan}
 use Rattle.walk.specs.Walk.{places}
-use Rattle.numeric.specs.declared.vec3.Vec3.{Vec3}
+use Rattle.numeric.specs.Vec3.{vectorAt}
 use Rattle.records.specs.declared.record.Carrier.{Carrier}
 use Rattle.records.specs.declared.record.Epoch.{Epoch}
-
--- the vector whose coordinates are the floats at k, k + 1 and k + 2
-abbrev pub vectorAt : List Float → ℕ → Vec3
-vectorAt v k = record { x = getD v k nan; y = getD v (k + 1) nan; z = getD v (k + 2) nan }
 
 -- six floats for each carrier (adr, x, y, z, elevation, rate), and one number in each other column
 pub record CarrierColumns : Type 0 where

@@ -9,30 +9,7 @@ ghost use Rattle.records.specs.Carriers as spec;
 use crate::record::Carrier;
 use crate::record::Epoch;
 use crate::record::is_sound;
-use numeric::vec3::Vec3;
-
-// The vector of the three floats from k on.
-pub fn vector_at(v: &[f64], k: usize) -> Vec3
-    requires { ⌜ k + 2 < length (now v) ⌝ }
-    ensures { λ r. ⌜ r ≡ spec.vectorAt (now (v .entry)) k ⌝ }
-{
-    Vec3 {
-        x: v[k],
-        y: v[k + 1],
-        z: v[k + 2],
-    }
-}
-
-// Three floats as a vector.
-pub fn vector(v: &[f64; 3]) -> Vec3
-    ensures { λ r. ⌜ r ≡ spec.vectorAt (now (v .entry)) 0 ⌝ }
-{
-    Vec3 {
-        x: v[0],
-        y: v[1],
-        z: v[2],
-    }
-}
+use numeric::vec3::vector_at;
 
 // Carrier i of the columns.
 pub(crate) fn carrier_at(

@@ -13,9 +13,11 @@ use Rattle.exact.proofs.Ops.{add-finite, mul-finite}
 use Rattle.walk.specs.Walk.{every}
 use Rattle.cholesky.specs.Factor.{at, Factored, Refused, Lower, factorOf}
 use Rattle.median.specs.Centre.{centreAndScaleOf}
-use Rattle.robust.specs.Round.{weight, wide, total, sideOf, matrixOf, rightOf, Round, Solved, made, solved, roundBy, roundOf, FiniteResiduals}
-use Rattle.robust.specs.declared.row.Row.{Row}
-use Rattle.robust.proofs.NineLaws.{nine-at}
+use Rattle.normal.specs.Weight.{weight}
+use Rattle.normal.specs.Equations.{wide, total, sideOf, matrixOf, rightOf}
+use Rattle.robust.specs.Round.{Round, Solved, made, solved, roundBy, roundOf, FiniteResiduals}
+use Rattle.normal.specs.declared.row.Row.{Row}
+use Rattle.normal.proofs.NineLaws.{nine-at}
 use Rattle.robust.proofs.RoundSound.{round-sound, round-rows}
 
 -- where a sum is finite so is each of its terms, and what each term tells

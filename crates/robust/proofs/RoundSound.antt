@@ -15,9 +15,11 @@ use Rattle.cholesky.specs.Factor.{at, Factored, Refused, Lower, factorOf}
 use Rattle.cholesky.specs.Sound.{Held}
 use Rattle.cholesky.proofs.SoundSystem.{sound}
 use Rattle.median.specs.Centre.{centreAndScaleOf}
-use Rattle.robust.specs.Round.{weight, total, cellOf, sideOf, triangleOf, matrixOf, rightOf, Round, Solved, made, solved, roundBy, roundOf, SoundRound}
-use Rattle.robust.specs.declared.row.Row.{Row}
-use Rattle.robust.proofs.NineLaws.{nine-at, nine-length, cell-at}
+use Rattle.normal.specs.Weight.{weight}
+use Rattle.normal.specs.Equations.{total, cellOf, sideOf, triangleOf, matrixOf, rightOf}
+use Rattle.robust.specs.Round.{Round, Solved, made, solved, roundBy, roundOf, SoundRound}
+use Rattle.normal.specs.declared.row.Row.{Row}
+use Rattle.normal.proofs.NineLaws.{nine-at, nine-length, cell-at}
 
 -- ---- what a round forms are sums, or 0 or 1: each is a binary64
 zero-fits : T (fits binary64 +0)

@@ -1,11 +1,11 @@
--- Worked values of the definitions of Round, Step and Sigma, by computation. Assumes nothing.
+-- Worked values of the definitions of Round and Step, by computation. Assumes nothing.
 use mathlib.Core.Path.{_≡_, refl}
 use Prim.Native.Nat.{ℕ}
 use mathlib.Core.List.{[], _∷_}
 use lib.ListN.{replicate}
-use lib.Ieee.{nan, add, sub, mul, div, lt, le, eq, isNan, ofInt, ofBits, toBits}
+use lib.Ieee.{add, sub, mul, div, lt, le, eq, isNan, ofInt, ofBits, toBits}
 use Rattle.exact.specs.Products.{lessProducts}
-use Rattle.exact.specs.Float.{_⊘_, +0, 1·0, bits, whole, decimal}
+use Rattle.exact.specs.Float.{+0, 1·0, bits, whole}
 use Rattle.root.specs.Root.{rootOf}
 use Rattle.numeric.specs.Real.{abs, max}
 use Rattle.exact.specs.Pattern.{sign}
@@ -15,44 +15,19 @@ use Rattle.numeric.specs.declared.refusal.Refusal.the-variants.{TooMany, Record
 use Rattle.median.specs.Sorted.{insertBy, sortedBy, medianOf}
 use Rattle.median.specs.Centre.{centreOf, deviationOf, scaleOf, centreAndScaleOf}
 use Rattle.walk.specs.Walk.{every}
-use Rattle.robust.specs.Nine.{from, nine}
-use Rattle.robust.specs.Round.{damping, weight, wide, total, cellOf, sideOf, triangleOf, matrixOf, rightOf, roundBy, roundOf}
+use Rattle.normal.specs.Nine.{from, nine}
+use Rattle.normal.specs.Weight.{damping, weight}
+use Rattle.normal.specs.Equations.{wide, total, cellOf, sideOf, triangleOf, matrixOf, rightOf}
+use Rattle.robust.specs.Round.{roundBy, roundOf}
 use Rattle.robust.specs.Step.{indexed, firstOf, refused, stepOf}
-use Rattle.robust.specs.declared.row.Row.{Row}
-use Rattle.robust.specs.declared.row.Rows.{Rows}
+use Rattle.normal.specs.declared.row.Row.{Row}
+use Rattle.normal.specs.declared.row.Rows.{Rows}
 use Rattle.robust.specs.declared.round.Stepping.the-variants.{Done}
 
--- ---- the damping
-
--- at the threshold it is still 1
-pub damping-at : damping (whole 2) (whole 2) ≡ 1·0
-unfolding damping le ofInt ofBits
-damping-at = refl
-
-pub damping-beyond : damping (whole 2) (whole 4) ≡ bits 0x3FE0_0000_0000_0000
-unfolding damping le max isNan lt div ofInt ofBits
-damping-beyond = refl
-
--- a NaN weighs huber / 1e-9
-pub damping-nan : damping (whole 2) nan ≡ whole 2 ⊘ decimal 1 9
-unfolding damping le max isNan
-damping-nan = refl
-
--- ---- a row nine wide
+-- ---- the round called by itself
 
 abbrev row : ℕ → Row
 row clock = record { unit = record { x = whole 2; y = whole 3; z = whole 4 }; clock = clock; residual = 0; sigma = 1·0 }
-
-pub wide-slot : wide (row 4) ≡ whole 2 ∷ whole 3 ∷ whole 4 ∷ +0 ∷ 1·0 ∷ +0 ∷ +0 ∷ +0 ∷ +0 ∷ []
-unfolding wide
-wide-slot = refl
-
--- the indices 0 to 2 overwrite a component
-pub wide-low : wide (row 1) ≡ whole 2 ∷ 1·0 ∷ whole 4 ∷ +0 ∷ +0 ∷ +0 ∷ +0 ∷ +0 ∷ +0 ∷ []
-unfolding wide
-wide-low = refl
-
--- ---- the round called by itself
 
 abbrev rows : ℕ → Rows
 rows count = record { count = count; row = row 9 ∷ replicate 63 (row 3) }

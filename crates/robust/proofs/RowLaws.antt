@@ -1,4 +1,4 @@
--- The constants of a weight and of a sigma, and a step cut off at the unknowns. Assumes nothing.
+-- The constants of a sigma, and a step cut off at the unknowns. Assumes nothing.
 use mathlib.Core.Path.{_≡_, refl, _∙_}
 use Prim.Native.Nat.{ℕ, _+_, _≤_, _<_}
 use native.Mathlib.Decide.{ℕ-discrete, decLt}
@@ -13,12 +13,7 @@ use lib.Ieee.{Float, nan, div, ofInt, ofBits}
 use Rattle.exact.specs.Float.{+0, bits, whole, decimal}
 use Rattle.cholesky.specs.Factor.{at}
 use Rattle.robust.specs.Step.{firstOf}
-use Rattle.robust.proofs.NineLaws.{nine-is}
-
--- 1e-9, as a compiler reads it
-pub least : bits 0x3E11_2E0B_E826_D695 ≡ decimal 1 9
-unfolding div ofInt ofBits
-least = refl
+use Rattle.normal.proofs.NineLaws.{nine-is}
 
 pub three : bits 0x4008_0000_0000_0000 ≡ whole 3
 unfolding ofInt ofBits

@@ -13,14 +13,15 @@ use Rattle.numeric.specs.declared.refusal.Refusal.the-variants.{TooMany, Record
 use Rattle.median.specs.Centre.{centreAndScaleOf, centreScaleOf}
 use Rattle.median.specs.declared.centre.Centre.the-variants.{Refused as NoCentre, Of}
 use Rattle.median.specs.declared.centre.CentreScale.{CentreScale}
-use Rattle.robust.specs.Round.{weight, Outcome, Refused, Solved, roundBy, roundOf}
-use Rattle.robust.specs.Normal.{Solving}
+use Rattle.normal.specs.Weight.{weight}
+use Rattle.robust.specs.Round.{Outcome, Refused, Solved, roundBy, roundOf}
+use Rattle.robust.specs.Solving.{Solving}
 use Rattle.robust.specs.Step.{counted, indexed, firstOf, refused, outcome, stepOf}
-use Rattle.robust.specs.Columns.{Columns, rowsIn}
-use Rattle.robust.specs.declared.row.Rows.{Rows}
+use Rattle.normal.specs.Columns.{Columns, rowsIn}
+use Rattle.normal.specs.declared.row.Rows.{Rows}
 use Rattle.robust.specs.declared.round.Stepping.{Stepping}
 use Rattle.robust.specs.declared.round.Stepping.the-variants as Stepping
-use Rattle.robust.proofs.ColumnLaws.{residuals-of}
+use Rattle.normal.proofs.ColumnLaws.{residuals-of}
 
 -- at most 64 residuals have a centre
 centre-of : (p : List ℕ) → length p ≤ 64 → centreScaleOf p ≡ Of (centreAndScaleOf p)

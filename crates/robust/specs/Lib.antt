@@ -1,6 +1,4 @@
-pub mod Nine
 pub mod Round
-pub mod Columns
 pub mod Step
-pub mod Normal
+pub mod Solving
 pub mod Sigma

@@ -10,10 +10,10 @@ use Rattle.exact.specs.Float.{+0}
 use Rattle.cholesky.specs.Factor.{at}
 use Rattle.numeric.specs.declared.refusal.Refusal.{Refusal}
 use Rattle.numeric.specs.declared.refusal.Refusal.the-variants.{TooMany, RecordOutOfRange}
-use Rattle.robust.specs.Nine.{nine}
+use Rattle.normal.specs.Nine.{nine}
 use Rattle.robust.specs.Round.{Outcome, Refused, Solved, roundOf}
-use Rattle.robust.specs.declared.row.Row.{Row}
-use Rattle.robust.specs.declared.row.Rows.{Rows}
+use Rattle.normal.specs.declared.row.Row.{Row}
+use Rattle.normal.specs.declared.row.Rows.{Rows}
 use Rattle.robust.specs.declared.round.Stepping.{Stepping}
 use Rattle.robust.specs.declared.round.Stepping.the-variants as Stepping
 

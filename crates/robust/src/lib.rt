@@ -1,5 +1,3 @@
 // The robust weighted least-squares round that the fix and the displacement share (robust.rs).
 pub mod round;
-pub mod row;
 pub mod sigma;
-pub mod weight;

@@ -231,8 +231,7 @@ under-nearest m y l h =
 
 -- whatever q is the nearest to the root of `under m y`, the root of x is made of it
 pub rootOf-is : (x : Float) (m y q : ℕ) → IsParts x m y → NearestWhole (under m y) q → rootOf x ≡ root q y
-rootOf-is x m y q p h =
-    rootOf-units x (p .a) (p .is) (parts-pos x m y p)
+rootOf-is x m y q p h = rootOf-units x (p .a) (p .is) (parts-pos x m y p)
     ∙ rootUnits-parts (p .a) m y (p .same) (p .from) (p .below)
     ∙ rootParts-is m y
     ∙ ap (λ (z : ℕ). root z y) (nearest-unique (under m y) (nearestRoot (under m y) (isqrt 53 (under m y))) q (under-nearest m y (p .from) (p .below)) h)

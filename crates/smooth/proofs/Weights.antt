@@ -114,8 +114,7 @@ module _ (m : Measured) (h : Float) (r : List Float) (from j : ℕ) (w₀ w : Li
       → Weighed (anchorScale m h (fitIn r)) from j w₀ w → Weighed (anchorScale m h (fitIn r)) from (j + 1) w₀ (set w (from + j) v)
   unfolding anchorScale
   anchor-weighed e s =
-      let i = indexAt m j * 3 in
-      weighed-more (anchorScale m h (fitIn r)) from j w₀ w v room
+      let i = indexAt m j * 3 in weighed-more (anchorScale m h (fitIn r)) from j w₀ w v room
       (e ∙ same-scale h _ _ _ _ _ _ _ _ _ _ _ _ (off r (m .value) i (i + 0) (j * 3) (j * 3 + 0) (omega arith) (omega arith)) refl refl (place (m .sigma) (j * 3) (j * 3 + 0) (omega arith)) refl refl) s
 
   pub link-weighed : (let i = indexAt m j * 3 in

@@ -244,7 +244,6 @@ built-series g l = go (has g (signals l)) refl
 -- from an empty table, samples added one by one leave what `builtOf` gives
 pub build-law : (l : List Sample) → insertAll [] l ≡ builtOf l
 unfolding builtOf
-build-law l =
-    unique 0 0 (insertAll [] l) (builtOf l) (rises-climbs 0 0 (insertAll [] l) (insertAll-rises [] l (unfold rises in refl)))
+build-law l = unique 0 0 (insertAll [] l) (builtOf l) (rises-climbs 0 0 (insertAll [] l) (insertAll-rises [] l (unfold rises in refl)))
     (built-climbs (λ g. sortTimes (seriesOf g l)) (λ g. only-sorted g (seriesOf g l) (only-series g l)) 0 (signals l) (signals-ascend l))
     (λ g. series-law g l ∙ sym (built-series g l))

@@ -110,8 +110,7 @@ add-small a b nan y k h g = absurd h
 add-small a b (inf s) y k h g = absurd h
 add-small a b (fin s m e) nan k h g = absurd g
 add-small a b (fin s m e) (inf t) k h g = absurd g
-add-small a b (fin s m e) (fin t n d) k h g =
-    sum-small s (m * up e * down d) t (n * up d * down e) (down e * down d) (a + b) (mul-pos (down-pos e) (down-pos d)) k
+add-small a b (fin s m e) (fin t n d) k h g = sum-small s (m * up e * down d) t (n * up d * down e) (down e * down d) (a + b) (mul-pos (down-pos e) (down-pos d)) k
     (both (m * up e * down d) (n * up d * down e) (a * (down e * down d)) (b * (down e * down d)) ((a + b) * (down e * down d))
     (le-trans (mul-le-mul-right (down d) h) (le-of-eq (mul-assoc a (down e) (down d))))
     (le-trans (mul-le-mul-right (down e) g) (le-of-eq (mul-assoc b (down d) (down e) ∙ ap (λ (z : ℕ). b * z) (mul-comm (down d) (down e)))))

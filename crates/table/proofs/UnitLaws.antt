@@ -104,8 +104,7 @@ lt-is s m e t n d f g = go s t
     go : (s t : Bool) → below s (m * up e * down d) t (n * up d * down e) ≡ below s (units m e) t (units n d)
     go false false = cross (m * up e) (n * up d) (down e) (down d) (units m e) (units n d) (2 ^ 1074) (down-pos e) (down-pos d) (pow-pos 1074) a b
     go false true = refl
-    go true false =
-        either-pos (m * up e * down d) (n * up d * down e) (units m e) (units n d) (sign-pos (m * up e) (down d) (units m e) (down e) (2 ^ 1074) (down-pos e) (down-pos d) (pow-pos 1074) a)
+    go true false = either-pos (m * up e * down d) (n * up d * down e) (units m e) (units n d) (sign-pos (m * up e) (down d) (units m e) (down e) (2 ^ 1074) (down-pos e) (down-pos d) (pow-pos 1074) a)
         (sign-pos (n * up d) (down e) (units n d) (down d) (2 ^ 1074) (down-pos d) (down-pos e) (pow-pos 1074) b)
     go true true = cross (n * up d) (m * up e) (down d) (down e) (units n d) (units m e) (2 ^ 1074) (down-pos d) (down-pos e) (pow-pos 1074) b a
 

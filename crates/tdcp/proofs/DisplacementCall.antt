@@ -6,24 +6,28 @@ use mathlib.Core.Bool.{Bool, true, false, not, _&&_, _||_}
 use mathlib.Core.List.{List, [], _∷_, _++_}
 use lib.Dec.{ltb}
 use lib.ListN.{length, take}
+use lib.Seq.{length-take-le}
 use lib.Ieee.{Float}
+use Rattle.walk.proofs.Walk.{places-length}
 use Rattle.numeric.specs.declared.refusal.Refusal.{Refusal}
 use Rattle.numeric.specs.declared.refusal.Refusal.the-variants.{TooMany, BadInterval, NotCertified}
 use Rattle.records.specs.Pair.{Paired}
 use Rattle.clocks.specs.Clocks.{has, clocksOf}
 use Rattle.records.specs.Screen.{keptOf, constellations}
-use Rattle.records.specs.Kept.{pairsIn, Kept}
+use Rattle.records.specs.Kept.{pairIn, pairsIn, Kept}
 use Rattle.estimator.specs.Rules.{Rule, rule, ruled}
 use Rattle.tdcp.specs.Valid.{badInterval, epochRules, intervalRules, fewRules}
 use Rattle.tdcp.specs.Front.{sightRules, countRules, cityRules, pairRules}
 use Rattle.estimator.specs.Rounds.{End, Stopped, Reached, Fit, concluded, Ended}
 use Rattle.tdcp.specs.Displacement.{Input, fitOver, fitBy, deltaAt, endRules, concludedAt, movedBy, movedIn, pairsFor, movedFor, displacementOf}
+use Rattle.tdcp.specs.Rows.{movedOver}
 use Rattle.clocks.specs.declared.clocks.Clocks.{Clocks}
 use Rattle.records.specs.declared.pair.Pair.{Pair}
 use Rattle.records.specs.declared.pair.Pairs.{Pairs}
 use Rattle.tdcp.specs.declared.displacement.Settings.{Settings}
 use Rattle.tdcp.specs.declared.displacement.Displacement.{Displacement}
 use Rattle.tdcp.specs.declared.displacement.Displacement.the-variants.{Refused, Moved}
+use Rattle.estimator.specs.declared.rules.Check.{Check}
 use Rattle.estimator.specs.declared.rules.Check.the-variants.{Refused as Stops, Passed}
 use Rattle.estimator.proofs.RulesLaws.{checked, ruled-append, append-first, refused-by, passed-by}
 use Rattle.tdcp.proofs.DisplacementLaws.{fit-same}
@@ -37,6 +41,17 @@ ended-refused f rules answer (Reached z) h = absurd (let q = h .answer-is in let
 ended-reached : {A : Type 0} (f : Refusal → A) (rules : List Float → List Rule) (answer : List Float → A) (e : End) {x y : List Float} → Ended e Passed x y → ruled f (rules y) (answer y) ≡ concluded f rules answer e
 ended-reached f rules answer (Stopped r) h = absurd (let q = h .answer-is in let z : _≡_ {A = ℕ} 0 1 = cc in omega arith)
 ended-reached f rules answer (Reached z) h = ap (λ (w : List Float). ruled f (rules w) (answer w)) (h .state-is)
+
+-- what the rounds over the pairs ps come to, by the code's check of them
+module _ (settings : Settings) (k : Clocks) (ps : List Pair) (screened : ℕ) {c : Check} {a b : List Float} (h : Ended (fitOver settings k ps .end) c a b) where
+  abbrev at-end : List Float → Displacement
+  at-end x = Moved (deltaAt (length ps) screened x)
+
+  pub over-refused : {r : Refusal} → c ≡ Stops r → Refused r ≡ movedOver settings k ps screened
+  over-refused e = ended-refused Refused endRules at-end (fitOver settings k ps .end) (subst (λ (d : Check). Ended (fitOver settings k ps .end) d a b) e h)
+
+  pub over-reached : c ≡ Passed → {used : ℕ} → used ≡ length ps → {r : Displacement} → r ≡ concludedAt used screened b → r ≡ movedOver settings k ps screened
+  over-reached e many {r} is = is ∙ ap (λ (u : ℕ). concludedAt u screened b) many ∙ ended-reached Refused endRules at-end (fitOver settings k ps .end) (subst (λ (d : Check). Ended (fitOver settings k ps .end) d a b) e h)
 
 pub refused-sights : (city : Bool) (settings : Settings) (ps : List Pair) {r : Refusal} → Stops r ≡ checked (sightRules ps) → Refused r ≡ movedBy city settings ps
 unfolding movedBy pairRules
@@ -89,14 +104,11 @@ module _ (city : Bool) (settings : Settings) (ps : List Pair) (n : ℕ) (all : n
     answered : concluded Refused endRules answer (fitBy settings ps .end) ≡ movedBy city settings ps
     answered = sym (passed-by Refused _ counts enough) ∙ counted
 
-    module _ {a b : List Float} where
-      pub stopped : {r : Refusal} → Ended (fitOver settings k (pairsIn x y z constellation elevation (take used observed)) .end) (Stops r) a b → Refused r ≡ movedBy city settings ps
-      stopped {r} e = ended-refused Refused endRules answer (fitBy settings ps .end) (subst (λ (f : Fit). Ended (f .end) (Stops r) a b) fit-is e) ∙ answered
-
-      pub reached : Ended (fitOver settings k (pairsIn x y z constellation elevation (take used observed)) .end) Passed a b → concludedAt used (n - used) b ≡ movedBy city settings ps
-      reached e =
-          ap₂ (λ (u s : ℕ). concludedAt u s b) (h .count) (ap₂ _-_ all (h .count))
-          ∙ ended-reached Refused endRules answer (fitBy settings ps .end) (subst (λ (f : Fit). Ended (f .end) Passed a b) fit-is e) ∙ answered
+    pub over : {r : Displacement} → r ≡ movedOver settings k (pairsIn x y z constellation elevation (take used observed)) (n - used) → r ≡ movedBy city settings ps
+    over e =
+        let many = places-length (pairIn x y z constellation elevation (take used observed)) (length (take used observed)) ∙ length-take-le used observed (omega (arith, h .room, h .observed-long)) ∙ h .count in
+        e ∙ ap₂ (λ (u s : ℕ). concluded Refused endRules (λ x. Moved (deltaAt u s x)) (fitOver settings k (pairsIn x y z constellation elevation (take used observed)) .end)) many (ap₂ _-_ all (h .count))
+        ∙ ap (λ (f : Fit). concluded Refused endRules answer (f .end)) fit-is ∙ answered
 
 -- ---- the call
 module _ (i : Input) where

@@ -9,12 +9,11 @@ use lib.Ieee.{Float, nan}
 use Rattle.walk.proofs.Walk.{places-map, places-take, places-ext}
 use Rattle.walk.specs.Walk.{places}
 use Rattle.robust.specs.Round.{roundOf}
-use Rattle.clocks.specs.Clocks.{slot}
-use Rattle.robust.specs.Columns.{Columns, columns, rowsIn}
-use Rattle.robust.specs.Columns as round
-use Rattle.robust.proofs.ColumnLaws.{filled-at}
-use Rattle.robust.specs.Normal.{Solving}
-use Rattle.robust.specs.declared.row.Row.{Row}
+use Rattle.normal.specs.Columns.{Columns, columns, rowsIn}
+use Rattle.normal.specs.Columns as round
+use Rattle.normal.proofs.ColumnLaws.{filled-at}
+use Rattle.robust.specs.Solving.{Solving}
+use Rattle.normal.specs.declared.row.Row.{Row}
 use Rattle.robust.specs.declared.round.Stepping.{Stepping}
 use Rattle.clocks.specs.declared.clocks.Clocks.{Clocks}
 use Rattle.records.specs.declared.pair.Pair.{Pair}
@@ -23,7 +22,7 @@ use Rattle.cholesky.specs.Factor.{zeros}
 use Rattle.estimator.specs.Rounds.{fitFrom}
 use Rattle.records.specs.Kept.{pairIn, pairsIn, Kept}
 use Rattle.tdcp.specs.Displacement.{sigmaOf, rowWith, rowAt, roundAt, limit, fitOver}
-use Rattle.records.proofs.KeepLaws.{Filled}
+use Rattle.tdcp.specs.Rows.{ClocksAt, SigmasAt, ResidualsAt}
 use Rattle.estimator.proofs.RoundsLaws.{Left, left-start}
 
 -- what the logic has for a pair past the end
@@ -42,37 +41,27 @@ module _ (settings : Settings) (k : Clocks) (ps : List Pair) where
   unfolding roundAt
   solving x rows n answer a b e h s = subst₂ (λ (r : List Row) (m : ℕ). Solving (roundOf r m (settings .huber)) answer a b) e h s
 
--- ---- the pairs of the columns
-module _ (settings : Settings) (k : Clocks) (x y z : List Float) (constellation : List ℕ) (elevation observed : List Float) where
+-- ---- the rows of a round at the state s, in the columns that the code made
+module _ (settings : Settings) (k : Clocks) (x y z : List Float) (constellation : List ℕ) (elevation observed : List Float) (few : length observed ≤ 64) (s : List Float)
+    {clock : List ℕ} {sigma : List Float} {residual : List ℕ} (clocks : ClocksAt k constellation (length observed) clock) (weighed : SigmasAt settings elevation (length observed) sigma) (made : ResidualsAt x y z clock observed s residual) where
   abbrev pair : ℕ → Pair
   pair = pairIn x y z constellation elevation observed
 
-  abbrev pub clockAt : ℕ → ℕ
-  clockAt i = slot k (getD constellation i 0)
+  abbrev all : Columns
+  all = columns x y z clock sigma (take (length observed) residual)
 
-  abbrev pub sigmaAt : ℕ → Float
-  sigmaAt i = sigmaOf settings (pair i)
+  row-is : (i : ℕ) → i < length observed → round.rowIn all i ≡ rowAt settings k s (pair i)
+  unfolding rowWith sigmaOf
+  row-is i h =
+      let c = clocks .clocks i h in
+      let g = weighed .sigmas i h in
+      let r = getD-take (length observed) residual i 0 h ∙ made .residuals i h in
+      rw (r, c, g)
 
-  abbrev pub residualAt : List Float → ℕ → ℕ
-  residualAt s i = rowAt settings k s (pair i) .residual
-
-  -- the rows of a round at the state s
-  module _ (s : List Float) (few : length observed ≤ 64) (clock : List ℕ) (sigma : List Float) (residual : List ℕ) (clocks : Filled clockAt 0 (length observed) clock) (sigmas : Filled sigmaAt nan (length observed) sigma) (residuals : Filled (residualAt s) 0 (length observed) residual) where
-    abbrev all : Columns
-    all = columns x y z clock sigma (take (length observed) residual)
-
-    row-is : (i : ℕ) → i < length observed → round.rowIn all i ≡ rowAt settings k s (pair i)
-    unfolding rowWith
-    row-is i h =
-        let c = clocks .at i h in
-        let g = sigmas .at i h in
-        let r = getD-take (length observed) residual i 0 h ∙ residuals .at i h in
-        rw (c, g, r)
-
-    pub rows-in : rowsIn all ≡ map (rowAt settings k s) (pairsIn x y z constellation elevation observed)
-    rows-in =
-        let e : length (take (length observed) residual) ≡ length observed = length-take-le (length observed) residual (omega (arith, residuals .long)) in
-        ap (places (round.rowIn all)) e ∙ places-ext (round.rowIn all) (λ i. rowAt settings k s (pair i)) (length observed) row-is ∙ sym (places-map (rowAt settings k s) pair (length observed))
+  pub rows-in : rowsIn all ≡ map (rowAt settings k s) (pairsIn x y z constellation elevation observed)
+  rows-in =
+      let e : length (take (length observed) residual) ≡ length observed = length-take-le (length observed) residual (omega (arith, made .long)) in
+      ap (places (round.rowIn all)) e ∙ places-ext (round.rowIn all) (λ i. rowAt settings k s (pair i)) (length observed) row-is ∙ sym (places-map (rowAt settings k s) pair (length observed))
 
 -- a fit over the columns of the pairs ps is the fit over ps
 module _ (settings : Settings) (k : Clocks) {ps : List Pair} {n : ℕ} {x y z : List Float} {constellation : List ℕ} {elevation observed : List Float} (h : Kept ps n x y z constellation elevation observed) where

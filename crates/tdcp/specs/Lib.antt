@@ -1,4 +1,5 @@
 pub mod Valid
 pub mod Front
 pub mod Displacement
+pub mod Rows
 pub mod Between

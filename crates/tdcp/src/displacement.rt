@@ -3,15 +3,13 @@ ghost use mathlib.Core.Path.{_≡_};
 ghost use mathlib.Core.Bool.{true};
 ghost use lib.ListN.{length, take};
 ghost use Prim.Native.Nat.{ℕ, _≤_};
-ghost use Rattle.exact.specs.Float.{_⊕_, _⊖_, _⊗_};
-ghost use Rattle.cholesky.specs.Factor.{at};
 ghost use Rattle.walk.specs.Walk.{every};
-ghost use Rattle.numeric.specs.Order.{patternOf};
 ghost use Rattle.records.specs.Carriers.{carrierColumns, epochOf, epochFits};
 ghost use Rattle.records.specs.Kept.{pairsIn};
 ghost use Rattle.records.specs.Pair.{seen};
 ghost use Rattle.estimator.specs.Rounds.{Ended};
 ghost use Rattle.tdcp.specs.Displacement as spec;
+ghost use Rattle.tdcp.specs.Rows as code;
 use crate::valid::check_in;
 use crate::valid::check_pairs;
 use crate::valid::is_bad_interval;
@@ -60,9 +58,58 @@ pub enum Displacement {
 
 // What was observed, less what the state x says of the line of sight u, v, w and the clock s, as a pattern.
 pub(crate) fn residual_of(o: f64, u: f64, v: f64, w: f64, s: usize, x: [f64; 9]) -> u64
-    ensures { λ r. ⌜ r ≡ patternOf (o ⊖ (u ⊗ at x 0 ⊕ v ⊗ at x 1 ⊕ w ⊗ at x 2) ⊖ at x s) ⌝ }
+    ensures { λ r. ⌜ r ≡ code.residualOf o u v w s x ⌝ }
 {
     pattern(o - (u * x[0] + v * x[1] + w * x[2]) - state_at(x, s))
+}
+
+// The residual of each pair at a state.
+fn residuals_at(
+    x: &[f64; 64],
+    y: &[f64; 64],
+    z: &[f64; 64],
+    clock: &[usize; 64],
+    observed: &[f64],
+    at: [f64; 9],
+    residual: &mut [u64; 64],
+)
+    requires { ⌜ (length (now observed) ≤ 64) × (length (now residual) ≡ 64) ⌝ }
+    ensures { λ _. ⌜ code.ResidualsAt (now (x .entry)) (now (y .entry)) (now (z .entry)) (now (clock .entry)) (now (observed .entry)) at (now (residual .exit)) ⌝ }
+{
+    let count = observed.len();
+    for j in 0..count {
+        let o = observed[j];
+        let u = x[j];
+        let v = y[j];
+        let w = z[j];
+        let s = clock[j];
+        let d = residual_of(o, u, v, w, s, at);
+        residual[j] = d;
+    }
+}
+
+// Writes the clock of each pair, which no round changes.
+fn clocks_into(k: Clocks, constellation: &[u8; 64], count: usize, clock: &mut [usize; 64])
+    requires { ⌜ (count ≤ 64) × (length (now clock) ≡ 64) ⌝ }
+    ensures { λ _. ⌜ code.ClocksAt k (now (constellation .entry)) count (now (clock .exit)) ⌝ }
+{
+    for j in 0..count {
+        let c = constellation[j];
+        let s = k.slot(c);
+        clock[j] = s;
+    }
+}
+
+// Writes the sigma of each pair, which no round changes.
+fn sigmas_into(settings: Settings, elevation: &[f64; 64], count: usize, sigma: &mut [f64; 64])
+    requires { ⌜ (count ≤ 64) × (length (now sigma) ≡ 64) ⌝ }
+    ensures { λ _. ⌜ code.SigmasAt settings (now (elevation .entry)) count (now (sigma .exit)) ⌝ }
+{
+    for j in 0..count {
+        let e = elevation[j];
+        let t = elevation_sigma(e, settings.sigma_a, settings.sigma_b);
+        sigma[j] = t;
+    }
 }
 
 // The rounds over the pairs of the columns: the state that they reach in state, or state as it was where one is refused.
@@ -82,28 +129,14 @@ pub(crate) fn fit_pairs(
 {
     let count = observed.len();
     let mut clock = [0usize; 64];
+    clocks_into(k, constellation, count, &mut clock);
     let mut sigma = [0.0; 64];
-    for j in 0..count {
-        let c = constellation[j];
-        let e = elevation[j];
-        let s = k.slot(c);
-        let t = elevation_sigma(e, settings.sigma_a, settings.sigma_b);
-        clock[j] = s;
-        sigma[j] = t;
-    }
+    sigmas_into(settings, elevation, count, &mut sigma);
     let mut residual = [0u64; 64];
     let mut at = [0.0; 9];
     let mut i: u32 = 0;
     while i < settings.rounds {
-        for j in 0..count {
-            let o = observed[j];
-            let u = x[j];
-            let v = y[j];
-            let w = z[j];
-            let s = clock[j];
-            let d = residual_of(o, u, v, w, s, at);
-            residual[j] = d;
-        }
+        residuals_at(x, y, z, &clock, observed, at, &mut residual);
         let n = 3 + k.count;
         let mut dx = [0.0; 9];
         if let Stepping::Refused(r) = round_step(
@@ -150,6 +183,39 @@ fn moved_to(x: [f64; 9], used: usize, screened: usize) -> Displacement
     Displacement::Refused(Refusal::FitFailed)
 }
 
+// What the rounds over the pairs of the columns come to: the displacement at the state that they reach, or why one is refused.
+fn moved_over(
+    settings: Settings,
+    k: Clocks,
+    x: &[f64; 64],
+    y: &[f64; 64],
+    z: &[f64; 64],
+    constellation: &[u8; 64],
+    elevation: &[f64; 64],
+    observed: &[f64],
+    screened: usize,
+) -> Displacement
+    requires { ⌜ (length (now observed) ≤ 64) × (k .count ≤ 6) ⌝ }
+    ensures { λ r. ⌜ r ≡ code.movedOver settings k (pairsIn (now (x .entry)) (now (y .entry)) (now (z .entry)) (now (constellation .entry)) (now (elevation .entry)) (now (observed .entry))) screened ⌝ }
+{
+    let used = observed.len();
+    let mut state = [0.0; 9];
+    if let Check::Refused(r) = fit_pairs(
+        settings,
+        k,
+        x,
+        y,
+        z,
+        constellation,
+        elevation,
+        observed,
+        &mut state,
+    ) {
+        return Displacement::Refused(r);
+    }
+    moved_to(state, used, screened)
+}
+
 // What every displacement shares, from the pairs on: 15, the screen, rules 7 to 9 and in the city profile 20, the rounds, and 10. 15 is asked behind the screen:
 // a way out before it keeps the pairs a second time.
 pub(crate) fn moved_by(settings: Settings, all: Pairs, city: bool) -> Displacement
@@ -182,8 +248,7 @@ pub(crate) fn moved_by(settings: Settings, all: Pairs, city: bool) -> Displaceme
     if let Check::Refused(r) = check_pairs(pairs, used, clocks.count, uncertified) {
         return Displacement::Refused(r);
     }
-    let mut state = [0.0; 9];
-    if let Check::Refused(r) = fit_pairs(
+    moved_over(
         settings,
         clocks,
         &x,
@@ -192,11 +257,8 @@ pub(crate) fn moved_by(settings: Settings, all: Pairs, city: bool) -> Displaceme
         &constellation,
         &elevation,
         &observed[..used],
-        &mut state,
-    ) {
-        return Displacement::Refused(r);
-    }
-    moved_to(state, used, pairs - used)
+        pairs - used,
+    )
 }
 
 // The receiver's position change between two epochs, dt seconds apart. The receiver's position sets the geometry only.

@@ -1,12 +1,13 @@
 // Displacements of two epochs' columns: 2 where they do not fit, and else what the call of the epochs answers.
 ghost use mathlib.Core.Path.{_≡_};
 ghost use mathlib.Core.Bool.{_&&_};
-ghost use Rattle.records.specs.Carriers.{vectorAt, carrierColumns, epochFits};
+ghost use Rattle.records.specs.Carriers.{carrierColumns, epochFits};
+ghost use Rattle.numeric.specs.Vec3.{vectorAt};
 ghost use Rattle.tdcp_columns.specs.Displacement as spec;
 use crate::settings::displacement_settings;
 use city::city::city_in;
 use numeric::refusal::Refusal;
-use records::carriers::vector;
+use numeric::vec3::vector;
 use tdcp::between::between_in;
 use tdcp::displacement::Displacement;
 use tdcp::displacement::delta_in;

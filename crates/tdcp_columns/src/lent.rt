@@ -2,7 +2,8 @@
 // leave every bit.
 ghost use mathlib.Core.Path.{_≡_};
 ghost use Rattle.tdcp.specs.Displacement.{displacementNumber};
-ghost use Rattle.records.specs.Carriers.{vectorAt, carrierColumns};
+ghost use Rattle.records.specs.Carriers.{carrierColumns};
+ghost use Rattle.numeric.specs.Vec3.{vectorAt};
 ghost use Rattle.tdcp_columns.specs.Displacement as spec;
 use crate::displacement::between_of;
 use crate::displacement::city_of;

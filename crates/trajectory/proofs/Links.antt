@@ -91,8 +91,7 @@ module _ (w₀ : List Float) (n from : ℕ) (m : Measured) (j : ℕ) (w w1 w2 w3
 
   one : (w' : List Float) (at q t : ℕ) → at + n * 3 ≤ length w' → q ≡ j * 3 + t → Linked w₀ n from m j at t w' → Linked w₀ n from m (j + 1) at t (stored w' at q)
   unfolding stored
-  one w' at q t h e r =
-      linked-more w₀ n from m j at t (indexAt m j) w' _ _ inside h refl
+  one w' at q t h e r = linked-more w₀ n from m j at t (indexAt m j) w' _ _ inside h refl
       (amounts m (col w₀ from) t j _ _ _ (s .kept .high (from + j) (omega arith)) (place (m .sigma) q (j * 3 + t) e) (place (m .value) q (j * 3 + t) e)) r
 
   kept-one : (w' w″ : List Float) (at q : ℕ) → w″ ≡ stored w' at q → SameOutside at (at + n * 3) w' w″

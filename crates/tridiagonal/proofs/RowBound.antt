@@ -5,7 +5,7 @@ use native.Mathlib.Nat.{mul-pos, mul-assoc}
 use native.Mathlib.Omega.{arith}
 use Rattle.exact.specs.Number.{Number, _+ₑ_, _-ₑ_, _*ₑ_, ∣_∣, _≤ₑ_, 1ₑ}
 use Rattle.exact.proofs.Num.{Num, num, _∔_, _∸_, _⊙_, _·_, abs, abs-⊙}
-use Rattle.exact.proofs.Number.{Is, Sized, gap, is-+, is--, is-*, is-∣∣, is-size, sized-*, is-scaled, is-scaledℕ, is-over, is-1, le-of-is}
+use Rattle.exact.proofs.Number.{Is, Sized, gap, is-+, is-minus, is-*, is-∣∣, is-size, sized-*, is-scaled, is-scaledℕ, is-over, is-1, le-of-is}
 use Rattle.exact.proofs.Accuracy.{bound-is}
 use Rattle.tridiagonal.proofs.RowGap.{first, second}
 
@@ -30,7 +30,7 @@ module _ (S : ℕ) where
   row-bound K k M P Q m {f′ = f′} {d′ = d′} {c′ = c′} {e′ = e′} {g′ = g′} {w′ = w′} {v′ = v′} {u′ = u′} {D′ = D′} {r′ = r′} ha hb hf hd hc he hg hw hv hu hD hr l =
       let one = is-1 S in
       le-of-is (mul-pos Q (mul-pos P (mul-pos P P)))
-      (is-over (is-scaledℕ (K * S) (is-∣∣ (is-- (is-+ (is-+ (is-* (he .is) (hw .is)) (is-* hD (hv .is))) (is-* (hg .is) (hu .is))) (is-scaled S hr)))) (mul-assoc K S (S * S)))
+      (is-over (is-scaledℕ (K * S) (is-∣∣ (is-minus (is-+ (is-+ (is-* (he .is) (hw .is)) (is-* hD (hv .is))) (is-* (hg .is) (hu .is))) (is-scaled S hr)))) (mul-assoc K S (S * S)))
       (bound-is K k M S (first S (abs f′) (abs c′) (abs d′) (abs e′) (abs w′) (abs v′) (abs g′ * abs u′)) (S + abs f′) (S + abs c′ + abs d′) (S + abs w′ + abs v′) m ha hb
       (is-+ (is-+ (is-+ (size₃ hf hc hw) (size₃ hf he hv)) (size₂ hd hv)) (size₂ hg hu)) (is-+ one (is-size hf)) (is-+ (is-+ one (is-size hc)) (is-size hd)) (is-+ (is-+ one (is-size hw)) (is-size hv)))
       (finish K k S (gap (e′ ⊙ w′ ∔ D′ ⊙ v′ ∔ g′ ⊙ u′ ∸ S · r′)) (first S (abs f′) (abs c′) (abs d′) (abs e′) (abs w′) (abs v′) (abs g′ * abs u′)) (S + abs f′) (S + abs c′ + abs d′) (S + abs w′ + abs v′)

@@ -62,6 +62,5 @@ all-words (l ∷ legs) t h = rw (next-words t l h) (all-words legs (after t l) (
 -- For every list of calls, from the start: the six words are those of the trip of the epochs that count.
 pub words-law : (rate : ℕ) (legs : List Leg) → 0 < rate → rate ≤ 65535 → every narrow legs ≡ true → fold wordsNext (wordsOf (tripOf rate [])) legs ≡ wordsOf (tripOf rate (counting legs))
 unfolding tripOf greatestOf reachedOf greatest firstWith
-words-law rate legs h k n =
-    all-words legs (tripOf rate []) (record { rate = k; epochs = lit≤ tt; reached = lit≤ tt })
+words-law rate legs h k n = all-words legs (tripOf rate []) (record { rate = k; epochs = lit≤ tt; reached = lit≤ tt })
     ∙ ap (λ (t : Trip). wordsOf t) (trip-law rate legs h n)

@@ -100,8 +100,7 @@ few (inf s) z h = lit≤ tt
 few (fin true m e) z h = rw (minus-units m e z) (lit≤ tt)
 few (fin false m e) z h =
     let k : le (fin false m e) (fin false 125 (pos 3)) ≡ true = rw thousand at h in
-    let l : m * up e * 1 ≤ 125 * 2 ^ 3 * down e = at-most (m * up e * 1) (125 * 2 ^ 3 * down e) true (subst T (sym k) tt) in
-    few-units (m * up e) (down e) (2 ^ 1074) (pow-pos 1074) (down-pos e) (omega arith)
+    let l : m * up e * 1 ≤ 125 * 2 ^ 3 * down e = at-most (m * up e * 1) (125 * 2 ^ 3 * down e) true (subst T (sym k) tt) in few-units (m * up e) (down e) (2 ^ 1074) (pow-pos 1074) (down-pos e) (omega arith)
 
 -- what is between 0 and a finite number is finite
 between-finite : (x y : Float) → le +0 x ≡ true → le x y ≡ true → T (finite y) → T (finite x)

@@ -112,8 +112,7 @@ after-small t l s n = go (soundTrip t && ltb (t .epochs) 65535 && measurable (l 
     go : (b : Bool) → (b ≡ true → Accepted t (l .displacement)) → Small (kept t (cond b (Goes (counted t (millimetresOf (l .displacement)) (l .pulses))) (Refused BadTrip)))
     go false f = s
     go true f =
-        let a = f refl in
-        counted-small t (millimetresOf (l .displacement)) (l .pulses) s (a .room) (measured (l .displacement) (a .is-measurable) .short) (leb-true (l .pulses) 65535 n)
+        let a = f refl in counted-small t (millimetresOf (l .displacement)) (l .pulses) s (a .room) (measured (l .displacement) (a .is-measurable) .short) (leb-true (l .pulses) 65535 n)
 
 fold-small : (legs : List Leg) (t : Trip) → Small t → every narrow legs ≡ true → Small (fold after t legs)
 unfolding fold every

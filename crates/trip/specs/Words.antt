@@ -5,9 +5,10 @@ use mathlib.Core.Bool.{Bool, cond, _||_}
 use mathlib.Core.List.{List, [], _∷_}
 use lib.Dec.{ltb}
 use lib.ListN.{getD}
-use lib.Ieee.{Float, nan}
+use lib.Ieee.{Float}
 use Rattle.numeric.specs.Refusal.{numberOf}
 use Rattle.numeric.specs.declared.refusal.Refusal.the-variants.{BadTrip}
+use Rattle.numeric.specs.Vec3.{vectorAt}
 use Rattle.numeric.specs.declared.vec3.Vec3.{Vec3}
 use Rattle.trip.specs.Trip.{Leg, added, reported, fuelled}
 use Rattle.trip.specs.declared.trip.Trip.{Trip}
@@ -36,15 +37,12 @@ wordsOf t = t .rate ∷ t .epochs ∷ t .carrier ∷ t .pulses ∷ t .greatest �
 
 -- ---- the calls on the trip that words hold
 
-abbrev pub vectorOf : List Float → Vec3
-vectorOf d = record { x = getD d 0 nan; y = getD d 1 nan; z = getD d 2 nan }
-
 unfoldable pub addedHeld : Step → Vec3 → ℕ → Step
 addedHeld (Step.Refused r) d pulses = Step.Refused r
 addedHeld (Step.Goes t) d pulses = added t d pulses
 
 abbrev pub addedWords : List ℕ → List Float → ℕ → Step
-addedWords w d pulses = addedHeld (heldOf w) (vectorOf d) pulses
+addedWords w d pulses = addedHeld (heldOf w) (vectorAt d 0) pulses
 
 unfoldable pub reportedHeld : Step → Reported
 reportedHeld (Step.Refused r) = Reported.Refused r

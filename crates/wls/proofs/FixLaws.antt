@@ -1,23 +1,26 @@
 -- The rounds of a fix, as the code has them. Assumes nothing.
-use mathlib.Core.Path.{_≡_, refl, sym, ap, ap₂, _∙_, subst, subst₂}
+use mathlib.Core.Path.{_≡_, refl, sym, ap, _∙_, subst, subst₂}
 use Prim.Native.Nat.{ℕ, _+_, _≤_}
+use native.Mathlib.Omega.{arith}
 use mathlib.Core.List.{List, [], map}
 use lib.ListN.{length, take}
 use lib.Ieee.{Float, nan}
 use Rattle.robust.specs.Round.{Round, Outcome, Solved, roundOf}
-use Rattle.robust.specs.Normal.{Solving}
-use Rattle.robust.specs.Columns.{columns, rowsIn}
-use Rattle.robust.specs.declared.row.Row.{Row}
+use Rattle.robust.specs.Solving.{Solving}
+use Rattle.normal.specs.Columns.{columns, rowsIn}
+use Rattle.normal.specs.declared.row.Row.{Row}
 use Rattle.robust.specs.declared.round.Stepping.{Stepping}
 use Rattle.numeric.specs.declared.refusal.Refusal.{Refusal}
 use Rattle.numeric.specs.declared.vec3.Vec3.{Vec3}
 use Rattle.robust.proofs.RoundSound.{round-rows}
-use Rattle.robust.proofs.ColumnLaws.{rows-are}
+use Rattle.normal.proofs.ColumnLaws.{rows-are}
 use Rattle.clocks.specs.declared.clocks.Clocks.{Clocks}
 use Rattle.records.specs.declared.record.Observation.{Observation}
 use Rattle.wls.specs.declared.fix.Settings.{Settings}
-use Rattle.estimator.specs.Rounds.{Stopped, Reached, Fit, fitFrom, lastRows, concluded}
-use Rattle.wls.specs.Fix.{sigmaOf, sightRules, rowAt, roundAt, limit, start, fitOver, endRules, solutionAt, chiAt, concludedAt, foundOver, RowsAt}
+use Rattle.estimator.specs.Rounds.{Stopped, Fit, lastRows, concluded}
+use Rattle.wls.specs.Fix.{sigmaOf, sightRules, rowAt, roundAt, limit, start, fitAt, fitOver, endRules, solutionAt, chiAt, concludedAt, foundOver, RowsAt, EndedAt, Fitted}
+use Rattle.wls.specs.declared.fix.Ending.the-variants.{Refused as NotEnded, Rows as EndedBy}
+use Rattle.wls.specs.declared.fix.Fix.{Fix}
 use Rattle.wls.specs.declared.fix.Fix.the-variants.{Refused, At}
 use Rattle.estimator.specs.declared.rules.Check.the-variants.{Passed}
 use Rattle.estimator.proofs.RulesLaws.{checked}
@@ -30,8 +33,8 @@ blank = record { constellation = 0; band = 0; svid = 0; modelled = nan; pseudora
 
 -- the fit from the state x₀ on
 module _ (settings : Settings) (k : Clocks) (os : List Observation) (x₀ : List Float) where
-  abbrev pub fit : Fit
-  fit = fitFrom (roundAt settings k os) (3 + k .count) limit (settings .rounds) x₀
+  abbrev fit : Fit
+  fit = fitAt settings k os x₀
 
   abbrev pub Going : ℕ → List Float → Type 0
   Going i x = Left (roundAt settings k os) (3 + k .count) limit (settings .rounds) fit i x
@@ -62,16 +65,33 @@ unfolding rowAt
 held settings k n os s {x} {y} {z} {clock} {residual} sigma fits few h sigmas =
     rows-are (rowAt settings k s) os blank n fits few x y z clock sigma residual (h .xs) (h .ys) (h .zs) (h .clocks-are) sigmas (record { long = h .long .residual-long; so-far = h .residuals })
 
+-- the code's answer of where they end
+module _ (f : Fit) (s x y z : List Float) (clock : List ℕ) (sigma : List Float) (residual : List ℕ) where
+  pub fitted-refused : {r : Refusal} → Stopped r ≡ f .end → Fitted f (NotEnded r) s x y z clock sigma residual
+  fitted-refused {r} h =
+      record {
+        refused = λ q e. let same : q ≡ r = cc in ap Stopped same ∙ h;
+        ended = λ n e. absurd (let z : _≡_ {A = ℕ} 0 1 = cc in omega arith);
+      }
+
+  pub fitted-ended : {n : ℕ} → EndedAt f n s x y z clock sigma residual → Fitted f (EndedBy n) s x y z clock sigma residual
+  fitted-ended {n} h =
+      record {
+        refused = λ q e. absurd (let z : _≡_ {A = ℕ} 0 1 = cc in omega arith);
+        ended = λ m e. let same : n ≡ m = cc in subst (λ (i : ℕ). EndedAt f i s x y z clock sigma residual) same h;
+      }
+
 -- what the rounds come to, by where they end
 module _ (settings : Settings) (k : Clocks) (os : List Observation) (guess : Vec3) where
-  pub stopped-at : {r : Refusal} → Stopped r ≡ fit settings k os (start guess) .end → Refused r ≡ foundOver settings k os guess
+  pub stopped-at : {r : Refusal} → Stopped r ≡ fitAt settings k os (start guess) .end → Refused r ≡ foundOver settings k os guess
   unfolding foundOver fitOver
   stopped-at e = rw (sym e)
 
-  pub reached-at : {n : ℕ} {rows : List Row} {x : List Float} → n ≡ 3 + k .count → Reached x ≡ fit settings k os (start guess) .end → rows ≡ lastRows [] (fit settings k os (start guess) .rounds)
-      → concludedAt n rows (sightRules os x) (chiAt settings k os x) x ≡ foundOver settings k os guess
+  -- the answer r at the state s that they reach, by the columns of the last round
+  pub reached-at : {n : ℕ} {s x y z : List Float} {clock : List ℕ} {sigma : List Float} {residual : List ℕ} → EndedAt (fitAt settings k os (start guess)) n s x y z clock sigma residual
+      → (r : Fix) → r ≡ concludedAt (3 + k .count) (rowsIn (columns x y z clock sigma (take n residual))) (sightRules os s) (chiAt settings k os s) s → r ≡ foundOver settings k os guess
   unfolding foundOver fitOver
-  reached-at {n} {rows} {x} n-is e l =
-      let last = lastRows [] (fit settings k os (start guess) .rounds) in
-      ap₂ (λ (m : ℕ) (r : List Row). concludedAt m r (sightRules os x) (chiAt settings k os x) x) n-is l
-      ∙ ap (concluded Refused (λ y. endRules (3 + k .count) last (sightRules os y) (chiAt settings k os y) y) (λ y. At (solutionAt (3 + k .count) last (chiAt settings k os y) y))) e
+  reached-at {s = s} h r e =
+      let last = lastRows [] (fitAt settings k os (start guess) .rounds) in
+      e ∙ ap (λ (rows : List Row). concludedAt (3 + k .count) rows (sightRules os s) (chiAt settings k os s) s) (h .rows-are)
+      ∙ ap (concluded Refused (λ y. endRules (3 + k .count) last (sightRules os y) (chiAt settings k os y) y) (λ y. At (solutionAt (3 + k .count) last (chiAt settings k os y) y))) (h .state-is)

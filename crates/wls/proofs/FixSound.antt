@@ -14,7 +14,7 @@ use borrow.Author.Tests.{not-false}
 use Rattle.estimator.specs.Rules.{Rule}
 use Rattle.walk.specs.Walk.{every}
 use Rattle.cholesky.specs.Factor.{at}
-use Rattle.robust.specs.declared.row.Row.{Row}
+use Rattle.normal.specs.declared.row.Row.{Row}
 use Rattle.numeric.specs.declared.refusal.Refusal.{Refusal}
 use Rattle.robust.specs.Round.{Round, Solved, SoundRound, FiniteResiduals}
 use Rattle.robust.proofs.RoundSound.{round-sound, round-rows}

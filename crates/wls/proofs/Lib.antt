@@ -1,6 +1,7 @@
 -- What the proofs of more than one function use, and the laws.
 pub mod FrontLaws
 pub mod SightLaws
+pub mod RowLaws
 pub mod FixLaws
 pub mod FixSound
 pub mod QualityLaws

@@ -10,7 +10,7 @@ use Rattle.cholesky.specs.Answer as factor
 use Rattle.numeric.specs.declared.vec3.Vec3.{Vec3}
 use Rattle.numeric.specs.declared.refusal.Refusal.{Refusal}
 use Rattle.numeric.specs.declared.refusal.Refusal.the-variants.{FitFailed, QualityNotFinite}
-use Rattle.robust.specs.declared.row.Row.{Row}
+use Rattle.normal.specs.declared.row.Row.{Row}
 use Rattle.clocks.specs.declared.clocks.Clocks.{Clocks}
 use Rattle.records.specs.declared.record.Observation.{Observation}
 use Rattle.estimator.specs.Rules.{Rule, rule, ruled}

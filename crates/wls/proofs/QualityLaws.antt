@@ -18,14 +18,16 @@ use Rattle.cholesky.specs.Factor.{at, zeros, solutionOf}
 use Rattle.numeric.specs.Real.{square}
 use Rattle.numeric.proofs.OrderLaws.{pattern-back}
 use Rattle.root.specs.Root.{rootOf}
-use Rattle.robust.specs.Nine.{nine}
-use Rattle.robust.specs.Round.{wide, total, triangleOf}
-use Rattle.robust.specs.Columns.{Columns, rowIn, rowsIn}
-use Rattle.robust.specs.declared.row.Row.{Row}
-use Rattle.robust.proofs.NineLaws.{nine-is}
-use Rattle.robust.proofs.Sums.{sumTo, sumTo-zero, sumTo-next, sum-places}
-use Rattle.robust.proofs.FormedLaws.{sums, sums-next, sums-triangle}
-use Rattle.robust.proofs.ColumnLaws.{filled-at}
+use Rattle.normal.specs.Nine.{nine}
+use Rattle.normal.specs.Equations.{wide, total, triangleOf}
+use Rattle.normal.specs.Columns.{Columns, rowIn, rowsIn}
+use Rattle.normal.specs.declared.row.Row.{Row}
+use Rattle.normal.proofs.NineLaws.{nine-is}
+use Rattle.normal.proofs.Sums.{sumTo, sumTo-zero, sumTo-next, sum-places}
+use Rattle.normal.specs.Formed.{unused, triangleAdded}
+use Rattle.normal.proofs.AddedLaws.{triangle-zero, triangle-more}
+use Rattle.normal.proofs.FormedLaws.{sums, sums-zero, sums-next, sums-triangle}
+use Rattle.normal.proofs.ColumnLaws.{filled-at}
 use Rattle.clocks.specs.Clocks.{slot}
 use Rattle.clocks.specs.declared.clocks.Clocks.{Clocks}
 use Rattle.records.specs.declared.record.Observation.{Observation}
@@ -106,12 +108,15 @@ module _ (k : Clocks) (os : List Observation) (sigma s : List Float) where
 abbrev pub plain : Columns → ℕ → ℕ → ℕ → Float
 plain c = sums (λ r p q. at (wide r) p ⊗ at (wide r) q) (rowIn c)
 
-pub plain-next : (c : Columns) (k : ℕ) (e : List Float) → e ≡ wide (rowIn c k) → (p q : ℕ) (s : Float) → s ≡ plain c k p q → s ⊕ at e p ⊗ at e q ≡ plain c (k + 1) p q
-plain-next c k e e-is p q s h = sums-next (λ r p q. at (wide r) p ⊗ at (wide r) q) (rowIn c) k p q s _ h (rw e-is)
+pub plain-start : (c : Columns) (n : ℕ) (a : List (List Float)) → a ≡ unused n → a ≡ triangleOf n (plain c 0)
+plain-start c n a h = h ∙ triangle-zero n (plain c 0) (sums-zero (λ r p q. at (wide r) p ⊗ at (wide r) q) (rowIn c))
 
-pub plain-is : (c : Columns) (n : ℕ) → triangleOf n (plain c (length (c .residual))) ≡ plainMatrix n (rowsIn c)
+pub plain-next : (c : Columns) (n k : ℕ) (e : List Float) (a : List (List Float)) → e ≡ wide (rowIn c k) → a ≡ triangleOf n (plain c k) → triangleAdded n e e a ≡ triangleOf n (plain c (k + 1))
+plain-next c n k e a e-is h = triangle-more n (plain c k) (plain c (k + 1)) e e a (λ p q pb qb. sums-next (λ r p q. at (wide r) p ⊗ at (wide r) q) (rowIn c) k p q _ _ refl (rw e-is)) h
+
+pub plain-end : (c : Columns) (n k : ℕ) (a : List (List Float)) → k ≡ length (c .residual) → a ≡ triangleOf n (plain c k) → a ≡ plainMatrix n (rowsIn c)
 unfolding plainMatrix
-plain-is c n = sums-triangle (λ r p q. at (wide r) p ⊗ at (wide r) q) (rowIn c) (length (c .residual)) n
+plain-end c n k a e h = h ∙ ap (λ (z : ℕ). triangleOf n (plain c z)) e ∙ sums-triangle (λ r p q. at (wide r) p ⊗ at (wide r) q) (rowIn c) (length (c .residual)) n
 
 -- ---- the inverse's diagonal
 

@@ -9,9 +9,9 @@ use Rattle.exact.specs.Float.{+0, 1·0, whole, decimal}
 use Rattle.root.specs.Root.{rootOf}
 use Rattle.numeric.specs.Real.{square}
 use Rattle.cholesky.specs.Factor.{zeros, withForward, forwardTo, withBack, backTo, solutionOf}
-use Rattle.robust.specs.Nine.{from, nine}
-use Rattle.robust.specs.Round.{wide, total, triangleOf}
-use Rattle.robust.specs.declared.row.Row.{Row}
+use Rattle.normal.specs.Nine.{from, nine}
+use Rattle.normal.specs.Equations.{wide, total, triangleOf}
+use Rattle.normal.specs.declared.row.Row.{Row}
 use Rattle.wls.specs.Fix.{freedomOf, chiOf, plainMatrix, pdopOf}
 
 -- rows above the unknowns, and at least 1

@@ -16,7 +16,7 @@ use Rattle.numeric.specs.declared.sight.Sighting.the-variants.{Refused as NotSe
 use Rattle.numeric.proofs.SightLaws.{seen-by}
 use Rattle.numeric.proofs.SightLaws.{refused-by as not-seen-by}
 use Rattle.robust.specs.Round.{Round, Outcome, Refused as NoRound, Solved, roundOf}
-use Rattle.robust.specs.Normal.{Solving}
+use Rattle.robust.specs.Solving.{Solving}
 use Rattle.robust.specs.declared.round.Stepping.the-variants as Stepping
 use Rattle.clocks.specs.declared.clocks.Clocks.{Clocks}
 use Rattle.records.specs.declared.record.Observation.{Observation}

@@ -1,7 +1,7 @@
 -- The position of a receiver from one epoch (docs/SCOPE.md, "Fix"; wls.rs): its rounds, what the fit says of itself, and the answer. Definitions only.
 use mathlib.Core.Path.{_≡_}
-use Prim.Native.Nat.{ℕ, _+_, _-_, _<_, max}
-use mathlib.Core.Bool.{true, not, cond, _&&_}
+use Prim.Native.Nat.{ℕ, _+_, _-_, _≤_, _<_, max}
+use mathlib.Core.Bool.{Bool, true, not, cond, _&&_}
 use mathlib.Core.List.{List, [], _∷_, _++_, map}
 use lib.Dec.{eqb}
 use lib.ListN.{length, take, replicate}
@@ -20,11 +20,14 @@ use Rattle.numeric.specs.Sight.{sightOf, onReceiver}
 use Rattle.numeric.specs.Refusal.{numberOf}
 use Rattle.numeric.specs.declared.sight.Sight.{Sight}
 use Rattle.numeric.specs.declared.vec3.Vec3.{Vec3}
+use Rattle.numeric.specs.declared.refusal.Refusal.{Refusal}
 use Rattle.numeric.specs.declared.refusal.Refusal.the-variants.{FitFailed, QualityNotFinite, OnReceiver}
-use Rattle.robust.specs.Nine.{nine}
-use Rattle.robust.specs.Round.{wide, total, triangleOf, Round, Outcome, Refused as NoRound, roundOf, SoundRound, FiniteResiduals}
+use Rattle.normal.specs.Nine.{nine}
+use Rattle.normal.specs.Equations.{wide, total, triangleOf}
+use Rattle.robust.specs.Round.{Round, Outcome, Refused as NoRound, roundOf, SoundRound, FiniteResiduals}
 use Rattle.robust.specs.Sigma.{elevationSigma}
-use Rattle.robust.specs.declared.row.Row.{Row}
+use Rattle.normal.specs.Columns.{columns, rowsIn}
+use Rattle.normal.specs.declared.row.Row.{Row}
 use Rattle.clocks.specs.Clocks.{slot, clocksOf}
 use Rattle.estimator.specs.Rules.{Rule, rule, ruled}
 use Rattle.estimator.specs.declared.rules.Check.{Check}
@@ -35,7 +38,9 @@ use Rattle.clocks.specs.declared.clocks.Clocks.{Clocks}
 use Rattle.records.specs.declared.record.Observation.{Observation}
 use Rattle.records.specs.declared.record.Observations.{Observations}
 use Rattle.wls.specs.declared.fix.Settings.{Settings}
-use Rattle.estimator.specs.Rounds.{Fit, fitFrom, lastRows, vector, finiteAt, concluded, Each}
+use Rattle.estimator.specs.Rounds.{Stopped, Reached, Fit, fitFrom, lastRows, vector, finiteAt, concluded, Each}
+use Rattle.wls.specs.declared.fix.Ending.{Ending}
+use Rattle.wls.specs.declared.fix.Ending.the-variants.{Refused as NotEnded, Rows as EndedBy}
 use Rattle.wls.specs.declared.fix.Solution.{Solution}
 use Rattle.wls.specs.declared.fix.Fix.{Fix}
 use Rattle.wls.specs.declared.fix.Fix.the-variants.{Refused, At}
@@ -89,8 +94,12 @@ limit = decimal 1 3
 abbrev pub start : Vec3 → List Float
 start v = v .x ∷ v .y ∷ v .z ∷ replicate 6 +0
 
+-- the rounds from the state x on
+abbrev pub fitAt : Settings → Clocks → List Observation → List Float → Fit
+fitAt settings k os x = fitFrom (roundAt settings k os) (3 + k .count) limit (settings .rounds) x
+
 unfoldable pub fitOver : Settings → Clocks → List Observation → Vec3 → Fit
-fitOver settings k os guess = fitFrom (roundAt settings k os) (3 + k .count) limit (settings .rounds) (start guess)
+fitOver settings k os guess = fitAt settings k os (start guess)
 
 -- the observations at or above the mask
 abbrev pub kept : Input → List Observation
@@ -238,10 +247,22 @@ pub record RowsAt (k : Clocks) (n : ℕ) (os : List Observation) (s x y z : List
   pub clocks-are : take n clock ≡ map (λ (o : Observation). slot k (o .constellation)) (take n os)
   pub residuals : take n residual ≡ map (residualAt k s) (take n os)
 
--- the code's answer of the rows at the state s, and the rows where 15 lets them pass
-pub record Rowed (k : Clocks) (n : ℕ) (os : List Observation) (s : List Float) (r : Check) (x y z : List Float) (clock residual : List ℕ) : Type 0 where
-  pub answer : r ≡ ruled Check.Refused (sightRules (take n os) s) Check.Passed
-  pub rows : r ≡ Check.Passed → RowsAt k n os s x y z clock residual
+-- the code's answer of the rows at the state s, whether 15 lets them pass, and the rows where it does
+pub record Rowed (k : Clocks) (n : ℕ) (os : List Observation) (s : List Float) (r : Bool) (x y z : List Float) (clock residual : List ℕ) : Type 0 where
+  pub answer : cond r Check.Passed (Check.Refused OnReceiver) ≡ ruled Check.Refused (sightRules (take n os) s) Check.Passed
+  pub rows : r ≡ true → RowsAt k n os s x y z clock residual
+
+-- ---- where the rounds of the fit f end as the code has it: at the state s, after a round whose rows are the first n of the columns
+pub record EndedAt (f : Fit) (n : ℕ) (s x y z : List Float) (clock : List ℕ) (sigma : List Float) (residual : List ℕ) : Type 0 where
+  pub few : n ≤ 64
+  pub room : n ≤ length residual
+  pub state-is : Reached s ≡ f .end
+  pub rows-are : rowsIn (columns x y z clock sigma (take n residual)) ≡ lastRows [] (f .rounds)
+
+-- the code's answer, by which they end there or in a round that is refused
+pub record Fitted (f : Fit) (answer : Ending) (s x y z : List Float) (clock : List ℕ) (sigma : List Float) (residual : List ℕ) : Type 0 where
+  pub refused : (r : Refusal) → answer ≡ NotEnded r → Stopped r ≡ f .end
+  pub ended : (n : ℕ) → answer ≡ EndedBy n → EndedAt f n s x y z clock sigma residual
 
 -- ---- chi as the code has it: 15 at the state x, or chi there
 abbrev pub chiFound : Settings → Clocks → List Observation → List Float → Chi

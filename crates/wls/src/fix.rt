@@ -4,7 +4,7 @@ ghost use mathlib.Core.List.{List, map};
 ghost use lib.ListN.{length, take};
 ghost use Prim.Native.Nat.{ℕ, _≤_};
 ghost use lib.Ieee.{Float};
-ghost use Rattle.robust.specs.Columns.{columns, rowsIn};
+ghost use Rattle.normal.specs.Columns.{columns, rowsIn};
 ghost use Rattle.estimator.specs.Rules.{Rule, ruled};
 ghost use Rattle.wls.specs.Fix as spec;
 use crate::quality::Chi;
@@ -75,7 +75,7 @@ pub(crate) fn sigmas_of(settings: Settings, sky: Observations) -> [f64; 64]
     sigma
 }
 
-// The rows of the observations at the state s, but for their sigmas: lines of sight, clocks and residuals. 15 of the first whose line of sight is refused.
+// The rows of the observations at the state s, but for their sigmas: lines of sight, clocks and residuals. False where 15 refuses a line of sight.
 pub(crate) fn rows_at(
     k: Clocks,
     sky: Observations,
@@ -85,7 +85,7 @@ pub(crate) fn rows_at(
     z: &mut [f64; 64],
     clock: &mut [usize; 64],
     residual: &mut [u64; 64],
-) -> Check
+) -> bool
     requires { ⌜ (sky .count ≤ 64) × spec.Long (now x) (now y) (now z) (now clock) (now residual) ⌝ }
     ensures { λ r. ⌜ spec.Rowed k (sky .count) (sky .observation) s r (now (x .exit)) (now (y .exit)) (now (z .exit)) (now (clock .exit)) (now (residual .exit)) ⌝ }
 {
@@ -99,7 +99,7 @@ pub(crate) fn rows_at(
         let o = sky.observation[j];
         let seen = geometry(o.satellite, at);
         let Sighting::Seen(g) = seen else {
-            return Check::Refused(Refusal::OnReceiver);
+            return false;
         };
         let q = k.slot(o.constellation);
         let r = pattern(o.pseudorange - (g.range + state_at(s, q)));
@@ -109,7 +109,66 @@ pub(crate) fn rows_at(
         clock[j] = q;
         residual[j] = r;
     }
-    Check::Passed
+    true
+}
+
+// How the rounds end: one is refused, or the last of them had so many rows, none where there was no round.
+pub enum Ending {
+    Refused(Refusal),
+    Rows(usize),
+}
+
+// The rounds over the observations from the state on: the state that they reach, and the rows of the last of them, but for the sigmas.
+// What is lent is of no use where one is refused.
+fn fit_rounds(
+    settings: Settings,
+    k: Clocks,
+    sky: Observations,
+    sigma: &[f64; 64],
+    x: &mut [f64; 64],
+    y: &mut [f64; 64],
+    z: &mut [f64; 64],
+    clock: &mut [usize; 64],
+    residual: &mut [u64; 64],
+    state: &mut [f64; 9],
+) -> Ending
+    requires { ⌜ (sky .count ≤ 64) × (k .count ≤ 6) × spec.Long (now x) (now y) (now z) (now clock) (now residual) ⌝ }
+    requires { ⌜ take (sky .count) (now sigma) ≡ map (spec.sigmaOf settings) (take (sky .count) (sky .observation)) ⌝ }
+    ensures { λ r. ⌜ spec.Fitted (spec.fitAt settings k (take (sky .count) (sky .observation)) (now (state .entry))) r (now (state .exit)) (now (x .exit)) (now (y .exit)) (now (z .exit)) (now (clock .exit)) (now (sigma .entry)) (now (residual .exit)) ⌝ }
+{
+    let n = 3 + k.count;
+    let count = sky.count;
+    let mut used: usize = 0;
+    let mut i: u32 = 0;
+    while i < settings.rounds {
+        let at = *state;
+        if !rows_at(k, sky, at, x, y, z, clock, residual) {
+            return Ending::Refused(Refusal::OnReceiver);
+        }
+        used = count;
+        let mut dx = [0.0; 9];
+        let made = &residual[..];
+        if let Stepping::Refused(r) = round_step(
+            x,
+            y,
+            z,
+            clock,
+            sigma,
+            &made[..count],
+            n,
+            settings.huber,
+            &mut dx,
+        ) {
+            return Ending::Refused(r);
+        }
+        let next = move_by(n, dx, at);
+        *state = next;
+        if is_short(1e-3, dx) {
+            return Ending::Rows(count);
+        }
+        i += 1;
+    }
+    Ending::Rows(used)
 }
 
 // The rounds over the observations from the guess on, and what they come to.
@@ -117,68 +176,35 @@ pub(crate) fn fit_sky(settings: Settings, k: Clocks, sky: Observations, guess: V
     requires { ⌜ (sky .count ≤ 64) × (k .count ≤ 6) ⌝ }
     ensures { λ r. ⌜ r ≡ spec.foundOver settings k (take (sky .count) (sky .observation)) guess ⌝ }
 {
-    let n = 3 + k.count;
-    let count = sky.count;
     let sigma = sigmas_of(settings, sky);
     let mut x = [0.0; 64];
     let mut y = [0.0; 64];
     let mut z = [0.0; 64];
     let mut clock = [0usize; 64];
     let mut residual = [0u64; 64];
-    let mut used: usize = 0;
     let mut state = [0.0; 9];
     state[0] = guess.x;
     state[1] = guess.y;
     state[2] = guess.z;
-    let mut i: u32 = 0;
-    while i < settings.rounds {
-        if let Check::Refused(r) = rows_at(
-            k,
-            sky,
-            state,
-            &mut x,
-            &mut y,
-            &mut z,
-            &mut clock,
-            &mut residual,
-        ) {
-            return Fix::Refused(r);
-        }
-        used = count;
-        let mut dx = [0.0; 9];
-        if let Stepping::Refused(r) = round_step(
-            &x,
-            &y,
-            &z,
-            &clock,
-            &sigma,
-            &residual[..count],
-            n,
-            settings.huber,
-            &mut dx,
-        ) {
-            return Fix::Refused(r);
-        }
-        let next = move_by(n, dx, state);
-        state = next;
-        if is_short(1e-3, dx) {
+    match fit_rounds(
+        settings,
+        k,
+        sky,
+        &sigma,
+        &mut x,
+        &mut y,
+        &mut z,
+        &mut clock,
+        &mut residual,
+        &mut state,
+    ) {
+        Ending::Refused(r) => Fix::Refused(r),
+        Ending::Rows(used) => {
+            let n = 3 + k.count;
             let chi = chi_at(k, sky, &sigma, state);
-            return found_at(
-                &x,
-                &y,
-                &z,
-                &clock,
-                &sigma,
-                &residual[..count],
-                n,
-                state,
-                chi,
-            );
+            found_at(&x, &y, &z, &clock, &sigma, &residual[..used], n, state, chi)
         }
-        i += 1;
     }
-    let chi = chi_at(k, sky, &sigma, state);
-    found_at(&x, &y, &z, &clock, &sigma, &residual[..used], n, state, chi)
 }
 
 // The answer at the state s that the rows of n unknowns lead to, with chi there: 10 where it is not finite or the unweighted matrix is refused.

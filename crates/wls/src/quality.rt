@@ -3,21 +3,22 @@ ghost use mathlib.Core.Path.{_≡_};
 ghost use mathlib.Core.List.{map};
 ghost use Prim.Native.Nat.{_≤_};
 ghost use lib.ListN.{length, take};
-ghost use Rattle.robust.specs.Columns.{columns, rowsIn};
+ghost use Rattle.normal.specs.Columns.{columns, rowsIn};
 ghost use Rattle.wls.specs.declared.fix.Settings.{Settings};
 ghost use Rattle.wls.specs.Fix as spec;
 use cholesky::factor::solve_lent;
 use clocks::clocks::Clocks;
 use estimator::rounds::state_at;
+use normal::equations::add_triangle;
+use normal::equations::row_at;
+use normal::equations::unused;
+use normal::row::wide;
 use numeric::real::square;
 use numeric::refusal::Refusal;
 use numeric::sight::Sighting;
 use numeric::sight::geometry;
 use numeric::vec3::Vec3;
 use records::record::Observations;
-use robust::round::unused;
-use robust::row::Row;
-use robust::row::wide;
 use root::sqrt::sqrt;
 
 // The degrees of freedom of so many rows and n unknowns, at least 1.
@@ -82,26 +83,9 @@ pub(crate) fn plain_matrix(
     unused(n, a);
     let mut e = [0.0; 9];
     for k in 0..count {
-        let u = x[k];
-        let v = y[k];
-        let h = z[k];
-        let q = clock[k];
-        let s = sigma[k];
-        let p = residual[k];
-        let unit = Vec3 { x: u, y: v, z: h };
-        let r = Row {
-            unit: unit,
-            clock: q,
-            residual: p,
-            sigma: s,
-        };
+        let r = row_at(x, y, z, clock, sigma, residual, k);
         wide(r, &mut e);
-        for i in 0..n {
-            let t = e[i];
-            for j in 0..i + 1 {
-                a[i][j] = a[i][j] + t * e[j];
-            }
-        }
+        add_triangle(n, &e, &e, a);
     }
 }
 

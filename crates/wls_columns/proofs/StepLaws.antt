@@ -7,7 +7,7 @@ use lib.Ieee.{Float}
 use Rattle.walk.specs.Walk.{places, Holds}
 use Rattle.numeric.specs.declared.refusal.Refusal.the-variants.{TooMany}
 use Rattle.robust.specs.Step.{Stepped, counted, refused, stepOf}
-use Rattle.robust.specs.declared.row.Rows.{Rows}
+use Rattle.normal.specs.declared.row.Rows.{Rows}
 use Rattle.wls_columns.specs.Columns.{RowColumns, rowFrom, rowsFrom, rowsFit}
 use Rattle.wls_columns.specs.Step.{stepNumber, StepAnswers, columnStepOf}
 use Rattle.wls_columns.proofs.ColumnLaws.{held-count, held-all}

@@ -7,9 +7,9 @@ use lib.ListN.{getD, length}
 use lib.Ieee.{Float, nan}
 use Rattle.walk.specs.Walk.{places}
 use Rattle.exact.specs.Float.{+0}
-use Rattle.robust.specs.declared.row.Row.{Row}
-use Rattle.robust.specs.declared.row.Rows.{Rows}
-use Rattle.records.specs.Carriers.{vectorAt}
+use Rattle.normal.specs.declared.row.Row.{Row}
+use Rattle.normal.specs.declared.row.Rows.{Rows}
+use Rattle.numeric.specs.Vec3.{vectorAt}
 use Rattle.records.specs.declared.record.Observation.{Observation}
 use Rattle.records.specs.declared.record.Observations.{Observations}
 

@@ -5,12 +5,12 @@ ghost use Prim.Native.Nat.{_+_, _*_, _<_};
 ghost use lib.ListN.{length};
 ghost use Rattle.walk.specs.Walk.{Holds};
 ghost use Rattle.wls_columns.specs.Columns as spec;
+use normal::row::Row;
+use normal::row::Rows;
 use numeric::vec3::Vec3;
-use records::carriers::vector_at;
+use numeric::vec3::vector_at;
 use records::record::Observation;
 use records::record::Observations;
-use robust::row::Row;
-use robust::row::Rows;
 
 // Whether there are at most 64 rows and no column is shorter than they need.
 pub(crate) fn rows_fit(

@@ -2,7 +2,7 @@
 // so that a refusal is promised to leave every bit.
 ghost use mathlib.Core.Path.{_≡_};
 ghost use Prim.Native.Nat.{min};
-ghost use Rattle.records.specs.Carriers.{vectorAt};
+ghost use Rattle.numeric.specs.Vec3.{vectorAt};
 ghost use Rattle.wls_columns.specs.Columns.{observationColumns};
 ghost use Rattle.wls_columns.specs.Fix as spec;
 use crate::columns::observations_fit;
@@ -10,7 +10,7 @@ use crate::columns::observations_of;
 use estimator::rounds::rounds_of;
 use numeric::order::pattern;
 use numeric::refusal::Refusal;
-use records::carriers::vector;
+use numeric::vec3::vector;
 use wls::fix::Fix;
 use wls::fix::Settings;
 use wls::fix::solve_full;

@@ -1,6 +1,7 @@
 // The entry point of the displacement between two times.
 ghost use mathlib.Core.Path.{_≡_};
-ghost use Rattle.records.specs.Carriers.{vectorAt, carrierColumns};
+ghost use Rattle.records.specs.Carriers.{carrierColumns};
+ghost use Rattle.numeric.specs.Vec3.{vectorAt};
 ghost use Rattle.tdcp_columns.specs.Displacement.{displacementSettings, timedInput, columnBetweenOf, DisplacementAnswers};
 ghost use Rattle.zaqnuti.specs.Times.{timeAt};
 use tdcp_columns::lent::between_into;

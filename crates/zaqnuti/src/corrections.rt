@@ -3,7 +3,8 @@ ghost use mathlib.Core.Path.{_≡_};
 ghost use Rattle.table.specs.Widen.{widenOf, wideningNumber, bandsAfter};
 ghost use Rattle.directory.specs.Directory.{lentBlocks, blockCapacity, directoryIn};
 ghost use Rattle.addition.specs.Add.{Places};
-ghost use Rattle.epoch_columns.specs.Epoch.{pointOf, settingsOf, entryIn};
+ghost use Rattle.numeric.specs.Vec3.{vectorAt};
+ghost use Rattle.epoch_columns.specs.Epoch.{settingsOf, entryIn};
 use epoch_columns::lent::add_into;
 use table::widen::Widening;
 use table::widen::widen_bands;
@@ -43,7 +44,7 @@ pub extern "C" fn zaqnuti_add_epoch(
         Places (entryIn (now (blocks .entry)) (now (n .entry)) (blockCapacity l) (directoryIn (now (blocks .entry)) (now (n .entry)) l) time
         k (now (rc .entry)) (now (rv .entry)) (now (rb .entry)) (now (rp .entry))
         present j (now (sc .entry)) (now (sv .entry)) (now (sb .entry)) (now (sf .entry))
-        (pointOf (now (base .entry))) (pointOf (now (rover .entry))) (settingsOf gap max (now (on .entry)))) r
+        (vectorAt (now (base .entry)) 0) (vectorAt (now (rover .entry)) 0) (settingsOf gap max (now (on .entry)))) r
         (now (blocks .entry)) (now (blocks .exit)) (now (n .entry)) (now (n .exit)) l
         (lentBlocks (now (dc .exit)) (now (dv .exit)) (now (db .exit)) (now (df .exit)) (now (dn .exit)) (now (ts .exit)) (now (xs .exit)))) ⌝ }
 {

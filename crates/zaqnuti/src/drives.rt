@@ -1,7 +1,8 @@
 // Entry points of a trip whose displacements are worked out under settings that may change between two epochs. The caller holds the trip as six words, and the settings in force as
 // five floats (screen, sigma_a, sigma_b, huber, mask) and the rounds.
 ghost use mathlib.Core.Path.{_≡_};
-ghost use Rattle.records.specs.Carriers.{vectorAt, carrierColumns};
+ghost use Rattle.records.specs.Carriers.{carrierColumns};
+ghost use Rattle.numeric.specs.Vec3.{vectorAt};
 ghost use Rattle.trip.specs.Words.{heldOf};
 ghost use Rattle.drive.specs.Drive.{begunOf, underNew, tested};
 ghost use Rattle.tdcp_columns.specs.Displacement.{displacementSettings};

@@ -1,6 +1,7 @@
 // Entry points of the displacement and the fix. What a caller lends as doubles is taken as their patterns, so that a refusal is promised to leave every bit.
 ghost use mathlib.Core.Path.{_≡_};
-ghost use Rattle.records.specs.Carriers.{vectorAt, carrierColumns};
+ghost use Rattle.records.specs.Carriers.{carrierColumns};
+ghost use Rattle.numeric.specs.Vec3.{vectorAt};
 ghost use Rattle.tdcp_columns.specs.Displacement as columns;
 ghost use Rattle.wls_columns.specs.Columns.{observationColumns};
 ghost use Rattle.wls_columns.specs.Fix as spec;

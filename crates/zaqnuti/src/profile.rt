@@ -1,6 +1,7 @@
 // The entry point of the city displacement.
 ghost use mathlib.Core.Path.{_≡_};
-ghost use Rattle.records.specs.Carriers.{vectorAt, carrierColumns};
+ghost use Rattle.records.specs.Carriers.{carrierColumns};
+ghost use Rattle.numeric.specs.Vec3.{vectorAt};
 ghost use Rattle.tdcp_columns.specs.Displacement.{displacementSettings, leftInput, columnCityOf, DisplacementAnswers};
 use tdcp_columns::lent::city_into;
 

@@ -2,9 +2,9 @@
 ghost use mathlib.Core.Path.{_≡_};
 ghost use Rattle.directory.specs.Directory.{lentBlocks, blockCapacity, directoryIn};
 ghost use Rattle.query.specs.Query.{queryIn, queryNumber, patternAfter, GivesFinite};
-ghost use Rattle.query.specs.Queries.{queriesIn, Replies};
-use query::calls::queries_call;
-use query::calls::query_call;
+ghost use Rattle.query_calls.specs.Queries.{queriesIn, Replies};
+use query_calls::calls::queries_call;
+use query_calls::calls::query_call;
 
 // The correction of the signal c, v, b at the time t in metres and 0, or the number of the refusal, which leaves metres as it was.
 #[no_mangle]

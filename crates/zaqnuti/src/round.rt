@@ -3,7 +3,7 @@ ghost use mathlib.Core.Path.{_≡_};
 ghost use Rattle.median.specs.Centre.{centreScaleOf, centreNumber, centreAfter};
 ghost use Rattle.numeric.specs.Sight as sight;
 ghost use Rattle.robust.specs.Sigma.{elevationSigma};
-ghost use Rattle.records.specs.Carriers.{vectorAt};
+ghost use Rattle.numeric.specs.Vec3.{vectorAt};
 ghost use Rattle.wls_columns.specs.Columns.{rowColumns};
 ghost use Rattle.wls_columns.specs.Step.{columnStepOf, StepAnswers};
 ghost use Rattle.zaqnuti.specs.Numbers.{sightAfter};
@@ -12,7 +12,7 @@ use median::centre::centre_scale;
 use numeric::order::pattern;
 use numeric::sight::Sighting;
 use numeric::sight::geometry;
-use records::carriers::vector;
+use numeric::vec3::vector;
 use robust::sigma::elevation_sigma;
 use wls_columns::round::round_into;
 

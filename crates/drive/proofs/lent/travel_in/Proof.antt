@@ -1,6 +1,7 @@
 -- `drive::lent::travel_in` meets its contract. Assumes nothing.
 use mathlib.Core.Path.{_≡_, refl, sym, _∙_}
-use Rattle.records.specs.Carriers.{vectorAt, carrierColumns}
+use Rattle.records.specs.Carriers.{carrierColumns}
+use Rattle.numeric.specs.Vec3.{vectorAt}
 use Rattle.tdcp_columns.specs.Displacement.{displacementSettings}
 use Rattle.drive.specs.Lent.{Lent, lent, travelledIn}
 use Rattle.drive.proofs.LentLaws.{travel-answers}

@@ -1,68 +1,92 @@
 -- `epoch_columns::lent::add_into` meets its contract. Assumes nothing.
-use Rattle.epoch_columns.proofs.EpochLaws.{adds-number}
+use mathlib.Core.Path.{sym, _∙_}
+use Rattle.directory.specs.Directory.{Blocks, lentBlocks}
+use Rattle.epoch_columns.proofs.EpochLaws.{readable, adds-nothing, adds-number}
 use borrow.Author.Needs.{needs}
 use Rattle.epoch_columns.proofs.lent.add_into.Statement.{statement}
 use Rattle.epoch_columns.proofs.lent.add_into.Tie as tie
 
-array-read-t39 : tie.Need-array-read-t39
-array-read-t39 c = search needs
+abbrev blocks : tie.Start → Blocks
+blocks s = lentBlocks (s .args .dc .now) (s .args .dv .now) (s .args .db .now) (s .args .df .now) (s .args .dn .now) (s .args .ts .now) (s .args .xs .now)
 
-array-read-t42 : tie.Need-array-read-t42
-array-read-t42 c = search needs
+is-unreadable-requires : tie.Need-is-unreadable-requires
+is-unreadable-requires c κs = search needs
 
-array-read-t45 : tie.Need-array-read-t45
-array-read-t45 c = search needs
+number-requires : tie.Need-number-requires
+number-requires c κs = search needs
 
-array-read-t39-2 : tie.Need-array-read-t39-2
-array-read-t39-2 c = search needs
+returns : tie.Need-returns
+returns c =
+    let s = c .before .before .before .before .before .before .before .before .before .before .before .before .before .before .before .before .before .before in
+    adds-nothing (s .args .blocks .now) (s .args .n .now) (blocks s) (s .args .time) (s .args .k) _ _ _ _ (s .args .present) (s .args .j) _ _ _ _ _ _ _ (c .before .before .is-unreadable .ensures) (c .before .if1 .taken) (c .number .ensures)
 
-array-read-t45-2 : tie.Need-array-read-t45-2
-array-read-t45-2 c = search needs
+epoch-from-requires : tie.Need-epoch-from-requires
+epoch-from-requires c κs =
+    let l = readable _ _ _ _ _ _ _ _ _ _ (sym (c .before .is-unreadable .ensures) ∙ c .if1 .left) in
+    (l .few-ranges, ((l .in-rc, l .in-rv), (l .in-rb, l .in-rp)))
 
-array-read-t42-2 : tie.Need-array-read-t42-2
-array-read-t42-2 c = search needs
+states-from-requires : tie.Need-states-from-requires
+states-from-requires c κs =
+    let l = readable _ _ _ _ _ _ _ _ _ _ (sym (c .before .before .is-unreadable .ensures) ∙ c .before .if1 .left) in
+    (l .few-states, ((l .in-sc, l .in-sv), (l .in-sb, l .in-sf)))
 
-add-from-requires : tie.Need-add-from-requires
-add-from-requires c κs = search needs
+vector-requires : tie.Need-vector-requires
+vector-requires c κs = search needs
+
+vector-requires-2 : tie.Need-vector-requires-2
+vector-requires-2 c κs = search needs
+
+settings-of-requires : tie.Need-settings-of-requires
+settings-of-requires c κs = search needs
+
+add-epoch-requires : tie.Need-add-epoch-requires
+add-epoch-requires c κs = search needs
 
 added-in-requires : tie.Need-added-in-requires
 added-in-requires c κs = search needs
 
 same-length : tie.Need-same-length
-same-length c = search needs
+same-length c = c .before .before .before .before .before .before .before .before .before .before .before .before .before .before .before .before .dc .given
 
 same-length-2 : tie.Need-same-length-2
-same-length-2 c = search needs
+same-length-2 c = c .before .before .before .before .before .before .before .before .before .before .before .before .before .before .dv .given
 
 same-length-3 : tie.Need-same-length-3
-same-length-3 c = search needs
+same-length-3 c = c .before .before .before .before .before .before .before .before .before .before .before .before .db .given
 
 same-length-4 : tie.Need-same-length-4
-same-length-4 c = search needs
+same-length-4 c = c .before .before .before .before .before .before .before .before .before .before .df .given
 
 same-length-5 : tie.Need-same-length-5
-same-length-5 c = search needs
+same-length-5 c = c .before .before .before .before .before .before .before .before .dn .given
 
 same-length-6 : tie.Need-same-length-6
-same-length-6 c = search needs
+same-length-6 c = c .before .before .before .before .before .before .ts .given
 
 same-length-7 : tie.Need-same-length-7
-same-length-7 c = search needs
+same-length-7 c = c .before .before .before .before .xs .given
 
-returns : tie.Need-returns
-returns c = adds-number (c .before .before .before .before .before .before .before .before .before .before .before .before .before .before .before .before .before .add-from .ensures) (c .added-in .ensures)
+returns-2 : tie.Need-returns-2
+returns-2 c =
+    let a = c .before .before .before .before .before .before .before .before .before .before .before .before .before .before .before .before .before in
+    let v = a .before .before .before .before .before .before .before .before .before .before in
+    let p = v .before .before .before .before .before in
+    let s = p .before .before .before .before .before .before .before .before .before .before .before .before .before .before .before .before .before in
+    adds-number (s .args .blocks .now) (s .args .n .now) (blocks s) (s .args .time) (s .args .k) _ _ _ _ (s .args .present) (s .args .j) _ _ _ _ _ _ _ (p .before .is-unreadable .ensures) (p .if1 .left) (v .before .before .before .before .epoch-from .ensures) (v .before .before .before .states-from .ensures) (v .before .before .vector .ensures) (v .before .vector2 .ensures) (v .settings-of .ensures) (a .add-epoch .ensures) (c .added-in .ensures)
 
 pub add-into-spec : {M : Type 1} → statement M
 add-into-spec =
     tie.close
     (tie.spec
-    array-read-t39
-    array-read-t42
-    array-read-t45
-    array-read-t39-2
-    array-read-t45-2
-    array-read-t42-2
-    add-from-requires
+    is-unreadable-requires
+    number-requires
+    returns
+    epoch-from-requires
+    states-from-requires
+    vector-requires
+    vector-requires-2
+    settings-of-requires
+    add-epoch-requires
     added-in-requires
     same-length
     same-length-2
@@ -71,4 +95,4 @@ add-into-spec =
     same-length-5
     same-length-6
     same-length-7
-    returns)
+    returns-2)

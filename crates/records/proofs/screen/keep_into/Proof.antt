@@ -2,21 +2,19 @@
 -- that it keeps. Assumes nothing.
 use mathlib.Core.Path.{_≡_, refl, sym, ap, _∙_}
 use mathlib.Core.Logic.{⊎-elim}
-use mathlib.Core.List.{map}
 use Prim.Native.Nat.{_≤_, _<_, _-_}
 use native.Mathlib.Omega.{arith}
-use lib.ListN.{take, length, length-set, length-map}
+use lib.ListN.{take, length, length-set}
 use lib.Seq.{length-take-le}
 use lib.Ieee.{Float, lt}
 use borrow.Author.Needs.{needs}
-use Rattle.walk.proofs.Walk.{length-mapped, collecting-start, collecting-none, collecting-one, collecting-end}
+use Rattle.walk.proofs.Walk.{length-mapped}
 use Rattle.numeric.specs.Order.{patternOf}
-use Rattle.records.specs.Record.{keep}
 use Rattle.records.specs.Screen.{detectors, centre, within, keptOf}
 use Rattle.records.specs.declared.pair.Pair.{Pair}
-use Rattle.records.proofs.KeepLaws.{keep-yes, keep-no, filled-next, collect-map}
+use Rattle.records.proofs.KeepLaws.{filled-next}
 use Rattle.records.proofs.PairLaws.{blankPair}
-use Rattle.records.proofs.ScreenLaws.{centre-is, kept, Gathering}
+use Rattle.records.proofs.ScreenLaws.{centre-is, Gathered, gathered-start, gathered-one, gathered-none, gathered-end}
 use Rattle.records.proofs.screen.keep_into.Statement.{statement}
 use Rattle.records.proofs.screen.keep_into.Tie as tie
 
@@ -27,7 +25,7 @@ abbrev μ-loop : tie.MeasureT-loop
 μ-loop screen x y z constellation elevation observed p n d₀ i₀ d i = n - i
 
 abbrev Inv-loop2 : tie.InvT-loop2
-Inv-loop2 screen x₀ y₀ z₀ constellation₀ elevation₀ observed₀ p n i c k₀ j₀ x y z constellation elevation observed k j = Gathering (λ (q : Pair). q .unit .x) screen c (p .pair) n x k j × Gathering (λ (q : Pair). q .unit .y) screen c (p .pair) n y k j × Gathering (λ (q : Pair). q .unit .z) screen c (p .pair) n z k j × Gathering (λ (q : Pair). q .constellation) screen c (p .pair) n constellation k j × Gathering (λ (q : Pair). q .elevation) screen c (p .pair) n elevation k j × Gathering (λ (q : Pair). q .observed) screen c (p .pair) n observed k j
+Inv-loop2 screen x₀ y₀ z₀ constellation₀ elevation₀ observed₀ p n i c k₀ j₀ x y z constellation elevation observed k j = Gathered screen c (p .pair) n x y z constellation elevation observed k j
 
 abbrev μ-loop2 : tie.MeasureT-loop2
 μ-loop2 screen x₀ y₀ z₀ constellation₀ elevation₀ observed₀ p n i c k₀ j₀ x y z constellation elevation observed k j = n - j
@@ -75,7 +73,7 @@ float-requires : tie.Need-float-requires Inv-loop μ-loop Inv-loop2 μ-loop2
 float-requires c κs = search needs
 
 loop2-holds : tie.Need-loop2-holds Inv-loop μ-loop Inv-loop2 μ-loop2
-loop2-holds c = (collecting-start _ _ _ 64 _ refl, collecting-start _ _ _ 64 _ refl, collecting-start _ _ _ 64 _ refl, collecting-start _ _ _ 64 _ refl, collecting-start _ _ _ 64 _ refl, collecting-start _ _ _ 64 _ refl)
+loop2-holds c = gathered-start _ _ _ _ _ _ _ _ _ _ refl refl refl refl refl refl
 
 mul-q-2 : tie.Need-mul-q-2 Inv-loop μ-loop Inv-loop2 μ-loop2
 mul-q-2 c = search needs
@@ -131,11 +129,22 @@ loop2-less c = search needs
 
 loop2-again : tie.Need-loop2-again Inv-loop μ-loop Inv-loop2 μ-loop2
 unfolding within
-loop2-again c = let s = c .before .before .before .before .before .before .before .before .before .before .before .before .before .before .before .before .before in let t = c .before .before .before .before .before .loop2 in let test = c .before .before .before .before .loop2-test .taken in let is = ap (λ (a : Float). lt a (s .args .screen)) (c .before .abs .ensures) in ⊎-elim (λ w. rw (w .1, w .2, w .3, w .4, w .5, w .6, w .7) (collecting-one (kept (λ (q : Pair). q .unit .x) _ _) _ _ 64 (fits s) (s .pre) (t .inv .0) blankPair test _ (ap (map (λ (q : Pair). q .unit .x)) (keep-yes (within _ _) _ is (w .0 .taken))), collecting-one (kept (λ (q : Pair). q .unit .y) _ _) _ _ 64 (fits s) (s .pre) (t .inv .1) blankPair test _ (ap (map (λ (q : Pair). q .unit .y)) (keep-yes (within _ _) _ is (w .0 .taken))), collecting-one (kept (λ (q : Pair). q .unit .z) _ _) _ _ 64 (fits s) (s .pre) (t .inv .2) blankPair test _ (ap (map (λ (q : Pair). q .unit .z)) (keep-yes (within _ _) _ is (w .0 .taken))), collecting-one (kept (λ (q : Pair). q .constellation) _ _) _ _ 64 (fits s) (s .pre) (t .inv .3) blankPair test _ (ap (map (λ (q : Pair). q .constellation)) (keep-yes (within _ _) _ is (w .0 .taken))), collecting-one (kept (λ (q : Pair). q .elevation) _ _) _ _ 64 (fits s) (s .pre) (t .inv .4) blankPair test _ (ap (map (λ (q : Pair). q .elevation)) (keep-yes (within _ _) _ is (w .0 .taken))), collecting-one (kept (λ (q : Pair). q .observed) _ _) _ _ 64 (fits s) (s .pre) (t .inv .5) blankPair test _ (ap (map (λ (q : Pair). q .observed)) (keep-yes (within _ _) _ is (w .0 .taken))))) (λ w. rw (w .1, w .2, w .3, w .4, w .5, w .6, w .7) (collecting-none (kept (λ (q : Pair). q .unit .x) _ _) _ _ 64 (fits s) (s .pre) (t .inv .0) blankPair test (ap (map (λ (q : Pair). q .unit .x)) (keep-no (within _ _) _ is (w .0 .left))), collecting-none (kept (λ (q : Pair). q .unit .y) _ _) _ _ 64 (fits s) (s .pre) (t .inv .1) blankPair test (ap (map (λ (q : Pair). q .unit .y)) (keep-no (within _ _) _ is (w .0 .left))), collecting-none (kept (λ (q : Pair). q .unit .z) _ _) _ _ 64 (fits s) (s .pre) (t .inv .2) blankPair test (ap (map (λ (q : Pair). q .unit .z)) (keep-no (within _ _) _ is (w .0 .left))), collecting-none (kept (λ (q : Pair). q .constellation) _ _) _ _ 64 (fits s) (s .pre) (t .inv .3) blankPair test (ap (map (λ (q : Pair). q .constellation)) (keep-no (within _ _) _ is (w .0 .left))), collecting-none (kept (λ (q : Pair). q .elevation) _ _) _ _ 64 (fits s) (s .pre) (t .inv .4) blankPair test (ap (map (λ (q : Pair). q .elevation)) (keep-no (within _ _) _ is (w .0 .left))), collecting-none (kept (λ (q : Pair). q .observed) _ _) _ _ 64 (fits s) (s .pre) (t .inv .5) blankPair test (ap (map (λ (q : Pair). q .observed)) (keep-no (within _ _) _ is (w .0 .left))))) (c .if1 .came)
+loop2-again c =
+    let s = c .before .before .before .before .before .before .before .before .before .before .before .before .before .before .before .before .before in
+    let t = c .before .before .before .before .before .loop2 in
+    let test = c .before .before .before .before .loop2-test .taken in
+    let is = ap (λ (a : Float). lt a (s .args .screen)) (c .before .abs .ensures) in
+    ⊎-elim (λ w. rw (w .1, w .2, w .3, w .4, w .5, w .6, w .7) (gathered-one _ _ _ _ (fits s) (s .pre) (t .inv) test is (w .0 .taken)))
+    (λ w. rw (w .1, w .2, w .3, w .4, w .5, w .6, w .7) (gathered-none _ _ _ _ (fits s) (s .pre) (t .inv) test is (w .0 .left)))
+    (c .if1 .came)
 
 returns : tie.Need-returns Inv-loop μ-loop Inv-loop2 μ-loop2
 unfolding keptOf
-returns c = let s = c .before .before .before .before .before .before .before .before .before .before .before .before .before in let h = c .before .before .before .before .before .before .before .before .before .before .before .before in let t = c .before .loop2 in let m : c .before .before .before .before .before .before .before .before .float .result ≡ centre (take (s .args .t1 .count) (s .args .t1 .pair)) = rw (c .before .before .before .before .before .before .before .before .float .ensures, c .before .before .before .before .before .before .before .before .before .median .ensures) (centre-is _ _ (h .loop .i) _ (h .loop .inv .0) (c .before .before .before .before .before .before .before .before .before .before .before .loop-test .left) (s .pre) (h .loop .inv .2)) in let e0 = collecting-end (kept (λ (q : Pair). q .unit .x) _ _) _ _ 64 (fits s) (s .pre) (t .inv .0) (c .loop2-test .left) in let e1 = collecting-end (kept (λ (q : Pair). q .unit .y) _ _) _ _ 64 (fits s) (s .pre) (t .inv .1) (c .loop2-test .left) in let e2 = collecting-end (kept (λ (q : Pair). q .unit .z) _ _) _ _ 64 (fits s) (s .pre) (t .inv .2) (c .loop2-test .left) in let e3 = collecting-end (kept (λ (q : Pair). q .constellation) _ _) _ _ 64 (fits s) (s .pre) (t .inv .3) (c .loop2-test .left) in let e4 = collecting-end (kept (λ (q : Pair). q .elevation) _ _) _ _ 64 (fits s) (s .pre) (t .inv .4) (c .loop2-test .left) in let e5 = collecting-end (kept (λ (q : Pair). q .observed) _ _) _ _ 64 (fits s) (s .pre) (t .inv .5) (c .loop2-test .left) in rw (← m) (record { room = omega (arith, e0 .few, s .pre); count = e0 .count ∙ ap length (collect-map (λ (q : Pair). q .unit .x) (keep (within _ _)) _) ∙ simp length-map; constellation-long = t .inv .3 .long; observed-long = t .inv .5 .long; xs = e0 .all ∙ collect-map (λ (q : Pair). q .unit .x) (keep (within _ _)) _; ys = e1 .all ∙ collect-map (λ (q : Pair). q .unit .y) (keep (within _ _)) _; zs = e2 .all ∙ collect-map (λ (q : Pair). q .unit .z) (keep (within _ _)) _; constellations = e3 .all ∙ collect-map (λ (q : Pair). q .constellation) (keep (within _ _)) _; elevations = e4 .all ∙ collect-map (λ (q : Pair). q .elevation) (keep (within _ _)) _; observeds = e5 .all ∙ collect-map (λ (q : Pair). q .observed) (keep (within _ _)) _ })
+returns c =
+    let s = c .before .before .before .before .before .before .before .before .before .before .before .before .before in
+    let h = c .before .before .before .before .before .before .before .before .before .before .before .before in
+    let m : c .before .before .before .before .before .before .before .before .float .result ≡ centre (take (s .args .t1 .count) (s .args .t1 .pair)) = rw (c .before .before .before .before .before .before .before .before .float .ensures, c .before .before .before .before .before .before .before .before .before .median .ensures) (centre-is _ _ (h .loop .i) _ (h .loop .inv .0) (c .before .before .before .before .before .before .before .before .before .before .before .loop-test .left) (s .pre) (h .loop .inv .2)) in
+    rw (← m) (gathered-end _ _ _ _ (fits s) (s .pre) (c .before .loop2 .inv) (c .loop2-test .left))
 
 pub keep-into-spec : {M : Type 1} → statement M
 keep-into-spec =

@@ -2,11 +2,13 @@
 use mathlib.Core.Path.{refl, sym, _∙_}
 use mathlib.Core.List.{List}
 use lib.Ieee.{Float}
-use Rattle.robust.specs.Round.{weight, roundBy, roundOf}
-use Rattle.robust.specs.Normal.{Solving}
-use Rattle.robust.specs.Columns.{Columns, columns, rowsIn}
+use Rattle.normal.specs.Weight.{weight}
+use Rattle.robust.specs.Round.{roundBy, roundOf}
+use Rattle.robust.specs.Solving.{Solving}
+use Rattle.normal.specs.Columns.{Columns, columns, rowsIn}
 use Rattle.robust.specs.declared.round.Stepping.{Stepping}
-use Rattle.robust.proofs.FormedLaws.{solving-yes, solving-no, matrix-unused, right-unused}
+use Rattle.robust.proofs.SolvingLaws.{solving-yes, solving-no}
+use Rattle.normal.proofs.FormedLaws.{matrix-unused, right-unused}
 use Rattle.robust.proofs.StepLaws.{never-refused, round-solving}
 use native.Mathlib.Omega.{arith}
 use borrow.Author.Needs.{needs}

@@ -10,13 +10,13 @@ use borrow.Author.Tests.{le-leb, lt-leb}
 use Rattle.walk.specs.Walk.{every}
 use Rattle.walk.proofs.Walk.{length-mapped, every-end, every-yes, every-no}
 use Rattle.robust.specs.Round.{roundOf}
-use Rattle.robust.specs.Normal.{Solving}
-use Rattle.robust.specs.Columns.{columns, rowsIn}
+use Rattle.robust.specs.Solving.{Solving}
+use Rattle.normal.specs.Columns.{columns, rowsIn}
 use Rattle.robust.specs.Step.{counted, indexed, Stepped}
-use Rattle.robust.specs.declared.row.Row.{Row}
+use Rattle.normal.specs.declared.row.Row.{Row}
 use Rattle.robust.specs.declared.round.Stepping.{Stepping}
-use Rattle.robust.proofs.Sums.{blank}
-use Rattle.robust.proofs.ColumnLaws.{Column, column-start, column-next, rows-are}
+use Rattle.normal.proofs.Sums.{blank}
+use Rattle.normal.proofs.ColumnLaws.{Column, column-start, column-next, rows-are}
 use Rattle.robust.proofs.StepLaws.{step-many, step-wide, step-index, step-done, step-refused}
 use borrow.Author.Needs.{needs}
 use native.Mathlib.Omega.{arith}

@@ -9,7 +9,7 @@ use Rattle.estimator.specs.declared.rules.Check.the-variants.{Passed}
 use Rattle.estimator.proofs.RulesLaws.{checked}
 use Rattle.tdcp.specs.Front.{sightRules}
 use Rattle.tdcp.proofs.SightLaws.{all-seen, one-unseen}
-use Rattle.tdcp.proofs.DisplacementCall.{refused-sights, no-more, refused-counts, few-clocks, stopped, reached}
+use Rattle.tdcp.proofs.DisplacementCall.{refused-sights, no-more, refused-counts, few-clocks, over}
 use borrow.Author.Needs.{needs}
 use Rattle.tdcp.proofs.displacement.moved_by.Statement.{statement}
 use Rattle.tdcp.proofs.displacement.moved_by.Tie as tie
@@ -61,29 +61,29 @@ enum-told c = search needs
 array-share-prefix-observed : tie.Need-array-share-prefix-observed
 array-share-prefix-observed c = search needs
 
-slice-aggregate-fit-pairs : tie.Need-slice-aggregate-fit-pairs
-slice-aggregate-fit-pairs c = let k = c .before .before .before .before .before .before .before .before .before .before .before .before .before .before .keep-into .ensures in sym (length-take-le _ _ (omega (arith, k .room, k .observed-long)))
+slice-aggregate-moved-over : tie.Need-slice-aggregate-moved-over
+slice-aggregate-moved-over c = let k = c .before .before .before .before .before .before .before .before .before .before .before .before .before .before .keep-into .ensures in sym (length-take-le _ _ (omega (arith, k .room, k .observed-long)))
 
-fit-pairs-requires : tie.Need-fit-pairs-requires
-fit-pairs-requires c κs = let t = c .before .before .before .before .before .before .before .before .before .before .before .before .before .before .before .before .before .before .before .before .before .before in let s = t .args in let k = c .before .before .before .before .before .before .before .before .before .before .before .before .before .before .before .keep-into .ensures in (simp length-take (omega (arith, k .room)), few-clocks (s .city) (s .settings) (take (s .all .count) (s .all .pair)) (s .all .count) (long t) (let-pass (c .before .before .before .before .before .before .before .before .before .before .before .before .before .before)) _ k (c .before .before .before .before .before .before .before .before .before .before .before .before .clocks-of .ensures) (c .before .before .before .before .before .before .before .before .before .before .is-uncertified .ensures) (sym (c .before .before .before .before .before .before .before .enum-told .given .1) ∙ c .before .before .before .before .before .before .before .before .before .check-pairs .ensures))
+sub-moved-over : tie.Need-sub-moved-over
+sub-moved-over c =
+    let t = c .before .before .before .before .before .before .before .before .before .before .before .before .before .before .before .before .before .before .before .before .before in
+    let s = t .args in
+    let k = c .before .before .before .before .before .before .before .before .before .before .before .before .before .before .keep-into .ensures in
+    no-more (s .city) (s .settings) (take (s .all .count) (s .all .pair)) (s .all .count) (long t) (let-pass (c .before .before .before .before .before .before .before .before .before .before .before .before .before)) _ k (c .before .before .before .before .before .before .before .before .before .before .before .clocks-of .ensures) (c .before .before .before .before .before .before .before .before .before .is-uncertified .ensures)
 
-enum-known-r-2 : tie.Need-enum-known-r-2
-enum-known-r-2 c = search needs
+moved-over-requires : tie.Need-moved-over-requires
+moved-over-requires c κs =
+    let t = c .before .before .before .before .before .before .before .before .before .before .before .before .before .before .before .before .before .before .before .before .before in
+    let s = t .args in
+    let k = c .before .before .before .before .before .before .before .before .before .before .before .before .before .before .keep-into .ensures in
+    (simp length-take (omega (arith, k .room)), few-clocks (s .city) (s .settings) (take (s .all .count) (s .all .pair)) (s .all .count) (long t) (let-pass (c .before .before .before .before .before .before .before .before .before .before .before .before .before)) _ k (c .before .before .before .before .before .before .before .before .before .before .before .clocks-of .ensures) (c .before .before .before .before .before .before .before .before .before .is-uncertified .ensures) (sym (c .before .before .before .before .before .before .enum-told .given .1) ∙ c .before .before .before .before .before .before .before .before .check-pairs .ensures))
 
 returns-3 : tie.Need-returns-3
-returns-3 c = let t = c .before .before .before .before .before .before .before .before .before .before .before .before .before .before .before .before .before .before .before .before .before .before .before .before .before .before in let s = t .args in let k = c .before .before .before .before .before .before .before .before .before .before .before .before .before .before .before .before .before .before .before .keep-into .ensures in stopped (s .city) (s .settings) (take (s .all .count) (s .all .pair)) (s .all .count) (long t) (let-pass (c .before .before .before .before .before .before .before .before .before .before .before .before .before .before .before .before .before .before)) _ k (c .before .before .before .before .before .before .before .before .before .before .before .before .before .before .before .before .clocks-of .ensures) (c .before .before .before .before .before .before .before .before .before .before .before .before .before .before .is-uncertified .ensures) (sym (c .before .before .before .before .before .before .before .before .before .before .before .enum-told .given .1) ∙ c .before .before .before .before .before .before .before .before .before .before .before .before .before .check-pairs .ensures) (rw (c .before .r2 .given .1) at (c .before .before .before .fit-pairs .ensures))
-
-enum-told-2 : tie.Need-enum-told-2
-enum-told-2 c = search needs
-
-sub-moved-to : tie.Need-sub-moved-to
-sub-moved-to c = let t = c .before .before .before .before .before .before .before .before .before .before .before .before .before .before .before .before .before .before .before .before .before .before .before .before .before in let s = t .args in let k = c .before .before .before .before .before .before .before .before .before .before .before .before .before .before .before .before .before .before .keep-into .ensures in no-more (s .city) (s .settings) (take (s .all .count) (s .all .pair)) (s .all .count) (long t) (let-pass (c .before .before .before .before .before .before .before .before .before .before .before .before .before .before .before .before .before)) _ k (c .before .before .before .before .before .before .before .before .before .before .before .before .before .before .before .clocks-of .ensures) (c .before .before .before .before .before .before .before .before .before .before .before .before .before .is-uncertified .ensures)
-
-moved-to-requires : tie.Need-moved-to-requires
-moved-to-requires c κs = search needs
-
-returns-4 : tie.Need-returns-4
-returns-4 c = let t = c .before .before .before .before .before .before .before .before .before .before .before .before .before .before .before .before .before .before .before .before .before .before .before .before .before .before in let s = t .args in let k = c .before .before .before .before .before .before .before .before .before .before .before .before .before .before .before .before .before .before .before .keep-into .ensures in c .moved-to .ensures ∙ reached (s .city) (s .settings) (take (s .all .count) (s .all .pair)) (s .all .count) (long t) (let-pass (c .before .before .before .before .before .before .before .before .before .before .before .before .before .before .before .before .before .before)) _ k (c .before .before .before .before .before .before .before .before .before .before .before .before .before .before .before .before .clocks-of .ensures) (c .before .before .before .before .before .before .before .before .before .before .before .before .before .before .is-uncertified .ensures) (sym (c .before .before .before .before .before .before .before .before .before .before .before .enum-told .given .1) ∙ c .before .before .before .before .before .before .before .before .before .before .before .before .before .check-pairs .ensures) (rw (c .before .enum-told2 .given .1) at (c .before .before .before .fit-pairs .ensures))
+returns-3 c =
+    let t = c .before .before .before .before .before .before .before .before .before .before .before .before .before .before .before .before .before .before .before .before .before .before in
+    let s = t .args in
+    let k = c .before .before .before .before .before .before .before .before .before .before .before .before .before .before .before .keep-into .ensures in
+    over (s .city) (s .settings) (take (s .all .count) (s .all .pair)) (s .all .count) (long t) (let-pass (c .before .before .before .before .before .before .before .before .before .before .before .before .before .before)) _ k (c .before .before .before .before .before .before .before .before .before .before .before .before .clocks-of .ensures) (c .before .before .before .before .before .before .before .before .before .before .is-uncertified .ensures) (sym (c .before .before .before .before .before .before .before .enum-told .given .1) ∙ c .before .before .before .before .before .before .before .before .before .check-pairs .ensures) (c .moved-over .ensures)
 
 pub moved-by-spec : {M : Type 1} → statement M
 moved-by-spec =
@@ -102,11 +102,7 @@ moved-by-spec =
     returns-2
     enum-told
     array-share-prefix-observed
-    slice-aggregate-fit-pairs
-    fit-pairs-requires
-    enum-known-r-2
-    returns-3
-    enum-told-2
-    sub-moved-to
-    moved-to-requires
-    returns-4)
+    slice-aggregate-moved-over
+    sub-moved-over
+    moved-over-requires
+    returns-3)

@@ -1,7 +1,7 @@
 -- `wls_columns::fix::fix_from` meets its contract. Assumes nothing.
 use mathlib.Core.Path.{sym, _∙_}
 use borrow.Author.Tests.{not-true, not-false}
-use Rattle.records.specs.Carriers.{vectorAt}
+use Rattle.numeric.specs.Vec3.{vectorAt}
 use Rattle.wls_columns.specs.Columns.{ObservationColumns, observationColumns}
 use Rattle.wls_columns.proofs.FixLaws.{fix-short, fix-fit}
 use borrow.Author.Needs.{needs}

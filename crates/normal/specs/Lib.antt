@@ -1,0 +1,5 @@
+pub mod Nine
+pub mod Weight
+pub mod Equations
+pub mod Columns
+pub mod Formed

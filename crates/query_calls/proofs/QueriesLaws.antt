@@ -1,0 +1,236 @@
+-- The columns that a call of many queries leaves, and that the call gives what as many single queries give. Assumes nothing.
+use mathlib.Core.Path.{_≡_, refl, sym, ap, _∙_, subst}
+use mathlib.Core.List.{List, [], _∷_, _++_}
+use mathlib.Core.Bool.{Bool, true, false, cond, not, _&&_, _||_}
+use Prim.Native.Nat.{ℕ, zero, suc, _+_, _≤_, _<_}
+use native.Mathlib.Numerals.{add-one}
+use native.Mathlib.Omega.{arith}
+use lib.ListN.{length, getD, set}
+use lib.Dec.{ltb}
+use borrow.Author.Tests.{ltb-false, not-true, not-false}
+use lib.Ieee.{Float, nan}
+use lib.Ieee.Scale.{finite}
+use Rattle.walk.specs.Walk.{places}
+use Rattle.walk.proofs.Walk.{places-length, places-at, or-no}
+use Rattle.numeric.specs.Real.{inRange}
+use Rattle.numeric.specs.declared.refusal.Refusal.{Refusal}
+use Rattle.numeric.specs.declared.refusal.Refusal.the-variants.{TooMany, SettingOutOfRange, RecordOutOfRange}
+use Rattle.directory.specs.Directory.{Directory, flat, soundDirectory}
+use Rattle.query.specs.Query.{answerAt, guarded, queryIn, queryNumber, metresAfter, GivesFinite, PassedQuery}
+use Rattle.query.specs.declared.query.Correction.{Correction}
+use Rattle.query.specs.declared.query.Correction.the-variants as Correction
+use Rattle.query_calls.specs.declared.queries.Asking.the-variants.{Refused, Answered}
+use Rattle.query_calls.specs.Queries.{Reply, refusal, answers, placesShort, queryAt, queriesIn, askingOf, askingNumber, written, numberAfter, EachFinite, Replies}
+
+-- ---- a column with answers written to it
+module _ {A : Type 0} (f : Correction → A → A) where
+  pub written-length : (l : List Correction) (xs : List A) → length (written f l xs) ≡ length xs
+  unfolding written
+  written-length [] xs = refl
+  written-length (a ∷ l) [] = refl
+  written-length (a ∷ l) (x ∷ xs) = ap suc (written-length l xs)
+
+  pub written-at : (l : List Correction) (xs : List A) (i : ℕ) (e : Correction) (d : A) → i < length l → i < length xs → getD (written f l xs) i d ≡ f (getD l i e) (getD xs i d)
+  unfolding written
+  written-at [] xs i e d h k = absurd (omega arith)
+  written-at (a ∷ l) [] i e d h k = absurd (omega arith)
+  written-at (a ∷ l) (x ∷ xs) zero e d h k = refl
+  written-at (a ∷ l) (x ∷ xs) (suc i) e d h k = written-at l xs i e d (omega arith) (omega arith)
+
+  -- one answer more
+  more : (l : List Correction) (a : Correction) (xs : List A) (d : A) → set (written f l xs) (length l) (f a (getD (written f l xs) (length l) d)) ≡ written f (l ++ (a ∷ [])) xs
+  unfolding written
+  more [] a [] d = refl
+  more [] a (x ∷ xs) d = refl
+  more (b ∷ l) a [] d = refl
+  more (b ∷ l) a (x ∷ xs) d = ap (λ (z : List A). f b x ∷ z) (more l a xs d)
+
+  pub written-next : (a : ℕ → Correction) (i : ℕ) (xs₀ xs : List A) (d : A) (r : Correction) (x : A) → xs ≡ written f (places a i) xs₀ → r ≡ a i → x ≡ f r (getD xs i d)
+      → set xs i x ≡ written f (places a (i + 1)) xs₀
+  unfolding places
+  written-next a i xs₀ xs d r x h e k = rw (add-one i, k, e, h) (at i (places-length a i))
+    where
+      at : (n : ℕ) → length (places a i) ≡ n → set (written f (places a i) xs₀) n (f (a i) (getD (written f (places a i) xs₀) n d)) ≡ written f (places a i ++ (a i ∷ [])) xs₀
+      at n q = rw (← q) (more (places a i) (a i) xs₀ d)
+
+finite-more : (l : List Correction) (a : Correction) → EachFinite l → GivesFinite a → EachFinite (l ++ (a ∷ []))
+unfolding EachFinite
+finite-more [] a h g = (g, tt)
+finite-more (b ∷ l) a h g = (h .0, finite-more l a (h .1) g)
+
+finite-at : (l : List Correction) (i : ℕ) (d : Correction) → i < length l → EachFinite l → GivesFinite (getD l i d)
+unfolding EachFinite
+finite-at [] i d k h = absurd (omega arith)
+finite-at (a ∷ l) zero d k h = h .0
+finite-at (a ∷ l) (suc i) d k h = finite-at l i d (omega arith) (h .1)
+
+-- ---- the loop: a is the answer at each place, of which i are written
+pub record Filling (a : ℕ → Correction) (count : ℕ) (numbers₀ : List ℕ) (metres₀ : List Float) (numbers : List ℕ) (metres : List Float) (i : ℕ) : Type 0 where
+  pub within : i ≤ count
+  pub numbers-so-far : numbers ≡ written numberAfter (places a i) numbers₀
+  pub metres-so-far : metres ≡ written metresAfter (places a i) metres₀
+  pub finite-so-far : EachFinite (places a i)
+
+module _ (a : ℕ → Correction) (count : ℕ) (numbers₀ : List ℕ) (metres₀ : List Float) where
+  pub filling-start : Filling a count numbers₀ metres₀ numbers₀ metres₀ 0
+  unfolding places written EachFinite
+  filling-start = record { within = omega arith; numbers-so-far = refl; metres-so-far = refl; finite-so-far = tt }
+
+  module _ (numbers : List ℕ) (metres : List Float) (i : ℕ) (s : Filling a count numbers₀ metres₀ numbers metres i) where
+    pub filling-numbers : length numbers ≡ length numbers₀
+    filling-numbers = ap length (s .numbers-so-far) ∙ written-length numberAfter (places a i) numbers₀
+
+    pub filling-metres : length metres ≡ length metres₀
+    filling-metres = ap length (s .metres-so-far) ∙ written-length metresAfter (places a i) metres₀
+
+    pub filling-next : i < count → (r : Correction) (x : ℕ) (y : Float) → r ≡ a i → GivesFinite r → x ≡ queryNumber r → y ≡ metresAfter r (getD metres i nan)
+        → Filling a count numbers₀ metres₀ (set numbers i x) (set metres i y) (i + 1)
+    unfolding places
+    filling-next h r x y e g p q =
+        record {
+          within = omega arith;
+          numbers-so-far = written-next numberAfter a i numbers₀ numbers 0 r x (s .numbers-so-far) e p;
+          metres-so-far = written-next metresAfter a i metres₀ metres nan r y (s .metres-so-far) e q;
+          finite-so-far = rw (add-one i) (finite-more (places a i) (a i) (s .finite-so-far) (rw e at g));
+        }
+
+    pub filling-end : count ≤ i → Replies (answers (places a count)) 0 numbers₀ metres₀ numbers metres
+    filling-end h =
+        let z : i ≡ count = omega (arith, s .within) in
+        rw (← z) (record { number-is = refl; numbers-after = s .numbers-so-far; metres-after = s .metres-so-far; all-finite = s .finite-so-far })
+
+-- ---- columns that are long enough
+pub record Long (count : ℕ) (c v b : List ℕ) (t : List Float) (numbers : List ℕ) (metres : List Float) : Type 0 where
+  pub in-c : count ≤ length c
+  pub in-v : count ≤ length v
+  pub in-b : count ≤ length b
+  pub in-t : count ≤ length t
+  pub in-numbers : count ≤ length numbers
+  pub in-metres : count ≤ length metres
+
+pub not-short : (count : ℕ) (c v b : List ℕ) (t : List Float) (numbers : List ℕ) (metres : List Float) → placesShort count c v b t numbers metres ≡ false → Long count c v b t numbers metres
+unfolding placesShort
+not-short count c v b t numbers metres e =
+    let h = or-no _ (ltb (length metres) count) e in
+    let g = or-no _ (ltb (length numbers) count) (h .0) in
+    let f = or-no _ (ltb (length t) count) (g .0) in
+    let d = or-no _ (ltb (length b) count) (f .0) in
+    let a = or-no (ltb (length c) count) (ltb (length v) count) (d .0) in
+    record {
+      in-c = ltb-false (length c) count (a .0);
+      in-v = ltb-false (length v) count (a .1);
+      in-b = ltb-false (length b) count (d .1);
+      in-t = ltb-false (length t) count (f .1);
+      in-numbers = ltb-false (length numbers) count (g .1);
+      in-metres = ltb-false (length metres) count (h .1);
+    }
+
+-- ---- the reply, way by way
+pub refused-reply : {o : Reply} (r : Refusal) (numbers : List ℕ) (metres : List Float) → o ≡ refusal r → (Refused r ≡ askingOf o) × Replies o (askingNumber (Refused r)) numbers metres numbers metres
+refused-reply r numbers metres e = rw e (refl, record { number-is = refl; numbers-after = refl; metres-after = refl; all-finite = tt })
+
+pub same-reply : {o p : Reply} {number : ℕ} {numbers : List ℕ} {metres : List Float} {numbers′ : List ℕ} {metres′ : List Float} → o ≡ p → Replies p number numbers metres numbers′ metres′ → Replies o number numbers metres numbers′ metres′
+same-reply e h = rw e h
+
+pub answered-reply : {o : Reply} {l : List Correction} {numbers : List ℕ} {metres : List Float} {numbers′ : List ℕ} {metres′ : List Float} → o ≡ answers l → Replies (answers l) 0 numbers metres numbers′ metres′
+    → (Answered ≡ askingOf o) × Replies o (askingNumber Answered) numbers metres numbers′ metres′
+answered-reply e h = rw e (refl, h)
+
+module _ (m n room : ℕ) (d : Directory) (gap : Float) (c v b : List ℕ) (t : List Float) (count : ℕ) (numbers : List ℕ) (metres : List Float) where
+  pub many : (ltb room m || ltb room n) ≡ true → queriesIn m n room d gap c v b t count numbers metres ≡ refusal TooMany
+  unfolding queriesIn
+  many h = rw h
+
+  module _ (h : (ltb room m || ltb room n) ≡ false) {s : Bool} (es : s ≡ placesShort count c v b t numbers metres) where
+    pub short-lent : s ≡ true → queriesIn m n room d gap c v b t count numbers metres ≡ refusal TooMany
+    unfolding queriesIn
+    short-lent w = rw (h, sym es ∙ w)
+
+    module _ (w : s ≡ false) {q : Bool} (eq : q ≡ inRange gap) where
+      pub gap-out : not q ≡ true → queriesIn m n room d gap c v b t count numbers metres ≡ refusal SettingOutOfRange
+      unfolding queriesIn
+      gap-out u = rw (h, sym es ∙ w, sym eq ∙ not-true q u)
+
+      module _ (u : not q ≡ false) {y : Bool} (ey : y ≡ soundDirectory d) where
+        pub not-sound : not y ≡ true → queriesIn m n room d gap c v b t count numbers metres ≡ refusal RecordOutOfRange
+        unfolding queriesIn
+        not-sound z = rw (h, sym es ∙ w, sym eq ∙ not-false q u, sym ey ∙ not-true y z)
+
+        module _ (z : not y ≡ false) where
+          pub passes : PassedQuery m n room d gap
+          passes =
+              let k = or-no (ltb room m) (ltb room n) h in
+              record {
+                few-entries = ltb-false room m (k .0);
+                few-samples = ltb-false room n (k .1);
+                in-range = sym eq ∙ not-false q u;
+                steady = sym ey ∙ not-false y z;
+              }
+
+          pub all-answered : queriesIn m n room d gap c v b t count numbers metres ≡ answers (places (queryAt m n room d gap c v b t) count)
+          unfolding queriesIn
+          all-answered = rw (h, sym es ∙ w, sym eq ∙ not-false q u, sym ey ∙ not-false y z)
+
+-- ---- one call gives what as many single queries give
+module _ (m n room : ℕ) (d : Directory) (gap : Float) (c v b : List ℕ) (t : List Float) (count : ℕ) (numbers : List ℕ) (metres : List Float) where
+  -- where the call answers, its columns are long enough and its reply has the query at each place
+  answering : askingOf (queriesIn m n room d gap c v b t count numbers metres) ≡ Answered
+      → (placesShort count c v b t numbers metres ≡ false) × (queriesIn m n room d gap c v b t count numbers metres ≡ answers (places (queryAt m n room d gap c v b t) count))
+  unfolding queriesIn
+  answering = go (ltb room m || ltb room n) (placesShort count c v b t numbers metres) (not (inRange gap)) (not (soundDirectory d))
+    where
+      all : Reply
+      all = answers (places (queryAt m n room d gap c v b t) count)
+
+      go : (w x y z : Bool) → askingOf (cond (w || x) (refusal TooMany) (cond y (refusal SettingOutOfRange) (cond z (refusal RecordOutOfRange) all))) ≡ Answered
+          → (x ≡ false) × (cond (w || x) (refusal TooMany) (cond y (refusal SettingOutOfRange) (cond z (refusal RecordOutOfRange) all)) ≡ all)
+      go true x y z e = absurd (let q : _≡_ {A = ℕ} 0 1 = cc in omega arith)
+      go false true y z e = absurd (let q : _≡_ {A = ℕ} 0 1 = cc in omega arith)
+      go false false true z e = absurd (let q : _≡_ {A = ℕ} 0 1 = cc in omega arith)
+      go false false false true e = absurd (let q : _≡_ {A = ℕ} 0 1 = cc in omega arith)
+      go false false false false e = (refl, refl)
+
+  module _ (numbers′ : List ℕ) (metres′ : List Float) (e : Answered ≡ askingOf (queriesIn m n room d gap c v b t count numbers metres)) (h : Replies (queriesIn m n room d gap c v b t count numbers metres) 0 numbers metres numbers′ metres′) (i : ℕ) (k : i < count) where
+    is : Replies (answers (places (queryAt m n room d gap c v b t) count)) 0 numbers metres numbers′ metres′
+    is = same-reply (sym (answering (sym e) .1)) h
+
+    long : Long count c v b t numbers metres
+    long = not-short count c v b t numbers metres (answering (sym e) .0)
+
+    answer : (x : Correction) → getD (places (queryAt m n room d gap c v b t) count) i x ≡ queryAt m n room d gap c v b t i
+    answer x = places-at (queryAt m n room d gap c v b t) count i x k
+
+    nothing : Correction
+    nothing = Correction.Refused TooMany
+
+    inside : i < length (places (queryAt m n room d gap c v b t) count)
+    inside = omega (arith, places-length (queryAt m n room d gap c v b t) count)
+
+    -- the number of each place is that of the query there
+    pub number-at : getD numbers′ i 0 ≡ queryNumber (queryAt m n room d gap c v b t i)
+    number-at =
+        ap (λ (x : List ℕ). getD x i 0) (is .numbers-after) ∙ written-at numberAfter (places (queryAt m n room d gap c v b t) count) numbers i nothing 0 inside (omega (arith, long .in-numbers)) ∙ ap queryNumber (answer nothing)
+
+    -- its metres are those of the query there, and as they were where that is refused
+    pub metres-at : getD metres′ i nan ≡ metresAfter (queryAt m n room d gap c v b t i) (getD metres i nan)
+    metres-at =
+        ap (λ (x : List Float). getD x i nan) (is .metres-after) ∙ written-at metresAfter (places (queryAt m n room d gap c v b t) count) metres i nothing nan inside (omega (arith, long .in-metres))
+        ∙ ap (λ (a : Correction). metresAfter a (getD metres i nan)) (answer nothing)
+
+    -- and every correction given is finite
+    pub finite-there : GivesFinite (queryAt m n room d gap c v b t i)
+    finite-there = subst GivesFinite (answer nothing) (finite-at (places (queryAt m n room d gap c v b t) count) i nothing inside (is .all-finite))
+
+  -- where the samples are too many or the lent columns are long enough, and the call is refused, every query of the table is refused by the same number
+  pub each-refused : ((ltb room m || ltb room n) || not (placesShort count c v b t numbers metres)) ≡ true → (r : Refusal) → queriesIn m n room d gap c v b t count numbers metres ≡ refusal r
+      → (c′ v′ b′ : ℕ) (t′ : Float) → queryIn m n room d gap c′ v′ b′ t′ ≡ Correction.Refused r
+  unfolding queriesIn queryIn guarded
+  each-refused h r e c′ v′ b′ t′ = go (ltb room m || ltb room n) (placesShort count c v b t numbers metres) (not (inRange gap)) (soundDirectory d) h e
+    where
+      go : (w x y z : Bool) → (w || not x) ≡ true → cond (w || x) (refusal TooMany) (cond y (refusal SettingOutOfRange) (cond (not z) (refusal RecordOutOfRange) (answers (places (queryAt m n room d gap c v b t) count)))) ≡ refusal r
+          → cond w (Correction.Refused TooMany) (cond y (Correction.Refused SettingOutOfRange) (cond (not (z && (inRange t′ || not (finite t′)))) (Correction.Refused RecordOutOfRange) (answerAt (flat d) gap c′ v′ b′ t′))) ≡ Correction.Refused r
+      go true x y z p q = let k : TooMany ≡ r = cc in ap Correction.Refused k
+      go false true y z p q = absurd (let k : _≡_ {A = ℕ} 0 1 = cc in omega arith)
+      go false false true z p q = let k : SettingOutOfRange ≡ r = cc in ap Correction.Refused k
+      go false false false false p q = let k : RecordOutOfRange ≡ r = cc in ap Correction.Refused k
+      go false false false true p q = absurd (let k : _≡_ {A = ℕ} 0 1 = cc in omega arith)

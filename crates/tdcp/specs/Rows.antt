@@ -1,0 +1,39 @@
+-- The rows of a round as the code has them, columns of numbers, place by place: the contracts of its parts. Definitions only.
+use mathlib.Core.Path.{_≡_}
+use Prim.Native.Nat.{ℕ, _<_}
+use mathlib.Core.List.{List}
+use lib.ListN.{getD, length}
+use lib.Ieee.{Float, nan}
+use Rattle.exact.specs.Float.{_⊕_, _⊖_, _⊗_}
+use Rattle.cholesky.specs.Factor.{at}
+use Rattle.numeric.specs.Order.{patternOf}
+use Rattle.robust.specs.Sigma.{elevationSigma}
+use Rattle.clocks.specs.Clocks.{slot}
+use Rattle.clocks.specs.declared.clocks.Clocks.{Clocks}
+use Rattle.records.specs.declared.pair.Pair.{Pair}
+use Rattle.estimator.specs.Rounds.{concluded}
+use Rattle.tdcp.specs.Displacement.{fitOver, deltaAt, endRules}
+use Rattle.tdcp.specs.declared.displacement.Settings.{Settings}
+use Rattle.tdcp.specs.declared.displacement.Displacement.{Displacement}
+use Rattle.tdcp.specs.declared.displacement.Displacement.the-variants.{Refused, Moved}
+
+-- the first n places are the clocks of the pairs, which no round changes
+pub record ClocksAt (k : Clocks) (constellation : List ℕ) (n : ℕ) (clock : List ℕ) : Type 0 where
+  pub clocks : (i : ℕ) → i < n → getD clock i 0 ≡ slot k (getD constellation i 0)
+
+-- and their sigmas
+pub record SigmasAt (settings : Settings) (elevation : List Float) (n : ℕ) (sigma : List Float) : Type 0 where
+  pub sigmas : (i : ℕ) → i < n → getD sigma i nan ≡ elevationSigma (getD elevation i nan) (settings .«sigma_a») (settings .«sigma_b»)
+
+-- what was observed, less what the state x says of the line of sight u, v, w and the clock s
+abbrev pub residualOf : Float → Float → Float → Float → ℕ → List Float → ℕ
+residualOf o u v w s x = patternOf (o ⊖ (u ⊗ at x 0 ⊕ v ⊗ at x 1 ⊕ w ⊗ at x 2) ⊖ at x s)
+
+-- the first of the 64 residuals are those of the pairs at the state s
+pub record ResidualsAt (x y z : List Float) (clock : List ℕ) (observed s : List Float) (residual : List ℕ) : Type 0 where
+  pub long : length residual ≡ 64
+  pub residuals : (i : ℕ) → i < length observed → getD residual i 0 ≡ residualOf (getD observed i nan) (getD x i nan) (getD y i nan) (getD z i nan) (getD clock i 0) s
+
+-- what the rounds over the pairs ps come to, with the clocks k, where so many were screened out
+abbrev pub movedOver : Settings → Clocks → List Pair → ℕ → Displacement
+movedOver settings k ps screened = concluded Refused endRules (λ x. Moved (deltaAt (length ps) screened x)) (fitOver settings k ps .end)
