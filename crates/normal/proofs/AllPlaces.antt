@@ -20,11 +20,11 @@ use Rattle.median.specs.declared.centre.CentreScale.{CentreScale}
 use Rattle.normal.specs.Nine.{nine}
 use Rattle.normal.specs.Weight.{weight}
 use Rattle.normal.specs.Equations.{wide, triangleOf}
-use Rattle.normal.specs.Formed.{Formed, sightsPut, sidesPut}
+use Rattle.normal.specs.Formed.{Formed, cornerPut, cornerSides}
 use Rattle.numeric.proofs.Zeros.{isZero, zero-times}
 use Rattle.normal.proofs.Zeros.{times-zero, times-one}
 use Rattle.normal.specs.declared.row.Row.{Row}
-use Rattle.normal.specs.declared.equations.Sights.{Sights}
+use Rattle.normal.specs.declared.equations.Corner.{Corner}
 use Rattle.normal.proofs.NineLaws.{nine-is, square-is, put, Known, known-store}
 use Rattle.normal.proofs.FormedLaws.{cells, sides, cells-sum, sides-sum, formed-last}
 use Rattle.normal.proofs.SomeSums.{someTo, some-none, some-all, sum-finite}
@@ -32,7 +32,7 @@ use Rattle.normal.proofs.Places.{wide-clock, wide-none, clock, weighted
 
 -- ---- all that there is
 module _ (c : CentreScale) (huber : Float) (rows : ℕ → Row) (n : ℕ) (few : n ≤ 9) (three : 3 ≤ n) (m : ℕ)
-    {s : Sights} {a : List (List Float)} {b : List Float} (h : Placed c huber rows n m s a b)
+    {s : Corner} {a : List (List Float)} {b : List Float} (h : Placed c huber rows n m s a b)
     (fx : T (finite (s .xx))) (fy : T (finite (s .yy))) (fz : T (finite (s .zz))) (fs : T (finite (s .x))) where
   abbrev w : ℕ → Float
   w k = weight c huber (rows k)
@@ -139,7 +139,7 @@ module _ (c : CentreScale) (huber : Float) (rows : ℕ → Row) (n : ℕ) (few :
           rw (eq-eqb p (rows k .clock) i, le-ltb q 3 (omega arith), ne-eqb q (rows k .clock) (omega arith))
 
   abbrev stored : List (List Float)
-  stored = sightsPut s a
+  stored = cornerPut s a
 
   abbrev known : ℕ → ℕ → Float
   known = put (put (put (put (put (put (placedCell c huber rows n m) 0 0 (s .xx)) 1 0 (s .yx)) 1 1 (s .yy)) 2 0 (s .zx)) 2 1 (s .zy)) 2 2 (s .zz)
@@ -180,7 +180,7 @@ module _ (c : CentreScale) (huber : Float) (rows : ℕ → Row) (n : ℕ) (few :
       go p q (no l) = later p q (omega arith) (decLt p n) (decLt p q)
 
   abbrev sideStored : List Float
-  sideStored = sidesPut s b
+  sideStored = cornerSides s b
 
   long-1 : length (set b 0 (s .x)) ≡ 9
   long-1 = length-set b 0 (s .x) ∙ h .long
@@ -211,5 +211,5 @@ module _ (c : CentreScale) (huber : Float) (rows : ℕ → Row) (n : ℕ) (few :
           ∙ some-none +0 (λ k. eqb (suc (suc (suc p))) (rows k .clock)) (sided c huber rows n (suc (suc (suc p)))) m (λ k kb. ne-eqb (suc (suc (suc p))) (rows k .clock) (omega (arith, h .clocks k kb .1)))
           ∙ rw (le-ltb (suc (suc (suc p))) n i)
 
-  pub formed-by-places : (count : ℕ) → m ≡ count → {a′ : List (List Float)} {b′ : List Float} → a′ ≡ sightsPut s a → b′ ≡ sidesPut s b → Formed (weight c huber) (places rows count) n a′ b′
+  pub formed-by-places : (count : ℕ) → m ≡ count → {a′ : List (List Float)} {b′ : List Float} → a′ ≡ cornerPut s a → b′ ≡ cornerSides s b → Formed (weight c huber) (places rows count) n a′ b′
   formed-by-places count last {a′} {b′} a-is b-is = formed-last c huber rows count n m a′ b′ last (a-is ∙ matrix-stored) (b-is ∙ right-stored)

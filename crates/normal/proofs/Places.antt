@@ -17,9 +17,9 @@ use Rattle.median.specs.declared.centre.CentreScale.{CentreScale}
 use Rattle.normal.specs.Weight.{weight}
 use Rattle.normal.specs.Equations.{wide}
 use Rattle.normal.specs.Nine.{Square}
-use Rattle.normal.specs.Formed.{unused, raise, clockAdded, clockSide, noSights, sightAdded}
+use Rattle.normal.specs.Formed.{unused, raise, clockAdded, clockSide, noCorner, cornerAdded}
 use Rattle.normal.specs.declared.row.Row.{Row}
-use Rattle.normal.specs.declared.equations.Sights.{Sights}
+use Rattle.normal.specs.declared.equations.Corner.{Corner}
 use Rattle.normal.proofs.NineLaws.{cell-at, square-nine, square-store, cell-same, cell-other}
 use Rattle.normal.proofs.FormedLaws.{cells, sides, cells-zero, sides-zero, cells-next, sides-next}
 use Rattle.normal.proofs.SomeSums.{someTo, some-taken, some-left}
@@ -141,7 +141,7 @@ module _ (c : CentreScale) (huber : Float) (rows : ℕ → Row) (n : ℕ) where
   placedSide k p = someTo +0 (λ k. eqb p (clock k)) (sided p) k
 
   -- what the loop has after k rows: the sums of the first three rows and columns, and in a and b those of the clocks
-  pub record Placed (k : ℕ) (s : Sights) (a : List (List Float)) (b : List Float) : Type 0 where
+  pub record Placed (k : ℕ) (s : Corner) (a : List (List Float)) (b : List Float) : Type 0 where
     pub clocks : (j : ℕ) → j < k → (3 ≤ clock j) × (clock j < n)
     pub xx-is : s .xx ≡ cells c huber rows k 0 0
     pub yx-is : s .yx ≡ cells c huber rows k 1 0
@@ -157,7 +157,7 @@ module _ (c : CentreScale) (huber : Float) (rows : ℕ → Row) (n : ℕ) where
     pub long : length b ≡ 9
     pub sides-are : (p : ℕ) → p < 9 → at b p ≡ placedSide k p
 
-  pub placed-start : (s : Sights) (a : List (List Float)) → s ≡ noSights → a ≡ unused n → Placed 0 s a (replicate 9 +0)
+  pub placed-start : (s : Corner) (a : List (List Float)) → s ≡ noCorner → a ≡ unused n → Placed 0 s a (replicate 9 +0)
   unfolding unused someTo
   placed-start s a d e =
       rw (d, e)
@@ -261,7 +261,7 @@ module _ (c : CentreScale) (huber : Float) (rows : ℕ → Row) (n : ℕ) where
           go (yes e) = subst (λ (z : ℕ). at moved z ≡ placedSide (k + 1) z) (sym e) here
           go (no n) = getD-set-other b (clock k) p _ nan n ∙ is p pb ∙ sym (some-left +0 (λ k. eqb p (clock k)) (sided p) k (ne-eqb p (clock k) n))
 
-    pub placed-next : {s : Sights} {a : List (List Float)} {b : List Float} → Placed k s a b → Placed (k + 1) (sightAdded s w (r .unit) d) (clockAdded (clock k) (w ⊗ 1·0) (r .unit) a) (clockSide (clock k) (w ⊗ 1·0) d b)
+    pub placed-next : {s : Corner} {a : List (List Float)} {b : List Float} → Placed k s a b → Placed (k + 1) (cornerAdded s w (r .unit) d) (clockAdded (clock k) (w ⊗ 1·0) (r .unit) a) (clockSide (clock k) (w ⊗ 1·0) d b)
     placed-next {a = a} {b = b} h =
         let x = wide-x r low in
         let y = wide-y r low in
@@ -284,9 +284,9 @@ module _ (c : CentreScale) (huber : Float) (rows : ℕ → Row) (n : ℕ) where
         }
 
   -- the same by a row r that the code has read, and by what its callees answer
-  pub placed-row : (few : n ≤ 9) (k : ℕ) (r : Row) → r ≡ rows k → 3 ≤ r .clock → r .clock < n → (w d : Float) → w ≡ weight c huber r → d ≡ bits (r .residual) → {s s′ : Sights} {a a′ : List (List Float)} {b b′ : List Float}
-      → s′ ≡ sightAdded s w (r .unit) d → a′ ≡ clockAdded (r .clock) (w ⊗ 1·0) (r .unit) a → b′ ≡ clockSide (r .clock) (w ⊗ 1·0) d b → Placed k s a b → Placed (k + 1) s′ a′ b′
+  pub placed-row : (few : n ≤ 9) (k : ℕ) (r : Row) → r ≡ rows k → 3 ≤ r .clock → r .clock < n → (w d : Float) → w ≡ weight c huber r → d ≡ bits (r .residual) → {s s′ : Corner} {a a′ : List (List Float)} {b b′ : List Float}
+      → s′ ≡ cornerAdded s w (r .unit) d → a′ ≡ clockAdded (r .clock) (w ⊗ 1·0) (r .unit) a → b′ ≡ clockSide (r .clock) (w ⊗ 1·0) d b → Placed k s a b → Placed (k + 1) s′ a′ b′
   placed-row few k r e low high w d w-is d-is {s} {a = a} {b = b} s-is a-is b-is h =
       rw (s-is, a-is, b-is)
-      (subst (λ (z : Row). 3 ≤ z .clock → z .clock < n → w ≡ weight c huber z → d ≡ bits (z .residual) → Placed (k + 1) (sightAdded s w (z .unit) d) (clockAdded (z .clock) (w ⊗ 1·0) (z .unit) a) (clockSide (z .clock) (w ⊗ 1·0) d b)) (sym e)
+      (subst (λ (z : Row). 3 ≤ z .clock → z .clock < n → w ≡ weight c huber z → d ≡ bits (z .residual) → Placed (k + 1) (cornerAdded s w (z .unit) d) (clockAdded (z .clock) (w ⊗ 1·0) (z .unit) a) (clockSide (z .clock) (w ⊗ 1·0) d b)) (sym e)
       (λ low high w-is d-is. placed-next few k low high w d w-is d-is h) low high w-is d-is)

@@ -13,7 +13,7 @@ use Rattle.numeric.specs.declared.vec3.Vec3.{Vec3}
 use Rattle.normal.specs.Nine.{nine}
 use Rattle.normal.specs.Equations.{matrixOf, rightOf}
 use Rattle.normal.specs.declared.row.Row.{Row}
-use Rattle.normal.specs.declared.equations.Sights.{Sights}
+use Rattle.normal.specs.declared.equations.Corner.{Corner}
 
 -- the matrix of n unknowns before any row is added: 1 on the diagonal of the unused ones
 unfoldable pub unused : ℕ → List (List Float)
@@ -43,12 +43,12 @@ triangleAdded n t e a = nine (λ p. nine (λ q. cond (ltb p n && leb q p) (cell 
 
 -- ---- over the places of a row that are not 0
 
-abbrev pub noSights : Sights
-noSights = record { xx = +0; yx = +0; yy = +0; zx = +0; zy = +0; zz = +0; x = +0; y = +0; z = +0 }
+abbrev pub noCorner : Corner
+noCorner = record { xx = +0; yx = +0; yy = +0; zx = +0; zy = +0; zz = +0; x = +0; y = +0; z = +0 }
 
 -- one row more, by its weight, its line of sight and its residual
-abbrev pub sightAdded : Sights → Float → Vec3 → Float → Sights
-sightAdded s w u d =
+abbrev pub cornerAdded : Corner → Float → Vec3 → Float → Corner
+cornerAdded s w u d =
     record {
       xx = s .xx ⊕ w ⊗ u .x ⊗ u .x;
       yx = s .yx ⊕ w ⊗ u .y ⊗ u .x;
@@ -73,8 +73,8 @@ abbrev pub clockSide : ℕ → Float → Float → List Float → List Float
 clockSide i t d b = set b i (at b i ⊕ t ⊗ d)
 
 -- the sums over the first three places, where they belong
-abbrev pub sightsPut : Sights → List (List Float) → List (List Float)
-sightsPut s a = store (store (store (store (store (store a 0 0 (s .xx)) 1 0 (s .yx)) 1 1 (s .yy)) 2 0 (s .zx)) 2 1 (s .zy)) 2 2 (s .zz)
+abbrev pub cornerPut : Corner → List (List Float) → List (List Float)
+cornerPut s a = store (store (store (store (store (store a 0 0 (s .xx)) 1 0 (s .yx)) 1 1 (s .yy)) 2 0 (s .zx)) 2 1 (s .zy)) 2 2 (s .zz)
 
-abbrev pub sidesPut : Sights → List Float → List Float
-sidesPut s b = set (set (set b 0 (s .x)) 1 (s .y)) 2 (s .z)
+abbrev pub cornerSides : Corner → List Float → List Float
+cornerSides s b = set (set (set b 0 (s .x)) 1 (s .y)) 2 (s .z)

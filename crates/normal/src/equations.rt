@@ -126,7 +126,7 @@ fn form(
 }
 
 // The sums over the first three places of the rows: of two of them, and of one and the residual.
-pub struct Sights {
+pub struct Corner {
     pub xx: f64,
     pub yx: f64,
     pub yy: f64,
@@ -139,10 +139,10 @@ pub struct Sights {
 }
 
 // No row has been added.
-fn no_sights() -> Sights
-    ensures { λ r. ⌜ r ≡ code.noSights ⌝ }
+fn no_corner() -> Corner
+    ensures { λ r. ⌜ r ≡ code.noCorner ⌝ }
 {
-    Sights {
+    Corner {
         xx: 0.0,
         yx: 0.0,
         yy: 0.0,
@@ -156,8 +156,8 @@ fn no_sights() -> Sights
 }
 
 // One row more, by its weight, its line of sight and its residual.
-fn with_sight(s: Sights, w: f64, unit: Vec3, d: f64) -> Sights
-    ensures { λ r. ⌜ r ≡ code.sightAdded s w unit d ⌝ }
+fn with_row(s: Corner, w: f64, unit: Vec3, d: f64) -> Corner
+    ensures { λ r. ⌜ r ≡ code.cornerAdded s w unit d ⌝ }
 {
     let x = unit.x;
     let y = unit.y;
@@ -165,7 +165,7 @@ fn with_sight(s: Sights, w: f64, unit: Vec3, d: f64) -> Sights
     let tx = w * x;
     let ty = w * y;
     let tz = w * z;
-    Sights {
+    Corner {
         xx: s.xx + tx * x,
         yx: s.yx + ty * x,
         yy: s.yy + ty * y,
@@ -191,8 +191,8 @@ fn add_clock(i: usize, t: f64, unit: Vec3, d: f64, a: &mut [[f64; 9]; 9], b: &mu
 }
 
 // Writes the sums over the first three places to where they belong.
-fn put_sights(s: Sights, a: &mut [[f64; 9]; 9], b: &mut [f64; 9])
-    ensures { λ _. ⌜ (now (a .exit) ≡ code.sightsPut s (now (a .entry))) × (now (b .exit) ≡ code.sidesPut s (now (b .entry))) ⌝ }
+fn put_corner(s: Corner, a: &mut [[f64; 9]; 9], b: &mut [f64; 9])
+    ensures { λ _. ⌜ (now (a .exit) ≡ code.cornerPut s (now (a .entry))) × (now (b .exit) ≡ code.cornerSides s (now (b .entry))) ⌝ }
 {
     a[0][0] = s.xx;
     a[1][0] = s.yx;
@@ -229,7 +229,7 @@ fn form_by_places(
     unused(n, a);
     *b = [0.0; 9];
     let count = residual.len();
-    let mut s = no_sights();
+    let mut s = no_corner();
     for k in 0..count {
         let r = row_at(x, y, z, clock, sigma, residual, k);
         let i = r.clock;
@@ -242,10 +242,10 @@ fn form_by_places(
         let unit = r.unit;
         let d = float(r.residual);
         let w = weight(c, huber, r);
-        s = with_sight(s, w, unit, d);
+        s = with_row(s, w, unit, d);
         add_clock(i, w * 1.0, unit, d, a, b);
     }
-    put_sights(s, a, b);
+    put_corner(s, a, b);
     is_finite(s.xx) & is_finite(s.yy) & is_finite(s.zz) & is_finite(s.x)
 }
 

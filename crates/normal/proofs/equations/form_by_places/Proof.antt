@@ -40,11 +40,11 @@ returns c = λ e. never e
 unused-requires : tie.Need-unused-requires Inv-loop μ-loop
 unused-requires c κs = search needs
 
-no-sights-requires : tie.Need-no-sights-requires Inv-loop μ-loop
-no-sights-requires c κs = search needs
+no-corner-requires : tie.Need-no-corner-requires Inv-loop μ-loop
+no-corner-requires c κs = search needs
 
 loop-holds : tie.Need-loop-holds Inv-loop μ-loop
-loop-holds c = let s = c .before .before .before .before .before .before in (omega arith, placed-start (s .args .c) (s .args .huber) (given s) (s .args .n) _ _ (c .no-sights .ensures) (c .before .before .unused .ensures))
+loop-holds c = let s = c .before .before .before .before .before .before in (omega arith, placed-start (s .args .c) (s .args .huber) (given s) (s .args .n) _ _ (c .no-corner .ensures) (c .before .before .unused .ensures))
 
 row-at-requires : tie.Need-row-at-requires Inv-loop μ-loop
 row-at-requires c κs = (omega arith, omega arith)
@@ -61,8 +61,8 @@ float-requires c κs = search needs
 weight-requires : tie.Need-weight-requires Inv-loop μ-loop
 weight-requires c κs = search needs
 
-with-sight-requires : tie.Need-with-sight-requires Inv-loop μ-loop
-with-sight-requires c κs = search needs
+with-row-requires : tie.Need-with-row-requires Inv-loop μ-loop
+with-row-requires c κs = search needs
 
 add-clock-requires : tie.Need-add-clock-requires Inv-loop μ-loop
 add-clock-requires c κs = omega (arith, c .before .before .before .before .before .before .before .before .before .before .before .before .before .before .before .before .before .pre .1)
@@ -82,10 +82,10 @@ loop-again c =
     let d = c .before .before .before .before .before .float in
     let low = c .before .before .before .before .before .before .before .before .if2 .left in
     let high = c .before .before .before .before .before .before .before .if3 .left in
-    (omega (arith, c .before .before .before .before .before .before .before .before .before .before .loop-test .taken), placed-row (s .args .c) (s .args .huber) (given s) (s .args .n) (s .pre .1) (h .k) (r .result) (r .ensures) low high (w .result) (d .result) (w .ensures) (d .ensures) (c .before .before .before .with-sight .ensures) (c .add-clock .ensures .0) (c .add-clock .ensures .1) (h .inv .1))
+    (omega (arith, c .before .before .before .before .before .before .before .before .before .before .loop-test .taken), placed-row (s .args .c) (s .args .huber) (given s) (s .args .n) (s .pre .1) (h .k) (r .result) (r .ensures) low high (w .result) (d .result) (w .ensures) (d .ensures) (c .before .before .before .with-row .ensures) (c .add-clock .ensures .0) (c .add-clock .ensures .1) (h .inv .1))
 
-put-sights-requires : tie.Need-put-sights-requires Inv-loop μ-loop
-put-sights-requires c κs = search needs
+put-corner-requires : tie.Need-put-corner-requires Inv-loop μ-loop
+put-corner-requires c κs = search needs
 
 is-finite-requires : tie.Need-is-finite-requires Inv-loop μ-loop
 is-finite-requires c κs = search needs
@@ -105,7 +105,7 @@ returns-4 c =
     let h = c .before .before .before .before .before .before .before .before .loop in
     λ e.
     let f = passed (c .before .before .before .is-finite .result) (c .before .before .is-finite2 .result) (c .before .is-finite3 .result) (c .is-finite4 .result) e in
-    formed-by-places (s .args .c) (s .args .huber) (given s) (s .args .n) (s .pre .1) (c .before .before .before .before .before .before .before .before .before .before .before .before .before .if1 .left) (h .k) (h .inv .1) (subst T (c .before .before .before .is-finite .ensures) (f .0)) (subst T (c .before .before .is-finite2 .ensures) (f .1)) (subst T (c .before .is-finite3 .ensures) (f .2)) (subst T (c .is-finite4 .ensures) (f .3)) (length (s .args .residual .now)) (omega arith) (c .before .before .before .before .put-sights .ensures .0) (c .before .before .before .before .put-sights .ensures .1)
+    formed-by-places (s .args .c) (s .args .huber) (given s) (s .args .n) (s .pre .1) (c .before .before .before .before .before .before .before .before .before .before .before .before .before .if1 .left) (h .k) (h .inv .1) (subst T (c .before .before .before .is-finite .ensures) (f .0)) (subst T (c .before .before .is-finite2 .ensures) (f .1)) (subst T (c .before .is-finite3 .ensures) (f .2)) (subst T (c .is-finite4 .ensures) (f .3)) (length (s .args .residual .now)) (omega arith) (c .before .before .before .before .put-corner .ensures .0) (c .before .before .before .before .put-corner .ensures .1)
 
 pub form-by-places-spec : {M : Type 1} → statement M
 form-by-places-spec =
@@ -115,19 +115,19 @@ form-by-places-spec =
     μ-loop
     returns
     unused-requires
-    no-sights-requires
+    no-corner-requires
     loop-holds
     row-at-requires
     returns-2
     returns-3
     float-requires
     weight-requires
-    with-sight-requires
+    with-row-requires
     add-clock-requires
     add-k
     loop-less
     loop-again
-    put-sights-requires
+    put-corner-requires
     is-finite-requires
     is-finite-requires-2
     is-finite-requires-3
