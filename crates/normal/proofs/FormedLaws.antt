@@ -74,11 +74,11 @@ module _ (c : CentreScale) (huber : Float) (rows : ℕ → Row) where
 
     -- over every place of the row
     module _ (n : ℕ) (few : n ≤ 9) (t : List Float) (t-is : t ≡ times w e) where
-      pub triangle-next : (a : List (List Float)) → a ≡ triangleOf n (cells k) → triangleAdded n t e a ≡ triangleOf n (cells (k + 1))
-      triangle-next a h = triangle-more n (cells k) (cells (k + 1)) t e a (λ p q pb qb. rw (t-is, times-at w e p (omega arith)) (cells-next p q _ refl)) h
+      pub triangle-row : (a : List (List Float)) → a ≡ triangleOf n (cells k) → triangleAdded n t e a ≡ triangleOf n (cells (k + 1))
+      triangle-row a h = triangle-more n (cells k) (cells (k + 1)) t e a (λ p q pb qb. rw (t-is, times-at w e p (omega arith)) (cells-next p q _ refl)) h
 
-      pub side-next : (b : List Float) (y : Float) → y ≡ bits (rows k .residual) → b ≡ nine (inSides n (sides k)) → sideAdded n t y b ≡ nine (inSides n (sides (k + 1)))
-      side-next b y y-is h = side-more n (sides k) (sides (k + 1)) t y b (λ p pb. rw (t-is, times-at w e p (omega arith)) (sides-next p _ y refl y-is)) h
+      pub side-row : (b : List Float) (y : Float) → y ≡ bits (rows k .residual) → b ≡ nine (inSides n (sides k)) → sideAdded n t y b ≡ nine (inSides n (sides (k + 1)))
+      side-row b y y-is h = side-more n (sides k) (sides (k + 1)) t y b (λ p pb. rw (t-is, times-at w e p (omega arith)) (sides-next p _ y refl y-is)) h
 
   module _ (count : ℕ) where
     sides-all : (p : ℕ) → sides count p ≡ sideOf (weight c huber) (places rows count) p

@@ -9,7 +9,7 @@ use Rattle.normal.specs.Equations.{wide, triangleOf}
 use Rattle.normal.specs.Columns.{columns, rowIn}
 use Rattle.normal.specs.declared.row.Row.{Row}
 use Rattle.normal.proofs.AddedLaws.{triangle-zero, triangle-wide, inSides, side-zero, side-long}
-use Rattle.normal.proofs.FormedLaws.{cells, sides, cells-zero, sides-zero, triangle-next, side-next, formed-last}
+use Rattle.normal.proofs.FormedLaws.{cells, sides, cells-zero, sides-zero, triangle-row, side-row, formed-last}
 use borrow.Author.Needs.{needs}
 use native.Mathlib.Omega.{arith}
 use Rattle.normal.proofs.equations.form.Statement.{statement}
@@ -68,7 +68,7 @@ loop-again c =
     let e = c .before .before .before .before .before .before .before .before .before .before .wide .ensures ∙ ap wide r in
     let t = c .before .before .before .before .before .before .before .before .times .ensures in
     let y = c .before .before .before .before .before .before .float .ensures ∙ ap (λ (z : Row). bits (z .residual)) r in
-    (omega arith, c .add-triangle .ensures ∙ triangle-next (s .args .c) (s .args .huber) g (h .k) _ _ w e (s .args .n) (s .pre .1) _ t (h .a) (h .inv .1), c .before .before .before .before .add-side .ensures ∙ side-next (s .args .c) (s .args .huber) g (h .k) _ _ w e (s .args .n) (s .pre .1) _ t (h .b) _ y (h .inv .2))
+    (omega arith, c .add-triangle .ensures ∙ triangle-row (s .args .c) (s .args .huber) g (h .k) _ _ w e (s .args .n) (s .pre .1) _ t (h .a) (h .inv .1), c .before .before .before .before .add-side .ensures ∙ side-row (s .args .c) (s .args .huber) g (h .k) _ _ w e (s .args .n) (s .pre .1) _ t (h .b) _ y (h .inv .2))
 
 returns : tie.Need-returns Inv-loop μ-loop
 returns c = let s = c .before .before .before .before .before .before in let h = c .before .loop in formed-last (s .args .c) (s .args .huber) (given s) (length (s .args .residual .now)) (s .args .n) (h .k) (h .a) (h .b) (omega arith) (h .inv .1) (h .inv .2)
