@@ -7,7 +7,8 @@ use lib.Dec.{eqb, ltb}
 use lib.Ieee.{Float, nan}
 use lib.ListN.{length, getD, take, set}
 use Rattle.walk.specs.Walk.{collect}
-use Rattle.table.specs.Table.{blank, signal, sorted, timeBefore}
+use Rattle.signal.specs.Signal.{signal}
+use Rattle.table.specs.Table.{blank, sorted, timeBefore}
 use Rattle.table.specs.Add.{insertAll}
 use Rattle.table.specs.declared.sample.Sample.{Sample}
 use Rattle.directory.specs.Directory.{Entry, Reading, ascends, block, columnOf, entriesFrom, entryRows, noEntry, tiles}

@@ -7,7 +7,8 @@ use lib.ListN.{length, take, drop}
 use lib.Ieee.{Float, nan}
 use Rattle.walk.specs.Walk.{every, first, collect}
 use Rattle.numeric.specs.Real.{inRange}
-use Rattle.table.specs.Table.{signal, timeBefore}
+use Rattle.signal.specs.Signal.{signal}
+use Rattle.table.specs.Table.{timeBefore}
 use Rattle.table.specs.declared.sample.Sample.{Sample}
 
 -- a satellite of the directory, with the place of its first sample and its count of samples

@@ -10,7 +10,8 @@ use lib.ListN.{length, getD}
 use borrow.Author.Tests.{eqb-true, ltb-true, ltb-false}
 use lib.Ieee.{Float, lt, fits, binary64}
 use Rattle.numeric.specs.declared.refusal.Refusal.the-variants.{NoCorrection}
-use Rattle.table.specs.Table.{blank, seriesOf, signal, signalOf, soundTable}
+use Rattle.signal.specs.Signal.{signal}
+use Rattle.table.specs.Table.{blank, seriesOf, signalOf, soundTable}
 use Rattle.table.specs.declared.sample.Sample.{Sample}
 use Rattle.table.proofs.Places.{placeOf, timeKey}
 use Rattle.table.proofs.TableLaws.{SoundTable, sound-at, and-right}

@@ -7,7 +7,8 @@ use lib.Dec.{eqb, ltb}
 use lib.Ieee.{Float, lt}
 use Rattle.exact.specs.Float.{_⊖_}
 use Rattle.numeric.specs.declared.refusal.Refusal.the-variants.{NoCorrection}
-use Rattle.table.specs.Table.{signal, signalOf, seriesOf, soundTable}
+use Rattle.signal.specs.Signal.{signal}
+use Rattle.table.specs.Table.{signalOf, seriesOf, soundTable}
 use Rattle.table.specs.declared.sample.Sample.{Sample}
 use Rattle.query.specs.Query.{Found, missing, the, near, line, lastOf, lastBefore, firstSince, guarded}
 use Rattle.query.specs.declared.query.Correction.{Correction}

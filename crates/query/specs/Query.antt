@@ -11,7 +11,8 @@ use Rattle.numeric.specs.Order.{patternOf}
 use Rattle.numeric.specs.Real.{abs, inRange}
 use Rattle.numeric.specs.Refusal.{numberOf}
 use Rattle.numeric.specs.declared.refusal.Refusal.the-variants.{TooMany, SettingOutOfRange, RecordOutOfRange, NoCorrection}
-use Rattle.table.specs.Table.{signal, seriesOf, soundTable}
+use Rattle.signal.specs.Signal.{signal}
+use Rattle.table.specs.Table.{seriesOf, soundTable}
 use Rattle.table.specs.declared.sample.Sample.{Sample}
 use Rattle.directory.specs.Directory.{Directory, flat, soundDirectory}
 use Rattle.query.specs.declared.query.Correction.{Correction}
