@@ -25,7 +25,8 @@ use Rattle.estimator.specs.declared.rules.Check.{Check}
 use Rattle.estimator.specs.declared.rules.Check.the-variants.{Refused as Stops, Passed}
 use Rattle.estimator.proofs.RulesLaws.{checked, ruled-append, refused-by, passed-by}
 use Rattle.wls.specs.Front.{fixRules}
-use Rattle.wls.specs.Fix.{Input, sightAt, sightRules, roundAt, limit, start, fitOver, kept, clocks, plainMatrix, dilutionOf, chiAt, qualityRules, endRules, solutionAt, foundOver, fixOf}
+use Rattle.quality.specs.Quality.{unweightedMatrix, dilutionOf}
+use Rattle.wls.specs.Fix.{Input, sightAt, sightRules, roundAt, limit, start, fitOver, kept, clocks, chiAt, qualityRules, endRules, solutionAt, foundOver, fixOf}
 use Rattle.wls.specs.declared.fix.Settings.{Settings}
 use Rattle.wls.specs.declared.fix.Fix.{Fix}
 use Rattle.wls.specs.declared.fix.Fix.the-variants.{Refused, At}
@@ -39,7 +40,7 @@ module _ (settings : Settings) (k : Clocks) (os : List Observation) (guess : Vec
   abbrev pub rulesBefore : List Row → List Float → List Rule
   rulesBefore rows x =
       rule FitFailed (not (finiteAt x))
-      ∷ rule FitFailed (not (factor.accepted (factorOf (plainMatrix (3 + k .count) rows))))
+      ∷ rule FitFailed (not (factor.accepted (factorOf (unweightedMatrix (3 + k .count) rows))))
       ∷ rule QualityNotFinite (not (finite (chiAt settings k os x) && finite (dilutionOf (3 + k .count) rows)))
       ∷ []
 
@@ -176,17 +177,17 @@ module _ (settings : Settings) (k : Clocks) (os : List Observation) where
 
     -- at a state that the rounds reach: 10, and then 15 or what was before
     end-is : (x : List Float) → ruled Refused (rulesNow x) (answerBefore settings k os guess rows x)
-        ≡ cond (not (finiteAt x)) (Refused FitFailed) (cond (not (factor.accepted (factorOf (plainMatrix n rows)))) (Refused FitFailed)
+        ≡ cond (not (finiteAt x)) (Refused FitFailed) (cond (not (factor.accepted (factorOf (unweightedMatrix n rows)))) (Refused FitFailed)
         (cond (seenAt os x) (ruled Refused (rule QualityNotFinite (not (finite (chiAt settings k os x) && finite (dilutionOf n rows))) ∷ []) (answerBefore settings k os guess rows x)) (Refused OnReceiver)))
     unfolding endRules qualityRules ruled
     end-is x =
-        ap (λ (a : Fix). cond (not (finiteAt x)) (Refused FitFailed) (cond (not (factor.accepted (factorOf (plainMatrix n rows)))) (Refused FitFailed) a))
+        ap (λ (a : Fix). cond (not (finiteAt x)) (Refused FitFailed) (cond (not (factor.accepted (factorOf (unweightedMatrix n rows)))) (Refused FitFailed) a))
         (ruled-append Refused _ (sightRules os x) _ ∙ sights-are Refused _ os x)
 
     end-either : (e : End) → let was = concluded Refused (rulesBefore settings k os guess rows) (answerBefore settings k os guess rows) e in let is = concluded Refused rulesNow (answerBefore settings k os guess rows) e in (is ≡ Refused OnReceiver) ⊎ (is ≡ was)
     unfolding ruled
     end-either (Stopped r) = inr refl
-    end-either (Reached x) = go (not (finiteAt x)) (not (factor.accepted (factorOf (plainMatrix n rows)))) (seenAt os x) _ _ (end-is x)
+    end-either (Reached x) = go (not (finiteAt x)) (not (factor.accepted (factorOf (unweightedMatrix n rows)))) (seenAt os x) _ _ (end-is x)
       where
         go : (a b c : Bool) (is quality : Fix) → is ≡ cond a (Refused FitFailed) (cond b (Refused FitFailed) (cond c quality (Refused OnReceiver)))
             → (is ≡ Refused OnReceiver) ⊎ (is ≡ cond a (Refused FitFailed) (cond b (Refused FitFailed) quality))

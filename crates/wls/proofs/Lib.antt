@@ -5,7 +5,6 @@ pub mod RowLaws
 pub mod FixLaws
 pub mod FixSound
 pub mod QualityLaws
-pub mod QualityValues
 pub mod FixCall
 pub mod CountedLaws
 pub mod BeforeLaws

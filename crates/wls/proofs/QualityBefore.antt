@@ -16,7 +16,8 @@ use Rattle.records.specs.declared.record.Observation.{Observation}
 use Rattle.estimator.specs.Rules.{Rule, rule, ruled}
 use Rattle.estimator.specs.Rounds.{End, Stopped, Reached, lastRows, finiteAt, concluded}
 use Rattle.wls.specs.Front.{fixRules}
-use Rattle.wls.specs.Fix.{Input, kept, clocks, plainMatrix, dilutionOf, chiOf, chiAt, solutionAt}
+use Rattle.quality.specs.Quality.{unweightedMatrix, dilutionOf, chiOf}
+use Rattle.wls.specs.Fix.{Input, kept, clocks, chiAt, solutionAt}
 use Rattle.wls.specs.declared.fix.Settings.{Settings}
 use Rattle.wls.specs.declared.fix.Solution.{Solution}
 use Rattle.wls.specs.declared.fix.Fix.{Fix}
@@ -41,7 +42,7 @@ module _ (settings : Settings) (k : Clocks) (os : List Observation) (guess : Vec
   n = 3 + k .count
 
   abbrev rulesFirst : List Row → List Float → List Rule
-  rulesFirst rows x = rule FitFailed (not (finiteAt x)) ∷ rule FitFailed (not (factor.accepted (factorOf (plainMatrix n rows)))) ∷ []
+  rulesFirst rows x = rule FitFailed (not (finiteAt x)) ∷ rule FitFailed (not (factor.accepted (factorOf (unweightedMatrix n rows)))) ∷ []
 
   abbrev answerFirst : List Row → List Float → Fix
   answerFirst rows x = At (solutionAt n rows (chiOf n rows) x)
@@ -52,7 +53,7 @@ module _ (settings : Settings) (k : Clocks) (os : List Observation) (guess : Vec
   end-became : (rows : List Row) (e : End) → Became (concluded Refused (rulesFirst rows) (answerFirst rows) e) (concluded Refused (rulesBefore settings k os guess rows) (answerBefore settings k os guess rows) e)
   unfolding ruled
   end-became rows (Stopped r) = Same r
-  end-became rows (Reached x) = go (not (finiteAt x)) (not (factor.accepted (factorOf (plainMatrix n rows))))
+  end-became rows (Reached x) = go (not (finiteAt x)) (not (factor.accepted (factorOf (unweightedMatrix n rows))))
     where
       go : (a b : Bool) → Became (cond a (Refused FitFailed) (cond b (Refused FitFailed) (answerFirst rows x)))
           (cond a (Refused FitFailed) (cond b (Refused FitFailed) (ruled Refused (figureRules (chiAt settings k os x) (dilutionOf n rows)) (answerBefore settings k os guess rows x))))

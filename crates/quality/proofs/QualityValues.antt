@@ -12,7 +12,7 @@ use Rattle.cholesky.specs.Factor.{zeros, withForward, forwardTo, withBack, back
 use Rattle.normal.specs.Nine.{from, nine}
 use Rattle.normal.specs.Equations.{wide, total, triangleOf}
 use Rattle.normal.specs.declared.row.Row.{Row}
-use Rattle.wls.specs.Fix.{freedomOf, chiOf, plainMatrix, pdopOf}
+use Rattle.quality.specs.Quality.{freedomOf, chiOf, unweightedMatrix, pdopOf}
 
 -- rows above the unknowns, and at least 1
 pub freedom-four : freedomOf 9 5 ≡ whole 4
@@ -36,8 +36,8 @@ abbrev unit : ℕ → List Float
 unit i = set zeros i 1·0
 
 pub plain-value :
-    plainMatrix 2 (row 0 ∷ row 0 ∷ []) ≡ (whole 8 ∷ replicate 8 +0) ∷ (whole 12 ∷ whole 18 ∷ replicate 7 +0) ∷ unit 2 ∷ unit 3 ∷ unit 4 ∷ unit 5 ∷ unit 6 ∷ unit 7 ∷ unit 8 ∷ []
-unfolding plainMatrix triangleOf nine from total wide add mul ofInt ofBits
+    unweightedMatrix 2 (row 0 ∷ row 0 ∷ []) ≡ (whole 8 ∷ replicate 8 +0) ∷ (whole 12 ∷ whole 18 ∷ replicate 7 +0) ∷ unit 2 ∷ unit 3 ∷ unit 4 ∷ unit 5 ∷ unit 6 ∷ unit 7 ∷ unit 8 ∷ []
+unfolding unweightedMatrix triangleOf nine from total wide add mul ofInt ofBits
 plain-value = refl
 
 -- by the diagonal factor 1/2, 1/2, 1, ..: the variances 4, 4 and 1

@@ -1,9 +1,9 @@
--- `wls::quality::freedom_of` meets its contract. Assumes nothing.
+-- `quality::figures::freedom_of` meets its contract. Assumes nothing.
 use native.Mathlib.Omega.{arith}
-use Rattle.wls.proofs.QualityLaws.{freedom-some, freedom-least}
+use Rattle.quality.proofs.QualityLaws.{freedom-some, freedom-least}
 use borrow.Author.Needs.{needs}
-use Rattle.wls.proofs.quality.freedom_of.Statement.{statement}
-use Rattle.wls.proofs.quality.freedom_of.Tie as tie
+use Rattle.quality.proofs.figures.freedom_of.Statement.{statement}
+use Rattle.quality.proofs.figures.freedom_of.Tie as tie
 
 sub-result : tie.Need-sub-result
 sub-result c = search needs

@@ -1,4 +1,4 @@
--- `wls::quality::chi_at` meets its contract. Assumes nothing.
+-- `wls::chi::chi_at` meets its contract. Assumes nothing.
 use mathlib.Core.Path.{_≡_, sym, ap, _∙_}
 use Prim.Native.Nat.{_-_, _≤_}
 use native.Mathlib.Omega.{arith}
@@ -6,13 +6,13 @@ use lib.ListN.{length, take}
 use Rattle.walk.proofs.Walk.{length-mapped}
 use Rattle.numeric.proofs.SightLaws.{seen-by}
 use Rattle.estimator.proofs.RulesLaws.{refused-by, passed-by}
-use Rattle.wls.specs.declared.quality.Chi.the-variants.{Refused as NoChi, Of as ChiOf}
+use Rattle.wls.specs.declared.chi.Chi.the-variants.{Refused as NoChi, Of as ChiOf}
 use Rattle.wls.specs.Fix.{sightRules, chiAt}
 use Rattle.wls.proofs.SightLaws.{Sights, sights-start, sights-end, sights-next, sights-stop}
 use Rattle.wls.proofs.QualityLaws.{squares, squares-zero, squares-next, chi-is}
 use borrow.Author.Needs.{needs}
-use Rattle.wls.proofs.quality.chi_at.Statement.{statement}
-use Rattle.wls.proofs.quality.chi_at.Tie as tie
+use Rattle.wls.proofs.chi.chi_at.Statement.{statement}
+use Rattle.wls.proofs.chi.chi_at.Tie as tie
 
 abbrev Inv-loop : tie.InvT-loop
 Inv-loop k sigma sky s count at t₀ j₀ t j = (j ≤ count) × Sights (sky .observation) count s j × (t ≡ squares k (sky .observation) sigma s j)

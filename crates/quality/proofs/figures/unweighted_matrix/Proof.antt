@@ -1,14 +1,14 @@
--- `wls::quality::plain_matrix` meets its contract. Assumes nothing.
+-- `quality::figures::unweighted_matrix` meets its contract. Assumes nothing.
 use mathlib.Core.Path.{_≡_, ap, _∙_}
 use Prim.Native.Nat.{_-_, _≤_}
 use Rattle.normal.specs.Equations.{wide, triangleOf}
 use Rattle.normal.specs.Columns.{Columns, columns}
 use Rattle.normal.proofs.AddedLaws.{triangle-wide}
-use Rattle.wls.proofs.QualityLaws.{plain, plain-start, plain-next, plain-end}
+use Rattle.quality.proofs.QualityLaws.{plain, plain-start, plain-next, plain-end}
 use borrow.Author.Needs.{needs}
 use native.Mathlib.Omega.{arith}
-use Rattle.wls.proofs.quality.plain_matrix.Statement.{statement}
-use Rattle.wls.proofs.quality.plain_matrix.Tie as tie
+use Rattle.quality.proofs.figures.unweighted_matrix.Statement.{statement}
+use Rattle.quality.proofs.figures.unweighted_matrix.Tie as tie
 
 abbrev Inv-loop : tie.InvT-loop
 Inv-loop x y z clock sigma residual n a₀ count e₀ k₀ a e k = (k ≤ count) × (a ≡ triangleOf n (plain (columns x y z clock sigma residual) k))
@@ -46,5 +46,5 @@ loop-again c = let s = c .before .before .before .before .before .before .before
 returns : tie.Need-returns Inv-loop μ-loop
 returns c = let s = c .before .before .before .before .before in let h = c .before .loop in plain-end (given s) (s .args .n) (h .k) (h .a) (omega arith) (h .inv .1)
 
-pub plain-matrix-spec : {M : Type 1} → statement M
-plain-matrix-spec = tie.close (tie.spec Inv-loop μ-loop unused-requires loop-holds row-at-requires wide-requires add-triangle-requires add-k loop-less loop-again returns)
+pub unweighted-matrix-spec : {M : Type 1} → statement M
+unweighted-matrix-spec = tie.close (tie.spec Inv-loop μ-loop unused-requires loop-holds row-at-requires wide-requires add-triangle-requires add-k loop-less loop-again returns)
