@@ -1,0 +1,4 @@
+-- What the proofs of more than one function use, and the theorems.
+pub mod BoundsLaws
+pub mod CallLaws
+pub mod WordLaws
