@@ -3,7 +3,7 @@ use mathlib.Core.Path.{_≡_, refl, sym, ap, _∙_}
 use Prim.Native.Nat.{ℕ, _+_, _-_, _*_, _/_, _%_, _^_, _≤_, _<_}
 use native.Mathlib.Nat.{mul-le-mul, mul-le-mul-right, add-mul-div-right, div-add-mod', div-le-of-le-mul, div-lt-iff-lt-mul, le-div-iff-mul-le, mod-lt, add-mul, mul-assoc, mul-comm}
 use native.Mathlib.Omega.{arith}
-use mathlib.Core.Bool.{Bool, true, false, cond, not, _&&_, _||_, and-false, false≢true}
+use mathlib.Core.Bool.{Bool, true, false, not, _&&_, false≢true}
 use lib.Dec.{ltb, eqb, lit≤}
 use lib.Ieee.{Float, le}
 use borrow.Author.Tests.{eq-eqb, ne-eqb, lt-ltb, le-ltb}
@@ -20,12 +20,11 @@ use Rattle.mileage.specs.Mileage.{isRefused, isUsable, isTaken, soundMil
 use Rattle.mileage.specs.declared.mileage.Epoch.{Epoch}
 use Rattle.mileage.specs.declared.mileage.Finding.{Finding}
 use Rattle.mileage.specs.declared.mileage.Mileage.{Mileage}
-use Rattle.mileage.specs.declared.mileage.Step.{Step}
 use Rattle.mileage.specs.declared.mileage.Step.the-variants.{Refused, Goes}
 use Rattle.mileage.specs.declared.mileage.Distance.{Distance}
 use Rattle.mileage.specs.declared.mileage.Distance.the-variants.{Refused as Unmeasured, Millimetres}
 use Rattle.mileage.specs.declared.mileage.Fuel.{Fuel}
-use Rattle.mileage.specs.declared.mileage.Fuel.the-variants.{Refused as Unfuelled, PerKilometre}
+use Rattle.mileage.specs.declared.mileage.Fuel.the-variants.{Refused as Unfuelled}
 
 -- ---- an epoch
 

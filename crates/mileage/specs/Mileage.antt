@@ -1,15 +1,13 @@
 -- A drive's distance (docs/SCOPE.md, "Mileage"): the totals of a list of epochs, and the calls of a mileage. Definitions only.
-use Prim.Native.Nat.{ℕ, zero, suc, _+_, _-_, _*_, _/_, _^_, _≤_}
+use Prim.Native.Nat.{ℕ, _+_, _*_, _/_, _^_, _≤_}
 use mathlib.Core.Path.{_≡_}
 use mathlib.Core.Bool.{Bool, true, false, cond, not, _&&_, _||_}
-use mathlib.Core.List.{List, [], _∷_, _++_}
+use mathlib.Core.List.{List, [], _∷_}
 use lib.Dec.{leb, ltb, eqb}
 use lib.ListN.{length, take}
 use lib.Ieee.{Float}
-use Rattle.exact.specs.Float.{+0}
 use Rattle.walk.specs.Walk.{collect}
 use Rattle.numeric.specs.Real.{inRange}
-use Rattle.numeric.specs.declared.refusal.Refusal.{Refusal}
 use Rattle.numeric.specs.declared.refusal.Refusal.the-variants.{SettingOutOfRange, BadTrip, NoDistance}
 use Rattle.trip.specs.Measure.{millimetresOf, measurable}
 use Rattle.mileage.specs.Rated.{rated}
@@ -57,15 +55,15 @@ pub record Placed : Type 0 where
   pub after : Bool
   pub last : Bool
 
--- neither it nor a neighbour has a pulse
-unfoldable pub still : Placed → Bool
-still p = not (p .before || moves (p .epoch) || p .after)
+-- it or a neighbour has a pulse
+unfoldable pub near : Placed → Bool
+near p = p .before || moves (p .epoch) || p .after
 
 unfoldable pub isStanding : Float → Placed → Bool
-isStanding limit p = isUsable limit (p .epoch) && still p
+isStanding limit p = isUsable limit (p .epoch) && not (near p)
 
 unfoldable pub isCounted : Float → Placed → Bool
-isCounted limit p = isUsable limit (p .epoch) && not (still p)
+isCounted limit p = isUsable limit (p .epoch) && near p
 
 -- a missing neighbour counts as without a pulse
 unfoldable pub nextMoves : List Epoch → Bool
@@ -116,10 +114,10 @@ mileageOf limit es =
       aside = r .aside;
       counted = r .counted;
       covered = r .covered;
-      standing = sum (λ p. isStanding limit p && not (p .last)) lengthOf ps;
+      standing = sum (λ p. not (p .last) && isStanding limit p) lengthOf ps;
       pulses = r .pulses;
-      moved = count (λ p. moves (p .epoch) && p .last) ps;
-      waiting = sum (λ p. isStanding limit p && p .last) lengthOf ps;
+      moved = count (λ p. p .last && moves (p .epoch)) ps;
+      waiting = sum (λ p. p .last && isStanding limit p) lengthOf ps;
     }
 
 -- the distance: counted millimetres times all pulses by counted pulses, rounded down
@@ -205,7 +203,7 @@ fuelOver millilitres (Millimetres d) = cond (eqb d 0) (Unfuelled NoDistance) (Pe
 unfoldable pub fuelled : Mileage → ℕ → Fuel
 fuelled m millilitres = fuelOver millilitres (distance m)
 
--- ---- what the calls promise
+-- ---- what an addition finds of an epoch, and what it promises
 
 -- what an addition finds of an epoch
 pub record Found (limit : Float) (e : Epoch) (f : Finding) : Type 0 where
@@ -217,8 +215,16 @@ pub record Found (limit : Float) (e : Epoch) (f : Finding) : Type 0 where
 -- ---- calls one after the other
 
 -- the epochs that additions take among those handed over: the first 65,535 whose displacement is refused, or finite and not longer than 1,000 m
+unfoldable pub takens : List Epoch → List Epoch
+takens es = collect (λ e. cond (isTaken e) (e ∷ []) []) es
+
 unfoldable pub taking : List Epoch → List Epoch
-taking es = take 65535 (collect (λ e. cond (isTaken e) (e ∷ []) []) es)
+taking es = take 65535 (takens es)
+
+-- the distance of a list of epochs: 17 where no pulse was counted
+unfoldable pub distanceOf : Float → List Epoch → Distance
+distanceOf limit es =
+    let r = reportOf limit es in cond (eqb (r .covered) 0) (Unmeasured NoDistance) (held (scaled (r .counted) (r .pulses) (r .covered)))
 
 -- pulses per epoch are 16-bit
 unfoldable pub narrow : Epoch → Bool

@@ -6,10 +6,11 @@ use mathlib.Core.List.{List, [], _∷_}
 use lib.ListN.{getD}
 use lib.Ieee.{Float, nan}
 use Rattle.exact.specs.Float.{bits}
+use Rattle.walk.specs.Walk.{fold}
 use Rattle.numeric.specs.Order.{patternOf}
 use Rattle.numeric.specs.Refusal.{numberOf}
 use Rattle.numeric.specs.Vec3.{vectorAt}
-use Rattle.mileage.specs.Mileage.{added, reported, distance, fuelled}
+use Rattle.mileage.specs.Mileage.{started, added, reported, distance, fuelled}
 use Rattle.mileage.specs.declared.mileage.Epoch.{Epoch}
 use Rattle.mileage.specs.declared.mileage.Mileage.{Mileage}
 use Rattle.mileage.specs.declared.mileage.Step.{Step}
@@ -99,3 +100,7 @@ fuelAfter (Fuel.PerKilometre m) before = m
 -- the words that an addition leaves
 unfoldable pub wordsNext : List ℕ → Epoch → List ℕ
 wordsNext w e = wordsAfter (addedWords w e) w
+
+-- the words that a start in lent words w and then these additions leave
+unfoldable pub called : Float → List ℕ → List Epoch → List ℕ
+called limit w es = fold wordsNext (wordsAfter (started limit) w) es

@@ -165,13 +165,14 @@ impl Mileage {
     {
         let moves = 0 < pulses;
         let near = (0 < self.moved) | moves;
+        let covered = when(usable & near, pulses);
         Mileage {
             limit: self.limit,
             epochs: self.epochs + 1,
             refused: self.refused + when(refused, 1),
             aside: self.aside + when(!refused & !usable, 1),
             counted: self.counted + when(moves, self.waiting) + when(usable & near, millimetres),
-            covered: self.covered + when(usable & near, pulses),
+            covered: self.covered + covered,
             standing: self.standing + when(!moves, self.waiting),
             pulses: self.pulses + pulses,
             moved: when(moves, 1),

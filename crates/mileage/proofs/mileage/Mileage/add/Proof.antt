@@ -1,5 +1,4 @@
 -- `mileage::mileage::Mileage::add` meets its contract. Assumes nothing.
-use mathlib.Core.Path.{sym, _∙_}
 use borrow.Author.Needs.{needs}
 use borrow.Author.Tests.{ltb-true, not-true, not-false}
 use Rattle.mileage.proofs.CallLaws.{add-refused, accepted, add-goes}
