@@ -88,7 +88,7 @@ pub(crate) fn way_of_square(square: f64) -> Way
 }
 
 // The way of a displacement.
-pub(crate) fn way_of(d: Vec3) -> Way
+pub fn way_of(d: Vec3) -> Way
     ensures { λ r. ⌜ r ≡ spec.wayOf (norm d) ⌝ }
 {
     way_of_square(d.x * d.x + d.y * d.y + d.z * d.z)
