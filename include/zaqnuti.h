@@ -406,9 +406,9 @@ size_t zaqnuti_line(
  *     zaqnuti_trip_fuel(trip, 850, &ml);
  *
  * Each call refuses by 16 a trip that no calls can have left: a rate of 0 or
- * above 65,535, more than 65,535 epochs, more than 1,000,000 mm or 65,535
- * pulses times its epochs, or an epoch in word 5 above 32 bits. A refusal
- * leaves the trip as it was.
+ * above 65,535, more than 65,535 epochs, or more than 1,000,000 mm or 65,535
+ * pulses times its epochs. Words 4 and 5 decide no refusal. A refusal leaves
+ * the trip as it was.
  */
 
 /* A trip just started: zeros behind its rate. Refuses by 16 (a rate of 0). */

@@ -67,12 +67,11 @@ fn odometer(rate: u128, pulses: u128) -> u128 {
 
 /// Whether 16 lets a trip pass.
 pub fn is_sound(trip: &Words) -> bool {
-    let [rate, epochs, carrier, pulses, _, reached] = trip.map(u128::from);
+    let [rate, epochs, carrier, pulses, _, _] = trip.map(u128::from);
     (1..=65_535).contains(&rate)
         && epochs <= 65_535
         && carrier <= 1_000_000 * epochs
         && pulses <= 65_535 * epochs
-        && reached < 1 << 32
 }
 
 /// A trip just started, or 16.
@@ -433,8 +432,7 @@ fn rust_add(trip: &mut Words, delta: &[f64; 3], pulses: u16) -> u8 {
     let sound = rate.wrapping_sub(1) < 65_535
         && epochs <= FULL
         && carrier <= 1_000_000 * epochs
-        && count <= 65_535 * epochs
-        && reached < 1 << 32;
+        && count <= 65_535 * epochs;
     let measurable = delta.iter().all(|x| x.is_finite()) && long <= 1000.0;
     if !sound || epochs == FULL || !measurable {
         return 16;
