@@ -125,7 +125,7 @@ impl Way {
         let table = Table::open(path, args.has("--ignore-unknown"))?;
         if table.optional("line").is_some() {
             let why = "a drive is a series of epochs; lines S, P and C have no times";
-            return said(format!("{path}:1: line: {why}"));
+            return said(format!("{}:1: line: {why}", table.name()));
         }
         let odometer = Odometer::of(args, &table)?;
         let totals = Totals::begin(&plan.set, plan.per_km, plan.limit);
@@ -190,6 +190,8 @@ impl Way {
 
 /// A drive's line, and what is to be said beside it.
 struct Told {
+    /// The name of the file, for messages.
+    name: String,
     line: Reported,
     warnings: Vec<String>,
 }
@@ -197,7 +199,7 @@ struct Told {
 impl Told {
     fn of(way: &Way, file: &str, labels: Labels) -> Run<Self> {
         let Some((first, last)) = way.times else {
-            return said(format!("{file}: has no epochs"));
+            return said(format!("{}: has no epochs", way.series.name()));
         };
         let (gap, longest) = (way.intervals.missing(), way.intervals.longest());
         let lost = match gap > 0.0 {
@@ -216,7 +218,12 @@ impl Told {
             fuel: millilitres.map(|ml| way.totals.fuel(ml)),
         };
         let warnings = warnings(way, &line, lost);
-        Ok(Self { line, warnings })
+        let name = way.series.name().to_string();
+        Ok(Self {
+            name,
+            line,
+            warnings,
+        })
     }
 
     /// Whether an epoch with pulses was counted.
@@ -297,13 +304,13 @@ pub fn run(words: &[String]) -> Run<bool> {
     };
     jobs::in_order(count, plan.jobs, work, |told: Run<Told>| {
         let told = told?;
-        let file = &told.line.file;
+        let name = &told.name;
         for warning in &told.warnings {
-            warn(&format!("{file}: {warning}"));
+            warn(&format!("{name}: {warning}"));
         }
         if !told.counted() {
             all = false;
-            tell(&format!("{file}: no epoch with pulses was counted"));
+            tell(&format!("{name}: no epoch with pulses was counted"));
         }
         rows.put(|| told.line.words(), &told.line.fields())
     })?;
