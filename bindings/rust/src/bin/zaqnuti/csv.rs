@@ -150,10 +150,13 @@ impl Table {
         }
         self.fields.clear();
         let mut start = 0;
-        for part in self.text.split(',') {
-            self.fields.push((start, start + part.len()));
-            start += part.len() + 1;
+        for (end, &byte) in self.text.as_bytes().iter().enumerate() {
+            if byte == b',' {
+                self.fields.push((start, end));
+                start = end + 1;
+            }
         }
+        self.fields.push((start, self.text.len()));
         if self.fields.len() == self.header.len() {
             return Ok(true);
         }
@@ -212,7 +215,12 @@ impl Table {
     /// A field of the line that was read last, without spaces around it.
     pub fn field(&self, column: Column) -> &str {
         let (start, end) = self.fields[column.place];
-        self.text[start..end].trim()
+        let field = &self.text[start..end];
+        // Most fields have no space around them.
+        match field.as_bytes() {
+            [first, .., last] if first.is_ascii_graphic() && last.is_ascii_graphic() => field,
+            _ => field.trim(),
+        }
     }
 
     fn parsed<T: FromStr>(&self, column: Column, kind: &str) -> Run<T> {
