@@ -96,11 +96,17 @@ extern "C" {
 #endif
 
 /* The version of this header and its library: 10000 major + 100 minor + patch in the last. */
-#define ZAQNUTI_VERSION "0.5.0"
+#define ZAQNUTI_VERSION "0.6.0"
 #define ZAQNUTI_VERSION_MAJOR 0
-#define ZAQNUTI_VERSION_MINOR 5
+#define ZAQNUTI_VERSION_MINOR 6
 #define ZAQNUTI_VERSION_PATCH 0
-#define ZAQNUTI_VERSION_NUMBER 500
+#define ZAQNUTI_VERSION_NUMBER 600
+
+/*
+ * Returns the version of the library, as ZAQNUTI_VERSION_NUMBER has that of the
+ * header: compare the two where the library is loaded at run time.
+ */
+uint32_t zaqnuti_version(void);
 
 /* Limits. */
 #define ZAQNUTI_RECORDS 64       /* records of an epoch, states beside it, rows, residuals */

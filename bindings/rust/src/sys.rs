@@ -3,6 +3,8 @@
 //! A column is a pointer and a length in elements. What a call writes overlaps nothing else that is handed to it.
 
 extern "C" {
+    /// The version of the library: 10000 major + 100 minor + patch.
+    pub fn zaqnuti_version() -> u32;
     /// The time of a week and a time of week, in nanoseconds.
     pub fn zaqnuti_time(week: u32, tow: f64, nanos: *mut u64) -> u8;
     /// The nanoseconds between two times.

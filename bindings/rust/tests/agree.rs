@@ -126,7 +126,7 @@ fn number(c: &str) -> &str {
         "uint64_t" => "u64",
         "int32_t" => "i32",
         "int64_t" => "i64",
-        "size_t" => "usize",
+        "zaqnuti_size" => "usize",
         "double" => "f64",
         "bool" => "bool",
         "void" => "()",
@@ -153,6 +153,7 @@ fn header() -> Signatures {
             continue;
         };
         let list = list.rsplit_once(')').unwrap().0;
+        let list = if list.trim() == "void" { "" } else { list };
         let types = items(list).iter().map(|i| parameter_of_c(i)).collect();
         out.insert(name.to_string(), (types, number(result).to_string()));
     }

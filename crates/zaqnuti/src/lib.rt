@@ -18,3 +18,4 @@ pub mod slots;
 pub mod times;
 pub mod track;
 pub mod trips;
+pub mod version;
