@@ -91,6 +91,13 @@
 #include <stddef.h>
 #include <stdint.h>
 
+/* A length or a count, of 64 bits on every target: size_t where that has 64 bits. */
+#if SIZE_MAX > 0xFFFFFFFFu
+typedef size_t zaqnuti_size;
+#else
+typedef uint64_t zaqnuti_size;
+#endif
+
 #ifdef __cplusplus
 extern "C" {
 #endif
@@ -247,25 +254,25 @@ uint8_t zaqnuti_seconds_since(uint64_t later, uint64_t earlier, double *seconds)
  * and 14 (chi or pdop is not finite).
  */
 uint8_t zaqnuti_fix(
-    const uint8_t *constellation, size_t constellation_length,
-    const double *floats, size_t floats_length,
-    size_t count,
+    const uint8_t *constellation, zaqnuti_size constellation_length,
+    const double *floats, zaqnuti_size floats_length,
+    zaqnuti_size count,
     const double guess[3],
     const double settings[4],
-    size_t rounds,
+    zaqnuti_size rounds,
     double solution[5],
-    size_t *used);
+    zaqnuti_size *used);
 
 /*
  * The same fix by its position alone: x, y, z (m). The refusals are the same.
  */
 uint8_t zaqnuti_position(
-    const uint8_t *constellation, size_t constellation_length,
-    const double *floats, size_t floats_length,
-    size_t count,
+    const uint8_t *constellation, zaqnuti_size constellation_length,
+    const double *floats, zaqnuti_size floats_length,
+    zaqnuti_size count,
     const double guess[3],
     const double settings[4],
-    size_t rounds,
+    zaqnuti_size rounds,
     double position[3]);
 
 /* ---- the displacement */
@@ -297,24 +304,24 @@ uint8_t zaqnuti_position(
  * is zero or not finite), 7, 8, 9 and 10, in this order.
  */
 uint8_t zaqnuti_displacement(
-    const uint8_t *previous_constellation, size_t previous_constellation_length,
-    const uint16_t *previous_svid, size_t previous_svid_length,
-    const uint32_t *previous_band, size_t previous_band_length,
-    const int32_t *previous_state, size_t previous_state_length,
-    const double *previous_floats, size_t previous_floats_length,
-    size_t previous_count,
-    const uint8_t *current_constellation, size_t current_constellation_length,
-    const uint16_t *current_svid, size_t current_svid_length,
-    const uint32_t *current_band, size_t current_band_length,
-    const int32_t *current_state, size_t current_state_length,
-    const double *current_floats, size_t current_floats_length,
-    size_t current_count,
+    const uint8_t *previous_constellation, zaqnuti_size previous_constellation_length,
+    const uint16_t *previous_svid, zaqnuti_size previous_svid_length,
+    const uint32_t *previous_band, zaqnuti_size previous_band_length,
+    const int32_t *previous_state, zaqnuti_size previous_state_length,
+    const double *previous_floats, zaqnuti_size previous_floats_length,
+    zaqnuti_size previous_count,
+    const uint8_t *current_constellation, zaqnuti_size current_constellation_length,
+    const uint16_t *current_svid, zaqnuti_size current_svid_length,
+    const uint32_t *current_band, zaqnuti_size current_band_length,
+    const int32_t *current_state, zaqnuti_size current_state_length,
+    const double *current_floats, zaqnuti_size current_floats_length,
+    zaqnuti_size current_count,
     double dt,
     const double receiver[3],
     const double settings[5],
-    size_t rounds,
+    zaqnuti_size rounds,
     double delta[3],
-    size_t counts[2]);
+    zaqnuti_size counts[2]);
 
 /*
  * The same between two epochs by their times.
@@ -329,25 +336,25 @@ uint8_t zaqnuti_displacement(
  * order.
  */
 uint8_t zaqnuti_displacement_between(
-    const uint8_t *previous_constellation, size_t previous_constellation_length,
-    const uint16_t *previous_svid, size_t previous_svid_length,
-    const uint32_t *previous_band, size_t previous_band_length,
-    const int32_t *previous_state, size_t previous_state_length,
-    const double *previous_floats, size_t previous_floats_length,
-    size_t previous_count,
-    const uint8_t *current_constellation, size_t current_constellation_length,
-    const uint16_t *current_svid, size_t current_svid_length,
-    const uint32_t *current_band, size_t current_band_length,
-    const int32_t *current_state, size_t current_state_length,
-    const double *current_floats, size_t current_floats_length,
-    size_t current_count,
+    const uint8_t *previous_constellation, zaqnuti_size previous_constellation_length,
+    const uint16_t *previous_svid, zaqnuti_size previous_svid_length,
+    const uint32_t *previous_band, zaqnuti_size previous_band_length,
+    const int32_t *previous_state, zaqnuti_size previous_state_length,
+    const double *previous_floats, zaqnuti_size previous_floats_length,
+    zaqnuti_size previous_count,
+    const uint8_t *current_constellation, zaqnuti_size current_constellation_length,
+    const uint16_t *current_svid, zaqnuti_size current_svid_length,
+    const uint32_t *current_band, zaqnuti_size current_band_length,
+    const int32_t *current_state, zaqnuti_size current_state_length,
+    const double *current_floats, zaqnuti_size current_floats_length,
+    zaqnuti_size current_count,
     uint64_t previous_time,
     uint64_t current_time,
     const double receiver[3],
     const double settings[5],
-    size_t rounds,
+    zaqnuti_size rounds,
     double delta[3],
-    size_t counts[2]);
+    zaqnuti_size counts[2]);
 
 /*
  * The displacement of the city profile: by GPS (1) and Galileo (6) on one band.
@@ -360,25 +367,25 @@ uint8_t zaqnuti_displacement_between(
  * absent among the pairs kept) and 10, in this order.
  */
 uint8_t zaqnuti_city_displacement(
-    const uint8_t *previous_constellation, size_t previous_constellation_length,
-    const uint16_t *previous_svid, size_t previous_svid_length,
-    const uint32_t *previous_band, size_t previous_band_length,
-    const int32_t *previous_state, size_t previous_state_length,
-    const double *previous_floats, size_t previous_floats_length,
-    size_t previous_count,
-    const uint8_t *current_constellation, size_t current_constellation_length,
-    const uint16_t *current_svid, size_t current_svid_length,
-    const uint32_t *current_band, size_t current_band_length,
-    const int32_t *current_state, size_t current_state_length,
-    const double *current_floats, size_t current_floats_length,
-    size_t current_count,
+    const uint8_t *previous_constellation, zaqnuti_size previous_constellation_length,
+    const uint16_t *previous_svid, zaqnuti_size previous_svid_length,
+    const uint32_t *previous_band, zaqnuti_size previous_band_length,
+    const int32_t *previous_state, zaqnuti_size previous_state_length,
+    const double *previous_floats, zaqnuti_size previous_floats_length,
+    zaqnuti_size previous_count,
+    const uint8_t *current_constellation, zaqnuti_size current_constellation_length,
+    const uint16_t *current_svid, zaqnuti_size current_svid_length,
+    const uint32_t *current_band, zaqnuti_size current_band_length,
+    const int32_t *current_state, zaqnuti_size current_state_length,
+    const double *current_floats, zaqnuti_size current_floats_length,
+    zaqnuti_size current_count,
     double dt,
     uint32_t band,
     const double receiver[3],
     const double settings[5],
-    size_t rounds,
+    zaqnuti_size rounds,
     double delta[3],
-    size_t counts[2]);
+    zaqnuti_size counts[2]);
 
 /*
  * The displacement of a text in the line form, `S`, `P` and `C` lines: writes
@@ -387,9 +394,9 @@ uint8_t zaqnuti_city_displacement(
  * nothing and gives 0; ZAQNUTI_LINE bytes are always enough. A text above
  * 32,768 bytes, or one that breaks the form, is answered by `R,1`.
  */
-size_t zaqnuti_line(
-    const uint8_t *text, size_t text_length,
-    uint8_t *line, size_t line_length);
+zaqnuti_size zaqnuti_line(
+    const uint8_t *text, zaqnuti_size text_length,
+    uint8_t *line, zaqnuti_size line_length);
 
 /* ---- the trip */
 
@@ -486,13 +493,13 @@ uint8_t zaqnuti_trip_fuel(const uint64_t trip[6], uint32_t millilitres, uint64_t
  * Refuses by 2 (more than 64, a column or bytes shorter than count needs).
  */
 uint8_t zaqnuti_write_records(
-    const uint8_t *constellation, size_t constellation_length,
-    const uint16_t *svid, size_t svid_length,
-    const uint32_t *band, size_t band_length,
-    const int32_t *state, size_t state_length,
-    const uint64_t *floats, size_t floats_length,
-    size_t count,
-    uint8_t *bytes, size_t bytes_length);
+    const uint8_t *constellation, zaqnuti_size constellation_length,
+    const uint16_t *svid, zaqnuti_size svid_length,
+    const uint32_t *band, zaqnuti_size band_length,
+    const int32_t *state, zaqnuti_size state_length,
+    const uint64_t *floats, zaqnuti_size floats_length,
+    zaqnuti_size count,
+    uint8_t *bytes, zaqnuti_size bytes_length);
 
 /*
  * Reads the records of bytes into the columns, from their first places on, and
@@ -503,13 +510,13 @@ uint8_t zaqnuti_write_records(
  * are as they were.
  */
 uint8_t zaqnuti_read_records(
-    const uint8_t *bytes, size_t bytes_length,
-    uint8_t *constellation, size_t constellation_length,
-    uint16_t *svid, size_t svid_length,
-    uint32_t *band, size_t band_length,
-    int32_t *state, size_t state_length,
-    uint64_t *floats, size_t floats_length,
-    size_t *count);
+    const uint8_t *bytes, zaqnuti_size bytes_length,
+    uint8_t *constellation, zaqnuti_size constellation_length,
+    uint16_t *svid, zaqnuti_size svid_length,
+    uint32_t *band, zaqnuti_size band_length,
+    int32_t *state, zaqnuti_size state_length,
+    uint64_t *floats, zaqnuti_size floats_length,
+    zaqnuti_size *count);
 
 /*
  * The displacement between two epochs that are held as bytes: that of
@@ -527,8 +534,8 @@ uint8_t zaqnuti_read_records(
  * this order.
  */
 uint8_t zaqnuti_displacement_records(
-    const uint8_t *previous, size_t previous_length,
-    const uint8_t *current, size_t current_length,
+    const uint8_t *previous, zaqnuti_size previous_length,
+    const uint8_t *current, zaqnuti_size current_length,
     double dt,
     double x,
     double y,
@@ -539,7 +546,7 @@ uint8_t zaqnuti_displacement_records(
     double huber,
     double mask,
     uint32_t rounds,
-    uint8_t *result, size_t result_length);
+    uint8_t *result, zaqnuti_size result_length);
 /* ---- directions */
 
 /*
@@ -565,7 +572,7 @@ uint8_t zaqnuti_north_east_down(const double position[3], const double displacem
  *
  *     uint64_t trip[6];
  *     double in_force[5];
- *     size_t rounds;
+ *     zaqnuti_size rounds;
  *     zaqnuti_trip_begin(morning, 4, 4000, trip, in_force, &rounds);
  *     zaqnuti_trip_displacement(trip, in_force, rounds, ..);   for each epoch
  *     zaqnuti_trip_settings(trip, afternoon, 4, in_force, &rounds);
@@ -582,11 +589,11 @@ uint8_t zaqnuti_north_east_down(const double position[3], const double displacem
  */
 uint8_t zaqnuti_trip_begin(
     const double settings[5],
-    size_t rounds,
+    zaqnuti_size rounds,
     uint16_t per_km,
     uint64_t trip[6],
     double in_force[5],
-    size_t *in_force_rounds);
+    zaqnuti_size *in_force_rounds);
 
 /*
  * New settings between two epochs. Refuses by 3 (of the new settings; those in
@@ -596,9 +603,9 @@ uint8_t zaqnuti_trip_begin(
 uint8_t zaqnuti_trip_settings(
     const uint64_t trip[6],
     const double settings[5],
-    size_t rounds,
+    zaqnuti_size rounds,
     double in_force[5],
-    size_t *in_force_rounds);
+    zaqnuti_size *in_force_rounds);
 
 /*
  * The displacement between two epochs under the settings in force, added to
@@ -612,24 +619,24 @@ uint8_t zaqnuti_trip_settings(
 uint8_t zaqnuti_trip_displacement(
     uint64_t trip[6],
     const double in_force[5],
-    size_t in_force_rounds,
-    const uint8_t *previous_constellation, size_t previous_constellation_length,
-    const uint16_t *previous_svid, size_t previous_svid_length,
-    const uint32_t *previous_band, size_t previous_band_length,
-    const int32_t *previous_state, size_t previous_state_length,
-    const double *previous_floats, size_t previous_floats_length,
-    size_t previous_count,
-    const uint8_t *current_constellation, size_t current_constellation_length,
-    const uint16_t *current_svid, size_t current_svid_length,
-    const uint32_t *current_band, size_t current_band_length,
-    const int32_t *current_state, size_t current_state_length,
-    const double *current_floats, size_t current_floats_length,
-    size_t current_count,
+    zaqnuti_size in_force_rounds,
+    const uint8_t *previous_constellation, zaqnuti_size previous_constellation_length,
+    const uint16_t *previous_svid, zaqnuti_size previous_svid_length,
+    const uint32_t *previous_band, zaqnuti_size previous_band_length,
+    const int32_t *previous_state, zaqnuti_size previous_state_length,
+    const double *previous_floats, zaqnuti_size previous_floats_length,
+    zaqnuti_size previous_count,
+    const uint8_t *current_constellation, zaqnuti_size current_constellation_length,
+    const uint16_t *current_svid, zaqnuti_size current_svid_length,
+    const uint32_t *current_band, zaqnuti_size current_band_length,
+    const int32_t *current_state, zaqnuti_size current_state_length,
+    const double *current_floats, zaqnuti_size current_floats_length,
+    zaqnuti_size current_count,
     double dt,
     const double receiver[3],
     uint16_t pulses,
     double delta[3],
-    size_t counts[2]);
+    zaqnuti_size counts[2]);
 
 /* ---- the corrections */
 
@@ -675,27 +682,27 @@ uint8_t zaqnuti_trip_displacement(
  * 11.
  */
 uint8_t zaqnuti_add_epoch(
-    uint8_t *block_constellation, size_t block_constellation_length,
-    uint16_t *block_svid, size_t block_svid_length,
-    uint32_t *block_band, size_t block_band_length,
-    size_t *block_first, size_t block_first_length,
-    size_t *block_samples, size_t block_samples_length,
-    size_t *blocks,
-    double *table_time, size_t table_time_length,
-    double *table_metres, size_t table_metres_length,
-    size_t *table_count,
+    uint8_t *block_constellation, zaqnuti_size block_constellation_length,
+    uint16_t *block_svid, zaqnuti_size block_svid_length,
+    uint32_t *block_band, zaqnuti_size block_band_length,
+    zaqnuti_size *block_first, zaqnuti_size block_first_length,
+    zaqnuti_size *block_samples, zaqnuti_size block_samples_length,
+    zaqnuti_size *blocks,
+    double *table_time, zaqnuti_size table_time_length,
+    double *table_metres, zaqnuti_size table_metres_length,
+    zaqnuti_size *table_count,
     double time,
-    size_t ranges,
-    const uint8_t *range_constellation, size_t range_constellation_length,
-    const uint16_t *range_svid, size_t range_svid_length,
-    const uint32_t *range_band, size_t range_band_length,
-    const double *range_pseudorange, size_t range_pseudorange_length,
+    zaqnuti_size ranges,
+    const uint8_t *range_constellation, zaqnuti_size range_constellation_length,
+    const uint16_t *range_svid, zaqnuti_size range_svid_length,
+    const uint32_t *range_band, zaqnuti_size range_band_length,
+    const double *range_pseudorange, zaqnuti_size range_pseudorange_length,
     bool states_present,
-    size_t states,
-    const uint8_t *state_constellation, size_t state_constellation_length,
-    const uint16_t *state_svid, size_t state_svid_length,
-    const uint32_t *state_band, size_t state_band_length,
-    const double *state_floats, size_t state_floats_length,
+    zaqnuti_size states,
+    const uint8_t *state_constellation, zaqnuti_size state_constellation_length,
+    const uint16_t *state_svid, zaqnuti_size state_svid_length,
+    const uint32_t *state_band, zaqnuti_size state_band_length,
+    const double *state_floats, zaqnuti_size state_floats_length,
     const double base[3],
     const double rover[3],
     double max_gap,
@@ -714,15 +721,15 @@ uint8_t zaqnuti_add_epoch(
  * finite).
  */
 uint8_t zaqnuti_query(
-    const uint8_t *block_constellation, size_t block_constellation_length,
-    const uint16_t *block_svid, size_t block_svid_length,
-    const uint32_t *block_band, size_t block_band_length,
-    const size_t *block_first, size_t block_first_length,
-    const size_t *block_samples, size_t block_samples_length,
-    size_t blocks,
-    const double *table_time, size_t table_time_length,
-    const double *table_metres, size_t table_metres_length,
-    size_t table_count,
+    const uint8_t *block_constellation, zaqnuti_size block_constellation_length,
+    const uint16_t *block_svid, zaqnuti_size block_svid_length,
+    const uint32_t *block_band, zaqnuti_size block_band_length,
+    const zaqnuti_size *block_first, zaqnuti_size block_first_length,
+    const zaqnuti_size *block_samples, zaqnuti_size block_samples_length,
+    zaqnuti_size blocks,
+    const double *table_time, zaqnuti_size table_time_length,
+    const double *table_metres, zaqnuti_size table_metres_length,
+    zaqnuti_size table_count,
     double max_gap,
     uint8_t constellation,
     uint16_t svid,
@@ -745,23 +752,23 @@ uint8_t zaqnuti_query(
  * place is as it was.
  */
 uint8_t zaqnuti_queries(
-    const uint8_t *block_constellation, size_t block_constellation_length,
-    const uint16_t *block_svid, size_t block_svid_length,
-    const uint32_t *block_band, size_t block_band_length,
-    const size_t *block_first, size_t block_first_length,
-    const size_t *block_samples, size_t block_samples_length,
-    size_t blocks,
-    const double *table_time, size_t table_time_length,
-    const double *table_metres, size_t table_metres_length,
-    size_t table_count,
+    const uint8_t *block_constellation, zaqnuti_size block_constellation_length,
+    const uint16_t *block_svid, zaqnuti_size block_svid_length,
+    const uint32_t *block_band, zaqnuti_size block_band_length,
+    const zaqnuti_size *block_first, zaqnuti_size block_first_length,
+    const zaqnuti_size *block_samples, zaqnuti_size block_samples_length,
+    zaqnuti_size blocks,
+    const double *table_time, zaqnuti_size table_time_length,
+    const double *table_metres, zaqnuti_size table_metres_length,
+    zaqnuti_size table_count,
     double max_gap,
-    const uint8_t *constellation, size_t constellation_length,
-    const uint16_t *svid, size_t svid_length,
-    const uint32_t *band, size_t band_length,
-    const double *time, size_t time_length,
-    size_t count,
-    uint8_t *numbers, size_t numbers_length,
-    double *metres, size_t metres_length);
+    const uint8_t *constellation, zaqnuti_size constellation_length,
+    const uint16_t *svid, zaqnuti_size svid_length,
+    const uint32_t *band, zaqnuti_size band_length,
+    const double *time, zaqnuti_size time_length,
+    zaqnuti_size count,
+    uint8_t *numbers, zaqnuti_size numbers_length,
+    double *metres, zaqnuti_size metres_length);
 
 /*
  * Forgetting what came before a time (s of the week), so that a table lasts:
@@ -779,15 +786,15 @@ uint8_t zaqnuti_queries(
  * of the table, or its directory, as above) and 18.
  */
 uint8_t zaqnuti_forget(
-    const uint8_t *block_constellation, size_t block_constellation_length,
-    const uint16_t *block_svid, size_t block_svid_length,
-    const uint32_t *block_band, size_t block_band_length,
-    size_t *block_first, size_t block_first_length,
-    size_t *block_samples, size_t block_samples_length,
-    size_t blocks,
-    double *table_time, size_t table_time_length,
-    double *table_metres, size_t table_metres_length,
-    size_t *table_count,
+    const uint8_t *block_constellation, zaqnuti_size block_constellation_length,
+    const uint16_t *block_svid, zaqnuti_size block_svid_length,
+    const uint32_t *block_band, zaqnuti_size block_band_length,
+    zaqnuti_size *block_first, zaqnuti_size block_first_length,
+    zaqnuti_size *block_samples, zaqnuti_size block_samples_length,
+    zaqnuti_size blocks,
+    double *table_time, zaqnuti_size table_time_length,
+    double *table_metres, zaqnuti_size table_metres_length,
+    zaqnuti_size *table_count,
     double time);
 
 /*
@@ -806,9 +813,9 @@ uint8_t zaqnuti_forget(
  * Refuses by 2 (count above 2,048, a column shorter than count).
  */
 uint8_t zaqnuti_widen_bands(
-    const uint8_t *narrow, size_t narrow_length,
-    size_t count,
-    uint32_t *wide, size_t wide_length);
+    const uint8_t *narrow, zaqnuti_size narrow_length,
+    zaqnuti_size count,
+    uint32_t *wide, zaqnuti_size wide_length);
 
 /*
  * The directory of a table that was stored before 0.5.0, with a constellation,
@@ -830,18 +837,18 @@ uint8_t zaqnuti_widen_bands(
  * directory and its count are as they were.
  */
 uint8_t zaqnuti_directory_of(
-    const uint8_t *constellation, size_t constellation_length,
-    const uint16_t *svid, size_t svid_length,
-    const uint32_t *band, size_t band_length,
-    const double *table_time, size_t table_time_length,
-    const double *table_metres, size_t table_metres_length,
-    size_t table_count,
-    uint8_t *block_constellation, size_t block_constellation_length,
-    uint16_t *block_svid, size_t block_svid_length,
-    uint32_t *block_band, size_t block_band_length,
-    size_t *block_first, size_t block_first_length,
-    size_t *block_samples, size_t block_samples_length,
-    size_t *blocks);
+    const uint8_t *constellation, zaqnuti_size constellation_length,
+    const uint16_t *svid, zaqnuti_size svid_length,
+    const uint32_t *band, zaqnuti_size band_length,
+    const double *table_time, zaqnuti_size table_time_length,
+    const double *table_metres, zaqnuti_size table_metres_length,
+    zaqnuti_size table_count,
+    uint8_t *block_constellation, zaqnuti_size block_constellation_length,
+    uint16_t *block_svid, zaqnuti_size block_svid_length,
+    uint32_t *block_band, zaqnuti_size block_band_length,
+    zaqnuti_size *block_first, zaqnuti_size block_first_length,
+    zaqnuti_size *block_samples, zaqnuti_size block_samples_length,
+    zaqnuti_size *blocks);
 
 /*
  * The way back: the constellation, svid and band of each sample of a table
@@ -853,18 +860,18 @@ uint8_t zaqnuti_directory_of(
  * as in zaqnuti_add_epoch); then the three columns are as they were.
  */
 uint8_t zaqnuti_signals_of(
-    const uint8_t *block_constellation, size_t block_constellation_length,
-    const uint16_t *block_svid, size_t block_svid_length,
-    const uint32_t *block_band, size_t block_band_length,
-    const size_t *block_first, size_t block_first_length,
-    const size_t *block_samples, size_t block_samples_length,
-    size_t blocks,
-    const double *table_time, size_t table_time_length,
-    const double *table_metres, size_t table_metres_length,
-    size_t table_count,
-    uint8_t *constellation, size_t constellation_length,
-    uint16_t *svid, size_t svid_length,
-    uint32_t *band, size_t band_length);
+    const uint8_t *block_constellation, zaqnuti_size block_constellation_length,
+    const uint16_t *block_svid, zaqnuti_size block_svid_length,
+    const uint32_t *block_band, zaqnuti_size block_band_length,
+    const zaqnuti_size *block_first, zaqnuti_size block_first_length,
+    const zaqnuti_size *block_samples, zaqnuti_size block_samples_length,
+    zaqnuti_size blocks,
+    const double *table_time, zaqnuti_size table_time_length,
+    const double *table_metres, zaqnuti_size table_metres_length,
+    zaqnuti_size table_count,
+    uint8_t *constellation, zaqnuti_size constellation_length,
+    uint16_t *svid, zaqnuti_size svid_length,
+    uint32_t *band, zaqnuti_size band_length);
 
 /* ---- the track */
 
@@ -895,19 +902,19 @@ uint8_t zaqnuti_signals_of(
  * docs/SCOPE.md, "Track", and proved for every call.
  */
 uint8_t zaqnuti_smooth(
-    size_t epochs,
-    size_t anchors,
-    size_t links,
-    const size_t *anchor_epoch, size_t anchor_epoch_length,
-    const double *anchor_position, size_t anchor_position_length,
-    const double *anchor_sigma, size_t anchor_sigma_length,
-    const size_t *link_epoch, size_t link_epoch_length,
-    const double *link_change, size_t link_change_length,
-    const double *link_sigma, size_t link_sigma_length,
+    zaqnuti_size epochs,
+    zaqnuti_size anchors,
+    zaqnuti_size links,
+    const zaqnuti_size *anchor_epoch, zaqnuti_size anchor_epoch_length,
+    const double *anchor_position, zaqnuti_size anchor_position_length,
+    const double *anchor_sigma, zaqnuti_size anchor_sigma_length,
+    const zaqnuti_size *link_epoch, zaqnuti_size link_epoch_length,
+    const double *link_change, zaqnuti_size link_change_length,
+    const double *link_sigma, zaqnuti_size link_sigma_length,
     double huber,
-    size_t iterations,
-    double *result, size_t result_length,
-    double *work, size_t work_length);
+    zaqnuti_size iterations,
+    double *result, zaqnuti_size result_length,
+    double *work, zaqnuti_size work_length);
 
 /* ---- the pieces; they take every float and test no setting */
 
@@ -928,12 +935,12 @@ uint8_t zaqnuti_smooth(
  * (unknowns, a clock index) and 10 (a pivot).
  */
 uint8_t zaqnuti_round(
-    const double *units, size_t units_length,
-    const size_t *clocks, size_t clocks_length,
-    const uint64_t *residuals, size_t residuals_length,
-    const double *sigmas, size_t sigmas_length,
-    size_t rows,
-    size_t unknowns,
+    const double *units, zaqnuti_size units_length,
+    const zaqnuti_size *clocks, zaqnuti_size clocks_length,
+    const uint64_t *residuals, zaqnuti_size residuals_length,
+    const double *sigmas, zaqnuti_size sigmas_length,
+    zaqnuti_size rows,
+    zaqnuti_size unknowns,
     double huber,
     double dx[9]);
 
@@ -943,7 +950,7 @@ uint8_t zaqnuti_round(
  * plus 1e-6. Of none they are 0 and 1. Refuses by 2 (more than 64).
  */
 uint8_t zaqnuti_centre(
-    const uint64_t *residuals, size_t residuals_length,
+    const uint64_t *residuals, zaqnuti_size residuals_length,
     double out[2]);
 
 /* The one-sigma of an elevation in degrees: a + b / sin(elevation), at least 3 degrees. */
@@ -977,16 +984,16 @@ void zaqnuti_solve(const double l[81], const double b[9], double x[9]);
  */
 
 /* The state of no constellation given. */
-void zaqnuti_clocks_new(size_t slot[8], size_t *count);
+void zaqnuti_clocks_new(zaqnuti_size slot[8], zaqnuti_size *count);
 
 /* One constellation more; a count above 7 leaves the state as it is. */
-void zaqnuti_clocks_given(size_t slot[8], size_t *count, uint8_t constellation);
+void zaqnuti_clocks_given(zaqnuti_size slot[8], zaqnuti_size *count, uint8_t constellation);
 
 /* The slot of a constellation. */
-size_t zaqnuti_clocks_slot(const size_t slot[8], uint8_t constellation);
+zaqnuti_size zaqnuti_clocks_slot(const zaqnuti_size slot[8], uint8_t constellation);
 
 /* Three coordinates and the clocks: 3 + count, which wraps. */
-size_t zaqnuti_clocks_unknowns(const size_t slot[8], size_t count);
+zaqnuti_size zaqnuti_clocks_unknowns(const zaqnuti_size slot[8], zaqnuti_size count);
 
 /* The square root, correctly rounded; of -0 it is -0, of a negative a NaN. */
 double zaqnuti_sqrt(double x);
