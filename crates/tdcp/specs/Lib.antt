@@ -2,4 +2,4 @@ pub mod Valid
 pub mod Front
 pub mod Displacement
 pub mod Rows
-pub mod Between
+pub mod City
