@@ -1,11 +1,11 @@
 -- Chi and the dilution as the code works them out from the rows. Assumes nothing.
-use mathlib.Core.Path.{_≡_, refl, sym, ap, ap₂, _∙_}
+use mathlib.Core.Path.{_≡_, refl, sym, ap, ap₂, _∙_, subst}
 use Prim.Native.Nat.{ℕ, _+_, _-_, _≤_, _<_, max}
 use native.Mathlib.Decide.{ℕ-discrete}
 use native.Mathlib.Omega.{arith}
 use mathlib.Core.Bool.{Bool, true, false, not, cond, _&&_}
 use mathlib.Core.List.{List, []}
-use lib.Dec.{eqb}
+use lib.Dec.{eqb, T}
 use borrow.Author.Tests.{eq-eqb, ne-eqb}
 use lib.ListN.{getD, length, set, length-set, getD-replicate}
 use lib.Seq.{getD-set-same, getD-set-other}
@@ -31,6 +31,7 @@ use Rattle.normal.proofs.AddedLaws.{triangle-zero, triangle-more}
 use Rattle.normal.proofs.FormedLaws.{sums, sums-zero, sums-next, sums-triangle, triangle-unused}
 use Rattle.estimator.specs.Rules.{ruled}
 use Rattle.quality.specs.Quality.{freedomOf, chiOf, unweightedMatrix, pdopOf, dilutionOf, dilutionFound, figureRules, qualityOf}
+use Rattle.quality.specs.declared.figures.Figures.{Figures}
 use Rattle.quality.specs.declared.figures.Dilution.{Dilution}
 use Rattle.quality.specs.declared.figures.Dilution.the-variants as Dilution
 use Rattle.quality.specs.declared.figures.Quality.the-variants.{Refused, Rated}
@@ -196,3 +197,18 @@ module _ (n : ℕ) (rows : List Row) where
     quality-not-finite e =
         let t : (finite chi && finite pdop) ≡ false = ap₂ _&&_ (sym b-is) (sym d-is) ∙ e in
         sym (ap (λ (z : Bool). cond z (Rated (record { chi = chi; pdop = pdop })) (Refused QualityNotFinite)) t) ∙ quality-given chi pdop c-is p-is
+
+  -- what is given out is finite
+  pub quality-finite : (f : Figures) → Rated f ≡ qualityOf n rows → T (finite (f .chi)) × T (finite (f .pdop))
+  unfolding qualityOf figureRules ruled
+  quality-finite f = go accepted (finite (chiOf n rows)) (finite (dilutionOf n rows)) refl refl
+    where
+      go : (b c p : Bool) → c ≡ finite (chiOf n rows) → p ≡ finite (dilutionOf n rows)
+          → Rated f ≡ cond (not b) (Refused FitFailed) (cond (not (c && p)) (Refused QualityNotFinite) (Rated (record { chi = chiOf n rows; pdop = dilutionOf n rows })))
+          → T (finite (f .chi)) × T (finite (f .pdop))
+      go false c p c-is p-is e = absurd (let z : _≡_ {A = ℕ} 0 1 = cc in omega arith)
+      go true false p c-is p-is e = absurd (let z : _≡_ {A = ℕ} 0 1 = cc in omega arith)
+      go true true false c-is p-is e = absurd (let z : _≡_ {A = ℕ} 0 1 = cc in omega arith)
+      go true true true c-is p-is e =
+          let h : f ≡ record { chi = chiOf n rows; pdop = dilutionOf n rows } = cc in
+          (subst (λ (g : Figures). T (finite (g .chi))) (sym h) (subst T c-is tt), subst (λ (g : Figures). T (finite (g .pdop))) (sym h) (subst T p-is tt))

@@ -1,5 +1,5 @@
 -- The displacement as the public call works it out: the rules on what is handed over, and what its pairs come to. Assumes nothing.
-use mathlib.Core.Path.{_≡_, refl, sym, ap, ap₂, _∙_, subst}
+use mathlib.Core.Path.{_≡_, sym, ap, ap₂, _∙_, subst}
 use Prim.Native.Nat.{ℕ, _-_, _≤_}
 use native.Mathlib.Omega.{arith}
 use mathlib.Core.Bool.{Bool, true, false, not, cond, _&&_, _||_}
@@ -23,9 +23,13 @@ use Rattle.records.specs.Kept.{pairIn, pairsIn, Kept}
 use Rattle.estimator.specs.Rules.{Rule, rule, ruled}
 use Rattle.tdcp.specs.Valid.{dtOf, epochRules, givenRules, fewRules}
 use Rattle.tdcp.specs.Front.{sightRules, countRules, cityRules, pairRules}
-use Rattle.estimator.specs.Rounds.{End, Stopped, Reached, Fit, concluded, Ended}
-use Rattle.tdcp.specs.Displacement.{Input, fitOver, fitBy, pairs, deltaAt, endRules, concludedAt, movedBy, displacementOf}
-use Rattle.tdcp.specs.Rows.{movedOver}
+use Rattle.estimator.specs.Rounds.{End, Stopped, Reached, Fit, concluded, Ended, stateAfter}
+use Rattle.tdcp.specs.Displacement.{Input, fitOver, fitBy, fitOf, pairs, deltaAt, endRules, concludedAt, movedBy, displacementOf}
+use Rattle.tdcp.specs.Rated.{qualityAt, quality}
+use Rattle.tdcp.specs.Rows.{movedOver, answerBy, qualityOver, qualityBy, answerOf}
+use Rattle.tdcp.specs.declared.displacement.Rated.the-variants as Rated
+use Rattle.tdcp.proofs.RatedLaws.{refused-as, quality-rows}
+use Rattle.cholesky.specs.Factor.{zeros}
 use Rattle.clocks.specs.declared.clocks.Clocks.{Clocks}
 use Rattle.records.specs.declared.pair.Pair.{Pair}
 use Rattle.records.specs.declared.pair.Pairs.{Pairs}
@@ -35,7 +39,7 @@ use Rattle.tdcp.specs.declared.displacement.Displacement.the-variants.{R
 use Rattle.estimator.specs.declared.rules.Check.{Check}
 use Rattle.estimator.specs.declared.rules.Check.the-variants.{Refused as Stops, Passed}
 use Rattle.estimator.proofs.RulesLaws.{checked, ruled-append, ruled-map, append-first, refused-by, passed-by}
-use Rattle.tdcp.proofs.DisplacementLaws.{fit-same}
+use Rattle.tdcp.proofs.DisplacementLaws.{fit-same, rows-same}
 use Rattle.tdcp.proofs.FrontLaws.{counts-passed, kept-few}
 use Rattle.tdcp.proofs.FilterLaws.{looked-alone}
 
@@ -116,6 +120,12 @@ module _ (city : Bool) (settings : Settings) (ps : List Pair) (n : ℕ) (all : n
         e ∙ ap₂ (λ (u s : ℕ). concluded Refused endRules (λ x. Moved (deltaAt u s x)) (fitOver settings k (pairsIn x y z constellation elevation (take used observed)) .end)) many (ap₂ _-_ all (h .count))
         ∙ ap (λ (f : Fit). concluded Refused endRules answer (f .end)) fit-is ∙ answered
 
+    -- and the quality of the fit is that of the kept pairs
+    pub quality-over : qualityOver settings k (pairsIn x y z constellation elevation (take used observed)) ≡ qualityBy settings ps
+    quality-over =
+        quality-rows settings k (pairsIn x y z constellation elevation (take used observed)) kept _ (rows-same settings k h _)
+        ∙ ap₂ (λ (c : Clocks) (f : Fit). qualityAt settings c kept (stateAfter (f .end) zeros)) clocks-are fit-is
+
 -- ---- the call
 
 -- a refusal, or else m
@@ -135,15 +145,25 @@ since-is (r ∷ rs) {dt} {x} e = go (r .applies) e (since-is rs)
 
 -- the code's pairs are those of the call
 pub paired : (i : Input) {all : Pairs} {dt : Float} → dt ≡ dtOf (i .since)
-    → Paired all (pairsOf (i .receiver) (i .settings .mask) dt (counted (i .previous)) (looked (i .profile) (counted (i .current))))
-    → movedBy (isCity (i .profile)) (i .settings) (take (all .count) (all .pair)) ≡ movedBy (isCity (i .profile)) (i .settings) (pairs i)
+    → Paired all (pairsOf (i .receiver) (i .settings .mask) dt (counted (i .previous)) (looked (i .profile) (counted (i .current)))) → take (all .count) (all .pair) ≡ pairs i
 paired i {dt = dt} e h =
     let p = counted (i .previous) in
     let c = counted (i .current) in
-    ap (movedBy (isCity (i .profile)) (i .settings))
-    (h .held .all
+    h .held .all
     ∙ looked-alone (i .profile) (i .receiver) (i .settings .mask) dt p c
-    ∙ ap (λ (x : Float). pairsOf (i .receiver) (i .settings .mask) x (looked (i .profile) p) (looked (i .profile) c)) e)
+    ∙ ap (λ (x : Float). pairsOf (i .receiver) (i .settings .mask) x (looked (i .profile) p) (looked (i .profile) c)) e
+
+-- and so is their answer
+pub answered-pairs : (i : Input) (wanted : Bool) {ps : List Pair} → ps ≡ pairs i → movedBy (isCity (i .profile)) (i .settings) (pairs i) ≡ displacementOf i
+    → answerBy wanted (qualityBy (i .settings) ps) (movedBy (isCity (i .profile)) (i .settings) ps) ≡ answerOf wanted i
+unfolding answerOf quality fitOf
+answered-pairs i wanted e m =
+    ap (λ (ps : List Pair). answerBy wanted (qualityBy (i .settings) ps) (movedBy (isCity (i .profile)) (i .settings) ps)) e
+    ∙ ap (answerBy wanted (qualityBy (i .settings) (pairs i))) m
+
+pub answered-refused : (i : Input) (wanted : Bool) {r : Refusal} → Refused r ≡ displacementOf i → Rated.Refused r ≡ answerOf wanted i
+unfolding answerOf
+answered-refused i wanted e = refused-as wanted (quality i) e
 
 module _ (i : Input) where
   pub too-many : (ltb 64 (i .previous .count) || ltb 64 (i .current .count)) ≡ true → Refused TooMany ≡ displacementOf i

@@ -9,3 +9,4 @@ pub mod CountedLaws
 pub mod IntervalLaws
 pub mod FilterLaws
 pub mod CityLaws
+pub mod RatedLaws

@@ -1,7 +1,7 @@
 -- The displacement of a receiver between two epochs (docs/SCOPE.md, "Displacement", "Times" and "City profile"; tdcp.rs): its rounds, and the answer. Definitions only.
 use mathlib.Core.Path.{_≡_}
 use Prim.Native.Nat.{ℕ, _+_, _-_, _<_}
-use mathlib.Core.Bool.{Bool, true, false, not}
+use mathlib.Core.Bool.{Bool, true, not}
 use mathlib.Core.List.{List, [], _∷_, _++_, map}
 use lib.ListN.{length}
 use lib.Dec.{T}

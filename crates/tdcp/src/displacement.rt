@@ -9,6 +9,8 @@ ghost use Rattle.records.specs.Kept.{pairsIn};
 ghost use Rattle.records.specs.Pair.{seen};
 ghost use Rattle.estimator.specs.Rounds.{Ended};
 ghost use Rattle.tdcp.specs.Displacement as spec;
+ghost use Rattle.tdcp.specs.Rated as rated;
+ghost use Rattle.tdcp.specs.Rated.{qualityAt};
 ghost use Rattle.tdcp.specs.Rows as code;
 ghost use Rattle.records.specs.City.{isCity};
 use crate::valid::check_pairs;
@@ -23,6 +25,8 @@ use numeric::order::pattern;
 use numeric::real::is_finite;
 use numeric::refusal::Refusal;
 use numeric::vec3::Vec3;
+use quality::figures::Quality;
+use quality::figures::quality_of;
 use records::carriers::epoch_into;
 use records::carriers::sound_in;
 use records::pair::Pairs;
@@ -65,6 +69,18 @@ pub enum Interval {
 pub enum Displacement {
     Refused(Refusal),
     Moved(Delta),
+}
+
+// A displacement with the quality of its fit: chi, the root of the reduced chi-squared, and pdop, the dilution of precision.
+pub struct RatedDelta {
+    pub moved: Delta,
+    pub chi: f64,
+    pub pdop: f64,
+}
+
+pub enum Rated {
+    Refused(Refusal),
+    Moved(RatedDelta),
 }
 
 // What was observed, less what the state x says of the line of sight u, v, w and the clock s, as a pattern.
@@ -197,7 +213,48 @@ fn moved_to(x: [f64; 9], used: usize, screened: usize) -> Displacement
     Displacement::Refused(Refusal::FitFailed)
 }
 
-// What the rounds over the pairs of the columns come to: the displacement at the state that they reach, or why one is refused.
+// Returns chi and pdop of the pairs of the columns at a state, or their refusal.
+fn quality_at(
+    settings: Settings,
+    k: Clocks,
+    x: &[f64; 64],
+    y: &[f64; 64],
+    z: &[f64; 64],
+    constellation: &[u8; 64],
+    elevation: &[f64; 64],
+    observed: &[f64],
+    at: [f64; 9],
+) -> Quality
+    requires { ⌜ (length (now observed) ≤ 64) × (k .count ≤ 6) ⌝ }
+    ensures { λ r. ⌜ (let pairs = pairsIn (now (x .entry)) (now (y .entry)) (now (z .entry)) (now (constellation .entry)) (now (elevation .entry)) (now (observed .entry)) in
+        r ≡ qualityAt settings k pairs at) ⌝ }
+{
+    let count = observed.len();
+    let mut clock = [0usize; 64];
+    clocks_into(k, constellation, count, &mut clock);
+    let mut sigma = [0.0; 64];
+    sigmas_into(settings, elevation, count, &mut sigma);
+    let mut residual = [0u64; 64];
+    residuals_at(x, y, z, &clock, observed, at, &mut residual);
+    let n = 3 + k.count;
+    quality_of(x, y, z, &clock, &sigma, &residual[..count], n)
+}
+
+// Returns a displacement with its figures, or why these are refused.
+fn rate(d: Delta, quality: Quality) -> Rated
+    ensures { λ r. ⌜ r ≡ rated.rate d quality ⌝ }
+{
+    match quality {
+        Quality::Refused(r) => Rated::Refused(r),
+        Quality::Rated(f) => Rated::Moved(RatedDelta {
+            moved: d,
+            chi: f.chi,
+            pdop: f.pdop,
+        }),
+    }
+}
+
+// Runs the rounds over the pairs of the columns. Returns the displacement at the state that they reach, with its figures where these are wanted, or the refusal.
 fn moved_over(
     settings: Settings,
     k: Clocks,
@@ -208,11 +265,11 @@ fn moved_over(
     elevation: &[f64; 64],
     observed: &[f64],
     screened: usize,
-) -> Displacement
+    wanted: bool,
+) -> Rated
     requires { ⌜ (length (now observed) ≤ 64) × (k .count ≤ 6) ⌝ }
-    ensures { λ r. ⌜ (let pairs = pairsIn (now (x .entry)) (now (y .entry)) (now (z .entry)) (now (constellation .entry)) (now (elevation .entry))
-        (now (observed .entry)) in
-        r ≡ code.movedOver settings k pairs screened) ⌝ }
+    ensures { λ r. ⌜ (let pairs = pairsIn (now (x .entry)) (now (y .entry)) (now (z .entry)) (now (constellation .entry)) (now (elevation .entry)) (now (observed .entry)) in
+        r ≡ code.answerBy wanted (code.qualityOver settings k pairs) (code.movedOver settings k pairs screened)) ⌝ }
 {
     let used = observed.len();
     let mut state = [0.0; 9];
@@ -227,16 +284,41 @@ fn moved_over(
         observed,
         &mut state,
     ) {
-        return Displacement::Refused(r);
+        return Rated::Refused(r);
     }
-    moved_to(state, used, screened)
+    let moved = moved_to(state, used, screened);
+    match moved {
+        Displacement::Refused(r) => Rated::Refused(r),
+        Displacement::Moved(d) => {
+            if wanted {
+                let quality = quality_at(
+                    settings,
+                    k,
+                    x,
+                    y,
+                    z,
+                    constellation,
+                    elevation,
+                    observed,
+                    state,
+                );
+                return rate(d, quality);
+            }
+            Rated::Moved(RatedDelta {
+                moved: d,
+                chi: 0.0,
+                pdop: 0.0,
+            })
+        }
+    }
 }
 
 // What every displacement shares, from the pairs on: 15, the screen, rules 7 to 9 and in the city profile 20, the rounds, and 10. 15 is asked behind the screen:
 // a way out before it keeps the pairs a second time.
-pub(crate) fn moved_by(settings: Settings, all: Pairs, profile: Profile) -> Displacement
+pub(crate) fn moved_by(settings: Settings, all: Pairs, profile: Profile, wanted: bool) -> Rated
     requires { ⌜ (all .count ≤ 64) × (all .seen ≡ every seen (take (all .count) (all .pair))) ⌝ }
-    ensures { λ r. ⌜ r ≡ spec.movedBy (isCity profile) settings (take (all .count) (all .pair)) ⌝ }
+    ensures { λ r. ⌜ (let pairs = take (all .count) (all .pair) in
+        r ≡ code.answerBy wanted (code.qualityBy settings pairs) (spec.movedBy (isCity profile) settings pairs)) ⌝ }
 {
     let pairs = all.count;
     let seen = all.seen;
@@ -257,12 +339,12 @@ pub(crate) fn moved_by(settings: Settings, all: Pairs, profile: Profile) -> Disp
         &mut observed,
     );
     if !seen {
-        return Displacement::Refused(Refusal::OnReceiver);
+        return Rated::Refused(Refusal::OnReceiver);
     }
     let clocks = clocks_of(&constellation[..used]);
     let uncertified = is_uncertified(profile, &constellation[..used]);
     if let Check::Refused(r) = check_pairs(pairs, used, clocks.count, uncertified) {
-        return Displacement::Refused(r);
+        return Rated::Refused(r);
     }
     moved_over(
         settings,
@@ -274,11 +356,70 @@ pub(crate) fn moved_by(settings: Settings, all: Pairs, profile: Profile) -> Disp
         &elevation,
         &observed[..used],
         pairs - used,
+        wanted,
     )
 }
 
-// The receiver's position change between two epochs of signals, states and floats, of which no float is copied. Every displacement ends here.
-// The receiver's position sets the geometry only.
+// Returns the displacement of an answer without its figures.
+pub fn plain(answer: Rated) -> Displacement
+    ensures { λ r. ⌜ r ≡ code.plainOf answer ⌝ }
+{
+    match answer {
+        Rated::Refused(r) => Displacement::Refused(r),
+        Rated::Moved(d) => {
+            let moved = d.moved;
+            Displacement::Moved(moved)
+        }
+    }
+}
+
+// Returns the receiver's position change between two epochs of signals, states and floats, with the figures of its fit where these are wanted. Every displacement
+// ends here. The receiver's position sets the geometry only.
+pub fn answered(
+    previous_signals: &[u64],
+    previous_states: &[i32],
+    previous_floats: &[f64],
+    current_signals: &[u64],
+    current_states: &[i32],
+    current_floats: &[f64],
+    since: Interval,
+    receiver: Vec3,
+    settings: Settings,
+    profile: Profile,
+    wanted: bool,
+) -> Rated
+    requires { ⌜ Fit (now «previous_signals») (now «previous_states») (now «previous_floats») ⌝ }
+    requires { ⌜ Fit (now «current_signals») (now «current_states») (now «current_floats») ⌝ }
+    ensures { λ r. ⌜ r ≡ code.answerOf wanted (spec.input
+        (epochIn (now («previous_signals» .entry)) (now («previous_states» .entry)) (now («previous_floats» .entry)))
+        (epochIn (now («current_signals» .entry)) (now («current_states» .entry)) (now («current_floats» .entry)))
+        since receiver settings profile) ⌝ }
+{
+    let sound = sound_in(previous_signals, previous_states, previous_floats)
+        & sound_in(current_signals, current_states, current_floats)
+        & is_placeable(receiver);
+    let seconds = seconds_of(settings, sound, since);
+    match seconds {
+        Seconds::Refused(r) => Rated::Refused(r),
+        Seconds::Since(dt) => {
+            let all = pairs_in(
+                previous_signals,
+                previous_states,
+                previous_floats,
+                current_signals,
+                current_states,
+                current_floats,
+                receiver,
+                settings.mask,
+                dt,
+                profile,
+            );
+            moved_by(settings, all, profile, wanted)
+        }
+    }
+}
+
+// Returns the receiver's position change between two epochs of signals, states and floats, of which no float is copied.
 pub fn displaced(
     previous_signals: &[u64],
     previous_states: &[i32],
@@ -298,48 +439,41 @@ pub fn displaced(
         (epochIn (now («current_signals» .entry)) (now («current_states» .entry)) (now («current_floats» .entry)))
         since receiver settings profile) r ⌝ }
 {
-    let sound = sound_in(previous_signals, previous_states, previous_floats)
-        & sound_in(current_signals, current_states, current_floats)
-        & is_placeable(receiver);
-    let seconds = seconds_of(settings, sound, since);
-    match seconds {
-        Seconds::Refused(r) => Displacement::Refused(r),
-        Seconds::Since(dt) => {
-            let all = pairs_in(
-                previous_signals,
-                previous_states,
-                previous_floats,
-                current_signals,
-                current_states,
-                current_floats,
-                receiver,
-                settings.mask,
-                dt,
-                profile,
-            );
-            moved_by(settings, all, profile)
-        }
-    }
+    let answer = answered(
+        previous_signals,
+        previous_states,
+        previous_floats,
+        current_signals,
+        current_states,
+        current_floats,
+        since,
+        receiver,
+        settings,
+        profile,
+        false,
+    );
+    plain(answer)
 }
 
-// The same of two epochs by value: each is written as signals, states and floats once.
-pub fn displaced_by(
+// Returns the answer of two epochs by value: each is written as signals, states and floats once.
+fn answered_by(
     previous: Epoch,
     current: Epoch,
     since: Interval,
     receiver: Vec3,
     settings: Settings,
     profile: Profile,
-) -> Displacement
-    ensures { λ r. ⌜ spec.Promised (spec.input previous current since receiver settings profile) r ⌝ }
+    wanted: bool,
+) -> Rated
+    ensures { λ r. ⌜ r ≡ code.answerOf wanted (spec.input previous current since receiver settings profile) ⌝ }
 {
     let m = previous.count;
     let n = current.count;
     if 64 < m {
-        return Displacement::Refused(Refusal::TooMany);
+        return Rated::Refused(Refusal::TooMany);
     }
     if 64 < n {
-        return Displacement::Refused(Refusal::TooMany);
+        return Rated::Refused(Refusal::TooMany);
     }
     let mut previous_signals = [0u64; 64];
     let mut previous_states = [0i32; 64];
@@ -359,7 +493,7 @@ pub fn displaced_by(
         &mut current_states,
         &mut current_floats,
     );
-    displaced(
+    answered(
         &previous_signals[..m],
         &previous_states,
         &previous_floats,
@@ -370,7 +504,23 @@ pub fn displaced_by(
         receiver,
         settings,
         profile,
+        wanted,
     )
+}
+
+// Returns the receiver's position change between two epochs by value.
+pub fn displaced_by(
+    previous: Epoch,
+    current: Epoch,
+    since: Interval,
+    receiver: Vec3,
+    settings: Settings,
+    profile: Profile,
+) -> Displacement
+    ensures { λ r. ⌜ spec.Promised (spec.input previous current since receiver settings profile) r ⌝ }
+{
+    let answer = answered_by(previous, current, since, receiver, settings, profile, false);
+    plain(answer)
 }
 
 // The receiver's position change between two epochs, dt seconds apart.
@@ -432,5 +582,48 @@ pub fn city_displacement(
         receiver,
         settings,
         Profile::City(band),
+    )
+}
+
+// Returns the receiver's position change between two epochs, dt seconds apart, with the quality of its fit.
+pub fn rated_displacement(
+    previous: Epoch,
+    current: Epoch,
+    dt: f64,
+    receiver: Vec3,
+    settings: Settings,
+) -> Rated
+    ensures { λ r. ⌜ rated.RatedPromised (spec.general previous current dt receiver settings) r ⌝ }
+{
+    answered_by(
+        previous,
+        current,
+        Interval::Seconds(dt),
+        receiver,
+        settings,
+        Profile::General,
+        true,
+    )
+}
+
+// Returns the same by the carriers that the city profile certifies: GPS (1) and Galileo (6) on one band.
+pub fn rated_city_displacement(
+    previous: Epoch,
+    current: Epoch,
+    dt: f64,
+    band: u32,
+    receiver: Vec3,
+    settings: Settings,
+) -> Rated
+    ensures { λ r. ⌜ rated.RatedPromised (spec.input previous current (Interval.Seconds dt) receiver settings (Profile.City band)) r ⌝ }
+{
+    answered_by(
+        previous,
+        current,
+        Interval::Seconds(dt),
+        receiver,
+        settings,
+        Profile::City(band),
+        true,
     )
 }

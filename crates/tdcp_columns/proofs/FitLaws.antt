@@ -1,6 +1,6 @@
 -- Columns that fit, and columns that do not. Assumes nothing.
 use mathlib.Core.Path.{_≡_, sym, _∙_}
-use mathlib.Core.Bool.{Bool, true, false, cond, _&&_}
+use mathlib.Core.Bool.{Bool, true, false}
 use mathlib.Core.List.{List}
 use Prim.Native.Nat.{ℕ, _*_, _^_, _≤_, _<_}
 use native.Mathlib.Omega.{arith}
@@ -14,10 +14,11 @@ use Rattle.numeric.specs.declared.refusal.Refusal.the-variants.{TooMany}
 use Rattle.records.specs.Carriers.{CarrierColumns, carrierColumns, epochOf, epochFits}
 use Rattle.records.specs.Signals.{epochIn, Fit}
 use Rattle.records.proofs.EpochLaws.{signalled-fits, signalled-is}
-use Rattle.tdcp.specs.Displacement.{displacementOf}
-use Rattle.tdcp.specs.declared.displacement.Displacement.{Displacement}
-use Rattle.tdcp.specs.declared.displacement.Displacement.the-variants.{Refused}
-use Rattle.tdcp_columns.specs.Displacement.{Lent, inputOf, FitInto, columnsDisplaced}
+use Rattle.tdcp.specs.Rows.{answerOf}
+use Rattle.tdcp.specs.declared.displacement.Rated.{Rated}
+use Rattle.tdcp.specs.declared.displacement.Rated.the-variants.{Refused}
+use Rattle.tdcp_columns.specs.Displacement.{Lent, inputOf, FitInto}
+use Rattle.tdcp_columns.specs.Rated.{columnsAnswered}
 
 -- what the test of lengths tells
 pub record CarrierRoom (c : CarrierColumns) (n : ℕ) : Type 0 where
@@ -63,16 +64,16 @@ module _ (cs vs bs : List ℕ) (ts : List ℤ) (fs : List Float) (n : ℕ) {r : 
     pub into-is : epochIn (take n ss) ts fs ≡ epochOf (carrierColumns cs vs bs ts fs) n
     into-is = signalled-is cs vs bs ts fs n ss (h .signalled t) (room .few) vl bl
 
-module _ (l : Lent) {a : Bool} (is : a ≡ epochFits (l .previous) (l .previous-count)) where
-  pub not-first : a ≡ false → Refused TooMany ≡ columnsDisplaced l
-  unfolding columnsDisplaced
+module _ (wanted : Bool) (l : Lent) {a : Bool} (is : a ≡ epochFits (l .previous) (l .previous-count)) where
+  pub not-first : a ≡ false → Refused TooMany ≡ columnsAnswered wanted l
+  unfolding columnsAnswered
   not-first e = rw (← is, e)
 
   module _ {b : Bool} (is′ : b ≡ epochFits (l .current) (l .current-count)) (t : a ≡ true) where
-    pub not-second : b ≡ false → Refused TooMany ≡ columnsDisplaced l
-    unfolding columnsDisplaced
+    pub not-second : b ≡ false → Refused TooMany ≡ columnsAnswered wanted l
+    unfolding columnsAnswered
     not-second e = rw (← is, ← is′, t, e)
 
-    pub both-fit : {d : Displacement} → b ≡ true → d ≡ displacementOf (inputOf l) → d ≡ columnsDisplaced l
-    unfolding columnsDisplaced
+    pub both-fit : {d : Rated} → b ≡ true → d ≡ answerOf wanted (inputOf l) → d ≡ columnsAnswered wanted l
+    unfolding columnsAnswered
     both-fit u q = q ∙ rw (← is, ← is′, t, u)

@@ -4,6 +4,7 @@ ghost use lib.ListN.{length};
 ghost use Rattle.records.specs.Carriers.{carrierColumns, epochFits};
 ghost use Rattle.numeric.specs.Vec3.{vectorAt};
 ghost use Rattle.tdcp_columns.specs.Displacement as spec;
+ghost use Rattle.tdcp_columns.specs.Rated.{columnsAnswered};
 use crate::settings::displacement_settings;
 use numeric::refusal::Refusal;
 use numeric::vec3::vector;
@@ -11,7 +12,9 @@ use records::carriers::signals_into;
 use records::pair::Profile;
 use tdcp::displacement::Displacement;
 use tdcp::displacement::Interval;
-use tdcp::displacement::displaced;
+use tdcp::displacement::Rated;
+use tdcp::displacement::answered;
+use tdcp::displacement::plain;
 
 // Whether there are at most 64 carriers and no column is shorter than they need.
 fn epoch_fits(
@@ -56,7 +59,76 @@ fn fit_into(
     true
 }
 
-// The displacement between two epochs, of which the states and the floats are read where they lie.
+// Returns the answer of two epochs, of which the states and the floats are read where they lie, with the figures of its fit where these are wanted.
+pub fn columns_answered(
+    previous_constellation: &[u8],
+    previous_svid: &[u16],
+    previous_band: &[u32],
+    previous_state: &[i32],
+    previous_floats: &[f64],
+    previous_count: usize,
+    current_constellation: &[u8],
+    current_svid: &[u16],
+    current_band: &[u32],
+    current_state: &[i32],
+    current_floats: &[f64],
+    current_count: usize,
+    since: Interval,
+    receiver: &[f64; 3],
+    settings: &[f64; 5],
+    rounds: usize,
+    profile: Profile,
+    wanted: bool,
+) -> Rated
+    ensures { λ r. ⌜ (let previous = carrierColumns (now («previous_constellation» .entry)) (now («previous_svid» .entry)) (now («previous_band» .entry))
+        (now («previous_state» .entry)) (now («previous_floats» .entry)) in
+        let current = carrierColumns (now («current_constellation» .entry)) (now («current_svid» .entry)) (now («current_band» .entry))
+        (now («current_state» .entry)) (now («current_floats» .entry)) in
+        r ≡ columnsAnswered wanted (spec.lent previous «previous_count» current «current_count» since
+        (vectorAt (now (receiver .entry)) 0) (spec.displacementSettings (now (settings .entry)) rounds) profile)) ⌝ }
+{
+    let mut previous_signals = [0u64; 64];
+    if !fit_into(
+        previous_constellation,
+        previous_svid,
+        previous_band,
+        previous_state,
+        previous_floats,
+        previous_count,
+        &mut previous_signals,
+    ) {
+        return Rated::Refused(Refusal::TooMany);
+    }
+    let mut current_signals = [0u64; 64];
+    if !fit_into(
+        current_constellation,
+        current_svid,
+        current_band,
+        current_state,
+        current_floats,
+        current_count,
+        &mut current_signals,
+    ) {
+        return Rated::Refused(Refusal::TooMany);
+    }
+    let at = vector(receiver);
+    let s = displacement_settings(settings, rounds);
+    answered(
+        &previous_signals[..previous_count],
+        previous_state,
+        previous_floats,
+        &current_signals[..current_count],
+        current_state,
+        current_floats,
+        since,
+        at,
+        s,
+        profile,
+        wanted,
+    )
+}
+
+// Returns the displacement between two epochs.
 pub fn columns_displaced(
     previous_constellation: &[u8],
     previous_svid: &[u16],
@@ -83,42 +155,25 @@ pub fn columns_displaced(
         spec.ColumnsPromised (spec.lent previous «previous_count» current «current_count» since
         (vectorAt (now (receiver .entry)) 0) (spec.displacementSettings (now (settings .entry)) rounds) profile) r) ⌝ }
 {
-    let mut previous_signals = [0u64; 64];
-    if !fit_into(
+    let answer = columns_answered(
         previous_constellation,
         previous_svid,
         previous_band,
         previous_state,
         previous_floats,
         previous_count,
-        &mut previous_signals,
-    ) {
-        return Displacement::Refused(Refusal::TooMany);
-    }
-    let mut current_signals = [0u64; 64];
-    if !fit_into(
         current_constellation,
         current_svid,
         current_band,
         current_state,
         current_floats,
         current_count,
-        &mut current_signals,
-    ) {
-        return Displacement::Refused(Refusal::TooMany);
-    }
-    let at = vector(receiver);
-    let s = displacement_settings(settings, rounds);
-    displaced(
-        &previous_signals[..previous_count],
-        previous_state,
-        previous_floats,
-        &current_signals[..current_count],
-        current_state,
-        current_floats,
         since,
-        at,
-        s,
+        receiver,
+        settings,
+        rounds,
         profile,
-    )
+        false,
+    );
+    plain(answer)
 }

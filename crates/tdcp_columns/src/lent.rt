@@ -1,8 +1,10 @@
 // The answer of a displacement in lent memory. What a caller lends as doubles is taken as their patterns, so that a refusal is promised to leave every bit.
 ghost use mathlib.Core.Path.{_≡_};
 ghost use Rattle.tdcp_columns.specs.Displacement as spec;
+ghost use Rattle.tdcp_columns.specs.Rated as rated;
 use numeric::order::pattern;
 use tdcp::displacement::Displacement;
+use tdcp::displacement::Rated;
 
 // 0, the displacement in metres in delta and how many pairs were used and screened out in counts; or the refusal's number, which leaves both as they were.
 pub fn answer_into(answer: Displacement, delta: &mut [u64; 3], counts: &mut [usize; 2]) -> u8
@@ -19,5 +21,33 @@ pub fn answer_into(answer: Displacement, delta: &mut [u64; 3], counts: &mut [usi
             0
         }
         Displacement::Refused(r) => r.number(),
+    }
+}
+
+// Returns 0 and writes the displacement, its figures and its counts. On refusal, returns its number and changes nothing.
+pub fn rated_into(
+    answer: Rated,
+    delta: &mut [u64; 3],
+    quality: &mut [u64; 2],
+    counts: &mut [usize; 2],
+) -> u8
+    ensures { λ r. ⌜ rated.RatedLeaves answer r (now (delta .entry)) (now (delta .exit)) (now (quality .entry)) (now (quality .exit))
+        (now (counts .entry)) (now (counts .exit)) ⌝ }
+{
+    match answer {
+        Rated::Moved(d) => {
+            let moved = d.moved;
+            let v = moved.delta;
+            let x = pattern(v.x);
+            let y = pattern(v.y);
+            let z = pattern(v.z);
+            let chi = pattern(d.chi);
+            let pdop = pattern(d.pdop);
+            *delta = [x, y, z];
+            *quality = [chi, pdop];
+            *counts = [moved.used, moved.screened];
+            0
+        }
+        Rated::Refused(r) => r.number(),
     }
 }

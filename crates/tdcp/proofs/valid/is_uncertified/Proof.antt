@@ -1,9 +1,7 @@
 -- `tdcp::valid::is_uncertified` meets its contract. Assumes nothing.
 use borrow.Author.Needs.{needs}
-use mathlib.Core.Bool.{not, _&&_}
 use Prim.Native.Nat.{_≤_, _-_}
-use Rattle.clocks.specs.Clocks.{has}
-use Rattle.tdcp.proofs.FrontLaws.{uncertified-no, uncertified-is, Seeking, seeking-start, seeking-next, seeking-end}
+use Rattle.tdcp.proofs.FrontLaws.{uncertified-is, Seeking, seeking-start, seeking-next, seeking-end}
 use mathlib.Core.Path.{refl}
 use mathlib.Core.Bool.{true}
 use Rattle.tdcp.proofs.valid.is_uncertified.Statement.{statement}
