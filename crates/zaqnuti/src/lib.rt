@@ -13,6 +13,7 @@ pub mod mileages;
 pub mod numbers;
 pub mod profile;
 pub mod queries;
+pub mod rated;
 pub mod round;
 pub mod slots;
 pub mod times;
