@@ -8,7 +8,7 @@ use numeric::real::in_range;
 use numeric::refusal::Refusal;
 use numeric::vec3::Vec3;
 use trip::measure::Way;
-use trip::measure::way_of;
+use trip::measure::way_of_square;
 
 // One epoch: the number that refused its displacement (0: none), the displacement in metres, its quality, and its odometer pulses.
 pub struct Epoch {
@@ -91,7 +91,8 @@ pub(crate) fn way_for(refused: u8, displacement: Vec3) -> Way
     ensures { λ r. ⌜ r ≡ spec.wayFor refused displacement ⌝ }
 {
     if refused == 0 {
-        return way_of(displacement);
+        let d = displacement;
+        return way_of_square(d.x * d.x + d.y * d.y + d.z * d.z);
     }
     Way {
         within: true,
