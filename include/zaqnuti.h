@@ -74,7 +74,7 @@
  *     smooth             768
  *     times              256
  *     trip               256
- *     mileage            512
+ *     mileage            256
  *     north_east_down    256
  *     trip_displacement 17,152
  *     round            8,960
