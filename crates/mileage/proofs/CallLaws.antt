@@ -3,65 +3,27 @@ use mathlib.Core.Path.{_≡_, refl, sym, ap, _∙_}
 use Prim.Native.Nat.{ℕ, _+_, _-_, _*_, _/_, _%_, _^_, _≤_, _<_}
 use native.Mathlib.Nat.{mul-le-mul, mul-le-mul-right, add-mul-div-right, div-add-mod', div-le-of-le-mul, div-lt-iff-lt-mul, le-div-iff-mul-le, mod-lt, add-mul, mul-assoc, mul-comm}
 use native.Mathlib.Omega.{arith}
-use mathlib.Core.Bool.{Bool, true, false, not, _&&_, false≢true}
+use mathlib.Core.Bool.{Bool, true, false, cond, not, _&&_, _||_}
 use lib.Dec.{ltb, eqb, lit≤}
 use lib.Ieee.{Float, le}
-use borrow.Author.Tests.{eq-eqb, ne-eqb, lt-ltb, le-ltb}
+use borrow.Author.Tests.{lt-ltb, le-ltb, not-true, not-false}
 use Rattle.exact.specs.Float.{whole}
 use Rattle.walk.proofs.Walk.{and-both}
 use Rattle.numeric.specs.Vec3.{norm}
 use Rattle.numeric.specs.declared.refusal.Refusal.{Refusal}
 use Rattle.numeric.specs.declared.refusal.Refusal.the-variants.{BadTrip}
-use Rattle.trip.specs.Measure.{millimetresOf, measurable, wayOf}
+use Rattle.trip.specs.Measure.{millimetresOf, wayOf}
 use Rattle.trip.specs.declared.measure.Way.{Way}
 use Rattle.trip.proofs.MeasureLaws.{by-length, way-few}
 use Rattle.mileage.specs.Rated.{rated}
-use Rattle.mileage.specs.Mileage.{isRefused, isUsable, isTaken, soundMileage, grown, added, scaled, held, fuelOver, Found}
+use Rattle.mileage.specs.Mileage.{isRefused, isUsable, lengthOf, wayFor, isTaken, soundMileage, grown, added, scaled, held, fuelOver}
 use Rattle.mileage.specs.declared.mileage.Epoch.{Epoch}
-use Rattle.mileage.specs.declared.mileage.Finding.{Finding}
 use Rattle.mileage.specs.declared.mileage.Mileage.{Mileage}
 use Rattle.mileage.specs.declared.mileage.Step.the-variants.{Refused, Goes}
 use Rattle.mileage.specs.declared.mileage.Distance.{Distance}
 use Rattle.mileage.specs.declared.mileage.Distance.the-variants.{Refused as Unmeasured, Millimetres}
 use Rattle.mileage.specs.declared.mileage.Fuel.{Fuel}
 use Rattle.mileage.specs.declared.mileage.Fuel.the-variants.{Refused as Unfuelled}
-
--- ---- an epoch
-
-module _ (limit : Float) (e : Epoch) where
-  accepted-is : e .refused ≡ 0 → isRefused e ≡ false
-  unfolding isRefused
-  accepted-is h = rw (eq-eqb (e .refused) 0 h)
-
-  refused-is : (e .refused ≡ 0 → ⊥) → isRefused e ≡ true
-  unfolding isRefused
-  refused-is h = rw (ne-eqb (e .refused) 0 h)
-
-  way-length : {w : Way} → w ≡ wayOf (norm (e .displacement)) → w .within ≡ true → w .millimetres ≡ millimetresOf (e .displacement)
-  unfolding wayOf millimetresOf
-  way-length i h =
-      let n : le (norm (e .displacement)) (whole 1000) ≡ true = sym (ap (λ (z : Way). z .within) i) ∙ h in
-      rw (i, n)
-
-  way-within : {w : Way} → w ≡ wayOf (norm (e .displacement)) → w .within ≡ measurable (e .displacement)
-  unfolding wayOf
-  way-within i = rw (by-length (e .displacement), i)
-
-  pub found-accepted : e .refused ≡ 0 → {w : Way} {u : Bool} → w ≡ wayOf (norm (e .displacement)) → u ≡ rated limit (e .chi) (e .pdop)
-      → Found limit e (record { taken = w .within; usable = u; millimetres = w .millimetres })
-  unfolding isTaken isUsable
-  found-accepted h {w} {u} i j =
-      record {
-        taken = way-within i ∙ rw (accepted-is h);
-        usable = j ∙ rw (accepted-is h);
-        millimetres = λ t v. way-length i t;
-        short = rw i (way-few (e .displacement));
-      }
-
-  pub found-refused : (e .refused ≡ 0 → ⊥) → Found limit e (record { taken = true; usable = false; millimetres = 0 })
-  unfolding isTaken isUsable
-  found-refused h =
-      record { taken = rw (refused-is h); usable = rw (refused-is h); millimetres = λ t v. absurd (false≢true v); short = lit≤ tt }
 
 -- ---- an addition
 
@@ -71,31 +33,57 @@ unfolding grown
 unused m r true x y p h = ap (λ (z : ℕ). grown m r true z p) (h refl)
 unused m r false x y p h = refl
 
-module _ (m : Mileage) (e : Epoch) {f : Finding} (found : Found (m .limit) e f) {s : Bool} (s-is : s ≡ soundMileage m) where
-  test-is : (s && ltb (m .epochs) 65535 && f .taken) ≡ (soundMileage m && ltb (m .epochs) 65535 && isTaken e)
-  test-is = rw (s-is, found .taken)
+module _ (e : Epoch) {way : Way} (way-is : way ≡ wayFor (e .refused) (e .displacement)) where
+  pub way-taken : way .within ≡ isTaken e
+  unfolding isTaken isRefused wayFor wayOf
+  way-taken = rw (way-is, by-length (e .displacement)) (go (eqb (e .refused) 0))
+    where
+      go : (b : Bool) → cond b (wayOf (norm (e .displacement))) (record { within = true; millimetres = 0 }) .within ≡ (not b || le (norm (e .displacement)) (whole 1000))
+      go true = refl
+      go false = refl
 
-  pub add-refused : (s && ltb (m .epochs) 65535 && f .taken) ≡ false → Refused BadTrip ≡ added m e
-  unfolding added
-  add-refused h = rw (sym test-is ∙ h)
+  pub way-short : way .millimetres ≤ 1000000
+  unfolding wayFor
+  way-short = rw way-is (go (eqb (e .refused) 0))
+    where
+      go : (b : Bool) → cond b (wayOf (norm (e .displacement))) (record { within = true; millimetres = 0 }) .millimetres ≤ 1000000
+      go true = way-few (e .displacement)
+      go false = lit≤ tt
 
-  -- what an accepted addition tells
-  pub record Accepted : Type 0 where
-    pub is-sound : soundMileage m ≡ true
-    pub room : ltb (m .epochs) 65535 ≡ true
-    pub taken : f .taken ≡ true
+  way-length : way .within ≡ true → (limit : Float) → isUsable limit e ≡ true → way .millimetres ≡ lengthOf e
+  unfolding wayFor wayOf millimetresOf isUsable isRefused
+  way-length w limit u =
+      let a : eqb (e .refused) 0 ≡ true = not-false _ (not-true _ (and-both _ _ u .0)) in
+      let i : way ≡ wayOf (norm (e .displacement)) = way-is ∙ rw a in
+      let n : le (norm (e .displacement)) (whole 1000) ≡ true = sym (ap (λ (z : Way). z .within) i) ∙ w in
+      rw (i, n)
 
-  pub accepted : (s && ltb (m .epochs) 65535 && f .taken) ≡ true → Accepted
-  accepted h =
-      let p = and-both (s && ltb (m .epochs) 65535) (f .taken) h in
-      let q = and-both s (ltb (m .epochs) 65535) (p .0) in
-      record { is-sound = sym s-is ∙ q .0; room = q .1; taken = p .1 }
+  module _ (m : Mileage) {s : Bool} (s-is : s ≡ soundMileage m) where
+    test-is : (s && ltb (m .epochs) 65535 && way .within) ≡ (soundMileage m && ltb (m .epochs) 65535 && isTaken e)
+    test-is = rw (s-is, way-taken)
 
-  pub add-goes : (s && ltb (m .epochs) 65535 && f .taken) ≡ true → Goes (grown m (not (eqb (e .refused) 0)) (f .usable) (f .millimetres) (e .pulses)) ≡ added m e
-  unfolding added isRefused
-  add-goes h =
-      rw (sym test-is ∙ h, sym (found .usable))
-      (ap Goes (unused m (not (eqb (e .refused) 0)) (f .usable) (f .millimetres) (millimetresOf (e .displacement)) (e .pulses) (found .millimetres (accepted h .taken))))
+    pub add-refused : (s && ltb (m .epochs) 65535 && way .within) ≡ false → Refused BadTrip ≡ added m e
+    unfolding added
+    add-refused h = rw (sym test-is ∙ h)
+
+    -- what an accepted addition tells
+    pub record Accepted : Type 0 where
+      pub is-sound : soundMileage m ≡ true
+      pub room : ltb (m .epochs) 65535 ≡ true
+      pub within : way .within ≡ true
+
+    pub accepted : (s && ltb (m .epochs) 65535 && way .within) ≡ true → Accepted
+    accepted h =
+        let p = and-both (s && ltb (m .epochs) 65535) (way .within) h in
+        let q = and-both s (ltb (m .epochs) 65535) (p .0) in
+        record { is-sound = sym s-is ∙ q .0; room = q .1; within = p .1 }
+
+    pub add-goes : {u : Bool} → u ≡ rated (m .limit) (e .chi) (e .pdop) → (s && ltb (m .epochs) 65535 && way .within) ≡ true
+        → Goes (grown m (not (eqb (e .refused) 0)) (not (not (eqb (e .refused) 0)) && u) (way .millimetres) (e .pulses)) ≡ added m e
+    unfolding added isRefused isUsable
+    add-goes u-is h =
+        rw (u-is, sym test-is ∙ h)
+        (ap Goes (unused m (not (eqb (e .refused) 0)) (isUsable (m .limit) e) (way .millimetres) (millimetresOf (e .displacement)) (e .pulses) (way-length (accepted h .within) (m .limit))))
 
 -- ---- the distance
 

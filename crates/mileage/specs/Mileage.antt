@@ -1,6 +1,5 @@
 -- A drive's distance (docs/SCOPE.md, "Mileage"): the totals of a list of epochs, and the calls of a mileage. Definitions only.
-use Prim.Native.Nat.{ℕ, _+_, _*_, _/_, _^_, _≤_}
-use mathlib.Core.Path.{_≡_}
+use Prim.Native.Nat.{ℕ, _+_, _*_, _/_, _^_}
 use mathlib.Core.Bool.{Bool, true, false, cond, not, _&&_, _||_}
 use mathlib.Core.List.{List, [], _∷_}
 use lib.Dec.{leb, ltb, eqb}
@@ -9,10 +8,12 @@ use lib.Ieee.{Float}
 use Rattle.walk.specs.Walk.{collect}
 use Rattle.numeric.specs.Real.{inRange}
 use Rattle.numeric.specs.declared.refusal.Refusal.the-variants.{SettingOutOfRange, BadTrip, NoDistance}
-use Rattle.trip.specs.Measure.{millimetresOf, measurable}
+use Rattle.numeric.specs.Vec3.{norm}
+use Rattle.numeric.specs.declared.vec3.Vec3.{Vec3}
+use Rattle.trip.specs.Measure.{millimetresOf, measurable, wayOf}
+use Rattle.trip.specs.declared.measure.Way.{Way}
 use Rattle.mileage.specs.Rated.{rated}
 use Rattle.mileage.specs.declared.mileage.Epoch.{Epoch}
-use Rattle.mileage.specs.declared.mileage.Finding.{Finding}
 use Rattle.mileage.specs.declared.mileage.Mileage.{Mileage}
 use Rattle.mileage.specs.declared.mileage.Report.{Report}
 use Rattle.mileage.specs.declared.mileage.Step.{Step}
@@ -130,12 +131,12 @@ scaled counted pulses covered = counted * pulses / covered
 unfoldable pub soundMileage : Mileage → Bool
 soundMileage m =
     leb (m .epochs) 65535
-    && inRange (m .limit)
     && leb (m .refused + m .aside) (m .epochs)
     && leb (m .counted + m .standing + m .waiting) (1000000 * m .epochs)
     && leb (m .pulses) (65535 * m .epochs)
     && leb (m .covered) (m .pulses)
     && leb (m .moved) 1
+    && inRange (m .limit)
 
 -- a mileage just started; 3 for a limit that is not finite or above 1e9 in magnitude
 unfoldable pub started : Float → Step
@@ -162,6 +163,10 @@ grown m refused usable millimetres pulses =
 -- a refused displacement is not looked at; an accepted one has to be finite and not longer than 1,000 m
 unfoldable pub isTaken : Epoch → Bool
 isTaken e = isRefused e || measurable (e .displacement)
+
+-- what an addition needs of its length
+unfoldable pub wayFor : ℕ → Vec3 → Way
+wayFor refused d = cond (eqb refused 0) (wayOf (norm d)) (record { within = true; millimetres = 0 })
 
 -- one epoch more; 16 for a mileage that is not sound, a full one, and an epoch that is not taken
 unfoldable pub added : Mileage → Epoch → Step
@@ -202,15 +207,6 @@ fuelOver millilitres (Millimetres d) = cond (eqb d 0) (Unfuelled NoDistance) (Pe
 
 unfoldable pub fuelled : Mileage → ℕ → Fuel
 fuelled m millilitres = fuelOver millilitres (distance m)
-
--- ---- what an addition finds of an epoch, and what it promises
-
--- what an addition finds of an epoch
-pub record Found (limit : Float) (e : Epoch) (f : Finding) : Type 0 where
-  pub taken : f .taken ≡ isTaken e
-  pub usable : f .usable ≡ isUsable limit e
-  pub millimetres : f .taken ≡ true → f .usable ≡ true → f .millimetres ≡ lengthOf e
-  pub short : f .millimetres ≤ 1000000
 
 -- ---- calls one after the other
 

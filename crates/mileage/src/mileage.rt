@@ -7,7 +7,8 @@ use crate::rated::is_rated;
 use numeric::real::in_range;
 use numeric::refusal::Refusal;
 use numeric::vec3::Vec3;
-use trip::measure::way_of;
+use trip::measure::Way;
+use trip::measure::way_of_square;
 
 // One epoch: the number that refused its displacement (0: none), the displacement in metres, its quality, and its odometer pulses.
 pub struct Epoch {
@@ -43,13 +44,6 @@ pub struct Report {
     pub covered: u64,
     pub standing: u64,
     pub pulses: u64,
-}
-
-// What an addition needs of an epoch: whether it is taken, whether its displacement is of use, and if so its millimetres.
-pub struct Finding {
-    pub taken: bool,
-    pub usable: bool,
-    pub millimetres: u64,
 }
 
 pub enum Step {
@@ -92,21 +86,16 @@ pub(crate) fn scaled(counted: u64, pulses: u64, covered: u64) -> Distance
     Distance::Millimetres(whole * pulses + rest)
 }
 
-// Looks at an epoch. A refused one's displacement and quality are not read.
-pub(crate) fn find(limit: f64, e: Epoch) -> Finding
-    ensures { λ r. ⌜ spec.Found limit e r ⌝ }
+// The way of an accepted displacement. A refused one is not measured.
+pub(crate) fn way_for(refused: u8, displacement: Vec3) -> Way
+    ensures { λ r. ⌜ r ≡ spec.wayFor refused displacement ⌝ }
 {
-    if e.refused == 0 {
-        let way = way_of(e.displacement);
-        return Finding {
-            taken: way.within,
-            usable: is_rated(limit, e.chi, e.pdop),
-            millimetres: way.millimetres,
-        };
+    if refused == 0 {
+        let d = displacement;
+        return way_of_square(d.x * d.x + d.y * d.y + d.z * d.z);
     }
-    Finding {
-        taken: true,
-        usable: false,
+    Way {
+        within: true,
         millimetres: 0,
     }
 }
@@ -133,7 +122,7 @@ impl Mileage {
         Step::Refused(Refusal::SettingOutOfRange)
     }
 
-    // Checks rule 16 of a mileage handed in. The first test keeps the sums of the second from overflowing.
+    // Checks rule 16 of a mileage handed in. Each test keeps the next from overflowing, and none fails in a drive, so that branches cost least.
     pub fn is_sound(self) -> bool
         ensures { λ r. ⌜ r ≡ spec.soundMileage self ⌝ }
     {
@@ -141,21 +130,27 @@ impl Mileage {
         if 65535 < epochs {
             return false;
         }
-        let far = 1000000 * epochs;
-        if (epochs < self.refused)
-            | (epochs < self.aside)
-            | (far < self.counted)
-            | (far < self.standing)
-            | (far < self.waiting)
-        {
+        if epochs < self.refused {
             return false;
         }
-        in_range(self.limit)
-            & (self.refused + self.aside <= epochs)
-            & (self.counted + self.standing + self.waiting <= far)
-            & (self.pulses <= 65535 * epochs)
+        if epochs - self.refused < self.aside {
+            return false;
+        }
+        let far = 1000000 * epochs;
+        if far < self.counted {
+            return false;
+        }
+        let rest = far - self.counted;
+        if rest < self.standing {
+            return false;
+        }
+        if rest - self.standing < self.waiting {
+            return false;
+        }
+        (self.pulses <= 65535 * epochs)
             & (self.covered <= self.pulses)
             & (self.moved <= 1)
+            & in_range(self.limit)
     }
 
     // The mileage after an epoch that is refused or not, of use or not, of so many millimetres and pulses.
@@ -180,16 +175,26 @@ impl Mileage {
         }
     }
 
+    // Adds an epoch whose displacement is of this way.
+    pub(crate) fn add_way(self, way: Way, e: Epoch) -> Step
+        requires { ⌜ way ≡ spec.wayFor (e .refused) (e .displacement) ⌝ }
+        ensures { λ r. ⌜ r ≡ spec.added self e ⌝ }
+    {
+        if !(self.is_sound() & (self.epochs < 65535) & way.within) {
+            return Step::Refused(Refusal::BadTrip);
+        }
+        let refused = e.refused != 0;
+        let usable = !refused & is_rated(self.limit, e.chi, e.pdop);
+        let pulses = e.pulses as u64;
+        Step::Goes(self.grown(refused, usable, way.millimetres, pulses))
+    }
+
     // Adds an epoch.
     pub fn add(self, e: Epoch) -> Step
         ensures { λ r. ⌜ r ≡ spec.added self e ⌝ }
     {
-        let found = find(self.limit, e);
-        if !(self.is_sound() & (self.epochs < 65535) & found.taken) {
-            return Step::Refused(Refusal::BadTrip);
-        }
-        let pulses = e.pulses as u64;
-        Step::Goes(self.grown(e.refused != 0, found.usable, found.millimetres, pulses))
+        let way = way_for(e.refused, e.displacement);
+        self.add_way(way, e)
     }
 
     // Reports the totals. The last epoch's millimetres count as standing where no pulse came so far.

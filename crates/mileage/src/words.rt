@@ -9,6 +9,7 @@ use crate::mileage::Fuel;
 use crate::mileage::Mileage;
 use crate::mileage::Reported;
 use crate::mileage::Step;
+use crate::mileage::way_for;
 use numeric::order::float;
 use numeric::order::pattern;
 use numeric::refusal::Refusal;
@@ -76,19 +77,22 @@ pub fn add_in(
     ensures { λ r. ⌜ (let s = spec.addedWords (now (mileage .entry)) (spec.epochOf «refused_by» (now (delta .entry)) (now (quality .entry)) pulses) in
         (r ≡ spec.stepNumber s) × (now (mileage .exit) ≡ spec.wordsAfter s (now (mileage .entry)))) ⌝ }
 {
+    let displacement = Vec3 {
+        x: delta[0],
+        y: delta[1],
+        z: delta[2],
+    };
+    // The way first: it may need a root, which is a call, over which no word has to be kept.
+    let way = way_for(refused_by, displacement);
     let e = Epoch {
         refused: refused_by,
-        displacement: Vec3 {
-            x: delta[0],
-            y: delta[1],
-            z: delta[2],
-        },
+        displacement,
         chi: quality[0],
         pdop: quality[1],
         pulses,
     };
     let w = *mileage;
-    let answer = held(w).add(e);
+    let answer = held(w).add_way(way, e);
     match answer {
         Step::Refused(r) => r.number(),
         Step::Goes(m) => {

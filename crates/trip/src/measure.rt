@@ -59,7 +59,7 @@ fn is_certain(b: u64, a: u64) -> bool
 }
 
 // The way of the length whose square is given. Most are seen without the root. Two functions call it, so that a compiler hands it the square in a register.
-pub(crate) fn way_of_square(square: f64) -> Way
+pub fn way_of_square(square: f64) -> Way
     ensures { λ r. ⌜ r ≡ spec.wayOf (rootOf square) ⌝ }
 {
     if 9.5367431640625e-7 < square {
@@ -88,7 +88,7 @@ pub(crate) fn way_of_square(square: f64) -> Way
 }
 
 // The way of a displacement.
-pub fn way_of(d: Vec3) -> Way
+pub(crate) fn way_of(d: Vec3) -> Way
     ensures { λ r. ⌜ r ≡ spec.wayOf (norm d) ⌝ }
 {
     way_of_square(d.x * d.x + d.y * d.y + d.z * d.z)
