@@ -10,12 +10,19 @@ use zaqnuti::{Ecef, Refusal, Vec3};
 
 /// A displacement, and how far it can be trusted.
 #[derive(Clone, Copy)]
-pub struct Rated {
-    pub delta: Vec3,
+pub struct Moved {
+    pub displacement: Vec3,
     /// The root of the reduced sum of squared residuals, in sigmas.
     pub chi: f64,
     /// The position dilution of precision.
     pub pdop: f64,
+}
+
+/// One epoch of a drive: its displacement or why that was refused, and its pulses.
+#[derive(Clone, Copy)]
+pub struct Epoch {
+    pub moved: Result<Moved, Refusal>,
+    pub pulses: u16,
 }
 
 /// Two epochs, and what is asked of them.
@@ -31,7 +38,7 @@ pub struct Asked<'a> {
 
 impl Asked<'_> {
     /// The displacement and its quality.
-    pub fn rated(&self) -> Result<Rated, Refusal> {
+    pub fn rated(&self) -> Result<Moved, Refusal> {
         let (previous, current, at, set) = (self.previous, self.current, self.at, self.set);
         let moved = match self.band {
             None => delta_position(previous, current, self.dt, at, set)?,
@@ -39,8 +46,8 @@ impl Asked<'_> {
         };
         let pairs = self.kept()?;
         let (chi, pdop) = quality(&pairs, set)?;
-        Ok(Rated {
-            delta: moved.delta,
+        Ok(Moved {
+            displacement: moved.delta,
             chi,
             pdop,
         })
@@ -176,11 +183,15 @@ pub struct Mileage {
 pub struct Report {
     pub epochs: u64,
     pub refused: u64,
-    pub set_aside: u64,
+    /// Accepted displacements that are not well rated.
+    pub aside: u64,
+    /// Millimetres and pulses of counted epochs.
     pub counted: u64,
-    pub pulses_counted: u64,
+    pub covered: u64,
+    /// Millimetres of standing epochs.
     pub standing: u64,
-    pub pulses_all: u64,
+    /// Pulses of all epochs.
+    pub pulses: u64,
 }
 
 impl Mileage {
@@ -198,20 +209,21 @@ impl Mileage {
     }
 
     /// Adds an epoch: its displacement, or its refusal, and its pulses.
-    pub fn add(&mut self, moved: Result<Rated, Refusal>, pulses: u16) -> Result<(), Refusal> {
+    pub fn add(&mut self, epoch: &Epoch) -> Result<(), Refusal> {
+        let (moved, pulses) = (epoch.moved, epoch.pulses);
         let rolls = pulses > 0;
         let well = moved
             .ok()
             .filter(|m| m.pdop * m.chi.max(1.0) * 0.01 < self.limit);
-        let length = well.map_or(Ok(0), |m| millimetres(m.delta))?;
+        let length = well.map_or(Ok(0), |m| millimetres(m.displacement))?;
         let sums = &mut self.report;
         if sums.epochs >= EPOCHS {
             return Err(Refusal::BadTrip);
         }
         sums.epochs += 1;
         sums.refused += u64::from(moved.is_err());
-        sums.set_aside += u64::from(moved.is_ok() && well.is_none());
-        sums.pulses_all += u64::from(pulses);
+        sums.aside += u64::from(moved.is_ok() && well.is_none());
+        sums.pulses += u64::from(pulses);
         match rolls {
             true => sums.counted += self.open,
             false => sums.standing += self.open,
@@ -219,7 +231,7 @@ impl Mileage {
         self.open = 0;
         if rolls || self.rolled {
             sums.counted += length;
-            sums.pulses_counted += well.map_or(0, |_| u64::from(pulses));
+            sums.covered += well.map_or(0, |_| u64::from(pulses));
         } else {
             self.open = length;
         }
@@ -239,14 +251,11 @@ impl Mileage {
     /// The counted distance times all pulses by counted pulses, millimetres.
     pub fn distance(&self) -> Result<u64, Refusal> {
         let sums = self.report;
-        scaled(sums.counted, sums.pulses_all, sums.pulses_counted).ok_or(Refusal::NoDistance)
+        let product = u128::from(sums.counted) * u128::from(sums.pulses);
+        let distance = product.checked_div(sums.covered.into());
+        let distance = distance.ok_or(Refusal::NoDistance)?;
+        u64::try_from(distance).map_err(|_| Refusal::BadTrip)
     }
-}
-
-/// `counted` times `all` by `part`, rounded down; none where no pulse is counted.
-pub fn scaled(counted: u64, all: u64, part: u64) -> Option<u64> {
-    let product = u128::from(counted) * u128::from(all);
-    u64::try_from(product.checked_div(part.into())?).ok()
 }
 
 /// The length of a displacement in whole millimetres, as a trip has it.

@@ -228,7 +228,7 @@ impl Told {
 
     /// Whether an epoch with pulses was counted.
     fn counted(&self) -> bool {
-        self.line.sums.mileage.pulses_counted > 0
+        self.line.sums.mileage.covered > 0
     }
 }
 
