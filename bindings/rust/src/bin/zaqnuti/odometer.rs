@@ -29,11 +29,7 @@ pub struct Field {
 impl Field {
     /// Reads the field of the line that was read last.
     pub fn read(self, table: &Table) -> Run<u64> {
-        let count: u64 = table.whole(self.column)?;
-        match count > self.most {
-            true => Err(table.fault_in(self.column, &format!("{count} is above {}", self.most))),
-            false => Ok(count),
-        }
+        table.whole_to(self.column, self.most)
     }
 
     /// Checks that a row of an epoch says what its first row says.
