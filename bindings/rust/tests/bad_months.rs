@@ -616,7 +616,7 @@ fn bad_second_recordings() {
     let expected = [early, short].map(|why| format!("zaqnuti: warning: standard input: {why}\n"));
     assert_eq!(said, expected.concat());
     let fields: Vec<&str> = csv.lines().nth(1).unwrap().split(',').collect();
-    // The last count is at 31 s, of which the epoch at 32 s is the first to know.
+    // The last count is at 31 s; the epoch at 32 s is the first to have it.
     assert_eq!((fields[7], fields[17]), ("43", &*(80 * 27).to_string()));
 }
 

@@ -212,6 +212,23 @@ fn thirty_seconds_without_rows() {
     assert_eq!((found[0]["gap_s"].as_str(), said.as_str()), ("30.000", ""));
     assert_near(&found[0]["distance_mm"], length, 0.5, "a running count");
 
+    // In 16 bits the count may have wrapped unseen in a long gap, and not in a short one.
+    assert_eq!(trip(&["--wrap", "16"], from_ref(&path), 0).1, "");
+    let later = cut.replace("2443,20163", "2443,20263");
+    let later = later.replace("2443,20164", "2443,20264");
+    let days: String = later
+        .lines()
+        .take_while(|l| !l.starts_with("2443,20165"))
+        .map(|l| format!("{l}\n"))
+        .collect();
+    fs::write(&path, days).unwrap();
+    let (found, said) = trip(&["--wrap", "16"], from_ref(&path), 0);
+    assert_eq!(found[0]["distance_mm"], "");
+    assert!(
+        said.contains("the count may have wrapped unseen in it; no distance"),
+        "{said}"
+    );
+
     fs::write(&path, with_pulses(&cut)).unwrap();
     let (found, said) = trip(&[], from_ref(&path), 0);
     assert_eq!(found[0]["gap_s"], "30.000");
@@ -385,7 +402,7 @@ fn every_form_of_the_odometer_gives_the_same() {
     fs::write(at.join(format!("{name}.odo")), counts).unwrap();
     let second = at.join("{}.odo").display().to_string();
     assert_eq!(figures(&["--odometer", &second], &drive), plain);
-    // The same count in 16 and in 32 bits, wrapping on the way.
+    // The same count in 16 and in 32 bits, wrapping during the drive.
     for (bits, size) in [("16", 1u64 << 16), ("32", 1 << 32)] {
         let wrapped = |line: &str| match line.rsplit_once(',').unwrap() {
             (_, "odometer") => format!("{line}\n"),
