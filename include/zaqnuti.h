@@ -74,6 +74,7 @@
  *     smooth             768
  *     times              256
  *     trip               256
+ *     mileage            512
  *     north_east_down    256
  *     trip_displacement 17,152
  *     round            8,960
@@ -108,6 +109,7 @@ extern "C" {
 #define ZAQNUTI_EPOCHS 1024      /* epochs, anchors or links of a track */
 #define ZAQNUTI_WEEKS 15000      /* the last week of a time */
 #define ZAQNUTI_TRIP_EPOCHS 65535 /* epochs of a trip */
+#define ZAQNUTI_MILEAGE_EPOCHS 65535 /* epochs of a mileage */
 #define ZAQNUTI_ROUNDS 50        /* rounds of an estimate, iterations of a track */
 #define ZAQNUTI_TEXT 32768       /* bytes of a text in the line form */
 #define ZAQNUTI_LINE 59          /* bytes that are always enough for its answer */
@@ -442,6 +444,90 @@ uint8_t zaqnuti_trip_report(const uint64_t trip[6], uint64_t report[4]);
  * carrier distance.
  */
 uint8_t zaqnuti_trip_fuel(const uint64_t trip[6], uint32_t millilitres, uint64_t *per_km);
+
+/* ---- the mileage */
+
+/*
+ * A trip leaves a refused epoch and its pulses out, so that its fuel figure
+ * depends on how much sky a van loses. A mileage keeps all pulses, adds the
+ * lengths of well rated epochs, and multiplies by all pulses over the pulses
+ * of the epochs counted. The caller holds it as ten words:
+ *
+ *     0  the limit of the predicted error in metres, as the bits of a double
+ *     1  epochs so far, at most 65,535
+ *     2  of them refused
+ *     3  of them set aside
+ *     4  millimetres of counted epochs
+ *     5  pulses of counted epochs
+ *     6  millimetres of standing epochs, without those of word 9
+ *     7  all pulses
+ *     8  whether the last epoch had a pulse, 0 or 1
+ *     9  millimetres of the last epoch where it stands so far, else 0
+ *
+ * An epoch is
+ *   refused     where its displacement was refused
+ *   set aside   otherwise, where chi or pdop is not finite or below 0, or the
+ *               predicted error (pdop * max(chi, 1)) * 0.01 is not below the
+ *               limit
+ *   standing    otherwise, where neither it nor the epoch before nor the one
+ *               after has a pulse; a missing neighbour counts as without
+ *   counted     otherwise
+ *
+ *     uint64_t mileage[10], mm, ml;
+ *     zaqnuti_mileage_start(0.2, mileage);
+ *     zaqnuti_mileage_add(mileage, number, delta, quality, 53);   for each epoch
+ *     zaqnuti_mileage_distance(mileage, &mm);
+ *     zaqnuti_mileage_fuel(mileage, 850, &ml);
+ *
+ * Each call refuses by 16 words that no calls can have left: a limit not
+ * finite or above 1e9 in magnitude, more than 65,535 epochs, more refused and
+ * set aside than epochs, words 4, 6 and 9 above 1,000,000 times the epochs,
+ * word 7 above 65,535 times the epochs, word 5 above word 7, or word 8 above
+ * 1. A refusal changes nothing.
+ */
+
+/*
+ * Starts a mileage. Refuses by 3: a limit that is not finite or above 1e9 in
+ * magnitude. A limit of 0.2 m suited simulated vans.
+ */
+uint8_t zaqnuti_mileage_start(double limit, uint64_t mileage[10]);
+
+/*
+ * Adds an epoch.
+ *
+ * refused_by     the number that refused its displacement, 0 where it was
+ *                accepted; where it is not 0, delta and quality must still
+ *                lead to doubles, of any value
+ * delta          the displacement in metres, measured in whole millimetres as
+ *                by zaqnuti_trip_add
+ * quality        chi and pdop of the displacement
+ * pulses         the odometer's in this epoch, added whatever becomes of it
+ *
+ * Refuses by 16: an accepted displacement that is not finite or longer than
+ * 1,000 m, one epoch more than 65,535, or words as above.
+ */
+uint8_t zaqnuti_mileage_add(uint64_t mileage[10], uint8_t refused_by, const double delta[3], const double quality[2], uint16_t pulses);
+
+/*
+ * Writes epochs, refused, set aside, counted millimetres, counted pulses,
+ * standing millimetres and all pulses to report. Refuses by 16.
+ */
+uint8_t zaqnuti_mileage_report(const uint64_t mileage[10], uint64_t report[7]);
+
+/*
+ * Writes the distance: counted millimetres times all pulses by counted
+ * pulses, rounded down. Refuses by 16, also where that is above 2^63 - 1, and
+ * by 17 where no pulse was counted.
+ */
+uint8_t zaqnuti_mileage_distance(const uint64_t mileage[10], uint64_t *millimetres);
+
+/*
+ * Writes millilitres for a kilometre: millilitres times 1,000,000 by the
+ * distance in millimetres, rounded down. Refuses as the distance does, and by
+ * 17 where that is 0.
+ */
+uint8_t zaqnuti_mileage_fuel(const uint64_t mileage[10], uint32_t millilitres, uint64_t *per_km);
+
 /* ---- carrier records as bytes */
 
 /*

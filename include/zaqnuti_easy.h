@@ -500,6 +500,83 @@ static inline uint8_t zaqnuti_easy_trip_fuel(const zaqnuti_trip *trip, uint32_t 
     return zaqnuti_trip_fuel(trip->word, millilitres, per_km);
 }
 
+/* ---- the mileage */
+
+/* A mileage, which its calls alone write. */
+typedef struct zaqnuti_mileage {
+    uint64_t word[10];
+} zaqnuti_mileage;
+
+typedef struct zaqnuti_mileage_totals {
+    uint64_t epochs;
+    uint64_t refused;
+    uint64_t aside;
+    uint64_t counted;   /* mm of counted epochs */
+    uint64_t covered;   /* pulses of counted epochs */
+    uint64_t standing;  /* mm of standing epochs */
+    uint64_t pulses;    /* of all epochs */
+} zaqnuti_mileage_totals;
+
+/*
+ * The predicted error of a displacement in metres, (pdop * max(chi, 1)) * 0.01; NaN where chi or pdop is NaN or below 0.
+ * A mileage counts a displacement where this is below its limit and both are finite.
+ */
+static inline double zaqnuti_easy_predicted_error(double chi, double pdop)
+{
+    if (!(chi >= 0.0) || !(pdop >= 0.0)) return zaqnuti_easy_float(0x7FF8000000000000u);
+    return pdop * (chi > 1.0 ? chi : 1.0) * 0.01;
+}
+
+/* Starts a mileage that counts displacements whose predicted error is below `limit` metres. */
+static inline uint8_t zaqnuti_easy_mileage_start(double limit, zaqnuti_mileage *mileage)
+{
+    return zaqnuti_mileage_start(limit, mileage->word);
+}
+
+/* Adds an epoch: how far the van moved with what quality, and the odometer's pulses. */
+static inline uint8_t zaqnuti_easy_mileage_add(zaqnuti_mileage *mileage, zaqnuti_vector delta, double chi, double pdop, uint16_t pulses)
+{
+    const double d[3] = {delta.x, delta.y, delta.z};
+    const double q[2] = {chi, pdop};
+    return zaqnuti_mileage_add(mileage->word, 0, d, q, pulses);
+}
+
+/* Adds an epoch whose displacement was refused by `number`, which is not 0: its pulses count all the same. */
+static inline uint8_t zaqnuti_easy_mileage_refused(zaqnuti_mileage *mileage, uint8_t number, uint16_t pulses)
+{
+    const double d[3] = {0.0, 0.0, 0.0};
+    const double q[2] = {0.0, 0.0};
+    return zaqnuti_mileage_add(mileage->word, number, d, q, pulses);
+}
+
+static inline uint8_t zaqnuti_easy_mileage_report(const zaqnuti_mileage *mileage, zaqnuti_mileage_totals *totals)
+{
+    uint64_t r[7] = {0, 0, 0, 0, 0, 0, 0};
+    const uint8_t number = zaqnuti_mileage_report(mileage->word, r);
+    if (number == 0) {
+        totals->epochs = r[0];
+        totals->refused = r[1];
+        totals->aside = r[2];
+        totals->counted = r[3];
+        totals->covered = r[4];
+        totals->standing = r[5];
+        totals->pulses = r[6];
+    }
+    return number;
+}
+
+/* The distance in millimetres. */
+static inline uint8_t zaqnuti_easy_mileage_distance(const zaqnuti_mileage *mileage, uint64_t *millimetres)
+{
+    return zaqnuti_mileage_distance(mileage->word, millimetres);
+}
+
+/* Millilitres for a kilometre of that distance. */
+static inline uint8_t zaqnuti_easy_mileage_fuel(const zaqnuti_mileage *mileage, uint32_t millilitres, uint64_t *per_km)
+{
+    return zaqnuti_mileage_fuel(mileage->word, millilitres, per_km);
+}
+
 /* A trip whose displacements are worked out under the settings in force, which may change between two epochs. */
 typedef struct zaqnuti_drive {
     zaqnuti_trip trip;

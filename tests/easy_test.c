@@ -330,6 +330,10 @@ static void trips(void)
         }
     }
 }
+/* ---- the mileage */
+
+#include "easy_mileage.h"
+
 /* ---- carrier records as bytes */
 
 #include "easy_records.h"
@@ -1203,6 +1207,7 @@ int main(int count, char **word)
     }
     times();
     trips();
+    mileages();
     directions();
     tracks();
     corrections();

@@ -60,6 +60,7 @@ static const struct kind kinds[] = {
     {30, "city", same_city},
     {23, "widen", same_widen},
     {27, "trip", same_trip},
+    {45, "mileage", same_mileage},
     {33, "directory", same_directory},
     {34, "signals", same_signals},
     {35, "forget", same_forget},

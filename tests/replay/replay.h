@@ -76,6 +76,7 @@ bool same_forget(struct stored *s);
 bool same_directory(struct stored *s);
 bool same_signals(struct stored *s);
 bool same_trip(struct stored *s);
+bool same_mileage(struct stored *s);
 bool same_read(struct stored *s);
 bool same_write(struct stored *s);
 bool same_records(struct stored *s);

@@ -17,6 +17,26 @@ extern "C" {
     pub fn zaqnuti_trip_report(trip: *const [u64; 6], report: *mut [u64; 4]) -> u8;
     /// The fuel of a trip for a kilometre.
     pub fn zaqnuti_trip_fuel(trip: *const [u64; 6], millilitres: u32, per_km: *mut u64) -> u8;
+    /// A mileage just started.
+    pub fn zaqnuti_mileage_start(limit: f64, mileage: *mut [u64; 10]) -> u8;
+    /// One epoch more for a mileage.
+    pub fn zaqnuti_mileage_add(
+        mileage: *mut [u64; 10],
+        refused_by: u8,
+        delta: *const [f64; 3],
+        quality: *const [f64; 2],
+        pulses: u16,
+    ) -> u8;
+    /// The report of a mileage.
+    pub fn zaqnuti_mileage_report(mileage: *const [u64; 10], report: *mut [u64; 7]) -> u8;
+    /// The distance of a mileage.
+    pub fn zaqnuti_mileage_distance(mileage: *const [u64; 10], millimetres: *mut u64) -> u8;
+    /// The fuel of a mileage for a kilometre.
+    pub fn zaqnuti_mileage_fuel(
+        mileage: *const [u64; 10],
+        millilitres: u32,
+        per_km: *mut u64,
+    ) -> u8;
     /// A displacement at a place along north, east and down.
     pub fn zaqnuti_north_east_down(
         position: *const [f64; 3],

@@ -12,6 +12,7 @@ use zaqnuti::math::{self, Cholesky};
 use zaqnuti::robust::{centre_scale, elevation_sigma, geometry, step, Clocks, Row};
 use zaqnuti::smooth::{smooth, Anchor, Link};
 use zaqnuti::time::{GpsTime, NANOS_PER_WEEK};
+use zaqnuti::mileage::{predicted_error, Epoch, Mileage, Moved};
 use zaqnuti::trip::{Drive, Report, Trip};
 use zaqnuti::{differential, line, smooth as track, tdcp, wire, wls, Ecef, Refusal, Vec3, TEXT};
 
@@ -379,6 +380,95 @@ fn a_trip_refuses() {
         assert_eq!(trip.report(), Err(Refusal::BadTrip), "{words:?}");
         assert_eq!(trip.fuel(1), Err(Refusal::BadTrip), "{words:?}");
     }
+}
+
+#[test]
+fn a_mileage() {
+    let moved = |x: f64, pdop: f64| {
+        Ok(Moved {
+            displacement: Vec3::new(x, 0.0, 0.0),
+            chi: 1.0,
+            pdop,
+        })
+    };
+    let mut mileage = Mileage::start(0.2).unwrap();
+    let bits = 0.2f64.to_bits();
+    assert_eq!(mileage.words(), [bits, 0, 0, 0, 0, 0, 0, 0, 0, 0]);
+    assert_eq!(mileage.distance(), Err(Refusal::NoDistance));
+    // It stands, until the next epoch has a pulse.
+    let epoch = |moved, pulses| Epoch { moved, pulses };
+    mileage.add(&epoch(moved(0.005, 2.0), 0)).unwrap();
+    assert_eq!(mileage.words(), [bits, 1, 0, 0, 0, 0, 0, 0, 0, 5]);
+    assert_eq!(mileage.report().unwrap().standing, 5);
+    mileage.add(&epoch(moved(10.0, 2.0), 40)).unwrap();
+    assert_eq!(mileage.words(), [bits, 2, 0, 0, 10_005, 40, 0, 40, 1, 0]);
+    // A refused epoch keeps its pulses, and so does one at the limit of 0.2 m.
+    let rest = [
+        epoch(Err(Refusal::TooFewPairs), 30),
+        epoch(moved(99.0, 20.0), 10),
+        epoch(moved(0.001, 2.0), 0),
+        epoch(moved(0.001, 2.0), 0),
+        epoch(moved(0.001, 2.0), 0),
+    ];
+    assert_eq!(mileage.extend(rest), Ok(5));
+    let report = mileage.report().unwrap();
+    assert_eq!([report.epochs, report.refused, report.aside], [7, 1, 1]);
+    assert_eq!([report.counted, report.covered], [10_006, 40]);
+    assert_eq!([report.standing, report.pulses], [2, 80]);
+    assert_eq!(mileage.distance(), Ok(20_012));
+    assert_eq!(mileage.fuel(1), Ok(49));
+    assert_eq!(predicted_error(1.0, 20.0), 0.2);
+    assert_eq!(predicted_error(3.0, 2.0), 2.0 * 3.0 * 0.01);
+    assert!(predicted_error(-1.0, 2.0).is_nan() && predicted_error(1.0, f64::NAN).is_nan());
+}
+
+#[test]
+fn a_mileage_refuses() {
+    for limit in [f64::NAN, f64::INFINITY, 1e9f64.next_up(), (-1e9f64).next_down()] {
+        assert_eq!(Mileage::start(limit), Err(Refusal::SettingOutOfRange), "{limit}");
+    }
+    let bits = 1e9f64.to_bits();
+    let moved = Ok(Moved {
+        displacement: Vec3::new(1000f64.next_up(), 0.0, 0.0),
+        chi: 1.0,
+        pdop: 1.0,
+    });
+    let mut mileage = Mileage::start(1e9).unwrap();
+    assert_eq!(mileage.add(&Epoch { moved, pulses: 1 }), Err(Refusal::BadTrip));
+    assert_eq!(mileage.words(), [bits, 0, 0, 0, 0, 0, 0, 0, 0, 0]);
+    // One above each bound; 17 comes after 16.
+    let epoch = Epoch {
+        moved: Err(Refusal::FitFailed),
+        pulses: 1,
+    };
+    for words in [
+        [bits + 1, 1, 0, 0, 0, 0, 0, 0, 0, 0],
+        [bits, 65_536, 0, 0, 0, 0, 0, 0, 0, 0],
+        [bits, 65_535, 0, 0, 0, 0, 0, 0, 0, 0],
+        [bits, 2, 2, 1, 0, 0, 0, 0, 0, 0],
+        [bits, 2, u64::MAX, 2, 0, 0, 0, 0, 0, 0],
+        [bits, 2, 0, 0, 1_000_000, 0, 1_000_000, 0, 0, 1],
+        [bits, 2, 0, 0, 0, 0, 0, 131_071, 0, 0],
+        [bits, 2, 0, 0, 0, 5, 0, 4, 0, 0],
+        [bits, 2, 0, 0, 0, 0, 0, 0, 2, 0],
+        [u64::MAX; 10],
+    ] {
+        let mut mileage = Mileage::from_words(words);
+        assert_eq!(mileage.add(&epoch), Err(Refusal::BadTrip), "{words:?}");
+        assert_eq!(mileage.words(), words);
+        if words[1] != 65_535 {
+            assert_eq!(mileage.report(), Err(Refusal::BadTrip), "{words:?}");
+            assert_eq!(mileage.distance(), Err(Refusal::BadTrip), "{words:?}");
+            assert_eq!(mileage.fuel(1), Err(Refusal::BadTrip), "{words:?}");
+        }
+    }
+    // 65,535,000,000 mm with one pulse counted of 4,294,836,225, and the longest distance that 63 bits hold.
+    let far = Mileage::from_words([bits, 65_535, 0, 0, 65_535_000_000, 1, 0, 4_294_836_225, 1, 0]);
+    assert_eq!(far.distance(), Err(Refusal::BadTrip));
+    assert_eq!(far.fuel(1), Err(Refusal::BadTrip));
+    let none = Mileage::from_words([bits, 2, 0, 0, 0, 3, 0, 3, 1, 0]);
+    assert_eq!(none.distance(), Ok(0));
+    assert_eq!(none.fuel(1), Err(Refusal::NoDistance));
 }
 
 #[test]

@@ -407,6 +407,25 @@ fn times(week: u32, tow: f64, earlier: u64) -> usize {
     })
 }
 
+/// A mileage as it is handed in, one epoch more for it, and its figures.
+fn mileage(words: [u64; 10], refused_by: u8, x: f64) -> usize {
+    let (mut lent, mut report, mut figure) = (words, [0; 7], 0);
+    let limit = f64::from_bits(words[0]);
+    measured(move || {
+        let frame = top();
+        // SAFETY: the words, the report and the figure are ours alone, and the rest is read.
+        unsafe {
+            sys::zaqnuti_mileage_start(limit, &mut lent);
+            lent = words;
+            sys::zaqnuti_mileage_add(&mut lent, refused_by, &[x, 0.0, 0.0], &[1.0, 2.0], 7);
+            sys::zaqnuti_mileage_report(&lent, &mut report);
+            sys::zaqnuti_mileage_distance(&lent, &mut figure);
+            sys::zaqnuti_mileage_fuel(&lent, 850, &mut figure);
+        }
+        frame
+    })
+}
+
 /// A trip as it is handed in, and one epoch more for it.
 fn trip(words: [u64; 6], x: f64) -> usize {
     let (mut lent, mut report, mut per_km) = (words, [0; 4], 0);
@@ -1070,6 +1089,17 @@ fn no_more_than_the_header_says() {
                 trip([1000, 65_535, 0, 8, 2000, 2], 3.0),
                 trip([0; 6], f64::NAN),
                 trip([u64::MAX; 6], 1e300),
+            ]),
+        ),
+        (
+            "mileage",
+            most([
+                mileage([0.2f64.to_bits(), 9, 2, 1, 60_000, 40, 7, 90, 0, 3], 0, 3.0),
+                mileage([0.2f64.to_bits(), 9, 2, 1, 60_000, 40, 7, 90, 0, 3], 7, 3.0),
+                mileage([0.2f64.to_bits(), 9, 2, 1, 60_000, 0, 7, 90, 1, 0], 0, 0.001),
+                mileage([0.2f64.to_bits(), 65_535, 0, 0, 0, 1, 0, 1, 0, 0], 0, 3.0),
+                mileage([0; 10], 0, f64::NAN),
+                mileage([u64::MAX; 10], 0, 1e300),
             ]),
         ),
         (

@@ -9,6 +9,7 @@ pub mod forgetting;
 pub mod forms;
 pub mod line;
 pub mod matrix;
+pub mod mileages;
 pub mod numbers;
 pub mod profile;
 pub mod queries;

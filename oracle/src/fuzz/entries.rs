@@ -7,6 +7,7 @@ mod drives;
 mod fix;
 mod forget;
 mod line;
+mod mileages;
 mod pieces;
 mod rearrange;
 mod times;
@@ -41,6 +42,7 @@ pub const ENTRIES: &[Entry] = &[
     ("smooth", track::smooth),
     ("times", times::times),
     ("trip", trips::trip),
+    ("mileage", mileages::mileage),
     ("directions", directions::directions),
     ("drive", drives::drive),
     ("round", pieces::a_round),

@@ -14,6 +14,7 @@ mod estimator;
 pub mod factor;
 mod fix;
 pub mod line;
+pub mod mileage;
 mod order;
 pub mod rearrange;
 mod root;
@@ -73,6 +74,7 @@ pub const KINDS: &[(u64, &str, Make)] = &[
     (22, "between", between::vectors),
     (23, "widen", corrections::stored::widen),
     (27, "trip", trip::vectors),
+    (45, "mileage", mileage::vectors),
     (33, "directory", rearrange::directories),
     (34, "signals", rearrange::signals),
     (35, "forget", corrections::forget::vectors),
@@ -103,6 +105,7 @@ pub const SERVICES: &[Service] = &[
     directions::SERVICE,
     between::SERVICE,
     trip::SERVICE,
+    mileage::SERVICE,
     wire::SERVICE,
     wire_tdcp::SERVICE,
     drive::SERVICE,

@@ -157,7 +157,7 @@ fn about(random: &mut Random, x: f64) -> f64 {
 }
 
 /// A displacement: just at or beside whole millimetres on one axis, as 3, 4 and 5 are, at an edge, of a van, of any floats.
-fn displacement(random: &mut Random) -> [f64; 3] {
+pub fn displacement(random: &mut Random) -> [f64; 3] {
     let mut delta = [0.0; 3];
     match random.below(8) {
         0..=2 => {
@@ -204,7 +204,7 @@ pub fn pulses(random: &mut Random) -> u16 {
 }
 
 /// A number at a limit or beside it.
-fn at(random: &mut Random, limit: u64) -> u64 {
+pub fn at(random: &mut Random, limit: u64) -> u64 {
     limit.saturating_add_signed(i64::from(random.between(-1, 1)))
 }
 

@@ -1,29 +1,17 @@
-//! A displacement with its figures of quality, and the distance of a drive by them.
+//! A displacement with its figures of quality, by which a mileage decides whether it counts.
 //!
-//! Everything that decides which epochs count is in this module.
+//! Displacement and mileage are the library's. The figures are worked out here from the same pairs, by the
+//! library's rounds and factor.
 
 use zaqnuti::math::{sqrt, Cholesky};
 use zaqnuti::robust::{self, centre_scale, elevation_sigma, geometry, Clocks, Row};
 use zaqnuti::tdcp::{city_displacement, delta_position, Carrier, Settings};
-use zaqnuti::trip::Trip;
-use zaqnuti::{Ecef, Refusal, Vec3};
+use zaqnuti::{Ecef, Refusal};
 
-/// A displacement, and how far it can be trusted.
-#[derive(Clone, Copy)]
-pub struct Moved {
-    pub displacement: Vec3,
-    /// The root of the reduced sum of squared residuals, in sigmas.
-    pub chi: f64,
-    /// The position dilution of precision.
-    pub pdop: f64,
-}
+pub use zaqnuti::mileage::{Epoch, Mileage, Moved, Report, EPOCHS};
 
-/// One epoch of a drive: its displacement or why that was refused, and its pulses.
-#[derive(Clone, Copy)]
-pub struct Epoch {
-    pub moved: Result<Moved, Refusal>,
-    pub pulses: u16,
-}
+/// What this module works out without a proof, for the page's footer.
+pub const UNPROVED: &str = "the figures of quality (chi and pdop) of a displacement, ";
 
 /// Two epochs, and what is asked of them.
 pub struct Asked<'a> {
@@ -161,106 +149,4 @@ fn dilution(rows: &[Row], unknowns: usize) -> Result<f64, Refusal> {
         sum += factor.solve(&unit)[i];
     }
     Ok(sqrt(sum))
-}
-
-/// The most epochs of a mileage.
-pub const EPOCHS: u64 = zaqnuti::trip::EPOCHS;
-
-/// The distance of a drive of at most 65,535 epochs, refused ones included, with all its pulses.
-#[derive(Clone, Copy)]
-pub struct Mileage {
-    limit: f64,
-    report: Report,
-    /// Whether the last epoch had a pulse.
-    rolled: bool,
-    /// The millimetres of the last epoch where neither it nor the one before has a pulse: the next
-    /// epoch decides whether they are counted or standing.
-    open: u64,
-}
-
-/// The sums of a mileage.
-#[derive(Clone, Copy, Default)]
-pub struct Report {
-    pub epochs: u64,
-    pub refused: u64,
-    /// Accepted displacements that are not well rated.
-    pub aside: u64,
-    /// Millimetres and pulses of counted epochs.
-    pub counted: u64,
-    pub covered: u64,
-    /// Millimetres of standing epochs.
-    pub standing: u64,
-    /// Pulses of all epochs.
-    pub pulses: u64,
-}
-
-impl Mileage {
-    /// A mileage just started; displacements whose predicted error reaches `limit` metres are set aside.
-    pub fn start(limit: f64) -> Result<Self, Refusal> {
-        if limit.is_nan() || limit.abs() > zaqnuti::MAGNITUDE {
-            return Err(Refusal::SettingOutOfRange);
-        }
-        Ok(Self {
-            limit,
-            report: Report::default(),
-            rolled: false,
-            open: 0,
-        })
-    }
-
-    /// Adds an epoch: its displacement, or its refusal, and its pulses.
-    pub fn add(&mut self, epoch: &Epoch) -> Result<(), Refusal> {
-        let (moved, pulses) = (epoch.moved, epoch.pulses);
-        let rolls = pulses > 0;
-        let well = moved
-            .ok()
-            .filter(|m| m.pdop * m.chi.max(1.0) * 0.01 < self.limit);
-        let length = well.map_or(Ok(0), |m| millimetres(m.displacement))?;
-        let sums = &mut self.report;
-        if sums.epochs >= EPOCHS {
-            return Err(Refusal::BadTrip);
-        }
-        sums.epochs += 1;
-        sums.refused += u64::from(moved.is_err());
-        sums.aside += u64::from(moved.is_ok() && well.is_none());
-        sums.pulses += u64::from(pulses);
-        match rolls {
-            true => sums.counted += self.open,
-            false => sums.standing += self.open,
-        }
-        self.open = 0;
-        if rolls || self.rolled {
-            sums.counted += length;
-            sums.covered += well.map_or(0, |_| u64::from(pulses));
-        } else {
-            self.open = length;
-        }
-        self.rolled = rolls;
-        Ok(())
-    }
-
-    /// The sums so far.
-    pub fn report(&self) -> Result<Report, Refusal> {
-        let standing = self.report.standing + self.open;
-        Ok(Report {
-            standing,
-            ..self.report
-        })
-    }
-
-    /// The counted distance times all pulses by counted pulses, millimetres.
-    pub fn distance(&self) -> Result<u64, Refusal> {
-        let sums = self.report;
-        let product = u128::from(sums.counted) * u128::from(sums.pulses);
-        let distance = product.checked_div(sums.covered.into());
-        let distance = distance.ok_or(Refusal::NoDistance)?;
-        u64::try_from(distance).map_err(|_| Refusal::BadTrip)
-    }
-}
-
-/// The length of a displacement in whole millimetres, as a trip has it.
-fn millimetres(delta: Vec3) -> Result<u64, Refusal> {
-    let mut trip = Trip::start(1)?;
-    trip.add(delta, 0)?;
-    Ok(trip.report()?.carrier)
 }
