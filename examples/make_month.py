@@ -61,7 +61,7 @@ def heading(t, start):
 
 
 class Drive:
-    """A van on its way, in hundredths of a second from one second before the start; the sky moves on from drive to drive."""
+    """A van under way, in hundredths of a second from one second before the start; the sky moves on from drive to drive."""
 
     def __init__(self, top, start, sky_time):
         self.points = {}

@@ -544,6 +544,7 @@ fn a_long_drive_is_streamed() {
         .args(["-c", &shell])
         .stdin(Stdio::piped())
         .stdout(Stdio::piped())
+        .stderr(Stdio::null())
         .spawn()
         .unwrap();
     let mut stdin = child.stdin.take().unwrap();
@@ -564,4 +565,78 @@ fn a_long_drive_is_streamed() {
     let line = text(&out.stdout);
     let fields: Vec<&str> = line.lines().nth(1).unwrap().split(',').collect();
     assert_eq!((fields[7], fields[4]), ("55199", "2443"));
+}
+
+/// A drive without its odometer beside a second recording.
+#[test]
+fn bad_second_recordings() {
+    let at = folder("second");
+    let counts = at.join("counts.csv").display().to_string();
+    let bare: String = drive()
+        .lines()
+        .map(|l| format!("{}\n", l.rsplit_once(',').unwrap().0))
+        .collect();
+    let out = |lines: &str| {
+        fs::write(&counts, format!("week,tow,odometer\n{lines}")).unwrap();
+        let out = fed(
+            &["trip", RATE, "--csv", "--odometer", &counts],
+            bare.as_bytes(),
+        );
+        let said = text(&out.stderr).replace(&counts, "counts");
+        (out.status.code(), said, text(&out.stdout))
+    };
+    let bad = |lines: &str, why: &str| {
+        let (status, said, _) = out(lines);
+        assert_eq!((status, said), (Some(2), format!("zaqnuti: {why}\n")));
+    };
+    bad("", "counts: has no counts");
+    let back = "runs backwards, from 9 to 8; if it wraps, give --wrap 16 or 32";
+    let first = "2443,201600,9\n";
+    bad(
+        &format!("{first}2443,201601,8\n"),
+        &format!("counts:3: odometer: {back}"),
+    );
+    let time = "week 2443, 201599.000 s is not after week 2443, 201600.000 s";
+    bad(
+        &format!("{first}2443,201599,9\n"),
+        &format!("counts:3: tow: {time}"),
+    );
+    let weeks = "counts: it and the drive must both have weeks, or neither";
+    bad(",201600,9\n", weeks);
+    let many = "standard input:10: odometer: 65536 pulses since the epoch before; at most 65535";
+    bad(&format!("{first}2443,201602,65545\n"), many);
+    // It begins after two epochs, and ends 58 s before the drive.
+    let lines: String = (4..32)
+        .map(|t| format!("2443,{},{}\n", 201_600 + t, 80 * t))
+        .collect();
+    let (status, said, csv) = out(&lines);
+    assert_eq!(status, Some(0), "{said}");
+    let early = "2 epochs before the odometer's first count are left out";
+    let short = "the odometer's recording ends 59.000 s before the drive";
+    let expected = [early, short].map(|why| format!("zaqnuti: warning: standard input: {why}\n"));
+    assert_eq!(said, expected.concat());
+    let fields: Vec<&str> = csv.lines().nth(1).unwrap().split(',').collect();
+    // The last count is at 31 s; the epoch at 32 s is the first to have it.
+    assert_eq!((fields[7], fields[17]), ("43", &*(80 * 27).to_string()));
+}
+
+/// Each drive's fixes by its name.
+#[test]
+fn fixes_of_each_drive() {
+    let at = folder("fixes");
+    let file = month("halle-03-2026-11-03.csv");
+    let csv = fs::read_to_string(&file).unwrap();
+    let mut fixes = String::from("week,tow,x,y,z,refusal\n");
+    for line in csv.lines().skip(1) {
+        let f: Vec<&str> = line.split(',').collect();
+        if !f[11].is_empty() {
+            fixes += &format!("{},{},{},{},{},0\n", f[0], f[1], f[11], f[12], f[13]);
+        }
+    }
+    fs::write(at.join("halle-03-2026-11-03.fixes"), fixes).unwrap();
+    let pattern = at.join("{}.fixes").display().to_string();
+    let plain = run(&["trip", RATE, "--csv", &file]);
+    let fixed = run(&["trip", RATE, "--csv", "--fixes", &pattern, &file]);
+    assert_eq!(text(&fixed.stderr), "");
+    assert_eq!(text(&fixed.stdout), text(&plain.stdout));
 }

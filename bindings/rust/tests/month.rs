@@ -6,6 +6,7 @@ mod command;
 use std::collections::BTreeMap;
 use std::fs;
 use std::path::Path;
+use std::slice::from_ref;
 
 use command::{examples, fed, folder, run, text};
 use zaqnuti::tdcp::{Carrier, Settings};
@@ -207,12 +208,29 @@ fn thirty_seconds_without_rows() {
     let cut = without(&month(file), 4, 34);
     let path = at.join(file).display().to_string();
     fs::write(&path, &cut).unwrap();
-    let (found, said) = trip(&[], &[path.clone()], 0);
+    let (found, said) = trip(&[], from_ref(&path), 0);
     assert_eq!((found[0]["gap_s"].as_str(), said.as_str()), ("30.000", ""));
     assert_near(&found[0]["distance_mm"], length, 0.5, "a running count");
 
+    // In 16 bits the count may have wrapped unseen in a long gap, and not in a short one.
+    assert_eq!(trip(&["--wrap", "16"], from_ref(&path), 0).1, "");
+    let later = cut.replace("2443,20163", "2443,20263");
+    let later = later.replace("2443,20164", "2443,20264");
+    let days: String = later
+        .lines()
+        .take_while(|l| !l.starts_with("2443,20165"))
+        .map(|l| format!("{l}\n"))
+        .collect();
+    fs::write(&path, days).unwrap();
+    let (found, said) = trip(&["--wrap", "16"], from_ref(&path), 0);
+    assert_eq!(found[0]["distance_mm"], "");
+    assert!(
+        said.contains("the count may have wrapped unseen in it; no distance"),
+        "{said}"
+    );
+
     fs::write(&path, with_pulses(&cut)).unwrap();
-    let (found, said) = trip(&[], &[path.clone()], 0);
+    let (found, said) = trip(&[], from_ref(&path), 0);
     assert_eq!(found[0]["gap_s"], "30.000");
     assert_eq!(
         (
@@ -367,7 +385,7 @@ fn every_form_of_the_odometer_gives_the_same() {
     let path = at.join(format!("{name}.csv")).display().to_string();
     let figures = |options: &[&str], csv: &str| {
         fs::write(&path, csv).unwrap();
-        let (found, said) = trip(options, &[path.clone()], 0);
+        let (found, said) = trip(options, from_ref(&path), 0);
         assert_eq!(said, "");
         let names = [
             "carrier_mm",
@@ -384,7 +402,7 @@ fn every_form_of_the_odometer_gives_the_same() {
     fs::write(at.join(format!("{name}.odo")), counts).unwrap();
     let second = at.join("{}.odo").display().to_string();
     assert_eq!(figures(&["--odometer", &second], &drive), plain);
-    // The same count in 16 and in 32 bits, wrapping on the way.
+    // The same count in 16 and in 32 bits, wrapping during the drive.
     for (bits, size) in [("16", 1u64 << 16), ("32", 1 << 32)] {
         let wrapped = |line: &str| match line.rsplit_once(',').unwrap() {
             (_, "odometer") => format!("{line}\n"),
@@ -402,7 +420,7 @@ fn every_form_of_the_odometer_gives_the_same() {
 fn parts_of_a_drive() {
     // In the tunnel there are pulses and no satellites.
     let file = month("dresden-21-2026-11-03.csv");
-    let (found, _) = trip(&[], &[file.clone()], 0);
+    let (found, _) = trip(&[], from_ref(&file), 0);
     let row = &found[0];
     assert_eq!(
         (row["refused"].as_str(), row["week"].as_str()),
@@ -423,7 +441,7 @@ fn parts_of_a_drive() {
     assert_eq!(whole(row, "distance_mm"), scaled);
     assert!(whole(row, "standing_mm") > 0);
     // Everything is set aside by a limit of nothing, and then there is no distance.
-    let (found, said) = trip(&["--max-error", "0"], &[file.clone()], 1);
+    let (found, said) = trip(&["--max-error", "0"], from_ref(&file), 1);
     assert_eq!(
         (
             whole(&found[0], "set_aside"),
@@ -434,9 +452,9 @@ fn parts_of_a_drive() {
     assert_eq!(found[0]["coverage"], "0.0000");
     assert!(said.contains("no epoch with pulses was counted"), "{said}");
     // GPS and Galileo are all there is, on one band.
-    let (city, _) = trip(&["--city", "1575"], &[file.clone()], 0);
+    let (city, _) = trip(&["--city", "1575"], from_ref(&file), 0);
     assert_eq!(city[0]["carrier_mm"], row["carrier_mm"]);
-    let (fuel, _) = trip(&["--millilitres", "120"], &[file.clone()], 0);
+    let (fuel, _) = trip(&["--millilitres", "120"], from_ref(&file), 0);
     assert_eq!(
         whole(&fuel[0], "ml_per_km_carrier"),
         120_000_000 / whole(row, "carrier_mm")

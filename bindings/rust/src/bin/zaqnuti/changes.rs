@@ -1,4 +1,4 @@
-//! A file of settings, each line of which is in force from its time.
+//! A file of settings, in which each line is in force from its time.
 
 use std::cmp::Ordering;
 

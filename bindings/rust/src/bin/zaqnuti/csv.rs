@@ -259,6 +259,15 @@ impl Table {
         self.parsed(column, T::KIND)
     }
 
+    /// A whole number up to a bound.
+    pub fn whole_to(&self, column: Column, most: u64) -> Run<u64> {
+        let x = self.whole(column)?;
+        match x > most {
+            true => Err(self.fault_in(column, &format!("{x} is above {most}"))),
+            false => Ok(x),
+        }
+    }
+
     /// A whole number of a column that may not be there.
     pub fn whole_or<T: Whole>(&self, column: Option<Column>, without: T) -> Run<T> {
         column.map_or(Ok(without), |c| self.whole(c))

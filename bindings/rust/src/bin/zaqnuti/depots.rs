@@ -141,14 +141,12 @@ impl Depot {
 
 /// Why a drive with pulses has no distance.
 fn no_distance(driven: &Driven) -> String {
-    let file = &driven.file;
-    match driven.pulses_counted > 0 {
-        true => format!(
-            "{file} has no distance: pulses may be lost in its gap of {:.3} s",
-            driven.gap
-        ),
-        false => format!("{file} has no distance: none of its pulses was counted"),
-    }
+    let why = match (driven.pulses_counted > 0, driven.gap > 0.0) {
+        (false, _) => "none of its pulses was counted".to_string(),
+        (true, true) => format!("pulses may be lost in its gap of {:.3} s", driven.gap),
+        (true, false) => "pulses may be missing".to_string(),
+    };
+    format!("{} has no distance: {why}", driven.file)
 }
 
 /// The depots, the ranked ones first and best first, the others by name.

@@ -4,7 +4,7 @@ use zaqnuti::tdcp::Settings;
 use zaqnuti::trip::{Drive, Trip};
 use zaqnuti::Refusal;
 
-use crate::rating::{scaled, Mileage, Rated, Report, EPOCHS};
+use crate::rating::{Epoch, Mileage, Moved, Report, EPOCHS};
 use crate::tally::Tally;
 
 /// The sums of a drive.
@@ -61,17 +61,20 @@ impl Totals {
     }
 
     /// Adds an epoch: its displacement, or its refusal, and its pulses.
-    pub fn add(&mut self, moved: Result<Rated, Refusal>, pulses: u16) -> Result<(), Refusal> {
+    pub fn add(&mut self, moved: Result<Moved, Refusal>, pulses: u16) -> Result<(), Refusal> {
         if self.mileage.report()?.epochs == EPOCHS {
             self.turn_over()?;
         }
-        let taken = moved.and_then(|m| self.trip.add(m.delta, pulses).map(|()| m));
+        let taken = moved.and_then(|m| self.trip.add(m.displacement, pulses).map(|()| m));
         match taken {
             Ok(_) if self.past.trips > 0 => self.compare(),
             Ok(_) => {}
             Err(why) => self.refused.add(why.number(), 1),
         }
-        self.mileage.add(taken, pulses)
+        self.mileage.add(&Epoch {
+            moved: taken,
+            pulses,
+        })
     }
 
     /// Goes on in a new trip and a new mileage.
@@ -145,7 +148,7 @@ impl Totals {
             greatest: past.greatest,
             reached: past.reached,
             mileage,
-            distance: scaled(mileage.counted, mileage.pulses_all, mileage.pulses_counted),
+            distance: scaled(&mileage),
             trips: past.trips + 1,
         })
     }
@@ -161,12 +164,18 @@ fn plus(a: Report, b: Report) -> Report {
     Report {
         epochs: a.epochs + b.epochs,
         refused: a.refused + b.refused,
-        set_aside: a.set_aside + b.set_aside,
+        aside: a.aside + b.aside,
         counted: a.counted + b.counted,
-        pulses_counted: a.pulses_counted + b.pulses_counted,
+        covered: a.covered + b.covered,
         standing: a.standing + b.standing,
-        pulses_all: a.pulses_all + b.pulses_all,
+        pulses: a.pulses + b.pulses,
     }
+}
+
+/// The counted distance times all pulses by counted pulses, rounded down; none where no pulse is counted.
+fn scaled(sums: &Report) -> Option<u64> {
+    let product = u128::from(sums.counted) * u128::from(sums.pulses);
+    u64::try_from(product.checked_div(sums.covered.into())?).ok()
 }
 
 /// Millilitres for a kilometre of carrier distance, rounded down; none at no distance.

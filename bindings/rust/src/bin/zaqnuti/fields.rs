@@ -80,7 +80,7 @@ enum Form {
     Json,
 }
 
-/// Rows on their way out.
+/// Writes rows.
 pub struct Rows {
     out: Output,
     form: Form,

@@ -6,6 +6,7 @@ use crate::args::Args;
 use crate::csv::Table;
 use crate::fault::{said, Fault, Run};
 use crate::labels::Labels;
+use crate::ledger::MOST;
 
 /// A line of fuel: of a depot, or of one van or day of it.
 pub struct Entry {
@@ -55,7 +56,7 @@ impl Fuel {
             fuel.entries.push(Entry {
                 at: format!("{path}:{}", table.line()),
                 labels,
-                millilitres: filled.map(|c| table.whole(c)).transpose()?,
+                millilitres: filled.map(|c| table.whole_to(c, MOST)).transpose()?,
             });
         }
         match fuel.entries.is_empty() {

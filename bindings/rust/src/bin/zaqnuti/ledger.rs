@@ -9,6 +9,9 @@ use crate::fault::{said, Fault, Run};
 use crate::labels::Labels;
 use crate::tally::Tally;
 
+/// The largest number of a line, so that no sum wraps: 10^15 mm are a thousand million kilometres.
+pub const MOST: u64 = 1_000_000_000_000_000;
+
 /// A drive as its line has it.
 pub struct Driven {
     /// The line, for messages.
@@ -79,7 +82,8 @@ impl Columns {
 
     fn read(&self, table: &Table) -> Run<Driven> {
         let text = |column: Option<Column>| column.map_or("", |c| table.field(c)).to_string();
-        let [epochs, carrier, odometer, counted, all] = self.wholes.map(|c| table.whole(c));
+        let [epochs, carrier, odometer, counted, all] =
+            self.wholes.map(|c| table.whole_to(c, MOST));
         let refused = Tally::read(table.field(self.refused))
             .ok_or_else(|| table.fault_in(self.refused, "is not as in 7:3 8:28"))?;
         let known = |c: Column| !table.field(c).is_empty();
@@ -100,7 +104,7 @@ impl Columns {
             odometer: odometer?,
             pulses_counted: counted?,
             pulses_all: all?,
-            distance: distance.map(|c| table.whole(c)).transpose()?,
+            distance: distance.map(|c| table.whole_to(c, MOST)).transpose()?,
             gap: table.float(self.gap)?,
         };
         self.check(table, &driven)?;

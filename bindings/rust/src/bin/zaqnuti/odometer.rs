@@ -29,11 +29,7 @@ pub struct Field {
 impl Field {
     /// Reads the field of the line that was read last.
     pub fn read(self, table: &Table) -> Run<u64> {
-        let count: u64 = table.whole(self.column)?;
-        match count > self.most {
-            true => Err(table.fault_in(self.column, &format!("{count} is above {}", self.most))),
-            false => Ok(count),
-        }
+        table.whole_to(self.column, self.most)
     }
 
     /// Checks that a row of an epoch says what its first row says.
@@ -241,16 +237,27 @@ impl Odometer {
         })
     }
 
-    /// Why a gap of so many seconds between two rows may have lost pulses, if it may.
-    pub fn loses_in(&self, seconds: f64, per_km: u16) -> Option<&'static str> {
-        let span = match &self.form {
-            Form::Pulses(_) => return Some("pulses may have been lost in it"),
-            Form::Count(_) => seconds,
-            Form::Recording(recording) => recording.longest,
+    /// Why pulses may be missing in a drive with a gap of so many seconds, if they may; `longest` is its
+    /// longest interval.
+    pub fn lost(&self, gap: f64, longest: f64, per_km: u16) -> Option<String> {
+        let wraps = |span: f64| {
+            let size = self.counter.wrap.map(|bits| (1u64 << bits) as f64);
+            let most = span * FASTEST * f64::from(per_km) / 1000.0;
+            size.is_some_and(|size| most >= size / 2.0)
         };
-        let size = self.counter.wrap.map(|bits| (1u64 << bits) as f64)?;
-        let turned = span * FASTEST * f64::from(per_km) / 1000.0 >= size / 2.0;
-        turned.then_some("the odometer may have wrapped unseen in it")
+        let why = match &self.form {
+            Form::Pulses(_) if gap > 0.0 => "pulses may have been lost in it",
+            Form::Count(_) if gap > 0.0 && wraps(longest) => {
+                "the count may have wrapped unseen in it"
+            }
+            Form::Recording(recording) if wraps(recording.longest) => {
+                return Some(
+                    "the odometer's recording pauses so long that a wrap may be unseen".into(),
+                )
+            }
+            _ => return None,
+        };
+        Some(format!("a gap of {gap:.3} s: {why}"))
     }
 
     /// The seconds by which a second recording ends before the drive, where it never paused so long.

@@ -3,6 +3,7 @@
 use crate::depots::{Bounds, Depot};
 use crate::epochs::Time;
 use crate::ledger::Driven;
+use crate::rating::UNPROVED;
 use crate::report::kilometres;
 
 const CSS: &str = include_str!("page.css");
@@ -44,14 +45,20 @@ pub fn written(depots: &[Depot], drives: &[Driven], bounds: Bounds) -> String {
     let best = depots.iter().find(|d| d.rank.is_some());
     let bars: String = depots.iter().map(|d| bar(d, depots, best)).collect();
     let (table, footer) = (table(depots), footer(&period, bounds));
+    // Printed smaller, so that they fit one sheet.
+    let many = if depots.len() > 10 {
+        " class=\"many\""
+    } else {
+        ""
+    };
     format!(
-        "<!doctype html>\n<html lang=\"en\">\n<head>\n<meta charset=\"utf-8\">\n\
+        "<!doctype html>\n<html lang=\"en\"{many}>\n<head>\n<meta charset=\"utf-8\">\n\
 <meta name=\"viewport\" content=\"width=device-width, initial-scale=1\">\n\
 <meta http-equiv=\"Content-Security-Policy\" content=\"{POLICY}\">\n\
 <title>Fuel per kilometre by depot</title>\n<style>\n{CSS}</style>\n</head>\n<body>\n<main>\n\
 <h1>Fuel per kilometre by depot</h1>\n\
 <p class=\"quiet\">{period}; {trips} trips, {far} km</p>\n{HATCH}\n\
-<h2>Millilitres for a kilometre, best first</h2>\n<figure>\n{bars}{LEGEND}</figure>\n\
+<h2>Millilitres for a kilometre, best first</h2>\n<figure>\n<div class=\"bars\">\n{bars}</div>\n{LEGEND}</figure>\n\
 <h2>The figures</h2>\n{table}{footer}</main>\n<script>\n{SCRIPT}</script>\n</body>\n</html>\n"
     )
 }
@@ -200,7 +207,7 @@ fn footer(period: &str, bounds: Bounds) -> String {
 where odometer and carrier distance differ by at most {difference} %. Library: zaqnuti {version}.</p>\n\
 <p>Millilitres for a kilometre are the depot's fuel by the summed distance of its trips. A trip's distance is its counted \
 carrier distance times all its odometer pulses by the counted ones, so that bridges and tunnels are in it.</p>\n\
-<p>Proved: each drive's totals and distance. Not proved: reading the CSV files, adding up the drives, and ranking.</p>\n</footer>\n"
+<p>Proved: each drive's totals and distance. Not proved: reading the CSV files, {UNPROVED}adding up the drives, and ranking.</p>\n</footer>\n"
     )
 }
 

@@ -1,22 +1,17 @@
-//! A displacement with its figures of quality, and the distance of a drive by them.
+//! A displacement with its figures of quality, by which a mileage decides whether it counts.
 //!
-//! Everything that decides which epochs count is in this module.
+//! Displacement and mileage are the library's. The figures are worked out here from the same pairs, by the
+//! library's rounds and factor.
 
 use zaqnuti::math::{sqrt, Cholesky};
 use zaqnuti::robust::{self, centre_scale, elevation_sigma, geometry, Clocks, Row};
 use zaqnuti::tdcp::{city_displacement, delta_position, Carrier, Settings};
-use zaqnuti::trip::Trip;
-use zaqnuti::{Ecef, Refusal, Vec3};
+use zaqnuti::{Ecef, Refusal};
 
-/// A displacement, and how far it can be trusted.
-#[derive(Clone, Copy)]
-pub struct Rated {
-    pub delta: Vec3,
-    /// The root of the reduced sum of squared residuals, in sigmas.
-    pub chi: f64,
-    /// The position dilution of precision.
-    pub pdop: f64,
-}
+pub use zaqnuti::mileage::{Epoch, Mileage, Moved, Report, EPOCHS};
+
+/// What this module works out without a proof, for the page's footer.
+pub const UNPROVED: &str = "the figures of quality (chi and pdop) of a displacement, ";
 
 /// Two epochs, and what is asked of them.
 pub struct Asked<'a> {
@@ -31,7 +26,7 @@ pub struct Asked<'a> {
 
 impl Asked<'_> {
     /// The displacement and its quality.
-    pub fn rated(&self) -> Result<Rated, Refusal> {
+    pub fn rated(&self) -> Result<Moved, Refusal> {
         let (previous, current, at, set) = (self.previous, self.current, self.at, self.set);
         let moved = match self.band {
             None => delta_position(previous, current, self.dt, at, set)?,
@@ -39,8 +34,8 @@ impl Asked<'_> {
         };
         let pairs = self.kept()?;
         let (chi, pdop) = quality(&pairs, set)?;
-        Ok(Rated {
-            delta: moved.delta,
+        Ok(Moved {
+            displacement: moved.delta,
             chi,
             pdop,
         })
@@ -154,104 +149,4 @@ fn dilution(rows: &[Row], unknowns: usize) -> Result<f64, Refusal> {
         sum += factor.solve(&unit)[i];
     }
     Ok(sqrt(sum))
-}
-
-/// The most epochs of a mileage.
-pub const EPOCHS: u64 = zaqnuti::trip::EPOCHS;
-
-/// The distance of a drive of at most 65,535 epochs, refused ones included, with all its pulses.
-#[derive(Clone, Copy)]
-pub struct Mileage {
-    limit: f64,
-    report: Report,
-    /// Whether the last epoch had a pulse.
-    rolled: bool,
-    /// The millimetres of the last epoch where neither it nor the one before has a pulse: the next
-    /// epoch decides whether they are counted or standing.
-    open: u64,
-}
-
-/// The sums of a mileage.
-#[derive(Clone, Copy, Default)]
-pub struct Report {
-    pub epochs: u64,
-    pub refused: u64,
-    pub set_aside: u64,
-    pub counted: u64,
-    pub pulses_counted: u64,
-    pub standing: u64,
-    pub pulses_all: u64,
-}
-
-impl Mileage {
-    /// A mileage just started; displacements whose predicted error reaches `limit` metres are set aside.
-    pub fn start(limit: f64) -> Result<Self, Refusal> {
-        if limit.is_nan() || limit.abs() > zaqnuti::MAGNITUDE {
-            return Err(Refusal::SettingOutOfRange);
-        }
-        Ok(Self {
-            limit,
-            report: Report::default(),
-            rolled: false,
-            open: 0,
-        })
-    }
-
-    /// Adds an epoch: its displacement, or its refusal, and its pulses.
-    pub fn add(&mut self, moved: Result<Rated, Refusal>, pulses: u16) -> Result<(), Refusal> {
-        let rolls = pulses > 0;
-        let well = moved
-            .ok()
-            .filter(|m| m.pdop * m.chi.max(1.0) * 0.01 < self.limit);
-        let length = well.map_or(Ok(0), |m| millimetres(m.delta))?;
-        let sums = &mut self.report;
-        if sums.epochs >= EPOCHS {
-            return Err(Refusal::BadTrip);
-        }
-        sums.epochs += 1;
-        sums.refused += u64::from(moved.is_err());
-        sums.set_aside += u64::from(moved.is_ok() && well.is_none());
-        sums.pulses_all += u64::from(pulses);
-        match rolls {
-            true => sums.counted += self.open,
-            false => sums.standing += self.open,
-        }
-        self.open = 0;
-        if rolls || self.rolled {
-            sums.counted += length;
-            sums.pulses_counted += well.map_or(0, |_| u64::from(pulses));
-        } else {
-            self.open = length;
-        }
-        self.rolled = rolls;
-        Ok(())
-    }
-
-    /// The sums so far.
-    pub fn report(&self) -> Result<Report, Refusal> {
-        let standing = self.report.standing + self.open;
-        Ok(Report {
-            standing,
-            ..self.report
-        })
-    }
-
-    /// The counted distance times all pulses by counted pulses, millimetres.
-    pub fn distance(&self) -> Result<u64, Refusal> {
-        let sums = self.report;
-        scaled(sums.counted, sums.pulses_all, sums.pulses_counted).ok_or(Refusal::NoDistance)
-    }
-}
-
-/// `counted` times `all` by `part`, rounded down; none where no pulse is counted.
-pub fn scaled(counted: u64, all: u64, part: u64) -> Option<u64> {
-    let product = u128::from(counted) * u128::from(all);
-    u64::try_from(product.checked_div(part.into())?).ok()
-}
-
-/// The length of a displacement in whole millimetres, as a trip has it.
-fn millimetres(delta: Vec3) -> Result<u64, Refusal> {
-    let mut trip = Trip::start(1)?;
-    trip.add(delta, 0)?;
-    Ok(trip.report()?.carrier)
 }

@@ -30,8 +30,8 @@ impl Reported {
     /// Counted pulses by all pulses; none where there are none, or some may be missing.
     pub fn coverage(&self) -> Option<f64> {
         let sums = &self.sums.mileage;
-        let known = !self.lost && sums.pulses_all > 0;
-        known.then(|| sums.pulses_counted as f64 / sums.pulses_all as f64)
+        let known = !self.lost && sums.pulses > 0;
+        known.then(|| sums.covered as f64 / sums.pulses as f64)
     }
 
     /// The drive's distance in millimetres.
@@ -64,11 +64,11 @@ impl Reported {
             ("odometer_mm", Value::whole(sums.odometer)),
             ("greatest_mm", Value::whole(sums.greatest)),
             ("reached", Value::whole(sums.reached)),
-            ("set_aside", Value::whole(counts.set_aside)),
+            ("set_aside", Value::whole(counts.aside)),
             ("standing_mm", Value::whole(counts.standing)),
             ("counted_mm", Value::whole(counts.counted)),
-            ("pulses_counted", Value::whole(counts.pulses_counted)),
-            ("pulses_all", Value::whole(counts.pulses_all)),
+            ("pulses_counted", Value::whole(counts.covered)),
+            ("pulses_all", Value::whole(counts.pulses)),
             (
                 "coverage",
                 Value::maybe(self.coverage().map(|c| format!("{c:.4}"))),
@@ -98,7 +98,7 @@ impl Reported {
             0 => "none refused".to_string(),
             n => format!("{n} refused ({})", sums.refused.words()),
         };
-        let (epochs, aside) = (counts.epochs, counts.set_aside);
+        let (epochs, aside) = (counts.epochs, counts.aside);
         let (carrier, odometer) = (kilometres(sums.carrier), kilometres(sums.odometer));
         let totals = format!("carrier {carrier} km, odometer {odometer} km");
         let fuel = match self.fuel {

@@ -52,7 +52,9 @@ impl Tally {
         let mut out = Self::default();
         for part in field.split_whitespace() {
             let (number, count) = part.split_once(':')?;
-            out.add(number.parse().ok()?, count.parse().ok()?);
+            // Counts of 32 bits: no sum of them wraps.
+            let count: u32 = count.parse().ok()?;
+            out.add(number.parse().ok()?, count.into());
         }
         Some(out)
     }

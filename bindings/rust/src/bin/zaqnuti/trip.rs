@@ -100,7 +100,7 @@ impl Plan {
     }
 }
 
-/// A drive on its way.
+/// A drive under way.
 struct Way {
     plan: Plan,
     series: Series,
@@ -202,10 +202,7 @@ impl Told {
             return said(format!("{}: has no epochs", way.series.name()));
         };
         let (gap, longest) = (way.intervals.missing(), way.intervals.longest());
-        let lost = match gap > 0.0 {
-            true => way.odometer.loses_in(longest, way.plan.per_km),
-            false => None,
-        };
+        let lost = way.odometer.lost(gap, longest, way.plan.per_km);
         let millilitres = way.plan.millilitres;
         let line = Reported {
             file: file.to_string(),
@@ -228,11 +225,11 @@ impl Told {
 
     /// Whether an epoch with pulses was counted.
     fn counted(&self) -> bool {
-        self.line.sums.mileage.pulses_counted > 0
+        self.line.sums.mileage.covered > 0
     }
 }
 
-fn warnings(way: &Way, line: &Reported, lost: Option<&str>) -> Vec<String> {
+fn warnings(way: &Way, line: &Reported, lost: Option<String>) -> Vec<String> {
     let mut out = Vec::new();
     if line.sums.mileage.epochs == 0 {
         out.push("has no pair of epochs".to_string());
@@ -249,9 +246,9 @@ fn warnings(way: &Way, line: &Reported, lost: Option<&str>) -> Vec<String> {
         ));
     }
     if let Some(why) = lost {
-        out.push(format!("a gap of {:.3} s: {why}; no distance", line.gap));
+        out.push(format!("{why}; no distance"));
     }
-    if let Some(coverage) = line.coverage().filter(|&c| c < 0.5) {
+    if let Some(coverage) = line.coverage().filter(|&c| 0.0 < c && c < 0.5) {
         out.push(format!(
             "only {:.2} % of its pulses are counted",
             100.0 * coverage
