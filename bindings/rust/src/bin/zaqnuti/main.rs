@@ -2,6 +2,7 @@
 
 mod answer;
 mod args;
+mod atmosphere;
 mod corrections;
 mod csv;
 mod decimal;
@@ -10,11 +11,13 @@ mod epochs;
 mod fault;
 mod fix;
 mod local;
+mod orbit;
 mod output;
 mod pairs;
 mod places;
 mod plot;
 mod progress;
+mod rinex;
 mod svg;
 mod text;
 mod track;
@@ -35,6 +38,7 @@ zaqnuti COMMAND [OPTIONS] [FILE..]: positioning from decimal CSV with a header l
   encode         CSV as texts of the program displacement
   decode         such texts as CSV
   plot           the path of a drive as a picture (SVG)
+  rinex          a receiver's own files as CSV for the commands above
 
   zaqnuti COMMAND --help   its columns and options
   zaqnuti --version
@@ -71,6 +75,7 @@ fn command(name: &str) -> Option<(Command, Vec<&'static str>)> {
         "encode" => (text::encode, vec![text::ENCODE, SHORT_ENDING]),
         "decode" => (text::decode, vec![text::DECODE, SHORT_ENDING]),
         "plot" => (plot::run, vec![plot::HELP, SHORT_ENDING]),
+        "rinex" => (rinex::run, vec![rinex::HELP]),
         _ => return None,
     })
 }

@@ -1,0 +1,151 @@
+//! What lies between a satellite and a receiver: direction, ionosphere and troposphere.
+
+use std::f64::consts::PI;
+
+use crate::orbit::{State, LIGHT, TURN};
+
+/// The longer half axis of WGS 84 and the square of its eccentricity.
+const AXIS: f64 = 6_378_137.0;
+const E2: f64 = 6.694_379_990_141_316_5e-3;
+
+/// The eight numbers of Klobuchar's model, alpha before beta.
+pub type Klobuchar = [f64; 8];
+
+/// Where a satellite stands, in radians, and how far it is in m.
+#[derive(Clone, Copy, Debug, Default, PartialEq)]
+pub struct Direction {
+    pub elevation: f64,
+    pub azimuth: f64,
+    pub range: f64,
+}
+
+/// The sky over a place.
+#[derive(Clone, Copy)]
+pub struct Sky {
+    pub place: [f64; 3],
+    latitude: f64,
+    longitude: f64,
+    height: f64,
+    east: [f64; 3],
+    north: [f64; 3],
+    up: [f64; 3],
+    /// The troposphere towards the zenith, m.
+    zenith: f64,
+}
+
+fn dot([a, b, c]: [f64; 3], [x, y, z]: [f64; 3]) -> f64 {
+    a * x + b * y + c * z
+}
+
+/// Latitude, longitude (rad) and height (m) of a place on WGS 84.
+pub fn geodetic([x, y, z]: [f64; 3]) -> [f64; 3] {
+    let across = x * x + y * y;
+    let (mut zk, mut last, mut normal) = (z, f64::INFINITY, AXIS);
+    for _ in 0..20 {
+        if (zk - last).abs() < 1e-4 {
+            break;
+        }
+        last = zk;
+        let sin = zk / (across + zk * zk).sqrt();
+        normal = AXIS / (1.0 - E2 * sin * sin).sqrt();
+        zk = z + normal * E2 * sin;
+    }
+    let latitude = zk.atan2(across.sqrt());
+    let height = (across + zk * zk).sqrt() - normal;
+    [latitude, y.atan2(x), height]
+}
+
+impl Sky {
+    /// The sky over x, y and z.
+    pub fn over(place: [f64; 3]) -> Self {
+        let [latitude, longitude, height] = geodetic(place);
+        let ((sa, ca), (so, co)) = (latitude.sin_cos(), longitude.sin_cos());
+        Self {
+            place,
+            latitude,
+            longitude,
+            height,
+            east: [-so, co, 0.0],
+            north: [-sa * co, -sa * so, ca],
+            up: [ca * co, ca * so, sa],
+            zenith: zenith(latitude, height),
+        }
+    }
+
+    /// The height over the ellipsoid, m.
+    pub fn height(&self) -> f64 {
+        self.height
+    }
+
+    /// Where a satellite stands, with the earth's turn while the signal travels.
+    pub fn direction(&self, [x, y, z]: [f64; 3]) -> Direction {
+        let [rx, ry, rz] = self.place;
+        let length = |a: f64, b: f64, c: f64| (a * a + b * b + c * c).sqrt();
+        let turn = TURN * length(x - rx, y - ry, z - rz) / LIGHT;
+        let (sin, cos) = turn.sin_cos();
+        let to = [x * cos + y * sin - rx, y * cos - x * sin - ry, z - rz];
+        let range = length(to[0], to[1], to[2]);
+        let unit = to.map(|d| d / range);
+        Direction {
+            elevation: dot(self.up, unit).clamp(-1.0, 1.0).asin(),
+            azimuth: dot(self.east, unit).atan2(dot(self.north, unit)),
+            range,
+        }
+    }
+
+    /// How fast a satellite recedes from the place, m/s.
+    pub fn receding(&self, of: &State) -> f64 {
+        let after = |seconds: f64| {
+            let ([x, y, z], [vx, vy, vz]) = (of.place, of.velocity);
+            let moved = [x + vx * seconds, y + vy * seconds, z + vz * seconds];
+            self.direction(moved).range
+        };
+        after(0.5) - after(-0.5)
+    }
+
+    /// Klobuchar's delay of GPS L1 in m (IS-GPS-200, 20.3.3.5.2.5), at a second of the week.
+    pub fn ionosphere(&self, to: &Direction, numbers: &Klobuchar, second: f64) -> f64 {
+        if to.elevation <= 0.0 {
+            return 0.0;
+        }
+        let elevation = to.elevation / PI;
+        let (sin, cos) = to.azimuth.sin_cos();
+        let psi = 0.0137 / (elevation + 0.11) - 0.022;
+        let latitude = (self.latitude / PI + psi * cos).clamp(-0.416, 0.416);
+        let longitude = self.longitude / PI + psi * sin / (latitude * PI).cos();
+        let magnetic = latitude + 0.064 * ((longitude - 1.617) * PI).cos();
+        let local = (43_200.0 * longitude + second).rem_euclid(86_400.0);
+        let slant = 1.0 + 16.0 * (0.53 - elevation).powi(3);
+        let [a0, a1, a2, a3, b0, b1, b2, b3] = *numbers;
+        let cubic = |a, b, c, d: f64| a + magnetic * (b + magnetic * (c + magnetic * d));
+        let height = f64::max(cubic(a0, a1, a2, a3), 0.0);
+        let period = f64::max(cubic(b0, b1, b2, b3), 72_000.0);
+        let x = 2.0 * PI * (local - 50_400.0) / period;
+        let day = match x.abs() < 1.57 {
+            true => height * (1.0 + x * x * (-0.5 + x * x / 24.0)),
+            false => 0.0,
+        };
+        LIGHT * slant * (5e-9 + day)
+    }
+
+    /// Saastamoinen's delay in m.
+    pub fn troposphere(&self, to: &Direction) -> f64 {
+        match to.elevation <= 0.0 {
+            true => 0.0,
+            false => self.zenith / to.elevation.sin(),
+        }
+    }
+}
+
+/// Saastamoinen's delay towards the zenith in the standard atmosphere, at a humidity of 0.7.
+fn zenith(latitude: f64, height: f64) -> f64 {
+    if !(-100.0..=10_000.0).contains(&height) {
+        return 0.0;
+    }
+    let height = height.max(0.0);
+    let pressure = 1013.25 * (1.0 - 2.2557e-5 * height).powf(5.2568);
+    let kelvin = 15.0 - 6.5e-3 * height + 273.16;
+    let vapour = 6.108 * 0.7 * ((17.15 * kelvin - 4684.0) / (kelvin - 38.45)).exp();
+    let shape = 1.0 - 0.00266 * (2.0 * latitude).cos() - 0.00028 * height / 1e3;
+    0.0022768 * pressure / shape + 0.002277 * (1255.0 / kelvin + 0.05) * vapour
+}

@@ -1,0 +1,255 @@
+//! Where a satellite is, by the orbit that it broadcasts itself.
+
+/// The speed of light, m/s.
+pub const LIGHT: f64 = 299_792_458.0;
+/// The turn of the earth as GPS and Galileo have it, rad/s.
+pub const TURN: f64 = 7.292_115_146_7e-5;
+
+/// A place in m and a velocity in m/s, earth-centred and earth-fixed at that moment.
+#[derive(Clone, Copy, Debug, PartialEq)]
+pub struct State {
+    pub place: [f64; 3],
+    pub velocity: [f64; 3],
+}
+
+/// The constants of an interface document, and whether the satellite is one of BeiDou that
+/// stands over the equator.
+#[derive(Clone, Copy, Debug, PartialEq)]
+pub struct Earth {
+    gravity: f64,
+    turn: f64,
+    standing: bool,
+}
+
+impl Earth {
+    /// Of IS-GPS-200, table 20-IV.
+    pub const GPS: Self = Self {
+        gravity: 3.986_005e14,
+        turn: TURN,
+        standing: false,
+    };
+    /// Of the Galileo OS SIS ICD, 5.1.1.
+    pub const GALILEO: Self = Self {
+        gravity: 3.986_004_418e14,
+        turn: TURN,
+        standing: false,
+    };
+    /// Of BDS-SIS-ICD-2.1, 5.2.4.12.
+    pub const BEIDOU: Self = Self {
+        gravity: 3.986_004_418e14,
+        turn: 7.292_115e-5,
+        standing: false,
+    };
+    /// The same for a satellite that stands over the equator.
+    pub const BEIDOU_STANDING: Self = Self {
+        standing: true,
+        ..Self::BEIDOU
+    };
+}
+
+/// The sixteen numbers of a broadcast orbit, in m, rad and s.
+#[derive(Clone, Copy, Debug, PartialEq)]
+pub struct Kepler {
+    pub earth: Earth,
+    /// The root of the semi-major axis.
+    pub root: f64,
+    pub eccentricity: f64,
+    pub inclination: f64,
+    pub inclination_rate: f64,
+    /// The node at the start of the week, and its rate.
+    pub node: f64,
+    pub node_rate: f64,
+    pub perigee: f64,
+    /// The mean anomaly at the reference time, and the correction of its rate.
+    pub anomaly: f64,
+    pub motion: f64,
+    /// Cosine and sine corrections of the argument of latitude, the radius and the inclination.
+    pub latitude: [f64; 2],
+    pub radius: [f64; 2],
+    pub tilt: [f64; 2],
+    /// The second of the week of the reference time, in the system's own time.
+    pub second: f64,
+}
+
+impl Kepler {
+    /// Whether the numbers are those of an orbit that a navigation satellite can have.
+    pub fn sound(&self) -> bool {
+        (2_500.0..=8_000.0).contains(&self.root)
+            && (0.0..0.5).contains(&self.eccentricity)
+            && self.inclination.abs() <= 3.2
+            && [self.node, self.perigee, self.anomaly]
+                .iter()
+                .all(|a| a.abs() <= 7.0)
+            && [self.node_rate, self.inclination_rate, self.motion]
+                .iter()
+                .all(|r| r.abs() < 1e-5)
+            && [self.latitude, self.tilt]
+                .concat()
+                .iter()
+                .all(|c| c.abs() < 0.01)
+            && self.radius.iter().all(|c| c.abs() < 1e5)
+            && (0.0..=604_800.0).contains(&self.second)
+    }
+
+    /// The eccentric anomaly's sine and cosine, and its rate, at seconds from the reference time.
+    fn eccentric(&self, since: f64) -> (f64, f64, f64) {
+        let axis = self.root * self.root;
+        let rate = (self.earth.gravity / (axis * axis * axis)).sqrt() + self.motion;
+        let (e, mean) = (self.eccentricity, self.anomaly + rate * since);
+        let mut angle = mean;
+        for _ in 0..30 {
+            let (sin, cos) = angle.sin_cos();
+            let step = (angle - e * sin - mean) / (1.0 - e * cos);
+            angle -= step;
+            if step.abs() <= 1e-13 {
+                break;
+            }
+        }
+        let (sin, cos) = angle.sin_cos();
+        (sin, cos, rate / (1.0 - e * cos))
+    }
+
+    /// The state at seconds from the reference time, and the relativistic part of the clock in
+    /// seconds (IS-GPS-200, 20.3.3.3.3.1 and table 20-IV).
+    pub fn at(&self, since: f64) -> (State, f64) {
+        let (e, axis) = (self.eccentricity, self.root * self.root);
+        let (sin, cos, rate) = self.eccentric(since);
+        let flat = (1.0 - e * e).sqrt();
+        let near = 1.0 - e * cos;
+        let argument = (flat * sin).atan2(cos - e) + self.perigee;
+        let argument_rate = flat * rate / near;
+        let (sin2, cos2) = (2.0 * argument).sin_cos();
+        let wave = |[c, s]: [f64; 2]| s * sin2 + c * cos2;
+        let wave_rate = |[c, s]: [f64; 2]| 2.0 * argument_rate * (s * cos2 - c * sin2);
+        let u = argument + wave(self.latitude);
+        let u_rate = argument_rate + wave_rate(self.latitude);
+        let r = axis * near + wave(self.radius);
+        let r_rate = axis * e * sin * rate + wave_rate(self.radius);
+        let i = self.inclination + wave(self.tilt) + self.inclination_rate * since;
+        let i_rate = self.inclination_rate + wave_rate(self.tilt);
+        let (sin_u, cos_u) = u.sin_cos();
+        let plane = [r * cos_u, r * sin_u];
+        let plane_rate = [
+            r_rate * cos_u - r * u_rate * sin_u,
+            r_rate * sin_u + r * u_rate * cos_u,
+        ];
+        let relativity = -2.0 * (self.earth.gravity * axis).sqrt() * e * sin / (LIGHT * LIGHT);
+        let state = self.turned(since, plane, plane_rate, [i, i_rate]);
+        (state, relativity)
+    }
+
+    /// Turns the orbit's plane to the earth.
+    fn turned(&self, since: f64, [x, y]: [f64; 2], [vx, vy]: [f64; 2], tilt: [f64; 2]) -> State {
+        let turn = self.earth.turn;
+        let left = if self.earth.standing { 0.0 } else { turn };
+        let node_rate = self.node_rate - left;
+        let node = self.node + node_rate * since - turn * self.second;
+        let ((sin_o, cos_o), (sin_i, cos_i)) = (node.sin_cos(), tilt[0].sin_cos());
+        let place = [
+            x * cos_o - y * cos_i * sin_o,
+            x * sin_o + y * cos_i * cos_o,
+            y * sin_i,
+        ];
+        let across = vy * cos_i - y * sin_i * tilt[1];
+        let velocity = [
+            vx * cos_o - across * sin_o - node_rate * place[1],
+            vx * sin_o + across * cos_o + node_rate * place[0],
+            vy * sin_i + y * cos_i * tilt[1],
+        ];
+        let state = State { place, velocity };
+        match self.earth.standing {
+            true => standing(state, turn, since),
+            false => state,
+        }
+    }
+}
+
+/// Turns a satellite that stands over the equator by -5 degrees and with the earth
+/// (BDS-SIS-ICD-2.1, table 5-12).
+fn standing(state: State, turn: f64, since: f64) -> State {
+    let (sin5, cos5) = (-5_f64).to_radians().sin_cos();
+    let (sin, cos) = (turn * since).sin_cos();
+    let turned = |[x, y, z]: [f64; 3]| {
+        let (y, z) = (y * cos5 + z * sin5, z * cos5 - y * sin5);
+        [x * cos + y * sin, y * cos - x * sin, z]
+    };
+    let (place, mut velocity) = (turned(state.place), turned(state.velocity));
+    velocity[0] += turn * place[1];
+    velocity[1] -= turn * place[0];
+    State { place, velocity }
+}
+
+/// A GLONASS satellite at its reference time, with the pull of sun and moon in m/s².
+#[derive(Clone, Copy, Debug, PartialEq)]
+pub struct Glonass {
+    pub start: State,
+    pub pull: [f64; 3],
+}
+
+/// The longest step of the integration, s.
+const STEP: f64 = 60.0;
+
+impl Glonass {
+    /// Whether the numbers are those of a GLONASS satellite.
+    pub fn sound(&self) -> bool {
+        let length = |[x, y, z]: [f64; 3]| (x * x + y * y + z * z).sqrt();
+        (2.0e7..3.1e7).contains(&length(self.start.place))
+            && (500.0..6_000.0).contains(&length(self.start.velocity))
+            && length(self.pull) < 1e-3
+    }
+
+    /// The state at seconds from the reference time, by steps of a minute and the rest
+    /// (GLONASS ICD, A.3.1.2).
+    pub fn at(&self, since: f64) -> State {
+        let steps = (since.abs() / STEP).floor();
+        let mut state = self.start;
+        for _ in 0..steps as u32 {
+            state = self.stepped(state, STEP.copysign(since));
+        }
+        self.stepped(state, since - STEP.copysign(since) * steps)
+    }
+
+    /// One step of Runge and Kutta's method of the fourth order.
+    pub fn stepped(&self, from: State, step: f64) -> State {
+        let moved = |by: &State, part: f64| State {
+            place: sum(from.place, by.place, part),
+            velocity: sum(from.velocity, by.velocity, part),
+        };
+        let a = self.change(&from);
+        let b = self.change(&moved(&a, step / 2.0));
+        let c = self.change(&moved(&b, step / 2.0));
+        let d = self.change(&moved(&c, step));
+        let mut to = from;
+        for (change, part) in [(a, 1.0), (b, 2.0), (c, 2.0), (d, 1.0)] {
+            to.place = sum(to.place, change.place, part * step / 6.0);
+            to.velocity = sum(to.velocity, change.velocity, part * step / 6.0);
+        }
+        to
+    }
+
+    /// The velocity and the acceleration at a state, in place of place and velocity.
+    fn change(&self, state: &State) -> State {
+        const GRAVITY: f64 = 3.986_004_4e14;
+        const RADIUS: f64 = 6_378_136.0;
+        const OBLATE: f64 = 1.082_625_7e-3;
+        const TURN: f64 = 7.292_115e-5;
+        let ([x, y, z], [vx, vy, vz]) = (state.place, state.velocity);
+        let r2 = x * x + y * y + z * z;
+        let r3 = r2 * r2.sqrt();
+        let a = 1.5 * OBLATE * GRAVITY * RADIUS * RADIUS / r2 / r3;
+        let c = -GRAVITY / r3 - a * (1.0 - 5.0 * z * z / r2);
+        let [px, py, pz] = self.pull;
+        State {
+            place: [vx, vy, vz],
+            velocity: [
+                (c + TURN * TURN) * x + 2.0 * TURN * vy + px,
+                (c + TURN * TURN) * y - 2.0 * TURN * vx + py,
+                (c - 2.0 * a) * z + pz,
+            ],
+        }
+    }
+}
+
+fn sum([x, y, z]: [f64; 3], [a, b, c]: [f64; 3], part: f64) -> [f64; 3] {
+    [x + a * part, y + b * part, z + c * part]
+}

@@ -1,0 +1,203 @@
+//! Whether a carrier went on without a slip, and how fast its range changes.
+
+use crate::orbit::LIGHT;
+
+use super::observations::{Epoch, Signal};
+use super::signals::{Band, Satellite};
+use super::time::Moment;
+
+/// A carrier that is there (`state`), and one that slipped since the epoch before.
+pub const VALID: u8 = 1;
+pub const SLIPPED: u8 = 2;
+
+/// By how many metres a phase may run away from the Doppler, and from the code.
+const BY_DOPPLER: f64 = 2.0;
+const BY_CODE: f64 = 15.0;
+/// Over how many seconds a Doppler at both ends tells how the range changed between.
+const LONGEST: f64 = 31.0;
+
+/// One carrier at the last epoch that had it.
+#[derive(Clone, Copy)]
+struct Seen {
+    epoch: u64,
+    code: u8,
+    lost: u8,
+    /// In m.
+    carrier: f64,
+    pseudorange: f64,
+    /// The range's rate by the Doppler, m/s.
+    rate: Option<f64>,
+    /// Whether it slipped since an epoch was written.
+    slipped: bool,
+}
+
+/// The carriers of a file.
+pub struct Locks {
+    /// By satellite and band.
+    seen: Vec<Option<Seen>>,
+    bands: usize,
+    epoch: u64,
+    last: Option<Moment>,
+    /// The least time between two epochs so far.
+    interval: f64,
+    /// What jumps against the other satellites, for a median.
+    sorted: Vec<f64>,
+    jumps: Vec<[Option<f64>; 2]>,
+}
+
+/// The middle of some numbers.
+pub fn median(of: &mut [f64]) -> f64 {
+    let middle = of.len() / 2;
+    *of.select_nth_unstable_by(middle, f64::total_cmp).1
+}
+
+/// The rate of a range by the Doppler, receding is positive.
+pub fn rate(signal: &Signal, wavelength: f64) -> Option<f64> {
+    signal.doppler.map(|d| -d * wavelength)
+}
+
+impl Locks {
+    /// Of a file of which so many bands are asked for.
+    pub fn new(bands: usize) -> Self {
+        Self {
+            seen: vec![None; Satellite::PLACES * bands],
+            bands,
+            epoch: 0,
+            last: None,
+            interval: f64::INFINITY,
+            sorted: Vec::new(),
+            jumps: Vec::new(),
+        }
+    }
+
+    fn place(&self, signal: &Signal) -> usize {
+        signal.satellite.place() * self.bands + signal.band
+    }
+
+    /// Takes the carriers of an epoch in; a wavelength is given for each signal that has one.
+    pub fn take(
+        &mut self,
+        epoch: &Epoch,
+        bands: &[Band],
+        channel: impl Fn(Satellite) -> Option<i8>,
+    ) {
+        let passed = self.last.map(|last| epoch.time.since(last));
+        self.last = Some(epoch.time);
+        self.epoch += 1;
+        // Where epochs are missing, nobody saw whether the lock held.
+        let gap = passed.is_none_or(|p| p > 1.5 * self.interval);
+        self.interval = passed.map_or(self.interval, |p| p.min(self.interval));
+        let wave = |s: &Signal| channel(s.satellite).map(|c| bands[s.band].wavelength(c));
+        let middles = self.measure(epoch, passed.filter(|_| !gap), wave);
+        for (i, signal) in epoch.signals.iter().enumerate() {
+            let place = self.place(signal);
+            let before = self.seen[place].filter(|b| b.epoch + 1 == self.epoch);
+            let old = self.seen[place].is_some_and(|b| b.slipped);
+            let far = |kind: usize, limit: f64| {
+                let jump = self.jumps[i][kind];
+                jump.is_some_and(|j| (j - middles[kind]).abs() > limit)
+            };
+            let slipped = match before {
+                _ if signal.lost & 1 != 0 => true,
+                None => self.seen[place].is_some(),
+                Some(b) => {
+                    gap || epoch.failed
+                        || b.code != signal.code
+                        // A half cycle that was open is settled, or the other way round.
+                        || (b.lost ^ signal.lost) & 2 != 0
+                        || far(0, BY_DOPPLER)
+                        || far(1, BY_CODE)
+                }
+            };
+            self.seen[place] = match (signal.carrier, wave(signal)) {
+                (Some(cycles), Some(wavelength)) => Some(Seen {
+                    epoch: self.epoch,
+                    code: signal.code,
+                    lost: signal.lost,
+                    carrier: cycles * wavelength,
+                    pseudorange: signal.pseudorange,
+                    rate: rate(signal, wavelength),
+                    slipped: slipped || old,
+                }),
+                _ => self.seen[place],
+            };
+        }
+    }
+
+    /// How each phase ran away from its Doppler and its code, and the middles of both.
+    fn measure(
+        &mut self,
+        epoch: &Epoch,
+        passed: Option<f64>,
+        wave: impl Fn(&Signal) -> Option<f64>,
+    ) -> [f64; 2] {
+        self.jumps.clear();
+        for signal in &epoch.signals {
+            let before = self.seen[self.place(signal)].filter(|b| b.epoch + 1 == self.epoch);
+            let now = signal.carrier.zip(wave(signal)).zip(before).zip(passed);
+            self.jumps.push(match now {
+                None => [None; 2],
+                Some((((cycles, wavelength), before), passed)) => {
+                    let phase = cycles * wavelength - before.carrier;
+                    let rates = rate(signal, wavelength).zip(before.rate);
+                    let rates = rates.filter(|_| passed <= LONGEST);
+                    let by_doppler = rates.map(|(a, b)| phase - 0.5 * (a + b) * passed);
+                    let by_code = phase - (signal.pseudorange - before.pseudorange);
+                    [by_doppler, Some(by_code)]
+                }
+            });
+        }
+        [0, 1].map(|kind| {
+            self.sorted.clear();
+            self.sorted
+                .extend(self.jumps.iter().filter_map(|j| j[kind]));
+            match self.sorted.is_empty() {
+                true => 0.0,
+                false => median(&mut self.sorted),
+            }
+        })
+    }
+
+    /// The state of a carrier of the epoch that was taken in last, which is written: what
+    /// slipped before is told once.
+    pub fn state(&mut self, signal: &Signal) -> (u8, f64) {
+        let (place, epoch) = (self.place(signal), self.epoch);
+        match &mut self.seen[place] {
+            Some(seen) if seen.epoch == epoch => {
+                let slipped = std::mem::take(&mut seen.slipped);
+                (VALID | if slipped { SLIPPED } else { 0 }, seen.carrier)
+            }
+            _ => (0, f64::NAN),
+        }
+    }
+}
+
+/// What the range's rate is worked out from where there is no Doppler.
+#[derive(Clone, Copy)]
+pub struct Passage {
+    pub time: Moment,
+    /// The carrier with the satellite's clock, m.
+    pub carrier: f64,
+    /// Where the satellite was.
+    pub satellite: [f64; 3],
+}
+
+/// The rate of a range from the phase: that of the geometry, and by how much the phase ran away
+/// from the geometry since the epoch before.
+pub fn by_phase(
+    before: Option<Passage>,
+    now: &Passage,
+    geometry: f64,
+    range: impl Fn([f64; 3]) -> f64,
+) -> f64 {
+    let Some(before) = before else {
+        return geometry;
+    };
+    let passed = now.time.since(before.time);
+    let moved = range(now.satellite) - range(before.satellite);
+    let rate = geometry + (now.carrier - before.carrier - moved) / passed;
+    match rate.abs() < LIGHT {
+        true => rate,
+        false => geometry,
+    }
+}

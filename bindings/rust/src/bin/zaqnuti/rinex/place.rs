@@ -1,0 +1,189 @@
+//! Where the receiver is: as it is told, as the header has it, or by a fix of the library.
+
+use zaqnuti::wls::{solve_full, Observation, Settings};
+use zaqnuti::{Ecef, RECORDS};
+
+use crate::atmosphere::{Direction, Klobuchar, Sky};
+use crate::orbit::State;
+
+use super::lock::median;
+use super::observations::Signal;
+use super::signals::Band;
+
+/// How far a fix may be from the header's place for that to count, m.
+const NEAR: f64 = 50.0;
+/// How far a receiver may have moved before directions are worked out anew, m.
+const SAME: f64 = 100.0;
+/// Between which heights over the ellipsoid a receiver is, m.
+const HEIGHTS: std::ops::Range<f64> = -2_000.0..100_000.0;
+/// By how much a pseudorange may miss the others of its system, m.
+const OFF: f64 = 300.0;
+
+/// One signal with its satellite.
+#[derive(Clone, Copy)]
+pub struct Sight {
+    pub signal: Signal,
+    pub band: Band,
+    pub state: State,
+    /// The satellite's clock, added to ranges, and the group delay of the signal, m.
+    pub clock: f64,
+    pub delay: f64,
+    pub channel: i8,
+    pub to: Direction,
+    pub ionosphere: f64,
+    pub troposphere: f64,
+}
+
+impl Sight {
+    /// The pseudorange without clock, group delay and models.
+    fn range(&self) -> f64 {
+        let models = self.ionosphere + self.troposphere;
+        self.signal.pseudorange - self.delay + self.clock - models
+    }
+
+    fn observation(&self, elevation: f64) -> Observation {
+        Observation {
+            constellation: self.band.system.constellation(),
+            band: self.band.megahertz(),
+            svid: u16::from(self.signal.satellite.number),
+            pseudorange: self.range(),
+            modelled: self.ionosphere + self.troposphere,
+            satellite: self.state.place,
+            elevation,
+        }
+    }
+}
+
+/// The models of the atmosphere, if they are wanted.
+pub type Models = Option<Klobuchar>;
+
+/// Works out directions and delays over a place.
+pub fn look(sights: &mut [Sight], sky: &Sky, models: &Models, second: f64) {
+    for sight in sights {
+        sight.to = sky.direction(sight.state.place);
+        if let Some(numbers) = models {
+            let l1 = sky.ionosphere(&sight.to, numbers, second);
+            sight.ionosphere = l1 * sight.band.slowing(sight.channel);
+            sight.troposphere = sky.troposphere(&sight.to);
+        }
+    }
+}
+
+/// Why an epoch has no place.
+#[derive(Clone, Copy, PartialEq)]
+pub enum Nowhere {
+    /// No fix so far, and nobody says where the receiver is.
+    Unknown,
+    /// The fix is not near the ground.
+    Aloft,
+}
+
+/// Where the receiver was last, and where it is told to be.
+pub struct Places {
+    /// By the option `--at`, which holds throughout.
+    pub told: Option<[f64; 3]>,
+    /// The place of the sights of the last epoch.
+    sky: Option<Sky>,
+    /// How many epochs were far from the header's place.
+    pub away: u64,
+    rows: Vec<Observation>,
+    settings: Settings,
+}
+
+fn apart([a, b, c]: [f64; 3], [x, y, z]: [f64; 3]) -> f64 {
+    ((a - x).powi(2) + (b - y).powi(2) + (c - z).powi(2)).sqrt()
+}
+
+impl Places {
+    pub fn new(told: Option<[f64; 3]>) -> Self {
+        Self {
+            told,
+            sky: None,
+            away: 0,
+            rows: Vec::new(),
+            settings: Settings::default(),
+        }
+    }
+
+    /// A fix from a place; at the earth's centre no elevation is known, and all count as high.
+    fn fix(&mut self, sights: &[Sight], from: Option<[f64; 3]>) -> Option<[f64; 3]> {
+        self.rows.clear();
+        let rows = sights.iter().map(|s| match from {
+            Some(_) => s.observation(s.to.elevation.to_degrees()),
+            None => s.observation(90.0),
+        });
+        self.rows.extend(rows.take(RECORDS));
+        let [x, y, z] = from.unwrap_or_default();
+        let found = solve_full(&self.rows, Ecef::new(x, y, z), &self.settings);
+        found.ok().map(|s| s.position.coordinates())
+    }
+
+    /// The sky of an epoch, with the directions of its sights.
+    pub fn find(
+        &mut self,
+        sights: &mut [Sight],
+        header: Option<[f64; 3]>,
+        models: &Models,
+        second: f64,
+    ) -> Result<Sky, Nowhere> {
+        if let Some(told) = self.told {
+            return Ok(self.stay(told, sights, models, second));
+        }
+        let guess = self.sky.map(|s| s.place).or(header.filter(|h| ground(*h)));
+        let mut place = guess;
+        let mut fixed = None;
+        for _ in 0..4 {
+            if let Some(at) = place {
+                self.stay(at, sights, models, second);
+            }
+            fixed = self.fix(sights, place);
+            match (fixed, place) {
+                (Some(new), Some(old)) if apart(new, old) > SAME && ground(new) => place = fixed,
+                (Some(new), None) if ground(new) => place = fixed,
+                _ => break,
+            }
+        }
+        match (fixed, place) {
+            (Some(at), _) if !ground(at) => Err(Nowhere::Aloft),
+            (Some(at), _) => {
+                let near = header.filter(|h| apart(*h, at) <= NEAR);
+                self.away += u64::from(header.is_some() && near.is_none());
+                Ok(self.stay(near.unwrap_or(at), sights, models, second))
+            }
+            // Under a bridge the receiver is where it was.
+            (None, Some(at)) => Ok(self.stay(at, sights, models, second)),
+            (None, None) => Err(Nowhere::Unknown),
+        }
+    }
+
+    /// Takes a place; directions hold as long as it is about the same.
+    fn stay(&mut self, at: [f64; 3], sights: &mut [Sight], models: &Models, second: f64) -> Sky {
+        let sky = match self.sky {
+            Some(sky) if sky.place == at => sky,
+            _ => Sky::over(at),
+        };
+        look(sights, &sky, models, second);
+        self.sky = Some(sky);
+        sky
+    }
+}
+
+/// Whether a place is near the ground.
+fn ground(place: [f64; 3]) -> bool {
+    HEIGHTS.contains(&Sky::over(place).height())
+}
+
+/// Takes out the signals whose pseudoranges miss those of their system; gives their number.
+pub fn screen(sights: &mut Vec<Sight>) -> u64 {
+    let before = sights.len();
+    for constellation in [1, 3, 5, 6] {
+        let own = |s: &Sight| s.band.system.constellation() == constellation;
+        let miss = |s: &Sight| s.range() - s.to.range;
+        let mut all: Vec<f64> = sights.iter().filter(|s| own(s)).map(miss).collect();
+        if all.len() >= 3 {
+            let middle = median(&mut all);
+            sights.retain(|s| !own(s) || (miss(s) - middle).abs() <= OFF);
+        }
+    }
+    (before - sights.len()) as u64
+}
