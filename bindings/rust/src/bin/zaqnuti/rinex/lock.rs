@@ -27,7 +27,8 @@ struct Seen {
     pseudorange: f64,
     /// The range's rate by the Doppler, m/s.
     rate: Option<f64>,
-    /// Whether it slipped since an epoch was written.
+    /// The last epoch at which it was written, and whether it slipped since.
+    written: u64,
     slipped: bool,
 }
 
@@ -37,6 +38,8 @@ pub struct Locks {
     seen: Vec<Option<Seen>>,
     bands: usize,
     epoch: u64,
+    /// The last epoch that was written.
+    written: u64,
     last: Option<Moment>,
     /// The least time between two epochs so far.
     interval: f64,
@@ -63,6 +66,7 @@ impl Locks {
             seen: vec![None; Satellite::PLACES * bands],
             bands,
             epoch: 0,
+            written: 0,
             last: None,
             interval: f64::INFINITY,
             sorted: Vec::new(),
@@ -92,7 +96,10 @@ impl Locks {
         for (i, signal) in epoch.signals.iter().enumerate() {
             let place = self.place(signal);
             let before = self.seen[place].filter(|b| b.epoch + 1 == self.epoch);
-            let old = self.seen[place].is_some_and(|b| b.slipped);
+            let (old, written) = match self.seen[place] {
+                Some(b) => (b.slipped, b.written),
+                None => (false, 0),
+            };
             let far = |kind: usize, limit: f64| {
                 let jump = self.jumps[i][kind];
                 jump.is_some_and(|j| (j - middles[kind]).abs() > limit)
@@ -117,6 +124,7 @@ impl Locks {
                     carrier: cycles * wavelength,
                     pseudorange: signal.pseudorange,
                     rate: rate(signal, wavelength),
+                    written,
                     slipped: slipped || old,
                 }),
                 _ => self.seen[place],
@@ -158,17 +166,26 @@ impl Locks {
         })
     }
 
-    /// The state of a carrier of the epoch that was taken in last, which is written: what
-    /// slipped before is told once.
+    /// The state of a carrier of the epoch that was taken in last, and the carrier in m.
+    ///
+    /// A slip is one since the epoch that was written before: without a carrier there, a pair
+    /// has none.
     pub fn state(&mut self, signal: &Signal) -> (u8, f64) {
-        let (place, epoch) = (self.place(signal), self.epoch);
+        let (place, epoch, before) = (self.place(signal), self.epoch, self.written);
         match &mut self.seen[place] {
             Some(seen) if seen.epoch == epoch => {
-                let slipped = std::mem::take(&mut seen.slipped);
+                let paired = seen.written == before && before > 0;
+                let slipped = std::mem::take(&mut seen.slipped) && paired;
+                seen.written = epoch;
                 (VALID | if slipped { SLIPPED } else { 0 }, seen.carrier)
             }
             _ => (0, f64::NAN),
         }
+    }
+
+    /// Marks the epoch that was taken in last as written.
+    pub fn wrote(&mut self) {
+        self.written = self.epoch;
     }
 }
 

@@ -170,6 +170,7 @@ impl Runner {
             let carrier = self.carrier(time, sight, &sky);
             written::line(&mut self.text, &at, sight, &carrier, &sky);
         }
+        self.locks.wrote();
         true
     }
 

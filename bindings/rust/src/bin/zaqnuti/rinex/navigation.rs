@@ -182,7 +182,11 @@ mod tests {
             squares.sum::<f64>().sqrt()
         };
         let place = apart(state.place, [x, y, z]);
-        [place, apart(state.velocity, [vx, vy, vz]), (clock - seconds).abs()]
+        [
+            place,
+            apart(state.velocity, [vx, vy, vz]),
+            (clock - seconds).abs(),
+        ]
     }
 
     #[test]
@@ -218,7 +222,10 @@ mod tests {
         for (text, name, at, numbers) in all {
             let [place, velocity, clock] = misses(text, name, at, numbers);
             // RTKLIB takes the velocity from two places a millisecond apart.
-            assert!(place < 1e-3 && velocity < 2e-3 && clock < 1e-14, "{name}: {place} {velocity} {clock}");
+            assert!(
+                place < 1e-3 && velocity < 2e-3 && clock < 1e-14,
+                "{name}: {place} {velocity} {clock}"
+            );
         }
     }
 
@@ -259,7 +266,8 @@ mod tests {
         let all = read(MADE).ok().unwrap();
         let toe = Moment::of_week(2160, 172_800.0);
         let lack = |name: &str, late: f64| {
-            all.nearest(satellite(name), &band(name), toe.plus(late)).err()
+            all.nearest(satellite(name), &band(name), toe.plus(late))
+                .err()
         };
         assert_eq!(lack("G01", 7_200.0), None);
         assert_eq!(lack("G01", 7_300.0), Some(Lack::Old));
@@ -285,7 +293,9 @@ mod tests {
         let toe = Moment::of_week(2160, 172_800.0);
         let delay = |name: &str, band: &str| {
             let band = Band::of(band).unwrap();
-            all.nearest(satellite(name), &band, toe).unwrap().delay(&band)
+            all.nearest(satellite(name), &band, toe)
+                .unwrap()
+                .delay(&band)
         };
         assert_eq!(delay("E01", "E1"), -2.714607966354e-9);
         let ratio = delay("G01", "G2") / delay("G01", "G1");
