@@ -72,23 +72,21 @@ pub struct Kepler {
 }
 
 impl Kepler {
-    /// Whether the numbers are those of an orbit that a navigation satellite can have.
+    /// Whether the numbers fit in the fields of the message, and the orbit is one that a
+    /// navigation satellite can have.
     pub fn sound(&self) -> bool {
-        (2_500.0..=8_000.0).contains(&self.root)
-            && (0.0..0.5).contains(&self.eccentricity)
-            && self.inclination.abs() <= 3.2
-            && [self.node, self.perigee, self.anomaly]
-                .iter()
-                .all(|a| a.abs() <= 7.0)
-            && [self.node_rate, self.inclination_rate, self.motion]
-                .iter()
-                .all(|r| r.abs() < 1e-5)
-            && [self.latitude, self.tilt]
-                .concat()
-                .iter()
-                .all(|c| c.abs() < 0.01)
-            && self.radius.iter().all(|c| c.abs() < 1e5)
-            && (0.0..=604_800.0).contains(&self.second)
+        let small = |numbers: &[f64], limit: f64| numbers.iter().all(|x| x.abs() <= limit);
+        (4_900.0..=6_700.0).contains(&self.root)
+            && (0.0..0.25).contains(&self.eccentricity)
+            && small(&[self.inclination], 2.0)
+            && small(&[self.node, self.perigee, self.anomaly], 6.3)
+            && small(&[self.node_rate], 3.1e-6)
+            && small(&[self.inclination_rate], 3.0e-9)
+            && small(&[self.motion], 1.3e-8)
+            && small(&self.latitude, 6.2e-5)
+            && small(&self.tilt, 6.2e-5)
+            && small(&self.radius, 2_048.0)
+            && (0.0..604_800.0).contains(&self.second)
     }
 
     /// The eccentric anomaly's sine and cosine, and its rate, at seconds from the reference time.

@@ -46,6 +46,8 @@ pub struct Locks {
     /// What jumps against the other satellites, for a median.
     sorted: Vec<f64>,
     jumps: Vec<[Option<f64>; 2]>,
+    /// How many jumps no indicator told of.
+    untold: u64,
 }
 
 /// The middle of some numbers.
@@ -71,7 +73,13 @@ impl Locks {
             interval: f64::INFINITY,
             sorted: Vec::new(),
             jumps: Vec::new(),
+            untold: 0,
         }
+    }
+
+    /// How many carriers jumped against their code or Doppler without an indicator.
+    pub fn jumps(&self) -> u64 {
+        self.untold
     }
 
     fn place(&self, signal: &Signal) -> usize {
@@ -104,18 +112,18 @@ impl Locks {
                 let jump = self.jumps[i][kind];
                 jump.is_some_and(|j| (j - middles[kind]).abs() > limit)
             };
+            let jumped = far(0, BY_DOPPLER) || far(1, BY_CODE);
+            let told = signal.lost & 1 != 0;
             let slipped = match before {
-                _ if signal.lost & 1 != 0 => true,
+                _ if told => true,
                 None => self.seen[place].is_some(),
                 Some(b) => {
-                    gap || epoch.failed
-                        || b.code != signal.code
-                        // A half cycle that was open is settled, or the other way round.
-                        || (b.lost ^ signal.lost) & 2 != 0
-                        || far(0, BY_DOPPLER)
-                        || far(1, BY_CODE)
+                    // A half cycle that was open is settled, or the other way round.
+                    let half = (b.lost ^ signal.lost) & 2 != 0;
+                    gap || epoch.failed || b.code != signal.code || half || jumped
                 }
             };
+            self.untold += u64::from(jumped && !told);
             self.seen[place] = match (signal.carrier, wave(signal)) {
                 (Some(cycles), Some(wavelength)) => Some(Seen {
                     epoch: self.epoch,

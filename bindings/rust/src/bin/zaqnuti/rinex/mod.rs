@@ -22,7 +22,7 @@ use crate::output::Output;
 use lock::{by_phase, rate, Locks, Passage, VALID};
 use navigation::{Ephemerides, Lack};
 use observations::{Epoch, Observations, Signal};
-use place::{screen, Models, Nowhere, Places, Sight};
+use place::{Models, Nowhere, Places, Sight};
 use signals::{Band, Satellite, System};
 use time::Moment;
 use written::Carrier;
@@ -150,7 +150,10 @@ impl Runner {
         let second = time.second_of_week();
         let found = self.places.find(sights, file.place(), &self.models, second);
         let sky = match found {
-            Ok(sky) => sky,
+            Ok((sky, off)) => {
+                self.left.off += off;
+                sky
+            }
             Err(why) => {
                 match why {
                     Nowhere::Unknown => self.left.nowhere += 1,
@@ -159,7 +162,6 @@ impl Runner {
                 return false;
             }
         };
-        self.left.off += screen(sights);
         if sights.is_empty() {
             self.left.empty += 1;
             return false;
@@ -214,7 +216,7 @@ impl Runner {
             (left.old, "whose ephemerides are too old or too new"),
             (left.unhealthy, "of unhealthy satellites"),
             (left.channel, "of an unknown GLONASS channel"),
-            (left.off, "that miss the others by more than 300 m"),
+            (left.off, "whose pseudoranges miss the others"),
         ]);
         let epochs = list(&[
             (left.empty, "without a satellite that can be placed"),
@@ -223,6 +225,11 @@ impl Runner {
         ]);
         if !signals.is_empty() {
             tell(&format!("{name}: signals left out: {signals}"));
+        }
+        if self.locks.jumps() > 0 {
+            let n = self.locks.jumps();
+            let why = "part from their code or Doppler within an epoch, and are marked as slipped";
+            tell(&format!("{name}: {n} carriers {why}"));
         }
         if self.places.away > 0 {
             let n = self.places.away;

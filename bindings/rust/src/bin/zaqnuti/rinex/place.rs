@@ -8,7 +8,7 @@ use crate::orbit::State;
 
 use super::lock::median;
 use super::observations::Signal;
-use super::signals::Band;
+use super::signals::{Band, SYSTEMS};
 
 /// How far a fix may be from the header's place for that to count, m.
 const NEAR: f64 = 50.0;
@@ -16,8 +16,8 @@ const NEAR: f64 = 50.0;
 const SAME: f64 = 100.0;
 /// Between which heights over the ellipsoid a receiver is, m.
 const HEIGHTS: std::ops::Range<f64> = -2_000.0..100_000.0;
-/// By how much a pseudorange may miss the others of its system, m.
-const OFF: f64 = 300.0;
+/// By how much a pseudorange may miss the others of its system at least and at most, m.
+const OFF: (f64, f64) = (30.0, 100.0);
 
 /// One signal with its satellite.
 #[derive(Clone, Copy)]
@@ -39,6 +39,11 @@ impl Sight {
     fn range(&self) -> f64 {
         let models = self.ionosphere + self.troposphere;
         self.signal.pseudorange - self.delay + self.clock - models
+    }
+
+    /// By how much that misses the geometry.
+    fn miss(&self) -> f64 {
+        self.range() - self.to.range
     }
 
     fn observation(&self, elevation: f64) -> Observation {
@@ -118,42 +123,91 @@ impl Places {
         found.ok().map(|s| s.position.coordinates())
     }
 
-    /// The sky of an epoch, with the directions of its sights.
+    /// The sky of an epoch, with the directions of its sights. Those whose pseudoranges miss the
+    /// others are taken out; their number comes with it.
     pub fn find(
         &mut self,
-        sights: &mut [Sight],
+        sights: &mut Vec<Sight>,
         header: Option<[f64; 3]>,
         models: &Models,
         second: f64,
-    ) -> Result<Sky, Nowhere> {
+    ) -> Result<(Sky, u64), Nowhere> {
         if let Some(told) = self.told {
-            return Ok(self.stay(told, sights, models, second));
+            let sky = self.stay(told, sights, models, second);
+            return Ok((sky, screen(sights)));
         }
-        let guess = self.sky.map(|s| s.place).or(header.filter(|h| ground(*h)));
-        let mut place = guess;
-        let mut fixed = None;
+        let header = header.filter(|h| ground(*h));
+        let last = self.sky.map(|s| s.place);
+        let fixed = self.fixed(sights, last.or(header), models, second);
+        let before = sights.len();
+        let at = match self.vote(sights, fixed, [last, header], models, second) {
+            Some(at) => at,
+            None if fixed.is_some() => return Err(Nowhere::Aloft),
+            None => return Err(Nowhere::Unknown),
+        };
+        let near = header.filter(|h| apart(*h, at) <= NEAR);
+        self.away += u64::from(header.is_some() && near.is_none());
+        let sky = self.stay(near.unwrap_or(at), sights, models, second);
+        screen(sights);
+        Ok((sky, (before - sights.len()) as u64))
+    }
+
+    /// The fix of an epoch, from a guess or from nothing.
+    fn fixed(
+        &mut self,
+        sights: &mut [Sight],
+        guess: Option<[f64; 3]>,
+        models: &Models,
+        second: f64,
+    ) -> Option<[f64; 3]> {
+        let (mut place, mut fixed) = (guess, None);
         for _ in 0..4 {
             if let Some(at) = place {
                 self.stay(at, sights, models, second);
             }
             fixed = self.fix(sights, place);
-            match (fixed, place) {
-                (Some(new), Some(old)) if apart(new, old) > SAME && ground(new) => place = fixed,
-                (Some(new), None) if ground(new) => place = fixed,
-                _ => break,
+            let new = fixed.filter(|new| ground(*new))?;
+            match place {
+                Some(old) if apart(new, old) <= SAME => break,
+                _ => place = fixed,
             }
         }
-        match (fixed, place) {
-            (Some(at), _) if !ground(at) => Err(Nowhere::Aloft),
-            (Some(at), _) => {
-                let near = header.filter(|h| apart(*h, at) <= NEAR);
-                self.away += u64::from(header.is_some() && near.is_none());
-                Ok(self.stay(near.unwrap_or(at), sights, models, second))
+        fixed
+    }
+
+    /// The fix, unless another place has more pseudoranges on its side: then one from those.
+    fn vote(
+        &mut self,
+        sights: &mut Vec<Sight>,
+        fixed: Option<[f64; 3]>,
+        others: [Option<[f64; 3]>; 2],
+        models: &Models,
+        second: f64,
+    ) -> Option<[f64; 3]> {
+        let fixed = fixed.filter(|f| ground(*f));
+        let mut against = |at: [f64; 3]| {
+            self.stay(at, sights, models, second);
+            missing(sights)
+        };
+        let mut best = fixed.map(|at| (against(at), at));
+        for other in others.into_iter().flatten() {
+            // Most epochs have a fix that none speaks against.
+            if best.is_some_and(|(n, _)| n == 0) {
+                break;
             }
-            // Under a bridge the receiver is where it was.
-            (None, Some(at)) => Ok(self.stay(at, sights, models, second)),
-            (None, None) => Err(Nowhere::Unknown),
+            let n = against(other);
+            if best.is_none_or(|(least, _)| n < least) {
+                best = Some((n, other));
+            }
         }
+        let (_, at) = best?;
+        if Some(at) == fixed {
+            return fixed;
+        }
+        self.stay(at, sights, models, second);
+        screen(sights);
+        let again = self.fix(sights, Some(at));
+        again.filter(|a| ground(*a)).or(Some(at))
     }
 
     /// Takes a place; directions hold as long as it is about the same.
@@ -173,17 +227,37 @@ fn ground(place: [f64; 3]) -> bool {
     HEIGHTS.contains(&Sky::over(place).height())
 }
 
-/// Takes out the signals whose pseudoranges miss those of their system; gives their number.
-pub fn screen(sights: &mut Vec<Sight>) -> u64 {
-    let before = sights.len();
-    for constellation in [1, 3, 5, 6] {
-        let own = |s: &Sight| s.band.system.constellation() == constellation;
-        let miss = |s: &Sight| s.range() - s.to.range;
-        let mut all: Vec<f64> = sights.iter().filter(|s| own(s)).map(miss).collect();
-        if all.len() >= 3 {
-            let middle = median(&mut all);
-            sights.retain(|s| !own(s) || (miss(s) - middle).abs() <= OFF);
+/// The middle of what the pseudoranges of each system miss their ranges by, and how far one may
+/// be from it: ten times the others' distance, within limits. None of few.
+fn middles(sights: &[Sight]) -> [Option<(f64, f64)>; 4] {
+    SYSTEMS.map(|system| {
+        let own = sights.iter().filter(|s| s.band.system == system);
+        let mut all: Vec<f64> = own.map(Sight::miss).collect();
+        if all.len() < 3 {
+            return None;
         }
-    }
+        let middle = median(&mut all);
+        all.iter_mut().for_each(|m| *m = (*m - middle).abs());
+        let scale = 1.4826 * median(&mut all);
+        Some((middle, (10.0 * scale).clamp(OFF.0, OFF.1)))
+    })
+}
+
+/// Whether a pseudorange is far from the middle of its system.
+fn off(sight: &Sight, middles: &[Option<(f64, f64)>; 4]) -> bool {
+    let middle = middles[sight.band.system as usize];
+    middle.is_some_and(|(m, limit)| (sight.miss() - m).abs() > limit)
+}
+
+/// How many pseudoranges miss the others of their system.
+fn missing(sights: &[Sight]) -> usize {
+    let middles = middles(sights);
+    sights.iter().filter(|s| off(s, &middles)).count()
+}
+
+/// Takes out the signals whose pseudoranges miss those of their system; gives their number.
+fn screen(sights: &mut Vec<Sight>) -> u64 {
+    let (before, middles) = (sights.len(), middles(sights));
+    sights.retain(|s| !off(s, &middles));
     (before - sights.len()) as u64
 }

@@ -128,16 +128,19 @@ impl Record {
         let source = n(20) as i64;
         // GPS has the number of the clock's issue there.
         let second = if of.system == System::Gps { 0.0 } else { n(26) };
-        self.checked(Ephemeris {
-            orbit: Orbit::Kepler(orbit),
-            toe,
-            toc: self.time,
-            clock: [n(0), n(1), n(2)],
-            delays: [n(25), second],
-            fnav: of.system == System::Galileo && source & 0x100 != 0,
-            healthy: health == 0.0 && (0.0..=300.0).contains(&accuracy),
-            channel: 0,
-        })
+        self.checked(
+            Ephemeris {
+                orbit: Orbit::Kepler(orbit),
+                toe,
+                toc: self.time,
+                clock: [n(0), n(1), n(2)],
+                delays: [n(25), second],
+                fnav: of.system == System::Galileo && source & 0x100 != 0,
+                healthy: health == 0.0 && (0.0..=300.0).contains(&accuracy),
+                channel: 0,
+            },
+            of.system,
+        )
     }
 
     fn glonass(&self, version: &Version) -> Run<Ephemeris> {
@@ -164,25 +167,34 @@ impl Record {
             true if n(16).abs() < 1e-3 => n(16),
             _ => 0.0,
         };
-        self.checked(Ephemeris {
-            orbit: Orbit::Glonass(orbit),
-            toe: self.time,
-            toc: self.time,
-            clock: [n(0), n(1), 0.0],
-            delays: [delay, 0.0],
-            fnav: false,
-            healthy: n(6) == 0.0,
-            channel: channel as i8,
-        })
+        self.checked(
+            Ephemeris {
+                orbit: Orbit::Glonass(orbit),
+                toe: self.time,
+                toc: self.time,
+                clock: [n(0), n(1), 0.0],
+                delays: [delay, 0.0],
+                fnav: false,
+                healthy: n(6) == 0.0,
+                channel: channel as i8,
+            },
+            System::Glonass,
+        )
     }
 
-    fn checked(&self, found: Ephemeris) -> Run<Ephemeris> {
-        let [a, b, c] = found.clock;
-        let sound = a.abs() < 0.1 && b.abs() < 1e-6 && c.abs() < 1e-9;
-        let delays = found.delays.iter().all(|d| d.abs() < 1e-5);
-        match sound && delays {
+    /// Tells of a clock or a group delay that the fields of a message do not hold.
+    fn checked(&self, found: Ephemeris, system: System) -> Run<Ephemeris> {
+        let [a, b, c] = found.clock.map(f64::abs);
+        let (clock, delay) = match system {
+            System::Gps => (9.8e-4, 6.0e-8),
+            System::Glonass => (2.0e-3, 1.5e-8),
+            System::Galileo => (6.3e-2, 1.2e-7),
+            System::Beidou => (9.8e-4, 5.2e-8),
+        };
+        let sound = a <= clock && b <= 2.0e-8 && c <= 4.0e-15;
+        match sound && found.delays.iter().all(|d| d.abs() <= delay) {
             true => Ok(found),
-            false => self.wrong("the numbers are no satellite's clock"),
+            false => self.wrong("the numbers are no satellite's clock and delay"),
         }
     }
 }
