@@ -149,3 +149,79 @@ fn zenith(latitude: f64, height: f64) -> f64 {
     let shape = 1.0 - 0.00266 * (2.0 * latitude).cos() - 0.00028 * height / 1e3;
     0.0022768 * pressure / shape + 0.002277 * (1255.0 / kelvin + 0.05) * vapour
 }
+
+#[cfg(test)]
+mod tests {
+    use super::*;
+
+    /// Station 0759 of GEONET.
+    const PLACE: [f64; 3] = [-3_976_219.508_2, 3_382_372.567_1, 3_652_512.984_9];
+    /// What GPS broadcast on 2005-04-02.
+    const NUMBERS: Klobuchar = [
+        1.118e-8, 1.49e-8, -5.96e-8, -5.96e-8, 8.806e4, 1.638e4, -1.966e5, -1.311e5,
+    ];
+
+    #[test]
+    fn places_have_a_latitude() {
+        let [latitude, longitude, height] = geodetic(PLACE);
+        // By RTKLIB's ecef2pos.
+        assert!(
+            (latitude.to_degrees() - 35.160_870_4).abs() < 1e-4,
+            "{}",
+            latitude.to_degrees()
+        );
+        assert!((longitude.to_degrees() - 139.613_837_5).abs() < 1e-4);
+        assert!((height - 73.0).abs() < 10.0, "{height}");
+        let [latitude, _, height] = geodetic([0.0, 0.0, 6_356_752.314_2]);
+        assert!((latitude.to_degrees() - 90.0).abs() < 1e-9 && height.abs() < 1e-3);
+        let [latitude, _, height] = geodetic([6_378_137.0, 0.0, 0.0]);
+        assert!(latitude == 0.0 && height.abs() < 1e-9);
+    }
+
+    #[test]
+    fn delays_are_those_of_rtklib() {
+        let sky = Sky::over(PLACE);
+        // Satellites 3 and 11 at 518,400 s: place, elevation, ionosphere, both delays.
+        #[rustfmt::skip]
+        let lines = [
+            ([-24_595_184.340_9, -10_320_589.582_4, 1_244_218.674_2], 9.7076, 9.3452, 23.6206),
+            ([10_026_487.690_1, 18_601_864.069_0, 16_597_421.853_9], 16.1755, 4.9513, 13.5920),
+        ];
+        for (satellite, elevation, ionosphere, both) in lines {
+            let to = sky.direction(satellite);
+            assert!((to.elevation.to_degrees() - elevation).abs() < 1e-3);
+            let i = sky.ionosphere(&to, &NUMBERS, 518_400.0);
+            let t = sky.troposphere(&to);
+            assert!((i - ionosphere).abs() < 1e-3, "{i}");
+            assert!((i + t - both).abs() < 3e-3, "{}", i + t);
+        }
+    }
+
+    #[test]
+    fn nothing_is_modelled_below_the_horizon_or_out_of_the_air() {
+        let sky = Sky::over(PLACE);
+        let below = sky.direction([3.0e6, -3.0e6, -2.6e7]);
+        assert!(below.elevation < 0.0);
+        assert_eq!(sky.ionosphere(&below, &NUMBERS, 0.0), 0.0);
+        assert_eq!(sky.troposphere(&below), 0.0);
+        let high = Sky::over(PLACE.map(|x| x * 1.01));
+        let up = high.direction(PLACE.map(|x| x * 4.0));
+        assert_eq!(high.troposphere(&up), 0.0);
+    }
+
+    #[test]
+    fn ranges_have_the_earths_turn() {
+        let sky = Sky::over(PLACE);
+        let satellite = [-24_595_184.340_9, -10_320_589.582_4, 1_244_218.674_2];
+        let [x, y, z] = satellite;
+        let [a, b, c] = PLACE;
+        let straight = ((x - a).powi(2) + (y - b).powi(2) + (z - c).powi(2)).sqrt();
+        let sagnac = TURN * (x * b - y * a) / LIGHT;
+        let gap = sky.direction(satellite).range - straight - sagnac;
+        assert!(gap.abs() < 1e-3, "{gap}");
+        let velocity = [-4.395_76, -402.050_19, -3_077.241_97];
+        let place = satellite;
+        let rate = sky.receding(&State { place, velocity });
+        assert!((rate - 523.0703).abs() < 0.02, "{rate}");
+    }
+}

@@ -251,3 +251,128 @@ impl Glonass {
 fn sum([x, y, z]: [f64; 3], [a, b, c]: [f64; 3], part: f64) -> [f64; 3] {
     [x + a * part, y + b * part, z + c * part]
 }
+
+#[cfg(test)]
+mod tests {
+    use super::*;
+
+    /// A satellite over the equator that goes round with the earth, but for its tilt.
+    fn circle(earth: Earth, root: f64) -> Kepler {
+        Kepler {
+            earth,
+            root,
+            eccentricity: 0.0,
+            inclination: 0.0,
+            inclination_rate: 0.0,
+            node: 0.0,
+            node_rate: 0.0,
+            perigee: 0.0,
+            anomaly: 0.0,
+            motion: 0.0,
+            latitude: [0.0; 2],
+            radius: [0.0; 2],
+            tilt: [0.0; 2],
+            second: 0.0,
+        }
+    }
+
+    fn length([x, y, z]: [f64; 3]) -> f64 {
+        (x * x + y * y + z * z).sqrt()
+    }
+
+    #[test]
+    fn a_circle_is_gone_round_as_kepler_says() {
+        let orbit = circle(Earth::GPS, 5_153.6);
+        let axis = 5_153.6_f64.powi(2);
+        let period = 2.0 * std::f64::consts::PI * (axis.powi(3) / 3.986_005e14).sqrt();
+        let (start, relativity) = orbit.at(0.0);
+        assert_eq!((start.place, relativity), ([axis, 0.0, 0.0], 0.0));
+        let (round, _) = orbit.at(period);
+        // After one period the earth has turned under it.
+        let (sin, cos) = (TURN * period).sin_cos();
+        assert!((round.place[0] - axis * cos).abs() < 1e-3);
+        assert!((round.place[1] + axis * sin).abs() < 1e-3);
+        let speed = length(orbit.at(0.0).0.velocity) + TURN * axis;
+        assert!((speed - (3.986_005e14 / axis).sqrt()).abs() < 1e-6);
+    }
+
+    #[test]
+    fn a_standing_satellite_stands() {
+        let axis = (3.986_004_418e14_f64 / 7.292_115e-5_f64.powi(2)).cbrt();
+        let orbit = Kepler {
+            // The turn of -5 degrees brings this tilt back to the equator.
+            inclination: -5_f64.to_radians(),
+            ..circle(Earth::BEIDOU_STANDING, axis.sqrt())
+        };
+        let (start, later) = (orbit.at(0.0).0, orbit.at(7_200.0).0);
+        let moved: [f64; 3] = [0, 1, 2].map(|i| later.place[i] - start.place[i]);
+        assert!(
+            length(moved) < 0.1 && later.place[2].abs() < 1e-3,
+            "{moved:?}"
+        );
+        assert!(length(later.velocity) < 1e-3, "{:?}", later.velocity);
+    }
+
+    #[test]
+    fn glonass_steps_back_and_forth() {
+        let start = State {
+            place: [7_003_008.789, -12_206_626.953, 21_280_765.625],
+            velocity: [783.541_7, 2_804.253, 1_352.515],
+        };
+        let orbit = Glonass {
+            start,
+            pull: [0.0, 1.7e-6, -5.41e-6],
+        };
+        assert!(orbit.sound());
+        assert_eq!(orbit.at(0.0), start);
+        let there = orbit.at(847.3);
+        let back = Glonass {
+            start: there,
+            ..orbit
+        };
+        let again = back.at(-847.3);
+        for i in 0..3 {
+            assert!((again.place[i] - start.place[i]).abs() < 1e-4);
+        }
+        // The velocity is how the place changes.
+        let (before, after) = (orbit.at(599.5), orbit.at(600.5));
+        for i in 0..3 {
+            let gap = after.place[i] - before.place[i] - orbit.at(600.0).velocity[i];
+            assert!(gap.abs() < 1e-4, "{gap}");
+        }
+    }
+
+    #[test]
+    fn numbers_that_no_message_holds_are_told() {
+        let good = circle(Earth::GPS, 5_153.6);
+        assert!(good.sound());
+        let bad = [
+            Kepler {
+                root: 515.36,
+                ..good
+            },
+            Kepler {
+                eccentricity: 1.0,
+                ..good
+            },
+            Kepler { node: 63.0, ..good },
+            Kepler {
+                motion: 4e-8,
+                ..good
+            },
+            Kepler {
+                tilt: [0.0, 1e-3],
+                ..good
+            },
+            Kepler {
+                second: 604_800.0,
+                ..good
+            },
+            Kepler {
+                anomaly: f64::NAN,
+                ..good
+            },
+        ];
+        assert!(bad.iter().all(|k| !k.sound()));
+    }
+}

@@ -226,3 +226,129 @@ pub fn by_phase(
         false => geometry,
     }
 }
+
+#[cfg(test)]
+mod tests {
+    use super::super::signals::{chosen, System};
+    use super::*;
+
+    /// The states of eight satellites over some epochs, each of which may be changed.
+    fn states(epochs: usize, change: impl Fn(usize, &mut Epoch)) -> Vec<Vec<u8>> {
+        thinned(epochs, 1, change)
+    }
+
+    /// The same where one of so many epochs is written.
+    fn thinned(epochs: usize, every: usize, change: impl Fn(usize, &mut Epoch)) -> Vec<Vec<u8>> {
+        let bands = chosen(Some("G1"), None).ok().unwrap();
+        let wavelength = bands[0].wavelength(0);
+        let mut locks = Locks::new(1);
+        let mut out = Vec::new();
+        for i in 0..epochs {
+            let signal = |number: u8| {
+                let rate = 100.0 * f64::from(number);
+                let range = 2.2e7 + rate * i as f64;
+                Signal {
+                    satellite: Satellite {
+                        system: System::Gps,
+                        number,
+                    },
+                    band: 0,
+                    code: b'C',
+                    pseudorange: range,
+                    carrier: Some(range / wavelength),
+                    lost: 0,
+                    doppler: Some(-rate / wavelength),
+                }
+            };
+            let mut epoch = Epoch {
+                time: Moment::of_week(2160, i as f64),
+                failed: false,
+                signals: (1..9).map(signal).collect(),
+            };
+            change(i, &mut epoch);
+            locks.take(&epoch, &bands, |_| Some(0));
+            if i % every == 0 {
+                let states = epoch.signals.iter().map(|s| locks.state(s).0);
+                out.push(states.collect());
+                locks.wrote();
+            }
+        }
+        out
+    }
+
+    fn slips(of: &[Vec<u8>]) -> Vec<usize> {
+        let slipped = |s: &Vec<u8>| s.iter().filter(|s| **s & SLIPPED != 0).count();
+        of.iter().map(slipped).collect()
+    }
+
+    #[test]
+    fn a_carrier_that_goes_on_is_valid() {
+        let all = states(5, |_, _| {});
+        assert!(all.iter().flatten().all(|s| *s == VALID));
+        let none = states(3, |_, e| e.signals[2].carrier = None);
+        assert!(none.iter().all(|s| s[2] == 0 && s[3] == VALID));
+    }
+
+    #[test]
+    fn slips_are_seen() {
+        let indicator = |i: usize, e: &mut Epoch| e.signals[1].lost = u8::from(i == 2);
+        assert_eq!(slips(&states(5, indicator)), [0, 0, 1, 0, 0]);
+        let half = |i: usize, e: &mut Epoch| e.signals[1].lost = if i < 2 { 2 } else { 0 };
+        assert_eq!(slips(&states(5, half)), [0, 0, 1, 0, 0]);
+        let power = |i: usize, e: &mut Epoch| e.failed = i == 3;
+        assert_eq!(slips(&states(5, power)), [0, 0, 0, 8, 0]);
+        let code = |i: usize, e: &mut Epoch| e.signals[0].code = if i == 2 { b'X' } else { b'C' };
+        assert_eq!(slips(&states(5, code)), [0, 0, 1, 1, 0]);
+    }
+
+    #[test]
+    fn jumps_are_seen_against_the_other_satellites() {
+        let add = |e: &mut Epoch, k: usize, cycles: f64| {
+            let carrier = &mut e.signals[k].carrier;
+            *carrier = carrier.map(|c| c + cycles);
+        };
+        // Twelve cycles are 2.3 m.
+        let one = |i: usize, e: &mut Epoch| add(e, 4, if i >= 2 { 12.0 } else { 0.0 });
+        assert_eq!(slips(&states(5, one)), [0, 0, 1, 0, 0]);
+        // A receiver that sets its clock moves all alike.
+        let all = |i: usize, e: &mut Epoch| {
+            (0..8).for_each(|k| add(e, k, if i >= 2 { 1e6 } else { 0.0 }));
+        };
+        assert_eq!(slips(&states(5, all)), [0; 5]);
+        let code = |i: usize, e: &mut Epoch| {
+            e.signals.iter_mut().for_each(|s| s.doppler = None);
+            e.signals[3].pseudorange += if i == 2 { 30.0 } else { 0.0 };
+        };
+        assert_eq!(slips(&states(5, code)), [0, 0, 1, 1, 0]);
+    }
+
+    #[test]
+    fn gaps_are_seen() {
+        let late = |i: usize, e: &mut Epoch| {
+            e.time = e.time.plus(if i >= 3 { 5.0 } else { 0.0 });
+        };
+        assert_eq!(slips(&states(5, late)), [0, 0, 0, 8, 0]);
+        // Without a carrier at the epoch before there is no pair, and nothing to tell.
+        let absent =
+            |i: usize, e: &mut Epoch| e.signals.retain(|s| i != 2 || s.satellite.number > 1);
+        assert_eq!(slips(&states(5, absent)), [0; 5]);
+        // Between two epochs that are written it was lost.
+        assert_eq!(slips(&thinned(7, 4, absent)), [0, 1]);
+        let lost = |i: usize, e: &mut Epoch| e.signals[1].lost = u8::from(i == 2);
+        assert_eq!(slips(&thinned(9, 4, lost)), [0, 1, 0]);
+    }
+
+    #[test]
+    fn rates_follow_the_phase() {
+        let at = |tow: f64, carrier: f64, x: f64| Passage {
+            time: Moment::of_week(0, tow),
+            carrier,
+            satellite: [x, 0.0, 0.0],
+        };
+        let range = |[x, _, _]: [f64; 3]| x;
+        assert_eq!(by_phase(None, &at(1.0, 5.0, 0.0), 7.0, range), 7.0);
+        // The phase ran 2 m/s faster than the satellite went.
+        let rate = by_phase(Some(at(0.0, 0.0, 0.0)), &at(10.0, 90.0, 70.0), 8.0, range);
+        assert_eq!(rate, 10.0);
+    }
+}

@@ -101,16 +101,17 @@ impl Observations {
             let Some(start) = self.start()? else {
                 continue;
             };
+            let late = self.last.is_some_and(|last| start.time.since(last) <= 0.0);
+            if late && start.flag != 6 {
+                let why = "the time is not after that of the epoch before: two recordings in one?";
+                return Err(self.lines.fault(why));
+            }
             epoch.signals.clear();
             epoch.failed |= start.flag == 1;
             self.satellites(&start, epoch)?;
             // Records of slips say again what the indicators say.
             if start.flag == 6 {
                 continue;
-            }
-            if self.last.is_some_and(|last| start.time.since(last) <= 0.0) {
-                let why = "the time is not after that of the epoch before: two recordings in one?";
-                return Err(self.lines.fault(why));
             }
             self.last = Some(start.time);
             epoch.time = start.time;

@@ -192,11 +192,20 @@ impl Kind {
         Some(Self { kind, band, code })
     }
 
-    /// The type of two letters of RINEX 2.
+    /// The type of two letters of RINEX 2. Version 2.12 has letters for the civil codes.
     pub fn of_2(name: &[u8]) -> Option<Self> {
         let &[kind, band] = name else {
             return None;
         };
+        let civil = match band {
+            b'A' => Some(b'1'),
+            b'C' | b'D' => Some(b'2'),
+            _ => None,
+        };
+        if let Some(band) = civil {
+            let code = b'C';
+            return Some(Self { kind, band, code });
+        }
         let (kind, code) = match kind {
             b'P' => (b'C', b'P'),
             // The civil code of a band is written by its first name.
@@ -293,6 +302,16 @@ mod tests {
         assert!(found
             .iter()
             .all(|p| (p.carrier, p.doppler) == (Some(0), Some(5))));
+    }
+
+    #[test]
+    fn a_version_has_letters_for_civil_codes() {
+        let bands = chosen(None, None).ok().unwrap();
+        let kind = |n: &&str| Kind::of_2(n.as_bytes()).unwrap();
+        let kinds: Vec<Kind> = ["P1", "L1", "CA", "LA"].iter().map(kind).collect();
+        let found = picks(&kinds, System::Gps, &bands);
+        assert_eq!((found[0].pseudorange, found[0].carrier), (2, Some(3)));
+        assert_eq!((found[1].pseudorange, found[1].carrier), (0, Some(1)));
     }
 
     #[test]

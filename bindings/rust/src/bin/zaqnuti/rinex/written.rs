@@ -110,3 +110,43 @@ pub fn line(out: &mut Vec<u8>, time: &[u8], sight: &Sight, carrier: &Carrier, sk
     sky.place.iter().for_each(|x| float(*x, 4));
     out.push(b'\n');
 }
+
+#[cfg(test)]
+mod tests {
+    use super::*;
+
+    #[test]
+    fn decimals_are_those_of_the_standard_library() {
+        for x in [
+            0.0,
+            1.5,
+            -2.25,
+            24_767_687.6314,
+            -10_320_589.5824,
+            0.0004,
+            99.99996,
+            1e9,
+        ] {
+            let mut out = Vec::new();
+            fixed(&mut out, x, 4);
+            assert_eq!(out, format!("{x:.4}").as_bytes(), "{x}");
+        }
+        let mut out = Vec::new();
+        fixed(&mut out, f64::NAN, 4);
+        fixed(&mut out, 1e300, 4);
+        assert_eq!(out, b"NaNNaN");
+        out.clear();
+        // Zero bears no sign.
+        fixed(&mut out, -0.00004, 4);
+        assert_eq!(out, b"0.0000");
+    }
+
+    #[test]
+    fn times_end_without_zeros() {
+        let shown = |rest: f64| time_fields(Moment::of_week(1316, 518_400.0).plus(rest));
+        assert_eq!(shown(0.0), b"1316,518400.0");
+        assert_eq!(shown(0.001), b"1316,518400.001");
+        assert_eq!(shown(30.000_000_1), b"1316,518430.0000001");
+        assert_eq!(shown(86_400.0), b"1317,0.0");
+    }
+}
