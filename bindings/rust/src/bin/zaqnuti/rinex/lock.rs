@@ -97,7 +97,7 @@ impl Locks {
         self.last = Some(epoch.time);
         self.epoch += 1;
         // Where epochs are missing, nobody saw whether the lock held.
-        let gap = passed.is_none_or(|p| p > 1.5 * self.interval);
+        let gap = passed.map_or(true, |p| p > 1.5 * self.interval);
         self.interval = passed.map_or(self.interval, |p| p.min(self.interval));
         let wave = |s: &Signal| channel(s.satellite).map(|c| bands[s.band].wavelength(c));
         let middles = self.measure(epoch, passed.filter(|_| !gap), wave);

@@ -114,7 +114,7 @@ impl Ephemerides {
         let age = |e: &Ephemeris| time.since(e.toe).abs();
         let from = list.partition_point(|e| e.toe.since(time) < 0.0);
         let best = |fnav: Option<bool>| {
-            let fits = |e: &&Ephemeris| fnav.is_none_or(|f| f == e.fnav);
+            let fits = |e: &&Ephemeris| fnav.map_or(true, |f| f == e.fnav);
             let before = list[..from].iter().rev().find(fits);
             let after = list[from..].iter().find(fits);
             let both = before.into_iter().chain(after);

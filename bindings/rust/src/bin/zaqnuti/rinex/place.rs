@@ -196,7 +196,7 @@ impl Places {
                 break;
             }
             let n = against(other);
-            if best.is_none_or(|(least, _)| n < least) {
+            if best.map_or(true, |(least, _)| n < least) {
                 best = Some((n, other));
             }
         }

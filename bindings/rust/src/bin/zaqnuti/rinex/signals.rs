@@ -270,9 +270,9 @@ mod tests {
     #[test]
     fn frequencies_are_those_of_the_documents() {
         let band = |name| Band::of(name).unwrap();
-        assert_eq!(band("G1").frequency(0), 1_575.42e6);
-        assert_eq!(band("R1").frequency(-7), 1_598.0625e6);
-        assert_eq!(band("R2").frequency(6), 1_248.625e6);
+        assert_eq!(band("G1").frequency(0), 1_575_420_000.0);
+        assert_eq!(band("R1").frequency(-7), 1_598_062_500.0);
+        assert_eq!(band("R2").frequency(6), 1_248_625_000.0);
         assert_eq!(band("C2").megahertz(), 1561);
         assert!((band("G2").slowing(0) - (77.0_f64 / 60.0).powi(2)).abs() < 1e-12);
         assert!(Band::of("G9").is_none() && Band::of("J1").is_none() && Band::of("").is_none());

@@ -28,7 +28,7 @@ fn whole(out: &mut Vec<u8>, mut n: u64) {
 pub fn fixed(out: &mut Vec<u8>, x: f64, places: usize) {
     const TENS: [u64; 8] = [1, 10, 100, 1_000, 10_000, 100_000, 1_000_000, 10_000_000];
     let scaled = (x * TENS[places] as f64).round();
-    if !(scaled.abs() < 9e18) {
+    if scaled.is_nan() || scaled.abs() >= 9e18 {
         out.extend(b"NaN");
         return;
     }
@@ -121,8 +121,8 @@ mod tests {
             0.0,
             1.5,
             -2.25,
-            24_767_687.6314,
-            -10_320_589.5824,
+            24_767_687.631_4,
+            -10_320_589.582_4,
             0.0004,
             99.99996,
             1e9,
