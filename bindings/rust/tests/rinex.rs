@@ -159,7 +159,7 @@ fn a_receiver_without_a_place_gets_a_fix() {
     let far = file("far.obs", far.as_bytes());
     let (status, why) = told(&[&far, &sky()[1]]);
     assert_eq!(status, Some(0));
-    assert!(why.contains("in 8 epochs the fix is more than 50 m from the header's place"));
+    assert!(why.contains("in 8 epochs the fix is more than 20 m from the header's place"));
 }
 
 #[test]

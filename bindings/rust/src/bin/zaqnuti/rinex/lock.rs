@@ -207,23 +207,14 @@ pub struct Passage {
     pub satellite: [f64; 3],
 }
 
-/// The rate of a range from the phase: that of the geometry, and by how much the phase ran away
-/// from the geometry since the epoch before.
-pub fn by_phase(
-    before: Option<Passage>,
-    now: &Passage,
-    geometry: f64,
-    range: impl Fn([f64; 3]) -> f64,
-) -> f64 {
-    let Some(before) = before else {
-        return geometry;
-    };
-    let passed = now.time.since(before.time);
+/// By how much a phase ran faster than the satellite went, m/s: the receiver's own motion and
+/// its clock.
+pub fn excess(before: &Passage, now: &Passage, range: impl Fn([f64; 3]) -> f64) -> f64 {
     let moved = range(now.satellite) - range(before.satellite);
-    let rate = geometry + (now.carrier - before.carrier - moved) / passed;
-    match rate.abs() < LIGHT {
-        true => rate,
-        false => geometry,
+    let more = (now.carrier - before.carrier - moved) / now.time.since(before.time);
+    match more.abs() < LIGHT {
+        true => more,
+        false => 0.0,
     }
 }
 
@@ -346,9 +337,8 @@ mod tests {
             satellite: [x, 0.0, 0.0],
         };
         let range = |[x, _, _]: [f64; 3]| x;
-        assert_eq!(by_phase(None, &at(1.0, 5.0, 0.0), 7.0, range), 7.0);
         // The phase ran 2 m/s faster than the satellite went.
-        let rate = by_phase(Some(at(0.0, 0.0, 0.0)), &at(10.0, 90.0, 70.0), 8.0, range);
-        assert_eq!(rate, 10.0);
+        let more = excess(&at(0.0, 0.0, 0.0), &at(10.0, 90.0, 70.0), range);
+        assert_eq!(more, 2.0);
     }
 }

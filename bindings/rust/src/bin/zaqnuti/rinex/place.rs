@@ -11,7 +11,7 @@ use super::observations::Signal;
 use super::signals::{Band, SYSTEMS};
 
 /// How far a fix may be from the header's place for that to count, m.
-const NEAR: f64 = 50.0;
+const NEAR: f64 = 20.0;
 /// How far a receiver may have moved before directions are worked out anew, m.
 const SAME: f64 = 100.0;
 /// Between which heights over the ellipsoid a receiver is, m.

@@ -72,7 +72,9 @@ pub fn time_fields(at: Moment) -> Vec<u8> {
 pub struct Carrier {
     pub metres: f64,
     pub state: u8,
+    /// The rate of the range, and whether the receiver's own motion is in it.
     pub rate: f64,
+    pub known: bool,
 }
 
 /// Appends the line of a signal.
