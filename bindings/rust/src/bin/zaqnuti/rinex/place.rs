@@ -175,7 +175,7 @@ impl Places {
         fixed
     }
 
-    /// The fix, unless another place has more pseudoranges on its side: then one from those.
+    /// The fix, unless its pseudoranges fit another place better: then one from those that do.
     fn vote(
         &mut self,
         sights: &mut Vec<Sight>,
@@ -192,12 +192,12 @@ impl Places {
         let mut best = fixed.map(|at| (against(at), at));
         for other in others.into_iter().flatten() {
             // Most epochs have a fix that none speaks against.
-            if best.is_some_and(|(n, _)| n == 0) {
+            if best.is_some_and(|((n, _), _)| n == 0) {
                 break;
             }
-            let n = against(other);
-            if best.map_or(true, |(least, _)| n < least) {
-                best = Some((n, other));
+            let found = against(other);
+            if best.map_or(true, |((_, least), _)| found.1 < least) {
+                best = Some((found, other));
             }
         }
         let (_, at) = best?;
@@ -249,10 +249,13 @@ fn off(sight: &Sight, middles: &[Option<(f64, f64)>; 4]) -> bool {
     middle.is_some_and(|(m, limit)| (sight.miss() - m).abs() > limit)
 }
 
-/// How many pseudoranges miss the others of their system.
-fn missing(sights: &[Sight]) -> usize {
+/// How many pseudoranges miss the others of their system, and by how much all of them do.
+fn missing(sights: &[Sight]) -> (usize, f64) {
     let middles = middles(sights);
-    sights.iter().filter(|s| off(s, &middles)).count()
+    let gap = |s: &Sight| middles[s.band.system as usize].map(|(m, _)| (s.miss() - m).abs());
+    let gaps = sights.iter().filter_map(gap).map(|g| g.min(OFF.1));
+    let count = sights.iter().filter(|s| off(s, &middles)).count();
+    (count, gaps.sum())
 }
 
 /// Takes out the signals whose pseudoranges miss those of their system; gives their number.

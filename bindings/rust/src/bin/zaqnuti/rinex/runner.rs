@@ -10,7 +10,7 @@ use super::observations::{Epoch, Observations, Signal};
 use super::place::{Models, Places, Sight};
 use super::signals::{Band, Satellite, System};
 use super::time::Moment;
-use super::written::{self, Carrier};
+use super::written::{self, Carrier, Frame};
 
 /// A run over one observation file.
 pub struct Runner {
@@ -178,9 +178,9 @@ impl Runner {
     }
 
     fn write(&mut self, epoch: &Lines) {
-        let at = written::time_fields(epoch.time);
+        let frame = Frame::new(epoch.time, &epoch.sky);
         for (sight, carrier) in &epoch.lines {
-            written::line(&mut self.text, &at, sight, carrier, &epoch.sky);
+            written::line(&mut self.text, &frame, sight, carrier);
         }
     }
 

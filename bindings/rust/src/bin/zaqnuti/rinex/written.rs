@@ -9,39 +9,51 @@ use super::time::Moment;
 pub const HEADER: &str = "week,tow,constellation,svid,band,pseudorange,carrier,state,\
     x,y,z,vx,vy,vz,clock,modelled,ionosphere,elevation,rate,rx,ry,rz";
 
-/// Appends a whole number.
-fn whole(out: &mut Vec<u8>, mut n: u64) {
-    let mut digits = [0; 20];
-    let mut at = digits.len();
-    loop {
-        at -= 1;
-        digits[at] = b'0' + (n % 10) as u8;
-        n /= 10;
-        if n == 0 {
-            break;
-        }
+/// Puts the digits of a number in front of a place, at least so many; gives where they begin.
+fn digits(buffer: &mut [u8; 24], mut at: usize, mut n: u64, least: usize) -> usize {
+    let stop = at - least;
+    while n >= 100 || at >= stop + 2 {
+        let pair = (n % 100) as u8;
+        at -= 2;
+        buffer[at] = b'0' + pair / 10;
+        buffer[at + 1] = b'0' + pair % 10;
+        n /= 100;
     }
-    out.extend(&digits[at..]);
+    while n > 0 || at > stop {
+        at -= 1;
+        buffer[at] = b'0' + (n % 10) as u8;
+        n /= 10;
+    }
+    at
+}
+
+/// Appends a whole number.
+fn whole(out: &mut Vec<u8>, n: u64) {
+    let mut buffer = [0; 24];
+    let start = digits(&mut buffer, 24, n, 1);
+    out.extend_from_slice(&buffer[start..]);
 }
 
 /// Appends a number with so many places behind the point, `NaN` where it is none.
 pub fn fixed(out: &mut Vec<u8>, x: f64, places: usize) {
-    const TENS: [u64; 8] = [1, 10, 100, 1_000, 10_000, 100_000, 1_000_000, 10_000_000];
-    let scaled = (x * TENS[places] as f64).round();
-    if scaled.is_nan() || scaled.abs() >= 9e18 {
-        out.extend(b"NaN");
+    const TENS: [u32; 6] = [1, 10, 100, 1_000, 10_000, 100_000];
+    let scaled = x * f64::from(TENS[places]);
+    if scaled.is_nan() || scaled.abs() >= 9e15 {
+        out.extend_from_slice(b"NaN");
         return;
     }
-    let n = scaled.abs() as u64;
-    if scaled < 0.0 {
-        out.push(b'-');
+    // Below that the half is exact enough, and a cast goes towards 0.
+    let n = (scaled.abs() + 0.5) as u64;
+    let tens = u64::from(TENS[places]);
+    let mut buffer = [0; 24];
+    let point = digits(&mut buffer, 24, n % tens, places) - 1;
+    buffer[point] = b'.';
+    let mut start = digits(&mut buffer, point, n / tens, 1);
+    if x < 0.0 && n > 0 {
+        start -= 1;
+        buffer[start] = b'-';
     }
-    whole(out, n / TENS[places]);
-    out.push(b'.');
-    let behind = n % TENS[places];
-    for place in (0..places).rev() {
-        out.push(b'0' + (behind / TENS[place] % 10) as u8);
-    }
+    out.extend_from_slice(&buffer[start..]);
 }
 
 /// Appends the time: the week and the second in it, without zeros at the end.
@@ -61,11 +73,24 @@ fn time(out: &mut Vec<u8>, at: Moment) {
     });
 }
 
-/// The time as fields of a line, for all lines of an epoch.
-pub fn time_fields(at: Moment) -> Vec<u8> {
-    let mut out = Vec::new();
-    time(&mut out, at);
-    out
+/// What all lines of an epoch have: the time in front, and the receiver's place at the end.
+pub struct Frame {
+    time: Vec<u8>,
+    place: Vec<u8>,
+}
+
+impl Frame {
+    /// That of a time and a place.
+    pub fn new(at: Moment, sky: &Sky) -> Self {
+        let (mut front, mut place) = (Vec::new(), Vec::new());
+        time(&mut front, at);
+        for x in sky.place {
+            place.push(b',');
+            fixed(&mut place, x, 4);
+        }
+        place.push(b'\n');
+        Self { time: front, place }
+    }
 }
 
 /// What a line has besides the sight.
@@ -78,8 +103,8 @@ pub struct Carrier {
 }
 
 /// Appends the line of a signal.
-pub fn line(out: &mut Vec<u8>, time: &[u8], sight: &Sight, carrier: &Carrier, sky: &Sky) {
-    out.extend(time);
+pub fn line(out: &mut Vec<u8>, frame: &Frame, sight: &Sight, carrier: &Carrier) {
+    out.extend_from_slice(&frame.time);
     let satellite = sight.signal.satellite;
     let wholes = [
         u64::from(satellite.system.constellation()),
@@ -90,27 +115,31 @@ pub fn line(out: &mut Vec<u8>, time: &[u8], sight: &Sight, carrier: &Carrier, sk
         out.push(b',');
         whole(out, n);
     }
-    let mut float = |x: f64, places: usize| {
-        out.push(b',');
-        fixed(out, x, places);
-    };
-    float(sight.signal.pseudorange - sight.delay, 4);
-    float(carrier.metres, 4);
+    let ranges = [sight.signal.pseudorange - sight.delay, carrier.metres];
+    floats(out, &ranges, 4);
     out.push(b',');
     whole(out, u64::from(carrier.state));
-    let mut float = |x: f64, places: usize| {
+    floats(out, &sight.state.place, 4);
+    floats(out, &sight.state.velocity, 5);
+    let modelled = sight.ionosphere + sight.troposphere;
+    let elevation = sight.to.elevation.to_degrees();
+    let rest = [
+        sight.clock,
+        modelled,
+        sight.ionosphere,
+        elevation,
+        carrier.rate,
+    ];
+    floats(out, &rest, 4);
+    out.extend_from_slice(&frame.place);
+}
+
+/// Appends numbers, each behind a comma.
+fn floats(out: &mut Vec<u8>, numbers: &[f64], places: usize) {
+    for x in numbers {
         out.push(b',');
-        fixed(out, x, places);
-    };
-    sight.state.place.iter().for_each(|x| float(*x, 4));
-    sight.state.velocity.iter().for_each(|x| float(*x, 5));
-    float(sight.clock, 4);
-    float(sight.ionosphere + sight.troposphere, 4);
-    float(sight.ionosphere, 4);
-    float(sight.to.elevation.to_degrees(), 4);
-    float(carrier.rate, 4);
-    sky.place.iter().for_each(|x| float(*x, 4));
-    out.push(b'\n');
+        fixed(out, *x, places);
+    }
 }
 
 #[cfg(test)]
@@ -145,7 +174,11 @@ mod tests {
 
     #[test]
     fn times_end_without_zeros() {
-        let shown = |rest: f64| time_fields(Moment::of_week(1316, 518_400.0).plus(rest));
+        let shown = |rest: f64| {
+            let mut out = Vec::new();
+            time(&mut out, Moment::of_week(1316, 518_400.0).plus(rest));
+            out
+        };
         assert_eq!(shown(0.0), b"1316,518400.0");
         assert_eq!(shown(0.001), b"1316,518400.001");
         assert_eq!(shown(30.000_000_1), b"1316,518430.0000001");
