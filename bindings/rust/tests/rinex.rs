@@ -1,11 +1,11 @@
-//! `zaqnuti rinex`: the hour of GEONET from its own files, four systems, and damage of all kinds.
+//! `zaqnuti rinex`: a real recording, simulated ones of four systems, and damaged files.
 
 use std::fs;
 use std::path::{Path, PathBuf};
 use std::process::{Command, Output, Stdio};
 
 const COMMAND: &str = env!("CARGO_BIN_EXE_zaqnuti");
-/// Where the receiver of both recordings stands.
+/// The receiver's true position in both recordings.
 const TRUTH: [f64; 3] = [-3_976_219.508_2, 3_382_372.567_1, 3_652_512.984_9];
 
 fn geonet(name: &str) -> String {
@@ -27,7 +27,7 @@ fn sky() -> [String; 2] {
     [made("sky.obs"), made("sky.nav")]
 }
 
-/// A file of a test's own.
+/// Writes a temporary file.
 fn file(name: &str, bytes: &[u8]) -> String {
     let at = Path::new(env!("CARGO_TARGET_TMPDIR")).join(format!("rinex-{name}"));
     fs::write(&at, bytes).unwrap();
@@ -42,7 +42,7 @@ fn text(bytes: &[u8]) -> String {
     String::from_utf8(bytes.to_vec()).unwrap()
 }
 
-/// What `rinex` writes of two files without a word.
+/// Returns the output of a run without messages.
 fn written(words: &[&str], [observations, navigation]: &[String; 2]) -> String {
     let out = run(&[&["rinex"], words, &[observations, navigation]].concat());
     assert_eq!(text(&out.stderr), "");
@@ -50,13 +50,13 @@ fn written(words: &[&str], [observations, navigation]: &[String; 2]) -> String {
     text(&out.stdout)
 }
 
-/// The status and the words of a run.
+/// Returns the status and the messages of a run.
 fn told(words: &[&str]) -> (Option<i32>, String) {
     let out = run(&[&["rinex"], words].concat());
     (out.status.code(), text(&out.stderr))
 }
 
-/// The columns of a CSV, line by line.
+/// Returns some columns of a CSV, line by line.
 fn columns(csv: &str, names: &[&str]) -> Vec<Vec<f64>> {
     let mut lines = csv.lines();
     let header: Vec<&str> = lines.next().unwrap().split(',').collect();
@@ -69,7 +69,7 @@ fn columns(csv: &str, names: &[&str]) -> Vec<Vec<f64>> {
     lines.map(line).collect()
 }
 
-/// The greatest distance of a fix from the truth, and the number of fixes.
+/// Returns the greatest error of the fixes, and their number.
 fn farthest(csv: &str) -> (f64, usize) {
     let at = file(&format!("fix-{}.csv", csv.len()), csv.as_bytes());
     let out = run(&["fix", "--receiver", "geodetic", "--csv", &at]);
@@ -129,12 +129,12 @@ fn four_systems_meet_at_the_truth() {
     }
     let (far, fixes) = farthest(&csv);
     assert!(far < 0.01 && fixes == 8, "{far}");
-    // Each of them alone, too.
+    // Each system alone.
     for system in ["G", "R", "E", "C"] {
         let (far, _) = farthest(&written(&["--systems", system], &sky()));
         assert!(far < 0.01, "{system}: {far}");
     }
-    // A place that is told holds throughout, and models may be left out.
+    // With a given position and without models.
     let words = [
         "--at=-3976219.5082,3382372.5671,3652512.9849",
         "--no-models",
@@ -154,12 +154,12 @@ fn a_receiver_without_a_place_gets_a_fix() {
         let gap = place.iter().zip(TRUTH).map(|(a, b)| (a - b).abs());
         assert!(gap.fold(0.0, f64::max) < 0.01);
     }
-    // A header that is far off is told, and the fix counts.
+    // A wrong position in the header is reported and replaced.
     let far = text.replacen("-3976219.5082", "-3976919.5082", 1);
     let far = file("far.obs", far.as_bytes());
     let (status, why) = told(&[&far, &sky()[1]]);
     assert_eq!(status, Some(0));
-    assert!(why.contains("in 8 epochs the fix is more than 20 m from the header's place"));
+    assert!(why.contains("in 8 epochs the fix is more than 20 m from the header's position"));
 }
 
 #[test]
@@ -201,18 +201,18 @@ fn packed_files_are_read() {
     };
     let both = ["o", "n"].map(|n| at(n).display().to_string());
     assert_eq!(written(&[], &both), written(&[], &hour()));
-    // One that is cut is told.
+    // A truncated file is reported.
     let bytes = fs::read(&both[0]).unwrap();
     let cut = file("cut.05o.gz", &bytes[..bytes.len() / 2]);
     let (status, why) = told(&[&cut, &both[1]]);
     assert_eq!(status, Some(2));
     assert!(
-        why.contains("gzip can't unpack") || why.contains("ends within"),
+        why.contains("gzip can't decompress") || why.contains("ends within"),
         "{why}"
     );
 }
 
-/// What is said of the hour with an edit in the observations.
+/// Runs on the edited recording of GEONET. Returns the status and the messages.
 fn edited(name: &str, edit: impl Fn(Vec<String>) -> Vec<String>) -> (Option<i32>, String) {
     let text = fs::read_to_string(&hour()[0]).unwrap();
     let lines = edit(text.lines().map(String::from).collect());
@@ -244,16 +244,16 @@ fn damage_is_told_by_file_and_line() {
     type Edit = Box<dyn Fn(Vec<String>) -> Vec<String>>;
     let cases: Vec<(&str, Edit)> =
         vec![
-        ("OBS:1: is empty", Box::new(|_| vec![])),
+        ("OBS:1: not a RINEX file", Box::new(|_| vec![])),
         (
-            "OBS:1: is no RINEX file",
+            "OBS:1: not a RINEX file",
             Box::new(line(1, "week,tow,x,y,z")),
         ),
         ("OBS:9: the file ends within the header", Box::new(cut(9))),
         ("OBS:22: the file ends within an epoch", Box::new(cut(22))),
         ("OBS:18: empty; the flag of an epoch is wanted", Box::new(line(18, "05  4 3x"))),
         (
-            "OBS:18: there is no such date",
+            "OBS:18: no such date",
             Box::new(line(18, " 05 13  2  0  0  0.0000000  0  1G 3")),
         ),
         (
@@ -261,26 +261,26 @@ fn damage_is_told_by_file_and_line() {
             Box::new(line(19, "  55923622.160    247x7686.375")),
         ),
         (
-            "OBS:18: no epoch begins here",
+            "OBS:18: not the first line of an epoch",
             Box::new(line(18, " 05  4  2  0  0  0.0000000  9  8G 3")),
         ),
         (
-            "OBS:27: a second recording begins here",
+            "OBS:27: a second header begins here",
             Box::new(|lines| [&lines[..26], &lines[..]].concat()),
         ),
         (
-            "OBS:36: the time is not after that of the epoch before: two recordings in one?",
+            "OBS:36: the epoch is not later than the previous one: two recordings in one file?",
             Box::new(|lines| [&lines[..35], &lines[17..]].concat()),
         ),
         (
-            "OBS:20: a satellite stands twice in an epoch: two antennas in one file?",
+            "OBS:20: the epoch has this satellite twice: two antennas in one file?",
             Box::new(line(
                 18,
                 " 05  4  2  0  0  0.0000000  0  8G 3G 3G 8G11G19G20G24G28",
             )),
         ),
         (
-            "OBS:28: another antenna, place or list of types begins here",
+            "OBS:28: the antenna, position or observation types change here",
             Box::new(insert(
                 27,
                 &[
@@ -290,7 +290,7 @@ fn damage_is_told_by_file_and_line() {
             )),
         ),
         (
-            "OBS:28: another site begins here",
+            "OBS:28: a new site begins here",
             Box::new(insert(
                 27,
                 &[
@@ -300,35 +300,35 @@ fn damage_is_told_by_file_and_line() {
             )),
         ),
         (
-            "OBS:12: a type of observation is missing",
+            "OBS:12: an observation type is missing",
             Box::new(line(
                 12,
                 "     4    L1    C1    L2                                    # / TYPES OF OBSERV",
             )),
         ),
         (
-            "OBS:12: the types of another version",
+            "OBS:12: these types belong to another version",
             Box::new(line(
                 12,
                 "G    4 C1C L1C D1C S1C                                      SYS / # / OBS TYPES",
             )),
         ),
         (
-            "OBS:1: this version is not read",
+            "OBS:1: unsupported version",
             Box::new(line(
                 1,
                 "     4.00           OBSERVATION DATA    G (GPS)             RINEX VERSION / TYPE",
             )),
         ),
         (
-            "OBS:1: is packed by Hatanaka's way",
+            "OBS:1: Hatanaka-compressed",
             Box::new(line(
                 1,
                 "1.0                 COMPACT RINEX FORMAT                    CRINEX VERS   / TYPE",
             )),
         ),
         (
-            "OBS:17: the header has no pseudorange of the signals",
+            "OBS:17: the header lists no pseudorange of the selected signals",
             Box::new(line(
                 12,
                 "     4    L1    S1    L2    P2                              # / TYPES OF OBSERV",
@@ -337,8 +337,10 @@ fn damage_is_told_by_file_and_line() {
     ];
     for (i, (want, edit)) in cases.into_iter().enumerate() {
         let (status, why) = edited(&format!("damage-{i}.05o"), edit);
-        let found = why.contains(want) || (i == 0 && why.contains("OBS:1: is no RINEX file"));
-        assert!(status == Some(2) && found, "{want}: {status:?} {why}");
+        assert!(
+            status == Some(2) && why.contains(want),
+            "{want}: {status:?} {why}"
+        );
     }
 }
 
@@ -364,7 +366,7 @@ fn a_pseudorange_that_misses_the_others_is_left_out_with_a_word() {
     });
     assert_eq!(status, Some(0));
     assert!(
-        why.contains("1 whose pseudoranges miss the others"),
+        why.contains("1 whose pseudoranges disagree with the others"),
         "{why}"
     );
 }
@@ -374,22 +376,22 @@ fn a_navigation_file_of_another_day_writes_nothing() {
     let (status, why) = told(&[&hour()[0], &sky()[1]]);
     assert_eq!(status, Some(2));
     assert!(
-        why.contains("too old or too new") && why.contains("nothing is written"),
+        why.contains("too old or too new") && why.contains("nothing to write"),
         "{why}"
     );
     let (status, why) = told(&[&hour()[1], &hour()[1]]);
     assert!(
-        status == Some(2) && why.contains(":1: is no observation file"),
+        status == Some(2) && why.contains(":1: not an observation file"),
         "{why}"
     );
     let (status, why) = told(&[&hour()[0], &hour()[0]]);
     assert!(
-        status == Some(2) && why.contains(":1: is an observation file"),
+        status == Some(2) && why.contains(":1: an observation file"),
         "{why}"
     );
     let (status, why) = told(&[&hour()[0]]);
     assert!(
-        status == Some(2) && why.contains("NAV: a navigation file is wanted"),
+        status == Some(2) && why.contains("NAV: a navigation file is needed"),
         "{why}"
     );
 }

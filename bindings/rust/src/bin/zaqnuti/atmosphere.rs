@@ -1,17 +1,17 @@
-//! What lies between a satellite and a receiver: direction, ionosphere and troposphere.
+//! Directions of satellites, and models of the ionosphere and the troposphere.
 
 use std::f64::consts::PI;
 
 use crate::orbit::{State, LIGHT, TURN};
 
-/// The longer half axis of WGS 84 and the square of its eccentricity.
+/// The semi-major axis of WGS 84 and the square of its eccentricity.
 const AXIS: f64 = 6_378_137.0;
 const E2: f64 = 6.694_379_990_141_316_5e-3;
 
-/// The eight numbers of Klobuchar's model, alpha before beta.
+/// The parameters of the Klobuchar model, alpha before beta.
 pub type Klobuchar = [f64; 8];
 
-/// Where a satellite stands, in radians, and how far it is in m.
+/// The direction of a satellite in rad and its range in m.
 #[derive(Clone, Copy, Debug, Default, PartialEq)]
 pub struct Direction {
     pub elevation: f64,
@@ -19,7 +19,7 @@ pub struct Direction {
     pub range: f64,
 }
 
-/// The sky over a place.
+/// The local frame and the zenith delay at a position.
 #[derive(Clone, Copy)]
 pub struct Sky {
     pub place: [f64; 3],
@@ -29,7 +29,7 @@ pub struct Sky {
     east: [f64; 3],
     north: [f64; 3],
     up: [f64; 3],
-    /// The troposphere towards the zenith, m.
+    /// The tropospheric delay at the zenith, m.
     zenith: f64,
 }
 
@@ -37,7 +37,7 @@ fn dot([a, b, c]: [f64; 3], [x, y, z]: [f64; 3]) -> f64 {
     a * x + b * y + c * z
 }
 
-/// Latitude, longitude (rad) and height (m) of a place on WGS 84.
+/// Returns latitude, longitude (rad) and ellipsoidal height (m) on WGS 84.
 pub fn geodetic([x, y, z]: [f64; 3]) -> [f64; 3] {
     let across = x * x + y * y;
     let (mut zk, mut last, mut normal) = (z, f64::INFINITY, AXIS);
@@ -56,7 +56,7 @@ pub fn geodetic([x, y, z]: [f64; 3]) -> [f64; 3] {
 }
 
 impl Sky {
-    /// The sky over x, y and z.
+    /// Computes the sky at x, y, z.
     pub fn over(place: [f64; 3]) -> Self {
         let [latitude, longitude, height] = geodetic(place);
         let ((sa, ca), (so, co)) = (latitude.sin_cos(), longitude.sin_cos());
@@ -72,12 +72,12 @@ impl Sky {
         }
     }
 
-    /// The height over the ellipsoid, m.
+    /// Returns the height above the ellipsoid, m.
     pub fn height(&self) -> f64 {
         self.height
     }
 
-    /// Where a satellite stands, with the earth's turn while the signal travels.
+    /// Returns the direction of a satellite, with the earth's rotation while the signal travels.
     pub fn direction(&self, [x, y, z]: [f64; 3]) -> Direction {
         let [rx, ry, rz] = self.place;
         let length = |a: f64, b: f64, c: f64| (a * a + b * b + c * c).sqrt();
@@ -93,7 +93,7 @@ impl Sky {
         }
     }
 
-    /// How fast a satellite recedes from the place, m/s.
+    /// Returns the range rate of a satellite, m/s; receding is positive.
     pub fn receding(&self, of: &State) -> f64 {
         let after = |seconds: f64| {
             let ([x, y, z], [vx, vy, vz]) = (of.place, of.velocity);
@@ -103,7 +103,7 @@ impl Sky {
         after(0.5) - after(-0.5)
     }
 
-    /// Klobuchar's delay of GPS L1 in m (IS-GPS-200, 20.3.3.5.2.5), at a second of the week.
+    /// Returns the Klobuchar delay of GPS L1 in m (IS-GPS-200, 20.3.3.5.2.5).
     pub fn ionosphere(&self, to: &Direction, numbers: &Klobuchar, second: f64) -> f64 {
         if to.elevation <= 0.0 {
             return 0.0;
@@ -128,7 +128,7 @@ impl Sky {
         LIGHT * slant * (5e-9 + day)
     }
 
-    /// Saastamoinen's delay in m.
+    /// Returns the Saastamoinen delay in m.
     pub fn troposphere(&self, to: &Direction) -> f64 {
         match to.elevation <= 0.0 {
             true => 0.0,
@@ -137,7 +137,7 @@ impl Sky {
     }
 }
 
-/// Saastamoinen's delay towards the zenith in the standard atmosphere, at a humidity of 0.7.
+/// Returns the Saastamoinen zenith delay in the standard atmosphere at 70 % humidity.
 fn zenith(latitude: f64, height: f64) -> f64 {
     if !(-100.0..=10_000.0).contains(&height) {
         return 0.0;
@@ -156,7 +156,7 @@ mod tests {
 
     /// Station 0759 of GEONET.
     const PLACE: [f64; 3] = [-3_976_219.508_2, 3_382_372.567_1, 3_652_512.984_9];
-    /// What GPS broadcast on 2005-04-02.
+    /// The GPS broadcast of 2005-04-02.
     const NUMBERS: Klobuchar = [
         1.118e-8, 1.49e-8, -5.96e-8, -5.96e-8, 8.806e4, 1.638e4, -1.966e5, -1.311e5,
     ];

@@ -1,19 +1,19 @@
-//! Where a satellite is, by the orbit that it broadcasts itself.
+//! Positions and velocities of satellites from broadcast orbits.
 
 /// The speed of light, m/s.
 pub const LIGHT: f64 = 299_792_458.0;
-/// The turn of the earth as GPS and Galileo have it, rad/s.
+/// The earth's rotation rate in IS-GPS-200, rad/s.
 pub const TURN: f64 = 7.292_115_146_7e-5;
 
-/// A place in m and a velocity in m/s, earth-centred and earth-fixed at that moment.
+/// A position in m and a velocity in m/s, earth-centred and earth-fixed.
 #[derive(Clone, Copy, Debug, PartialEq)]
 pub struct State {
     pub place: [f64; 3],
     pub velocity: [f64; 3],
 }
 
-/// The constants of an interface document, and whether the satellite is one of BeiDou that
-/// stands over the equator.
+/// The constants of an interface document, and whether the satellite is a geostationary one of
+/// BeiDou.
 #[derive(Clone, Copy, Debug, PartialEq)]
 pub struct Earth {
     gravity: f64,
@@ -22,32 +22,32 @@ pub struct Earth {
 }
 
 impl Earth {
-    /// Of IS-GPS-200, table 20-IV.
+    /// The constants of IS-GPS-200, table 20-IV.
     pub const GPS: Self = Self {
         gravity: 3.986_005e14,
         turn: TURN,
         standing: false,
     };
-    /// Of the Galileo OS SIS ICD, 5.1.1.
+    /// The constants of the Galileo OS SIS ICD.
     pub const GALILEO: Self = Self {
         gravity: 3.986_004_418e14,
         turn: TURN,
         standing: false,
     };
-    /// Of BDS-SIS-ICD-2.1, 5.2.4.12.
+    /// The constants of BDS-SIS-ICD-B1I.
     pub const BEIDOU: Self = Self {
         gravity: 3.986_004_418e14,
         turn: 7.292_115e-5,
         standing: false,
     };
-    /// The same for a satellite that stands over the equator.
+    /// The same for a geostationary satellite.
     pub const BEIDOU_STANDING: Self = Self {
         standing: true,
         ..Self::BEIDOU
     };
 }
 
-/// The sixteen numbers of a broadcast orbit, in m, rad and s.
+/// The parameters of a broadcast orbit, in m, rad and s.
 #[derive(Clone, Copy, Debug, PartialEq)]
 pub struct Kepler {
     pub earth: Earth,
@@ -63,17 +63,17 @@ pub struct Kepler {
     /// The mean anomaly at the reference time, and the correction of its rate.
     pub anomaly: f64,
     pub motion: f64,
-    /// Cosine and sine corrections of the argument of latitude, the radius and the inclination.
+    /// Cosine and sine corrections to the argument of latitude, the radius and the inclination.
     pub latitude: [f64; 2],
     pub radius: [f64; 2],
     pub tilt: [f64; 2],
-    /// The second of the week of the reference time, in the system's own time.
+    /// The reference time of week, in the system's own time.
     pub second: f64,
 }
 
 impl Kepler {
-    /// Whether the numbers fit in the fields of the message, and the orbit is one that a
-    /// navigation satellite can have.
+    /// Checks that the parameters fit in the fields of the message and describe the orbit of a
+    /// navigation satellite.
     pub fn sound(&self) -> bool {
         let small = |numbers: &[f64], limit: f64| numbers.iter().all(|x| x.abs() <= limit);
         (4_900.0..=6_700.0).contains(&self.root)
@@ -89,7 +89,7 @@ impl Kepler {
             && (0.0..604_800.0).contains(&self.second)
     }
 
-    /// The eccentric anomaly's sine and cosine, and its rate, at seconds from the reference time.
+    /// Solves Kepler's equation. Returns sine, cosine and rate of the eccentric anomaly.
     fn eccentric(&self, since: f64) -> (f64, f64, f64) {
         let axis = self.root * self.root;
         let rate = (self.earth.gravity / (axis * axis * axis)).sqrt() + self.motion;
@@ -107,8 +107,8 @@ impl Kepler {
         (sin, cos, rate / (1.0 - e * cos))
     }
 
-    /// The state at seconds from the reference time, and the relativistic part of the clock in
-    /// seconds (IS-GPS-200, 20.3.3.3.3.1 and table 20-IV).
+    /// Returns the state `since` seconds after the reference time, and the relativistic clock
+    /// correction in s (IS-GPS-200, table 20-IV and 20.3.3.3.3.1).
     pub fn at(&self, since: f64) -> (State, f64) {
         let (e, axis) = (self.eccentricity, self.root * self.root);
         let (sin, cos, rate) = self.eccentric(since);
@@ -136,7 +136,7 @@ impl Kepler {
         (state, relativity)
     }
 
-    /// Turns the orbit's plane to the earth.
+    /// Rotates from the orbital plane to the earth-fixed frame.
     fn turned(&self, since: f64, [x, y]: [f64; 2], [vx, vy]: [f64; 2], tilt: [f64; 2]) -> State {
         let turn = self.earth.turn;
         let left = if self.earth.standing { 0.0 } else { turn };
@@ -162,8 +162,8 @@ impl Kepler {
     }
 }
 
-/// Turns a satellite that stands over the equator by -5 degrees and with the earth
-/// (BDS-SIS-ICD-2.1, table 5-12).
+/// Applies the rotations for geostationary satellites: by -5 degrees, then with the earth
+/// (BDS-SIS-ICD-B1I, user algorithm for the ephemeris).
 fn standing(state: State, turn: f64, since: f64) -> State {
     let (sin5, cos5) = (-5_f64).to_radians().sin_cos();
     let (sin, cos) = (turn * since).sin_cos();
@@ -177,7 +177,7 @@ fn standing(state: State, turn: f64, since: f64) -> State {
     State { place, velocity }
 }
 
-/// A GLONASS satellite at its reference time, with the pull of sun and moon in m/s².
+/// A GLONASS ephemeris: the state at the reference time, and the luni-solar acceleration in m/s².
 #[derive(Clone, Copy, Debug, PartialEq)]
 pub struct Glonass {
     pub start: State,
@@ -188,7 +188,7 @@ pub struct Glonass {
 const STEP: f64 = 60.0;
 
 impl Glonass {
-    /// Whether the numbers are those of a GLONASS satellite.
+    /// Checks that the numbers describe a GLONASS orbit.
     pub fn sound(&self) -> bool {
         let length = |[x, y, z]: [f64; 3]| (x * x + y * y + z * z).sqrt();
         (2.0e7..3.1e7).contains(&length(self.start.place))
@@ -196,7 +196,7 @@ impl Glonass {
             && length(self.pull) < 1e-3
     }
 
-    /// The state at seconds from the reference time, by steps of a minute and the rest
+    /// Returns the state `since` seconds after the reference time, by numerical integration
     /// (GLONASS ICD, A.3.1.2).
     pub fn at(&self, since: f64) -> State {
         let steps = (since.abs() / STEP).floor();
@@ -207,7 +207,7 @@ impl Glonass {
         self.stepped(state, since - STEP.copysign(since) * steps)
     }
 
-    /// One step of Runge and Kutta's method of the fourth order.
+    /// Makes one step of the fourth-order Runge-Kutta method.
     pub fn stepped(&self, from: State, step: f64) -> State {
         let moved = |by: &State, part: f64| State {
             place: sum(from.place, by.place, part),
@@ -225,7 +225,7 @@ impl Glonass {
         to
     }
 
-    /// The velocity and the acceleration at a state, in place of place and velocity.
+    /// Returns the derivative of a state: its velocity and acceleration.
     fn change(&self, state: &State) -> State {
         const GRAVITY: f64 = 3.986_004_4e14;
         const RADIUS: f64 = 6_378_136.0;
@@ -256,7 +256,7 @@ fn sum([x, y, z]: [f64; 3], [a, b, c]: [f64; 3], part: f64) -> [f64; 3] {
 mod tests {
     use super::*;
 
-    /// A satellite over the equator that goes round with the earth, but for its tilt.
+    /// A circular equatorial orbit.
     fn circle(earth: Earth, root: f64) -> Kepler {
         Kepler {
             earth,
@@ -288,7 +288,7 @@ mod tests {
         let (start, relativity) = orbit.at(0.0);
         assert_eq!((start.place, relativity), ([axis, 0.0, 0.0], 0.0));
         let (round, _) = orbit.at(period);
-        // After one period the earth has turned under it.
+        // In one period the earth rotates under the satellite.
         let (sin, cos) = (TURN * period).sin_cos();
         assert!((round.place[0] - axis * cos).abs() < 1e-3);
         assert!((round.place[1] + axis * sin).abs() < 1e-3);
@@ -300,7 +300,7 @@ mod tests {
     fn a_standing_satellite_stands() {
         let axis = (3.986_004_418e14_f64 / 7.292_115e-5_f64.powi(2)).cbrt();
         let orbit = Kepler {
-            // The turn of -5 degrees brings this tilt back to the equator.
+            // The rotation by -5 degrees makes this orbit equatorial.
             inclination: -5_f64.to_radians(),
             ..circle(Earth::BEIDOU_STANDING, axis.sqrt())
         };
@@ -334,7 +334,7 @@ mod tests {
         for i in 0..3 {
             assert!((again.place[i] - start.place[i]).abs() < 1e-4);
         }
-        // The velocity is how the place changes.
+        // The velocity is the derivative of the position.
         let (before, after) = (orbit.at(599.5), orbit.at(600.5));
         for i in 0..3 {
             let gap = after.place[i] - before.place[i] - orbit.at(600.0).velocity[i];

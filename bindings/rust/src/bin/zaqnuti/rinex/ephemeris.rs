@@ -1,4 +1,4 @@
-//! What a satellite broadcasts of itself, and what follows for a signal.
+//! A broadcast ephemeris: a satellite's orbit, clock and group delays.
 
 use crate::orbit::{Glonass, Kepler, State, LIGHT};
 
@@ -12,7 +12,7 @@ pub enum Orbit {
     Glonass(Glonass),
 }
 
-/// What a satellite said of itself.
+/// A satellite's broadcast ephemeris.
 #[derive(Clone, Debug, PartialEq)]
 pub struct Ephemeris {
     pub orbit: Orbit,
@@ -23,22 +23,22 @@ pub struct Ephemeris {
     pub clock: [f64; 3],
     /// The group delays as the file has them, s.
     pub delays: [f64; 2],
-    /// Whether a clock of Galileo is that of E5a and E1 (F/NAV).
+    /// Whether a Galileo clock is the F/NAV one, for E5a and E1.
     pub fnav: bool,
     pub healthy: bool,
-    /// The channel of GLONASS.
+    /// The GLONASS frequency channel.
     pub channel: i8,
 }
 
 impl Ephemeris {
-    /// The clock's error without relativity, in s.
+    /// Returns the clock error in s, without relativity.
     fn clock(&self, at: Moment) -> f64 {
         let since = at.since(self.toc);
         let [a, b, c] = self.clock;
         a + b * since + c * since * since
     }
 
-    /// When a signal left that came with a pseudorange at a time of the receiver.
+    /// Returns the transmission time of a signal, given its time of reception and pseudorange.
     fn sent(&self, received: Moment, pseudorange: f64) -> Moment {
         let by_its_clock = received.plus(-pseudorange / LIGHT);
         let mut at = by_its_clock;
@@ -48,24 +48,24 @@ impl Ephemeris {
         at
     }
 
-    /// The state at a time, and the clock's error in s, with relativity.
+    /// Returns the satellite's state and its clock error in s, with relativity.
     pub fn state(&self, at: Moment) -> (State, f64) {
         match &self.orbit {
             Orbit::Kepler(orbit) => {
                 let (state, relativity) = orbit.at(at.since(self.toe));
                 (state, self.clock(at) + relativity)
             }
-            // The clock of GLONASS has it in its rate.
+            // The GLONASS clock rate includes relativity.
             Orbit::Glonass(orbit) => (orbit.at(at.since(self.toe)), self.clock(at)),
         }
     }
 
-    /// The same at the transmission of a signal.
+    /// Returns the state and the clock error at the transmission of a signal.
     pub fn at(&self, received: Moment, pseudorange: f64) -> (State, f64) {
         self.state(self.sent(received, pseudorange))
     }
 
-    /// The group delay of a signal, which its pseudorange has too much, in s.
+    /// Returns the group delay of a signal in s, to be subtracted from its pseudorange.
     pub fn delay(&self, band: &Band) -> f64 {
         let [first, second] = self.delays;
         let slow = band.slowing(0);
@@ -76,7 +76,7 @@ impl Ephemeris {
             (System::Galileo, b'7') => slow * second,
             (System::Galileo, _) if self.fnav => first,
             (System::Galileo, _) => second,
-            // BeiDou's clock is that of B3.
+            // The BeiDou clock refers to B3.
             (System::Beidou, b'2') => first,
             (System::Beidou, b'7') => second,
             (System::Beidou, _) => 0.0,

@@ -1,4 +1,4 @@
-//! The first line of a RINEX file, and what both kinds of files have in common.
+//! The first line of a RINEX file, and checks that both kinds of header share.
 
 use crate::fault::Run;
 
@@ -19,17 +19,17 @@ impl Version {
     /// Reads the first line.
     pub fn read(lines: &mut Lines) -> Run<Self> {
         if !lines.next()? {
-            return Err(lines.fault("is empty; a RINEX file is wanted"));
+            return Err(lines.fault("the file is empty"));
         }
         if lines.label() == b"CRINEX VERS   / TYPE" {
-            return Err(lines.fault("is packed by Hatanaka's way; crx2rnx unpacks it"));
+            return Err(lines.fault("Hatanaka-compressed; decompress it with crx2rnx first"));
         }
         if lines.label() != b"RINEX VERSION / TYPE" {
-            return Err(lines.fault("is no RINEX file: the first line has no version"));
+            return Err(lines.fault("not a RINEX file: the first line has no version"));
         }
         let number = (lines.float(0, 9, "a version")? * 100.0).round();
         if !(200.0..=305.0).contains(&number) || (212.0 < number && number < 300.0) {
-            return Err(lines.fault("this version is not read; 2.00 to 3.05 are"));
+            return Err(lines.fault("unsupported version; 2.00 to 3.05 are read"));
         }
         let (kind, system) = (lines.column(20), lines.column(40));
         let system = if system == b' ' { b'G' } else { system };
@@ -46,7 +46,7 @@ impl Version {
     }
 }
 
-/// The year of two digits.
+/// Returns the full year of a two-digit one: 1980 to 2079.
 pub fn century(year: i64) -> i64 {
     match year {
         0..=79 => 2000 + year,
@@ -55,7 +55,7 @@ pub fn century(year: i64) -> i64 {
     }
 }
 
-/// Tells of a line that can't stand in a header.
+/// Checks that a line may occur in a header.
 pub fn foreign(lines: &Lines, label: &[u8]) -> Run<()> {
     match label {
         b"RINEX VERSION / TYPE" => Err(lines.fault("a second header begins within the first")),

@@ -7,22 +7,22 @@ use super::lines::Lines;
 use super::signals::{other, Kind, System};
 use super::time::Scale;
 
-/// What a header says.
+/// The header of an observation file.
 pub struct Header {
     pub version: Version,
-    /// Its lines, to which later ones are held.
+    /// Its lines, with which those of later events are compared.
     lines: Vec<Vec<u8>>,
-    /// Where the receiver is.
+    /// The receiver's approximate position.
     pub place: Option<[f64; 3]>,
-    /// The channels of GLONASS, by satellite.
+    /// The GLONASS frequency channels, by satellite.
     pub channels: [Option<i8>; 100],
-    /// The clock of the epochs.
+    /// The time system of the epochs.
     pub scale: Scale,
     /// The types of observation of each system.
     pub kinds: [Vec<Kind>; 4],
 }
 
-/// Lines of a header that must not change within a file: a later one may be of another antenna.
+/// Header records that must not change within a file: a new one may belong to another antenna.
 const LASTING: [&[u8]; 8] = [
     b"MARKER NAME",
     b"MARKER NUMBER",
@@ -34,16 +34,16 @@ const LASTING: [&[u8]; 8] = [
     b"SYS / # / OBS TYPES",
 ];
 
-/// A number of things that a file can have.
+/// Checks the length of a list.
 fn total(lines: &Lines, count: i64) -> Run<usize> {
     match usize::try_from(count) {
         Ok(count @ 1..=999) => Ok(count),
-        _ => Err(lines.fault("there can't be so many")),
+        _ => Err(lines.fault("implausible count")),
     }
 }
 
 impl Header {
-    /// Whether a line of an event leaves the header as it is.
+    /// Checks that a line of an event does not change the header.
     pub fn lasts(&self, lines: &Lines) -> bool {
         !LASTING.contains(&lines.label()) || self.lines.iter().any(|h| h == lines.text())
     }
@@ -52,7 +52,7 @@ impl Header {
     pub fn read(lines: &mut Lines) -> Run<Self> {
         let version = Version::read(lines)?;
         if version.kind != b'O' {
-            return Err(lines.fault("is no observation file"));
+            return Err(lines.fault("not an observation file"));
         }
         let scale = match version.system {
             b'R' => Scale::Utc,
@@ -77,13 +77,13 @@ impl Header {
         }
     }
 
-    /// Takes one line in, or a list of several.
+    /// Reads one header record, with its continuation lines.
     fn take(&mut self, lines: &mut Lines) -> Run<()> {
         match lines.label() {
             b"APPROX POSITION XYZ" => {
                 let field = |i: usize| lines.float_or_0(14 * i, 14 * (i + 1), "a place");
                 let place = [field(0)?, field(1)?, field(2)?];
-                // Zeros stand for an unknown place.
+                // Zeros mean that the position is unknown.
                 self.place = (place != [0.0; 3]).then_some(place);
             }
             b"TIME OF FIRST OBS" => match lines.field(48, 51) {
@@ -94,20 +94,20 @@ impl Header {
                 other => return Err(lines.fault_in(other, "a time that is read")),
             },
             b"SYS / SCALE FACTOR" | b"OBS SCALE FACTOR" if lines.whole(2, 6, "")? != 1 => {
-                return Err(lines.fault("observations with a scale factor are not read"));
+                return Err(lines.fault("scale factors are not supported"));
             }
             b"GLONASS SLOT / FRQ #" => self.slots(lines)?,
             b"# / TYPES OF OBSERV" if self.version.major() == 2 => self.kinds_2(lines)?,
             b"SYS / # / OBS TYPES" if self.version.major() == 3 => self.kinds_3(lines)?,
             b"# / TYPES OF OBSERV" | b"SYS / # / OBS TYPES" => {
-                return Err(lines.fault("the types of another version of RINEX"));
+                return Err(lines.fault("these types belong to another version of RINEX"));
             }
             label => head::foreign(lines, label)?,
         }
         Ok(())
     }
 
-    /// The channels of GLONASS.
+    /// Reads GLONASS frequency channels.
     fn slots(&mut self, lines: &Lines) -> Run<()> {
         for i in 0..8 {
             let from = 4 + 7 * i;
@@ -123,7 +123,7 @@ impl Header {
         Ok(())
     }
 
-    /// The types of version 2, of which all systems have the same.
+    /// Reads the observation types of version 2, which all systems share.
     fn kinds_2(&mut self, lines: &mut Lines) -> Run<()> {
         let mut kinds = Vec::new();
         let count = lines.whole(0, 6, "the number of types")?;
@@ -134,20 +134,20 @@ impl Header {
             let from = 10 + 6 * (i % 9);
             match Kind::of_2(lines.field(from, from + 2)) {
                 Some(kind) => kinds.push(kind),
-                None => return Err(lines.fault("a type of observation is missing")),
+                None => return Err(lines.fault("an observation type is missing")),
             }
         }
         self.kinds = [(); 4].map(|()| kinds.clone());
         Ok(())
     }
 
-    /// The types of one system.
+    /// Reads the observation types of one system (version 3).
     fn kinds_3(&mut self, lines: &mut Lines) -> Run<()> {
         let letter = lines.column(0);
         let system = match System::of(letter) {
             Some(system) => system,
             None if other(letter) => System::Gps,
-            None => return Err(lines.fault("there is no such system")),
+            None => return Err(lines.fault("unknown satellite system")),
         };
         let mut kinds = Vec::new();
         let count = lines.whole(3, 6, "the number of types")?;
@@ -158,7 +158,7 @@ impl Header {
             let from = 7 + 4 * (i % 13);
             match Kind::of_3(lines.field(from, from + 3), system, self.version.number) {
                 Some(kind) => kinds.push(kind),
-                None => return Err(lines.fault("a type of observation is missing")),
+                None => return Err(lines.fault("an observation type is missing")),
             }
         }
         if !other(letter) {
@@ -167,13 +167,13 @@ impl Header {
         Ok(())
     }
 
-    /// Goes to the next line of a list.
+    /// Goes to the continuation line of a list.
     fn more(&mut self, lines: &mut Lines, label: &[u8]) -> Run<()> {
         self.lines.push(lines.text().to_vec());
         lines.wanted("the header")?;
         match lines.label() == label {
             true => Ok(()),
-            false => Err(lines.fault("the list above goes on here, by its number")),
+            false => Err(lines.fault("the list above should continue here")),
         }
     }
 }

@@ -1,4 +1,4 @@
-//! The lines of a RINEX file, whose fields stand in fixed columns.
+//! The lines of a RINEX file, which has fixed columns.
 
 use std::io::{BufRead, BufReader, Read};
 use std::process::{Child, Command, Stdio};
@@ -22,26 +22,26 @@ pub struct Lines {
     progress: Progress,
 }
 
-/// What standard tools pack begins so: gzip, and the older compress.
+/// Checks for the first bytes of a file compressed by gzip or compress.
 fn packed(start: &[u8]) -> bool {
     start.starts_with(&[0x1F, 0x8B]) || start.starts_with(&[0x1F, 0x9D])
 }
 
-/// Lets `gzip` unpack a file.
+/// Starts `gzip` to decompress a file.
 fn unpacked(path: &str) -> Run<(Child, Box<dyn BufRead>)> {
     let mut gzip = Command::new("gzip");
     gzip.args(["-dc", "--", path]).stdin(Stdio::null());
     let child = gzip.stdout(Stdio::piped()).stderr(Stdio::null()).spawn();
     let mut child =
-        child.map_err(|e| Fault::Said(format!("{path}: is packed, and gzip fails: {e}")))?;
+        child.map_err(|e| Fault::Said(format!("{path}: compressed, and gzip fails: {e}")))?;
     match child.stdout.take() {
         Some(out) => Ok((child, Box::new(BufReader::with_capacity(1 << 16, out)))),
-        None => said(format!("{path}: is packed, and gzip has no output")),
+        None => said(format!("{path}: compressed, and gzip has no output")),
     }
 }
 
 impl Lines {
-    /// The lines of a file, which gzip may have packed; `-` is standard input, as it is.
+    /// Opens a file, which may be compressed; `-` is standard input, which may not.
     pub fn open(path: &str) -> Run<Self> {
         let (name, mut source, size) = csv::open(path)?;
         let start = source.fill_buf().map_err(|e| failed(path, &e))?;
@@ -68,7 +68,7 @@ impl Lines {
         }
     }
 
-    /// The lines of a text, for tests.
+    /// Reads from a text, for tests.
     #[cfg(test)]
     pub fn of(text: &str) -> Self {
         let source = std::io::Cursor::new(text.as_bytes().to_vec());
@@ -114,7 +114,7 @@ impl Lines {
         Ok(n > 0)
     }
 
-    /// At the end, tells whether all was unpacked.
+    /// Checks at the end of the file that gzip succeeded.
     fn end(&mut self) -> Run<()> {
         let Some(mut child) = self.unpacker.take() else {
             return Ok(());
@@ -122,11 +122,11 @@ impl Lines {
         let status = child.wait().map_err(|e| failed(&self.name, &e))?;
         match status.success() {
             true => Ok(()),
-            false => Err(self.fault("gzip can't unpack what comes after this line")),
+            false => Err(self.fault("gzip can't decompress the rest of the file")),
         }
     }
 
-    /// Goes to the next line, which must be there.
+    /// Goes to the next line; the file must not end here.
     pub fn wanted(&mut self, what: &str) -> Run<()> {
         match self.next()? {
             true => Ok(()),
@@ -134,7 +134,7 @@ impl Lines {
         }
     }
 
-    /// Has the same line come once more.
+    /// Makes `next` return the same line again.
     pub fn again(&mut self) {
         self.again = true;
     }
@@ -144,13 +144,13 @@ impl Lines {
         &self.text
     }
 
-    /// Some columns of the line, as far as it has them, without spaces around.
+    /// Returns some columns of the line, trimmed; columns past its end are blank.
     pub fn field(&self, from: usize, to: usize) -> &[u8] {
         let end = self.text.len();
         self.text[from.min(end)..to.min(end)].trim_ascii()
     }
 
-    /// One column, a space behind the end of the line.
+    /// Returns one column; columns past the end of the line are blank.
     pub fn column(&self, at: usize) -> u8 {
         self.text.get(at).copied().unwrap_or(b' ')
     }
@@ -177,7 +177,7 @@ impl Lines {
         number.ok_or_else(|| self.fault_in(field, what))
     }
 
-    /// A decimal, with an exponent by D or E or without one.
+    /// A decimal, whose exponent may be written with D or E.
     pub fn float(&self, from: usize, to: usize, what: &str) -> Run<f64> {
         let field = self.field(from, to);
         number(field).ok_or_else(|| self.fault_in(field, what))
@@ -192,7 +192,7 @@ impl Lines {
     }
 }
 
-/// The number of a decimal, finite.
+/// Parses a finite decimal.
 pub fn number(field: &[u8]) -> Option<f64> {
     let exponent = |b: &u8| if matches!(b, b'D' | b'd') { b'E' } else { *b };
     let plain = |b: &u8| b.is_ascii_digit() || b"+-.EDed".contains(b);
@@ -208,7 +208,7 @@ pub fn number(field: &[u8]) -> Option<f64> {
     x.is_finite().then_some(x)
 }
 
-/// The number of a decimal without an exponent, to the nearest; most of a file are such.
+/// Parses a decimal without an exponent, rounded once: the common case, and fast.
 pub fn plain(field: &[u8]) -> Option<f64> {
     const TENS: [f64; 10] = [1.0, 1e1, 1e2, 1e3, 1e4, 1e5, 1e6, 1e7, 1e8, 1e9];
     let (minus, digits) = match field.split_first() {
@@ -216,7 +216,7 @@ pub fn plain(field: &[u8]) -> Option<f64> {
         Some((b'+', rest)) => (false, rest),
         _ => (false, field),
     };
-    // Up to 15 digits and a power of ten up to 22 are exact, so that one quotient rounds once.
+    // Up to 15 digits and the powers of ten are exact, so the quotient is rounded once.
     if digits.is_empty() || digits.len() > 16 {
         return number(field);
     }
@@ -242,7 +242,7 @@ pub fn plain(field: &[u8]) -> Option<f64> {
 impl Drop for Lines {
     fn drop(&mut self) {
         if let Some(child) = &mut self.unpacker {
-            // It ends by itself once nobody reads; nothing is lost where it can't be ended.
+            // gzip ends by itself when its pipe is closed.
             let _ = child.kill();
             let _ = child.wait();
         }

@@ -1,4 +1,4 @@
-//! Whether a carrier went on without a slip, and how fast its range changes.
+//! Cycle slips, and the rate of a range.
 
 use crate::orbit::LIGHT;
 
@@ -6,17 +6,17 @@ use super::observations::{Epoch, Signal};
 use super::signals::{Band, Satellite};
 use super::time::Moment;
 
-/// A carrier that is there (`state`), and one that slipped since the epoch before.
+/// The bits of `state`: the carrier is valid; it slipped since the previous epoch.
 pub const VALID: u8 = 1;
 pub const SLIPPED: u8 = 2;
 
-/// By how many metres a phase may run away from the Doppler, and from the code.
+/// The largest jump of a carrier relative to its Doppler and to its code, m.
 const BY_DOPPLER: f64 = 2.0;
 const BY_CODE: f64 = 15.0;
-/// Over how many seconds a Doppler at both ends tells how the range changed between.
+/// The longest interval over which the mean of two Dopplers predicts a carrier, s.
 const LONGEST: f64 = 31.0;
 
-/// One carrier at the last epoch that had it.
+/// A carrier at the last epoch that has it.
 #[derive(Clone, Copy)]
 struct Seen {
     epoch: u64,
@@ -25,14 +25,14 @@ struct Seen {
     /// In m.
     carrier: f64,
     pseudorange: f64,
-    /// The range's rate by the Doppler, m/s.
+    /// The range rate from Doppler, m/s.
     rate: Option<f64>,
-    /// The last epoch at which it was written, and whether it slipped since.
+    /// The last epoch in which it was written, and whether it has slipped since.
     written: u64,
     slipped: bool,
 }
 
-/// The carriers of a file.
+/// Tracks the carriers of a file.
 pub struct Locks {
     /// By satellite and band.
     seen: Vec<Option<Seen>>,
@@ -41,28 +41,28 @@ pub struct Locks {
     /// The last epoch that was written.
     written: u64,
     last: Option<Moment>,
-    /// The least time between two epochs so far.
+    /// The shortest interval between two epochs so far.
     interval: f64,
-    /// What jumps against the other satellites, for a median.
+    /// Buffers for the jumps and their medians.
     sorted: Vec<f64>,
     jumps: Vec<[Option<f64>; 2]>,
-    /// How many jumps no indicator told of.
+    /// Jumps without a loss-of-lock indicator.
     untold: u64,
 }
 
-/// The middle of some numbers.
+/// Returns the upper median.
 pub fn median(of: &mut [f64]) -> f64 {
     let middle = of.len() / 2;
     *of.select_nth_unstable_by(middle, f64::total_cmp).1
 }
 
-/// The rate of a range by the Doppler, receding is positive.
+/// Returns the range rate from Doppler; receding is positive.
 pub fn rate(signal: &Signal, wavelength: f64) -> Option<f64> {
     signal.doppler.map(|d| -d * wavelength)
 }
 
 impl Locks {
-    /// Of a file of which so many bands are asked for.
+    /// Starts with no carriers, for a number of bands.
     pub fn new(bands: usize) -> Self {
         Self {
             seen: vec![None; Satellite::PLACES * bands],
@@ -77,7 +77,7 @@ impl Locks {
         }
     }
 
-    /// How many carriers jumped against their code or Doppler without an indicator.
+    /// Returns the number of jumps without a loss-of-lock indicator.
     pub fn jumps(&self) -> u64 {
         self.untold
     }
@@ -86,7 +86,7 @@ impl Locks {
         signal.satellite.place() * self.bands + signal.band
     }
 
-    /// Takes the carriers of an epoch in; a wavelength is given for each signal that has one.
+    /// Adds an epoch, whether or not it will be written.
     pub fn take(
         &mut self,
         epoch: &Epoch,
@@ -96,7 +96,7 @@ impl Locks {
         let passed = self.last.map(|last| epoch.time.since(last));
         self.last = Some(epoch.time);
         self.epoch += 1;
-        // Where epochs are missing, nobody saw whether the lock held.
+        // Where epochs are missing, the lock may have been lost.
         let gap = passed.map_or(true, |p| p > 1.5 * self.interval);
         self.interval = passed.map_or(self.interval, |p| p.min(self.interval));
         let wave = |s: &Signal| channel(s.satellite).map(|c| bands[s.band].wavelength(c));
@@ -118,7 +118,7 @@ impl Locks {
                 _ if told => true,
                 None => self.seen[place].is_some(),
                 Some(b) => {
-                    // A half cycle that was open is settled, or the other way round.
+                    // The half-cycle ambiguity was resolved, or lost.
                     let half = (b.lost ^ signal.lost) & 2 != 0;
                     gap || epoch.failed || b.code != signal.code || half || jumped
                 }
@@ -140,7 +140,7 @@ impl Locks {
         }
     }
 
-    /// How each phase ran away from its Doppler and its code, and the middles of both.
+    /// Computes each carrier's jump relative to Doppler and code. Returns the two medians.
     fn measure(
         &mut self,
         epoch: &Epoch,
@@ -174,10 +174,10 @@ impl Locks {
         })
     }
 
-    /// The state of a carrier of the epoch that was taken in last, and the carrier in m.
+    /// Returns the state of a carrier in the current epoch, and the carrier in m.
     ///
-    /// A slip is one since the epoch that was written before: without a carrier there, a pair
-    /// has none.
+    /// A slip is reported only if the previous written epoch has the carrier too: otherwise
+    /// there is no pair that it could spoil.
     pub fn state(&mut self, signal: &Signal) -> (u8, f64) {
         let (place, epoch, before) = (self.place(signal), self.epoch, self.written);
         match &mut self.seen[place] {
@@ -191,24 +191,23 @@ impl Locks {
         }
     }
 
-    /// Marks the epoch that was taken in last as written.
+    /// Marks the current epoch as written.
     pub fn wrote(&mut self) {
         self.written = self.epoch;
     }
 }
 
-/// What the range's rate is worked out from where there is no Doppler.
+/// A carrier in a written epoch, for range rates without Doppler.
 #[derive(Clone, Copy)]
 pub struct Passage {
     pub time: Moment,
-    /// The carrier with the satellite's clock, m.
+    /// The carrier corrected for the satellite's clock, m.
     pub carrier: f64,
-    /// Where the satellite was.
+    /// The satellite's position.
     pub satellite: [f64; 3],
 }
 
-/// By how much a phase ran faster than the satellite went, m/s: the receiver's own motion and
-/// its clock.
+/// Returns the receiver's own part of a range rate, its motion and its clock drift, in m/s.
 pub fn excess(before: &Passage, now: &Passage, range: impl Fn([f64; 3]) -> f64) -> f64 {
     let moved = range(now.satellite) - range(before.satellite);
     let more = (now.carrier - before.carrier - moved) / now.time.since(before.time);
@@ -223,12 +222,12 @@ mod tests {
     use super::super::signals::{chosen, System};
     use super::*;
 
-    /// The states of eight satellites over some epochs, each of which may be changed.
+    /// Returns the states of eight satellites; `change` edits each epoch.
     fn states(epochs: usize, change: impl Fn(usize, &mut Epoch)) -> Vec<Vec<u8>> {
         thinned(epochs, 1, change)
     }
 
-    /// The same where one of so many epochs is written.
+    /// Writes only one of `every` epochs.
     fn thinned(epochs: usize, every: usize, change: impl Fn(usize, &mut Epoch)) -> Vec<Vec<u8>> {
         let bands = chosen(Some("G1"), None).ok().unwrap();
         let wavelength = bands[0].wavelength(0);
@@ -301,7 +300,7 @@ mod tests {
         // Twelve cycles are 2.3 m.
         let one = |i: usize, e: &mut Epoch| add(e, 4, if i >= 2 { 12.0 } else { 0.0 });
         assert_eq!(slips(&states(5, one)), [0, 0, 1, 0, 0]);
-        // A receiver that sets its clock moves all alike.
+        // A step of the receiver's clock moves all carriers alike.
         let all = |i: usize, e: &mut Epoch| {
             (0..8).for_each(|k| add(e, k, if i >= 2 { 1e6 } else { 0.0 }));
         };
@@ -319,11 +318,11 @@ mod tests {
             e.time = e.time.plus(if i >= 3 { 5.0 } else { 0.0 });
         };
         assert_eq!(slips(&states(5, late)), [0, 0, 0, 8, 0]);
-        // Without a carrier at the epoch before there is no pair, and nothing to tell.
+        // Without a carrier in the previous epoch there is no pair.
         let absent =
             |i: usize, e: &mut Epoch| e.signals.retain(|s| i != 2 || s.satellite.number > 1);
         assert_eq!(slips(&states(5, absent)), [0; 5]);
-        // Between two epochs that are written it was lost.
+        // The carrier was lost between two written epochs.
         assert_eq!(slips(&thinned(7, 4, absent)), [0, 1]);
         let lost = |i: usize, e: &mut Epoch| e.signals[1].lost = u8::from(i == 2);
         assert_eq!(slips(&thinned(9, 4, lost)), [0, 1, 0]);
@@ -337,7 +336,7 @@ mod tests {
             satellite: [x, 0.0, 0.0],
         };
         let range = |[x, _, _]: [f64; 3]| x;
-        // The phase ran 2 m/s faster than the satellite went.
+        // The carrier changes by 2 m/s more than the geometry.
         let more = excess(&at(0.0, 0.0, 0.0), &at(10.0, 90.0, 70.0), range);
         assert_eq!(more, 2.0);
     }

@@ -1,4 +1,4 @@
-//! `zaqnuti rinex`: a receiver's own files as the CSV of the other commands.
+//! `zaqnuti rinex`: converts RINEX files to the CSV of the other commands.
 
 mod ephemeris;
 mod head;
@@ -48,35 +48,35 @@ whose ephemeris is missing, too old or unhealthy.
 
 const VALUED: [&str; 5] = ["--at", "--systems", "--band", "--every", "-o"];
 
-/// Klobuchar's numbers of 2004-01-01, for files that have none.
+/// The Klobuchar parameters of 2004-01-01, used if no file has any.
 const OF_2004: [f64; 8] = [
     0.1118e-7, -0.7451e-8, -0.5961e-7, 0.1192e-6, 0.1167e6, -0.2294e6, -0.1311e6, 0.1049e7,
 ];
 
-/// Klobuchar's numbers, if models are wanted; where no file has any, those of another day.
+/// Returns the Klobuchar parameters, unless `--no-models` is given.
 fn models(args: &Args, ephemerides: &Ephemerides) -> Models {
     match (args.has("--no-models"), ephemerides.klobuchar) {
         (true, _) => None,
         (false, Some(numbers)) => Some(numbers),
         (false, None) => {
-            tell("no navigation file has the numbers of the ionosphere; those of 2004-01-01 count");
+            tell("no navigation file has ionosphere parameters; those of 2004-01-01 are used");
             Some(OF_2004)
         }
     }
 }
 
-/// Writes a line for each signal; true where no epoch is left out.
+/// Writes a line for each signal. Returns whether every epoch was written.
 pub fn run(words: &[String]) -> Run<bool> {
     let args = Args::parse(words, &VALUED, &["--no-models"])?;
     let [path, navigation @ ..] = args.files.as_slice() else {
-        return said("OBS: an observation file is wanted; see --help");
+        return said("OBS: an observation file is needed; see --help");
     };
     if navigation.is_empty() {
-        return said("NAV: a navigation file is wanted behind the observations; see --help");
+        return said("NAV: a navigation file is needed after the observations; see --help");
     }
     let every = args.float("--every", 0.0)?;
     if !(0.0..1e6).contains(&every) {
-        return said("--every: is not a number of seconds");
+        return said("--every: not a number of seconds");
     }
     let bands = signals::chosen(args.value("--band"), args.value("--systems"))?;
     let ephemerides = Ephemerides::read(navigation)?;
@@ -93,7 +93,7 @@ pub fn run(words: &[String]) -> Run<bool> {
     let mut last: Option<Moment> = None;
     while file.next(&mut epoch)? {
         runner.take(&file, &epoch);
-        // A receiver's epochs may be some milliseconds early.
+        // Receivers' epochs may be a few milliseconds early.
         if last.is_some_and(|last| epoch.time.since(last) < every - 0.01) {
             continue;
         }
@@ -106,7 +106,7 @@ pub fn run(words: &[String]) -> Run<bool> {
     Ok(whole)
 }
 
-/// Writes some lines, each with its end, if there are any.
+/// Writes complete lines, if there are any.
 fn put(out: &mut Output, lines: &str) -> Run<()> {
     match lines.strip_suffix('\n') {
         Some(lines) => out.line(lines),

@@ -1,4 +1,4 @@
-//! RINEX navigation files, versions 2 and 3: orbits, clocks and Klobuchar's numbers.
+//! RINEX navigation files, versions 2 and 3: ephemerides and Klobuchar parameters.
 
 use crate::atmosphere::Klobuchar;
 use crate::fault::Run;
@@ -10,7 +10,7 @@ use super::record::Record;
 use super::signals::{Band, Satellite, System};
 use super::time::Moment;
 
-/// How far from its reference time an ephemeris is used, s.
+/// The greatest age of a usable ephemeris, before or after its reference time, s.
 fn span(system: System) -> f64 {
     match system {
         System::Gps => 7_201.0,
@@ -23,23 +23,23 @@ fn span(system: System) -> f64 {
 /// The ephemerides of all files, by satellite.
 pub struct Ephemerides {
     by_satellite: Vec<Vec<Ephemeris>>,
-    /// GPS's own numbers of the ionosphere.
+    /// The Klobuchar parameters broadcast by GPS.
     pub klobuchar: Option<Klobuchar>,
 }
 
-/// Why a satellite has no place.
+/// Why a satellite has no usable ephemeris.
 #[derive(Clone, Copy, Debug, PartialEq)]
 pub enum Lack {
-    /// No ephemeris of it is there.
+    /// It has none.
     None,
-    /// None is near enough in time.
+    /// All are too far away in time.
     Old,
-    /// It says that it must not be used.
+    /// The nearest says that the satellite is unhealthy.
     Unhealthy,
 }
 
 impl Ephemerides {
-    /// Those of some files.
+    /// Reads navigation files.
     pub fn read(paths: &[String]) -> Run<Self> {
         Self::of(paths.iter().map(|path| Lines::open(path)))
     }
@@ -77,12 +77,15 @@ impl Ephemerides {
         let version = Version::read(lines)?;
         let known = match (version.major(), version.kind) {
             (2, b'N' | b'G') | (3, b'N') => true,
-            (_, b'O') => return Err(lines.fault("is an observation file; it comes first, alone")),
+            (_, b'O') => {
+                return Err(lines
+                    .fault("an observation file; navigation files are expected after the first"))
+            }
             _ => false,
         };
         if !known {
-            let why = "is none of the navigation files that are read: GPS or GLONASS of version \
-                2, any of version 3";
+            let why = "unsupported navigation file: GPS and GLONASS of version 2 and all of \
+                version 3 are read";
             return Err(lines.fault(why));
         }
         let mut numbers: [Option<[f64; 4]>; 2] = [None; 2];
@@ -108,7 +111,7 @@ impl Ephemerides {
         Ok(version)
     }
 
-    /// The ephemeris of a satellite that is nearest to a time, for a signal.
+    /// Returns a satellite's ephemeris nearest to a time.
     pub fn nearest(&self, of: Satellite, band: &Band, time: Moment) -> Result<&Ephemeris, Lack> {
         let list = &self.by_satellite[of.place()];
         let age = |e: &Ephemeris| time.since(e.toe).abs();
@@ -121,7 +124,7 @@ impl Ephemerides {
             let nearest = both.min_by(|a, b| age(a).total_cmp(&age(b)))?;
             (age(nearest) <= span(of.system)).then_some(nearest)
         };
-        // A clock of Galileo goes with the signals that it was made of.
+        // F/NAV clocks are for E5a, I/NAV clocks for E1 and E5b.
         let own = match of.system {
             System::Galileo => best(Some(band.digit == b'5')),
             _ => None,
@@ -134,7 +137,7 @@ impl Ephemerides {
         }
     }
 
-    /// The channel of a GLONASS satellite, if some ephemeris of it has it.
+    /// Returns the channel of a GLONASS satellite, if it has an ephemeris.
     pub fn channel(&self, of: Satellite) -> Option<i8> {
         self.by_satellite[of.place()].first().map(|e| e.channel)
     }
@@ -171,7 +174,7 @@ mod tests {
         Satellite { system, number }
     }
 
-    /// The distance of a satellite from a place, and of its velocity from another, at a time.
+    /// Returns the errors of a satellite's position, velocity and clock against given values.
     fn misses(text: &str, name: &str, at: Moment, numbers: [f64; 7]) -> [f64; 3] {
         let all = read(text).ok().unwrap();
         let found = all.nearest(satellite(name), &band(name), at).unwrap();
@@ -221,7 +224,7 @@ mod tests {
         let all = all.chain(real.map(|(text, name, n)| (text, name, quarter, n)));
         for (text, name, at, numbers) in all {
             let [place, velocity, clock] = misses(text, name, at, numbers);
-            // RTKLIB takes the velocity from two places a millisecond apart.
+            // RTKLIB differences two positions a millisecond apart for the velocity.
             assert!(
                 place < 1e-3 && velocity < 2e-3 && clock < 1e-14,
                 "{name}: {place} {velocity} {clock}"
@@ -231,7 +234,7 @@ mod tests {
 
     #[test]
     fn places_are_near_the_precise_ones() {
-        // ESA's final orbits of 2009-04-01, 00:15; those are of the centre of mass.
+        // ESA's final orbits, 2009-04-01 00:15, which refer to the centre of mass.
         #[rustfmt::skip]
         let precise = [
             (GPS, "G02", [3110000.609, 17655622.266, 19607931.633], 153.949013e-6),
@@ -308,16 +311,60 @@ mod tests {
     fn damage_is_told_by_file_and_line() {
         let lines: Vec<&str> = MADE.lines().collect();
         let cut = |n: usize| lines[..n].join("\n");
-        assert!(said("").contains("text:0: is empty"));
-        assert!(said("hello\n").contains("text:1: is no RINEX file"));
+        assert!(said("").contains("text:0: the file is empty"));
+        assert!(said("hello\n").contains("text:1: not a RINEX file"));
         assert!(said(&cut(3)).contains("text:3: the file ends within the header"));
-        assert!(said(&cut(8)).contains("text:6: the record has too few lines"));
+        assert!(said(&cut(8)).contains("text:6: the record is incomplete"));
         let bad = |from: &str, to: &str| said(&MADE.replacen(from, to, 1));
-        assert!(bad("E01 2021 06", "E01 2021 13").contains("text:14: there is no such date"));
-        assert!(bad("E01 2021", "X01 2021").contains("text:14: no satellite begins"));
+        assert!(bad("E01 2021 06", "E01 2021 13").contains("text:14: no such date"));
+        assert!(bad("E01 2021", "X01 2021").contains("text:14: the line does not begin"));
         assert!(bad("5.440617428197E+03", "5.440617428197E+0x").contains("is not a number"));
-        assert!(bad("5.440617428197E+03", "5.440617428197E+02").contains("no satellite's orbit"));
-        assert!(bad("     3.04 ", "     4.00 ").contains("text:1: this version is not read"));
-        assert!(bad("N: GNSS NAV DATA", "OBSERVATION DATA").contains("is an observation file"));
+        assert!(bad("5.440617428197E+03", "5.440617428197E+02").contains("not the orbit"));
+        assert!(bad("     3.04 ", "     4.00 ").contains("text:1: unsupported version"));
+        assert!(bad("N: GNSS NAV DATA", "OBSERVATION DATA").contains("an observation file"));
+    }
+
+    /// Compares a day of broadcast orbits with ESA's final ones. RTKLIB_SOURCE is the folder of
+    /// the unpacked Debian source package rtklib 2.4.3.
+    #[test]
+    #[ignore = "needs the test data of RTKLIB"]
+    fn a_day_is_near_the_precise_orbits() {
+        let source = std::env::var("RTKLIB_SOURCE").unwrap();
+        let files = [
+            "util/simobs/sim/brdc0910.09n",
+            "test/data/rinex/brdc0910.09g",
+        ];
+        let all = Ephemerides::read(&files.map(|f| format!("{source}/{f}")))
+            .ok()
+            .unwrap();
+        let day = std::fs::read_to_string(format!("{source}/test/data/sp3/esa15253.sp3")).unwrap();
+        let mut at = Moment::of_week(1525, 259_200.0 - 900.0);
+        let mut gaps = [Vec::new(), Vec::new()];
+        for line in day.lines() {
+            if line.starts_with('*') {
+                at = at.plus(900.0);
+            }
+            let Some(name) = line.strip_prefix('P').and_then(|l| l.get(..3)) else {
+                continue;
+            };
+            let Ok(found) = all.nearest(satellite(name), &band(name), at) else {
+                continue;
+            };
+            let km = |i: usize| line[4 + 14 * i..18 + 14 * i].trim().parse::<f64>().unwrap();
+            let place = found.state(at).0.place;
+            let square: f64 = (0..3).map(|i| (place[i] - 1e3 * km(i)).powi(2)).sum();
+            gaps[usize::from(name.starts_with('R'))].push(square.sqrt());
+        }
+        for (name, mut gaps) in ["GPS", "GLONASS"].into_iter().zip(gaps) {
+            let n = gaps.len();
+            let mean = (gaps.iter().map(|g| g * g).sum::<f64>() / n as f64).sqrt();
+            gaps.sort_by(f64::total_cmp);
+            println!(
+                "{name}: {n} places, {mean:.2} m, median {:.2} m, most {:.2} m",
+                gaps[n / 2],
+                gaps[n - 1]
+            );
+            assert!(n > 1_000 && gaps[n / 2] < 5.0);
+        }
     }
 }

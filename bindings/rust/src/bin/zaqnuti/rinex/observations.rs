@@ -12,27 +12,27 @@ use super::time::Moment;
 #[derive(Clone, Copy, Debug, PartialEq)]
 pub struct Signal {
     pub satellite: Satellite,
-    /// The band's place in the list of those that are asked for, and the code within it.
+    /// The index of the band in the list of those selected, and the tracking code.
     pub band: usize,
     pub code: u8,
     /// In m.
     pub pseudorange: f64,
-    /// The carrier's phase in cycles, if there is one, and its loss-of-lock indicator.
+    /// The carrier phase in cycles, if there is one, and its loss-of-lock indicator.
     pub carrier: Option<f64>,
     pub lost: u8,
     /// In Hz, if there is one.
     pub doppler: Option<f64>,
 }
 
-/// What was received at one time.
+/// The signals of one epoch.
 pub struct Epoch {
     pub time: Moment,
-    /// Whether the receiver was without power since the epoch before.
+    /// Whether power failed since the previous epoch.
     pub failed: bool,
     pub signals: Vec<Signal>,
 }
 
-/// An observation file, read as far as an epoch.
+/// An observation file, read epoch by epoch.
 pub struct Observations {
     lines: Lines,
     header: Header,
@@ -42,7 +42,7 @@ pub struct Observations {
     last: Option<Moment>,
 }
 
-/// What an epoch's line says.
+/// The first line of an epoch.
 struct Start {
     time: Moment,
     flag: i64,
@@ -50,14 +50,14 @@ struct Start {
 }
 
 impl Observations {
-    /// Opens a file and reads its header; signals of some bands are asked for.
+    /// Opens a file, reads its header and selects the signals of some bands.
     pub fn open(path: &str, bands: &[Band]) -> Run<Self> {
         let mut lines = Lines::open(path)?;
         let header = Header::read(&mut lines)?;
         let own = |system| picks(&header.kinds[system as usize], system, bands);
         let picks = SYSTEMS.map(own);
         if picks.iter().all(Vec::is_empty) {
-            let why = "the header has no pseudorange of the signals that are asked for";
+            let why = "the header lists no pseudorange of the selected signals";
             return Err(lines.fault(why));
         }
         Ok(Self {
@@ -69,12 +69,12 @@ impl Observations {
         })
     }
 
-    /// Where the receiver is, as the header has it.
+    /// Returns the header's approximate position.
     pub fn place(&self) -> Option<[f64; 3]> {
         self.header.place
     }
 
-    /// The channel of a GLONASS satellite, as the header has it.
+    /// Returns the header's channel of a GLONASS satellite.
     pub fn channel(&self, number: u8) -> Option<i8> {
         self.header
             .channels
@@ -103,13 +103,14 @@ impl Observations {
             };
             let late = self.last.is_some_and(|last| start.time.since(last) <= 0.0);
             if late && start.flag != 6 {
-                let why = "the time is not after that of the epoch before: two recordings in one?";
+                let why =
+                    "the epoch is not later than the previous one: two recordings in one file?";
                 return Err(self.lines.fault(why));
             }
             epoch.signals.clear();
             epoch.failed |= start.flag == 1;
             self.satellites(&start, epoch)?;
-            // Records of slips say again what the indicators say.
+            // Cycle slip records repeat the loss-of-lock indicators.
             if start.flag == 6 {
                 continue;
             }
@@ -124,10 +125,10 @@ impl Observations {
         let lines = &self.lines;
         let three = self.header.version.major() == 3;
         if lines.label() == b"RINEX VERSION / TYPE" {
-            return Err(lines.fault("a second recording begins here; one a file is read"));
+            return Err(lines.fault("a second header begins here: two recordings in one file?"));
         }
         if three && lines.column(0) != b'>' {
-            return Err(lines.fault("no epoch begins here"));
+            return Err(lines.fault("not the first line of an epoch"));
         }
         let (flag, count) = match three {
             true => ((31, 32), (32, 35)),
@@ -137,7 +138,7 @@ impl Observations {
         let count = lines.whole(count.0, count.1, "a number of satellites")?;
         let count = match usize::try_from(count) {
             Ok(count) if (0..=6).contains(&flag) => count,
-            _ => return Err(lines.fault("no epoch begins here")),
+            _ => return Err(lines.fault("not the first line of an epoch")),
         };
         if (2..=5).contains(&flag) {
             self.event(flag, count)?;
@@ -167,25 +168,25 @@ impl Observations {
         };
         match Moment::of_date(date, second, self.header.scale) {
             Some(time) => Ok(time),
-            None => Err(lines.fault("there is no such date")),
+            None => Err(lines.fault("no such date")),
         }
     }
 
     /// Reads the lines of an event.
     fn event(&mut self, flag: i64, count: usize) -> Run<()> {
         if flag == 2 {
-            // From here on the antenna moves.
+            // The antenna starts to move.
             self.header.place = None;
         }
         for _ in 0..count {
             self.lines.wanted("an event")?;
             if !self.header.lasts(&self.lines) {
-                let why = "another antenna, place or list of types begins here; split the file";
+                let why = "the antenna, position or observation types change here; split the file";
                 return Err(self.lines.fault(why));
             }
         }
         match flag {
-            3 => Err(self.lines.fault("another site begins here; split the file")),
+            3 => Err(self.lines.fault("a new site begins here; split the file")),
             _ => Ok(()),
         }
     }
@@ -210,7 +211,7 @@ impl Observations {
             };
             let (set, bit) = (&mut seen[satellite.system as usize], 1 << satellite.number);
             if *set & bit != 0 {
-                let why = "a satellite stands twice in an epoch: two antennas in one file?";
+                let why = "the epoch has this satellite twice: two antennas in one file?";
                 return Err(self.lines.fault(why));
             }
             *set |= bit;
@@ -269,9 +270,7 @@ impl Observations {
                 Ok(Some(Satellite { system, number }))
             }
             (None, Some(_), Some(_)) if other(letter) => Ok(None),
-            _ => Err(self
-                .lines
-                .fault("no satellite is named here; is a line missing?")),
+            _ => Err(self.lines.fault("no satellite here; is a line missing?")),
         }
     }
 

@@ -1,4 +1,4 @@
-//! Where the receiver is: as it is told, as the header has it, or by a fix of the library.
+//! The receiver's position: given, from the header, or a fix by the library.
 
 use zaqnuti::wls::{solve_full, Observation, Settings};
 use zaqnuti::{Ecef, RECORDS};
@@ -10,22 +10,22 @@ use super::lock::median;
 use super::observations::Signal;
 use super::signals::{Band, SYSTEMS};
 
-/// How far a fix may be from the header's place for that to count, m.
+/// The greatest distance of a fix from the header's position at which the latter is used, m.
 const NEAR: f64 = 20.0;
-/// How far a receiver may have moved before directions are worked out anew, m.
+/// The distance over which elevations and delays are taken as constant in a fix, m.
 const SAME: f64 = 100.0;
-/// Between which heights over the ellipsoid a receiver is, m.
+/// Plausible heights above the ellipsoid, m.
 const HEIGHTS: std::ops::Range<f64> = -2_000.0..100_000.0;
-/// By how much a pseudorange may miss the others of its system at least and at most, m.
+/// The bounds of the outlier limit for pseudoranges, m.
 const OFF: (f64, f64) = (30.0, 100.0);
 
-/// One signal with its satellite.
+/// A signal with its satellite's state and modelled delays.
 #[derive(Clone, Copy)]
 pub struct Sight {
     pub signal: Signal,
     pub band: Band,
     pub state: State,
-    /// The satellite's clock, added to ranges, and the group delay of the signal, m.
+    /// The satellite's clock, to be added to ranges, and the signal's group delay, m.
     pub clock: f64,
     pub delay: f64,
     pub channel: i8,
@@ -35,13 +35,13 @@ pub struct Sight {
 }
 
 impl Sight {
-    /// The pseudorange without clock, group delay and models.
+    /// Returns the pseudorange corrected for clock, group delay and models.
     fn range(&self) -> f64 {
         let models = self.ionosphere + self.troposphere;
         self.signal.pseudorange - self.delay + self.clock - models
     }
 
-    /// By how much that misses the geometry.
+    /// Returns the corrected pseudorange minus the geometric range.
     fn miss(&self) -> f64 {
         self.range() - self.to.range
     }
@@ -59,10 +59,10 @@ impl Sight {
     }
 }
 
-/// The models of the atmosphere, if they are wanted.
+/// The Klobuchar parameters, or nothing where delays are not modelled.
 pub type Models = Option<Klobuchar>;
 
-/// Works out directions and delays over a place.
+/// Computes directions and delays at a position.
 pub fn look(sights: &mut [Sight], sky: &Sky, models: &Models, second: f64) {
     for sight in sights {
         sight.to = sky.direction(sight.state.place);
@@ -74,22 +74,22 @@ pub fn look(sights: &mut [Sight], sky: &Sky, models: &Models, second: f64) {
     }
 }
 
-/// Why an epoch has no place.
+/// Why an epoch has no position.
 #[derive(Clone, Copy, PartialEq)]
 pub enum Nowhere {
-    /// No fix so far, and nobody says where the receiver is.
+    /// There was no fix so far, and no position is given.
     Unknown,
     /// The fix is not near the ground.
     Aloft,
 }
 
-/// Where the receiver was last, and where it is told to be.
+/// The receiver's positions, epoch by epoch.
 pub struct Places {
-    /// By the option `--at`, which holds throughout.
+    /// The option `--at`, used throughout.
     pub told: Option<[f64; 3]>,
-    /// The place of the sights of the last epoch.
+    /// The sky at the last position.
     sky: Option<Sky>,
-    /// How many epochs were far from the header's place.
+    /// Epochs whose fix is far from the header's position.
     pub away: u64,
     rows: Vec<Observation>,
     settings: Settings,
@@ -110,7 +110,7 @@ impl Places {
         }
     }
 
-    /// A fix from a place; at the earth's centre no elevation is known, and all count as high.
+    /// Computes a fix. Without a starting position, elevations are unknown and taken as 90 degrees.
     fn fix(&mut self, sights: &[Sight], from: Option<[f64; 3]>) -> Option<[f64; 3]> {
         self.rows.clear();
         let rows = sights.iter().map(|s| match from {
@@ -123,8 +123,8 @@ impl Places {
         found.ok().map(|s| s.position.coordinates())
     }
 
-    /// The sky of an epoch, with the directions of its sights. Those whose pseudoranges miss the
-    /// others are taken out; their number comes with it.
+    /// Finds the receiver's position and computes the directions of all sights. Removes sights
+    /// whose pseudoranges disagree with the others, and returns their number too.
     pub fn find(
         &mut self,
         sights: &mut Vec<Sight>,
@@ -152,7 +152,7 @@ impl Places {
         Ok((sky, (before - sights.len()) as u64))
     }
 
-    /// The fix of an epoch, from a guess or from nothing.
+    /// Computes the fix of an epoch, repeating it where it is far from the guess.
     fn fixed(
         &mut self,
         sights: &mut [Sight],
@@ -175,7 +175,8 @@ impl Places {
         fixed
     }
 
-    /// The fix, unless its pseudoranges fit another place better: then one from those that do.
+    /// Returns the fix, unless the pseudoranges fit another position better: then removes the
+    /// outliers there and repeats the fix.
     fn vote(
         &mut self,
         sights: &mut Vec<Sight>,
@@ -191,7 +192,7 @@ impl Places {
         };
         let mut best = fixed.map(|at| (against(at), at));
         for other in others.into_iter().flatten() {
-            // Most epochs have a fix that none speaks against.
+            // Most fixes have no outliers.
             if best.is_some_and(|((n, _), _)| n == 0) {
                 break;
             }
@@ -210,7 +211,7 @@ impl Places {
         again.filter(|a| ground(*a)).or(Some(at))
     }
 
-    /// Takes a place; directions hold as long as it is about the same.
+    /// Moves to a position and computes all directions.
     fn stay(&mut self, at: [f64; 3], sights: &mut [Sight], models: &Models, second: f64) -> Sky {
         let sky = match self.sky {
             Some(sky) if sky.place == at => sky,
@@ -222,13 +223,13 @@ impl Places {
     }
 }
 
-/// Whether a place is near the ground.
+/// Checks that a position is near the ground.
 fn ground(place: [f64; 3]) -> bool {
     HEIGHTS.contains(&Sky::over(place).height())
 }
 
-/// The middle of what the pseudoranges of each system miss their ranges by, and how far one may
-/// be from it: ten times the others' distance, within limits. None of few.
+/// Returns each system's median residual and outlier limit: ten times the robust scale, within
+/// bounds. A system with fewer than three signals has none.
 fn middles(sights: &[Sight]) -> [Option<(f64, f64)>; 4] {
     SYSTEMS.map(|system| {
         let own = sights.iter().filter(|s| s.band.system == system);
@@ -243,13 +244,13 @@ fn middles(sights: &[Sight]) -> [Option<(f64, f64)>; 4] {
     })
 }
 
-/// Whether a pseudorange is far from the middle of its system.
+/// Checks whether a pseudorange is an outlier.
 fn off(sight: &Sight, middles: &[Option<(f64, f64)>; 4]) -> bool {
     let middle = middles[sight.band.system as usize];
     middle.is_some_and(|(m, limit)| (sight.miss() - m).abs() > limit)
 }
 
-/// How many pseudoranges miss the others of their system, and by how much all of them do.
+/// Returns the number of outliers and the sum of the clipped residuals.
 fn missing(sights: &[Sight]) -> (usize, f64) {
     let middles = middles(sights);
     let gap = |s: &Sight| middles[s.band.system as usize].map(|(m, _)| (s.miss() - m).abs());
@@ -258,7 +259,7 @@ fn missing(sights: &[Sight]) -> (usize, f64) {
     (count, gaps.sum())
 }
 
-/// Takes out the signals whose pseudoranges miss those of their system; gives their number.
+/// Removes outliers. Returns their number.
 fn screen(sights: &mut Vec<Sight>) -> u64 {
     let (before, middles) = (sights.len(), middles(sights));
     sights.retain(|s| !off(s, &middles));

@@ -1,4 +1,4 @@
-//! One satellite's lines in a RINEX navigation file.
+//! The records of a RINEX navigation file.
 
 use crate::fault::{said, Run};
 use crate::orbit::{Earth, Glonass, Kepler, State};
@@ -9,21 +9,21 @@ use super::lines::Lines;
 use super::signals::{other, Satellite, System};
 use super::time::{Moment, Scale};
 
-/// The lines of one satellite at one time.
+/// A record: one satellite's ephemeris.
 pub struct Record {
     name: String,
     line: u64,
     letter: u8,
     number: i64,
     time: Moment,
-    /// The numbers behind the date, four of each later line.
+    /// The numbers after the date: three, then four from each line.
     numbers: Vec<f64>,
 }
 
 impl Record {
-    /// Reads the lines of a satellite, of which the first has been read.
+    /// Reads a record whose first line is the current one.
     pub fn read(lines: &mut Lines, version: &Version) -> Run<Self> {
-        // Version 3 has a letter more in front.
+        // Version 3 has one more letter in front.
         let shift = usize::from(version.major() == 3);
         let letter = match (version.major(), version.kind) {
             (3, _) => lines.column(0),
@@ -31,13 +31,13 @@ impl Record {
             _ => b'G',
         };
         if System::of(letter).is_none() && !other(letter) {
-            return Err(lines.fault("no satellite begins this line"));
+            return Err(lines.fault("the line does not begin with a satellite"));
         }
         let number = lines.whole(shift, shift + 2, "the number of a satellite")?;
         let time = date(lines, version, letter)?;
         let (name, line) = (lines.name().to_string(), lines.number());
         let mut numbers = Vec::with_capacity(36);
-        // Columns that are blank count as 0 where a newer version has more of them.
+        // Blank fields count as 0.
         let field = |lines: &Lines, i: usize| {
             let from = 3 + shift + 19 * i;
             lines.float_or_0(from, from + 19, "a number")
@@ -65,18 +65,18 @@ impl Record {
         })
     }
 
-    /// The satellite and what it says, none of a system that is not read.
+    /// Returns the satellite and its ephemeris; nothing for systems that are not supported.
     pub fn ephemeris(&self, version: &Version) -> Run<Option<(Satellite, Ephemeris)>> {
         let Some(system) = System::of(self.letter) else {
             return Ok(None);
         };
         let wanted = if system == System::Glonass { 15 } else { 31 };
         if self.numbers.len() < wanted {
-            return self.wrong("the record has too few lines");
+            return self.wrong("the record is incomplete");
         }
         let number = match u8::try_from(self.number) {
             Ok(number @ 1..=99) => number,
-            _ => return self.wrong("there is no satellite of this number"),
+            _ => return self.wrong("no such satellite"),
         };
         let satellite = Satellite { system, number };
         let ephemeris = match system {
@@ -115,9 +115,9 @@ impl Record {
             second: n(11),
         };
         if !orbit.sound() {
-            return self.wrong("the numbers are no satellite's orbit");
+            return self.wrong("not the orbit of a navigation satellite");
         }
-        // The week may be counted by ten bits, or anew from 2006; the clock's date tells which.
+        // Weeks may be counted modulo 1024 or from 2006; the date of the clock resolves this.
         let behind = if of.system == System::Beidou {
             14.0
         } else {
@@ -126,7 +126,7 @@ impl Record {
         let toe = Moment::of_week(0, orbit.second + behind).near(self.time);
         let (accuracy, health) = (n(23), n(24));
         let source = n(20) as i64;
-        // GPS has the number of the clock's issue there.
+        // For GPS this field is the issue of data, clock.
         let second = if of.system == System::Gps { 0.0 } else { n(26) };
         self.checked(
             Ephemeris {
@@ -155,14 +155,14 @@ impl Record {
             pull: km([5, 9, 13]),
         };
         if !orbit.sound() {
-            return self.wrong("the numbers are no place of a GLONASS satellite");
+            return self.wrong("not the position of a GLONASS satellite");
         }
-        // Some receivers write a channel below 0 by its complement.
+        // Some receivers write negative channels as unsigned bytes.
         let channel = if n(10) > 128.0 { n(10) - 256.0 } else { n(10) };
         if !(-7.0..=6.0).contains(&channel) {
-            return self.wrong("GLONASS has no such channel");
+            return self.wrong("no such GLONASS channel");
         }
-        // From version 3.05 on a fourth line has the delay of the second band; a blank is .999..E9.
+        // Version 3.05 adds the delay of the second band; .999..E9 means unknown.
         let delay = match version.number >= 305 && self.numbers.len() >= 19 {
             true if n(16).abs() < 1e-3 => n(16),
             _ => 0.0,
@@ -182,7 +182,7 @@ impl Record {
         )
     }
 
-    /// Tells of a clock or a group delay that the fields of a message do not hold.
+    /// Checks that the clock and the group delays fit in the fields of the message.
     fn checked(&self, found: Ephemeris, system: System) -> Run<Ephemeris> {
         let [a, b, c] = found.clock.map(f64::abs);
         let (clock, delay) = match system {
@@ -194,12 +194,12 @@ impl Record {
         let sound = a <= clock && b <= 2.0e-8 && c <= 4.0e-15;
         match sound && found.delays.iter().all(|d| d.abs() <= delay) {
             true => Ok(found),
-            false => self.wrong("the numbers are no satellite's clock and delay"),
+            false => self.wrong("not the clock of a navigation satellite"),
         }
     }
 }
 
-/// The date of a record, in its system's time.
+/// Reads the date of a record, in its system's time.
 fn date(lines: &Lines, version: &Version, letter: u8) -> Run<Moment> {
     let three = version.major() == 3;
     // Year, month, day, hour, minute and second.
@@ -222,6 +222,6 @@ fn date(lines: &Lines, version: &Version, letter: u8) -> Run<Moment> {
     };
     match Moment::of_date(whole, second, scale) {
         Some(time) => Ok(time),
-        None => Err(lines.fault("there is no such date")),
+        None => Err(lines.fault("no such date")),
     }
 }

@@ -1,4 +1,4 @@
-//! The lines of a recording, epoch by epoch.
+//! Turns epochs into lines of CSV.
 
 use crate::atmosphere::{Direction, Sky};
 use crate::orbit::LIGHT;
@@ -12,16 +12,16 @@ use super::signals::{Band, Satellite, System};
 use super::time::Moment;
 use super::written::{self, Carrier, Frame};
 
-/// A run over one observation file.
+/// The state of a run over one observation file.
 pub struct Runner {
     bands: Vec<Band>,
     ephemerides: Ephemerides,
     models: Models,
     places: Places,
     locks: Locks,
-    /// The carriers of the last epoch, by satellite and band.
+    /// The carriers of the last written epoch, by satellite and band.
     passages: Vec<Option<Passage>>,
-    /// An epoch with a rate that the next one tells.
+    /// The last epoch, if some of its range rates need the next one.
     pending: Option<Lines>,
     sights: Vec<Sight>,
     left: Left,
@@ -35,7 +35,7 @@ struct Lines {
     lines: Vec<(Sight, Carrier)>,
 }
 
-/// The channel of a satellite: of GLONASS by the header or an ephemeris, of others 0.
+/// Returns a satellite's frequency channel: 0 except for GLONASS.
 fn channel(ephemerides: &Ephemerides, file: &Observations, of: Satellite) -> Option<i8> {
     match of.system {
         System::Glonass => {
@@ -47,7 +47,7 @@ fn channel(ephemerides: &Ephemerides, file: &Observations, of: Satellite) -> Opt
 }
 
 impl Runner {
-    /// Of some bands, with a place of the receiver if one is told.
+    /// Starts a run; `told` is the receiver's position, if it is given.
     pub fn new(
         bands: Vec<Band>,
         ephemerides: Ephemerides,
@@ -68,13 +68,13 @@ impl Runner {
         }
     }
 
-    /// Takes the carriers of an epoch in, written or not.
+    /// Tracks the carriers of an epoch, whether or not it will be written.
     pub fn take(&mut self, file: &Observations, epoch: &Epoch) {
         let channel = |of| channel(&self.ephemerides, file, of);
         self.locks.take(epoch, &self.bands, channel);
     }
 
-    /// The lines that can be written after an epoch.
+    /// Adds an epoch and returns the lines that are complete.
     pub fn lines(&mut self, file: &Observations, epoch: &Epoch) -> &str {
         self.text.clear();
         self.left.epochs += 1;
@@ -90,7 +90,7 @@ impl Runner {
         std::str::from_utf8(&self.text).unwrap_or_default()
     }
 
-    /// The lines that are left at the end.
+    /// Returns the remaining lines at the end.
     pub fn rest(&mut self) -> &str {
         self.text.clear();
         if let Some(pending) = self.pending.take() {
@@ -99,14 +99,14 @@ impl Runner {
         std::str::from_utf8(&self.text).unwrap_or_default()
     }
 
-    /// What was left out.
+    /// Returns what was left out.
     pub fn left(mut self) -> Left {
         self.left.away = self.places.away;
         self.left.jumps = self.locks.jumps();
         self.left
     }
 
-    /// The signal with its satellite, none where that has no ephemeris.
+    /// Computes the satellite of a signal, if it has a usable ephemeris.
     fn sight(&mut self, file: &Observations, time: Moment, signal: Signal) -> Option<Sight> {
         let band = self.bands[signal.band];
         let found = self.ephemerides.nearest(signal.satellite, &band, time);
@@ -135,7 +135,7 @@ impl Runner {
         })
     }
 
-    /// The sky over the receiver, none of an epoch that is left out.
+    /// Finds the receiver's position; nothing if the epoch is left out.
     fn sky(&mut self, file: &Observations, time: Moment, sights: &mut Vec<Sight>) -> Option<Sky> {
         if sights.is_empty() {
             self.left.empty();
@@ -159,7 +159,7 @@ impl Runner {
         }
     }
 
-    /// Works out the lines of an epoch, and writes those before it, and its own if they are whole.
+    /// Computes the lines of an epoch. Writes pending lines, and its own if they are complete.
     fn epoch(&mut self, time: Moment, sky: Sky, sights: &[Sight]) {
         let mut lines = Vec::with_capacity(sights.len());
         for sight in sights {
@@ -184,7 +184,7 @@ impl Runner {
         }
     }
 
-    /// The carrier of a signal, and the rate of its range: by Doppler, or else by the phase.
+    /// Returns a signal's carrier with its range rate: from Doppler, or else from the phase.
     fn carrier(&mut self, time: Moment, sight: &Sight, sky: &Sky) -> Carrier {
         let (state, metres) = self.locks.state(&sight.signal);
         let now = Passage {
@@ -214,7 +214,7 @@ impl Runner {
         }
     }
 
-    /// Adds to a rate of the epoch before what this one tells.
+    /// Completes a range rate of the pending epoch.
     fn tell_before(&mut self, signal: &Signal, more: f64) {
         let same = |s: &Signal| (s.satellite, s.band) == (signal.satellite, signal.band);
         let lines = self.pending.iter_mut().flat_map(|p| &mut p.lines);

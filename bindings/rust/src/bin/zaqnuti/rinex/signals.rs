@@ -1,9 +1,9 @@
-//! The systems and their signals, by RINEX's letters and digits.
+//! Satellite systems, their signals, and RINEX observation codes.
 
 use crate::fault::{said, Run};
 use crate::orbit::LIGHT;
 
-/// A system of satellites.
+/// A satellite system.
 #[derive(Clone, Copy, Debug, PartialEq)]
 pub enum System {
     Gps,
@@ -12,7 +12,7 @@ pub enum System {
     Beidou,
 }
 
-/// All of them.
+/// All supported systems.
 pub const SYSTEMS: [System; 4] = [
     System::Gps,
     System::Glonass,
@@ -51,35 +51,35 @@ pub struct Satellite {
 }
 
 impl Satellite {
-    /// How many places a table by satellite has.
+    /// The length of a table indexed by satellite.
     pub const PLACES: usize = 400;
 
-    /// Its place in a table by satellite.
+    /// Returns the satellite's index in a table.
     pub fn place(self) -> usize {
         self.system as usize * 100 + usize::from(self.number)
     }
 }
 
-/// A system that files may have and that no line is written of: SBAS, QZSS, NavIC.
+/// Checks for systems that are skipped: SBAS, QZSS, NavIC.
 pub fn other(letter: u8) -> bool {
     matches!(letter, b'S' | b'J' | b'I')
 }
 
-/// A band of a system that is asked for.
+/// A frequency band of a system.
 #[derive(Clone, Copy, Debug, PartialEq)]
 pub struct Band {
     pub system: System,
-    /// RINEX's digit.
+    /// The band's digit in RINEX.
     pub digit: u8,
-    /// The frequency in Hz, of GLONASS without its channel.
+    /// The frequency in Hz; for GLONASS that of channel 0.
     frequency: f64,
-    /// How far two channels of GLONASS are apart.
+    /// The spacing of GLONASS channels, Hz.
     spacing: f64,
-    /// The codes in it, those that are taken first in front.
+    /// Its tracking codes, preferred ones first.
     pub codes: &'static [u8],
 }
 
-/// The bands of each system: its letter and digit, the frequency in kHz, and the codes.
+/// All bands: letter and digit, frequency in kHz, codes.
 const BANDS: [(u8, u8, u32, &[u8]); 11] = [
     (b'G', b'1', 1_575_420, b"CSLXPWYMN"),
     (b'G', b'2', 1_227_600, b"LXSCWPYDMN"),
@@ -95,7 +95,7 @@ const BANDS: [(u8, u8, u32, &[u8]); 11] = [
 ];
 
 impl Band {
-    /// The band of a letter and a digit such as G1.
+    /// Returns the band of a name such as G1.
     pub fn of(name: &str) -> Option<Self> {
         let &[letter, digit] = name.as_bytes() else {
             return None;
@@ -115,12 +115,12 @@ impl Band {
         })
     }
 
-    /// The column `band`: the frequency in whole MHz, of GLONASS that of channel 0.
+    /// Returns the column `band`: the frequency in MHz, rounded; for GLONASS that of channel 0.
     pub fn megahertz(&self) -> u32 {
         (self.frequency / 1e6).round() as u32
     }
 
-    /// The frequency in Hz; a channel of GLONASS counts.
+    /// Returns the frequency of a channel in Hz.
     pub fn frequency(&self, channel: i8) -> f64 {
         self.frequency + self.spacing * f64::from(channel)
     }
@@ -130,13 +130,13 @@ impl Band {
         LIGHT / self.frequency(channel)
     }
 
-    /// By how much the ionosphere delays it more than GPS L1.
+    /// Returns the ionospheric delay relative to GPS L1.
     pub fn slowing(&self, channel: i8) -> f64 {
         (1_575_420e3 / self.frequency(channel)).powi(2)
     }
 }
 
-/// The bands that are asked for: those named, or the strongest civil signal of each system.
+/// Parses `--band` and `--systems`. By default, selects the strongest civil signal of each system.
 pub fn chosen(bands: Option<&str>, systems: Option<&str>) -> Run<Vec<Band>> {
     let names = bands.unwrap_or("G1,R1,E1,C2");
     let mut out: Vec<Band> = Vec::new();
@@ -146,7 +146,7 @@ pub fn chosen(bands: Option<&str>, systems: Option<&str>) -> Run<Vec<Band>> {
             return said(format!("--band: {name:?} is none of {}", all.join(", ")));
         };
         if out.contains(&band) {
-            return said(format!("--band: {name} stands twice"));
+            return said(format!("--band: {name} is given twice"));
         }
         out.push(band);
     }
@@ -172,17 +172,17 @@ fn shown(letter: u8, digit: u8) -> String {
     [char::from(letter), char::from(digit)].iter().collect()
 }
 
-/// A type of observation: its kind (C, L, D, S), band and code.
+/// An observation type: its kind (C, L, D, S), band and tracking code.
 #[derive(Clone, Copy, Debug, PartialEq)]
 pub struct Kind {
     pub kind: u8,
     pub band: u8,
-    /// The code, or `*` where RINEX 2 does not say which.
+    /// The tracking code, or `*` where RINEX 2 leaves it open.
     pub code: u8,
 }
 
 impl Kind {
-    /// The type of three letters of RINEX 3. Version 3.02 alone had BeiDou's B1 as band 1.
+    /// Parses a type of RINEX 3. Version 3.02 alone calls BeiDou B1I band 1.
     pub fn of_3(name: &[u8], system: System, version: u32) -> Option<Self> {
         let &[kind, band, code] = name else {
             return None;
@@ -192,7 +192,7 @@ impl Kind {
         Some(Self { kind, band, code })
     }
 
-    /// The type of two letters of RINEX 2. Version 2.12 has letters for the civil codes.
+    /// Parses a type of RINEX 2. Version 2.12 has letters for civil codes.
     pub fn of_2(name: &[u8]) -> Option<Self> {
         let &[kind, band] = name else {
             return None;
@@ -208,7 +208,7 @@ impl Kind {
         }
         let (kind, code) = match kind {
             b'P' => (b'C', b'P'),
-            // The civil code of a band is written by its first name.
+            // C1 and so on are the civil codes.
             b'C' => (b'C', b'*'),
             _ => (kind, b'*'),
         };
@@ -216,10 +216,10 @@ impl Kind {
     }
 }
 
-/// Where the observations of one signal stand in a satellite's row.
+/// The indices of one signal's observations in a satellite's row.
 #[derive(Clone, Copy, Debug, PartialEq)]
 pub struct Pick {
-    /// The band's place in the list of those that are asked for.
+    /// The index of the band in the list of those selected.
     pub band: usize,
     pub code: u8,
     pub pseudorange: usize,
@@ -227,12 +227,12 @@ pub struct Pick {
     pub doppler: Option<usize>,
 }
 
-/// The signals of a system's row, band by band, those that are taken first in front.
+/// Lists a system's selected signals band by band, preferred codes first.
 pub fn picks(kinds: &[Kind], system: System, bands: &[Band]) -> Vec<Pick> {
     let mut out = Vec::new();
     let asked = |b: &(usize, &Band)| b.1.system == system;
     for (place, band) in bands.iter().enumerate().filter(asked) {
-        // In RINEX 2 the civil code is the band's own, the precise one comes behind it.
+        // In RINEX 2 the civil code `*` is preferred to the precise one.
         for code in [b"*", band.codes].concat() {
             let find = |kind: u8| {
                 let fits = |k: &Kind, c: u8| (k.kind, k.band, k.code) == (kind, band.digit, c);

@@ -1,12 +1,12 @@
-//! GPS time, and the dates of RINEX files in it.
+//! GPS time, and conversion of dates to it.
 
-/// The seconds of a day and of a week.
+/// Seconds in a day and in a week.
 const DAY: i64 = 86_400;
 const WEEK: i64 = 604_800;
-/// The day on which GPS time begins, 1980-01-06, counted from 1970-01-01.
+/// The first day of GPS time, 1980-01-06, in days since 1970-01-01.
 const FIRST_DAY: i64 = 3_657;
 
-/// By how much GPS time is ahead of UTC from a date on.
+/// Leap seconds: year, month, and GPS time minus UTC from then on.
 const LEAPS: [(i64, i64, i64); 18] = [
     (1981, 7, 1),
     (1982, 7, 2),
@@ -28,27 +28,27 @@ const LEAPS: [(i64, i64, i64); 18] = [
     (2017, 1, 18),
 ];
 
-/// The clock that a date is read from.
+/// The time system of a date.
 #[derive(Clone, Copy, Debug, PartialEq)]
 pub enum Scale {
-    /// GPS time, which Galileo and QZSS keep too.
+    /// GPS time; Galileo and QZSS agree with it.
     Gps,
-    /// UTC, as GLONASS is written in RINEX.
+    /// UTC, used for GLONASS.
     Utc,
-    /// BeiDou's, 14 s behind GPS time.
+    /// BeiDou time, 14 s behind GPS time.
     Beidou,
 }
 
-/// A moment of GPS time: whole seconds since the start of week 0, and the rest of a second.
+/// GPS time as whole seconds since the start of week 0 and a fraction.
 #[derive(Clone, Copy, Debug, PartialEq)]
 pub struct Moment {
     seconds: i64,
     rest: f64,
 }
 
-/// The day of a date, counted from 1970-01-01.
+/// Returns the number of days since 1970-01-01.
 fn day(year: i64, month: i64, day: i64) -> i64 {
-    // Years that begin in March have their leap day at the end.
+    // Counting years from March puts the leap day at the end.
     let year = if month <= 2 { year - 1 } else { year };
     let (era, of_era) = (year.div_euclid(400), year.rem_euclid(400));
     let of_year = (153 * ((month + 9) % 12) + 2) / 5 + day - 1;
@@ -56,19 +56,19 @@ fn day(year: i64, month: i64, day: i64) -> i64 {
 }
 
 impl Moment {
-    /// A second since the start of week 0 and what comes on top of it.
+    /// Adds seconds to a whole second since the start of week 0.
     pub fn new(seconds: i64, rest: f64) -> Self {
         let whole = rest.floor();
         let (seconds, rest) = (seconds + whole as i64, rest - whole);
         Self { seconds, rest }
     }
 
-    /// A second of a GPS week.
+    /// Returns a second of a GPS week.
     pub fn of_week(week: i64, second: f64) -> Self {
         Self::new(week * WEEK, second)
     }
 
-    /// The moment of year, month, day, hour, minute and a second; none where there is no such date.
+    /// The moment of year, month, day, hour, minute and a second; nothing if there is no such date.
     pub fn of_date(date: [i64; 5], second: f64, scale: Scale) -> Option<Self> {
         let [year, month, mday, hour, minute] = date;
         let fits = (1980..=2200).contains(&year)
@@ -94,37 +94,37 @@ impl Moment {
         Some(Self::new(seconds + ahead, second))
     }
 
-    /// Seconds from another moment to this one.
+    /// Returns the seconds since another time.
     pub fn since(self, other: Self) -> f64 {
         (self.seconds - other.seconds) as f64 + (self.rest - other.rest)
     }
 
-    /// The moment so many seconds later.
+    /// Returns the time some seconds later.
     pub fn plus(self, seconds: f64) -> Self {
         Self::new(self.seconds, self.rest + seconds)
     }
 
-    /// The GPS week, and the time within it in units of 100 ns, as RINEX writes times.
+    /// Returns the GPS week and the time of week in units of 100 ns, RINEX's resolution.
     pub fn ticks(self) -> (i64, i64) {
         let ticks = self.seconds * 10_000_000 + (self.rest * 1e7).round() as i64;
         let week = WEEK * 10_000_000;
         (ticks.div_euclid(week), ticks.rem_euclid(week))
     }
 
-    /// The second of the GPS week.
+    /// Returns the time of week in s.
     pub fn second_of_week(self) -> f64 {
         self.seconds.rem_euclid(WEEK) as f64 + self.rest
     }
 
-    /// The same second of a week in that week which brings it nearest to another moment: the
-    /// weeks of navigation files are counted anew now and then.
+    /// Moves the time by whole weeks to be nearest to another: week numbers in navigation files
+    /// may have rolled over.
     pub fn near(self, other: Self) -> Self {
         let weeks = (other.since(self) / WEEK as f64).round() as i64;
         Self::new(self.seconds + weeks * WEEK, self.rest)
     }
 }
 
-/// By how much GPS time is ahead of UTC on a day counted from 1970-01-01.
+/// Returns GPS time minus UTC on a day, given as days since 1970-01-01.
 fn leap(today: i64) -> i64 {
     let begun = |(year, month, _): &&(i64, i64, i64)| day(*year, *month, 1) <= today;
     LEAPS
@@ -146,10 +146,10 @@ mod tests {
     fn weeks_begin_where_gps_time_says() {
         let first = date(1980, 1, 6, Scale::Gps).unwrap();
         assert_eq!(first.ticks(), (0, 0));
-        // The hour of GEONET: a Saturday of week 1316.
+        // The recording of GEONET begins on a Saturday.
         let hour = date(2005, 4, 2, Scale::Gps).unwrap();
         assert_eq!(hour.ticks(), (1316, 518_400 * 10_000_000));
-        // The counts of ten bits began anew on these days.
+        // Ten-bit week numbers rolled over on these days.
         assert_eq!(date(1999, 8, 22, Scale::Gps).unwrap().ticks(), (1024, 0));
         assert_eq!(date(2019, 4, 7, Scale::Gps).unwrap().ticks(), (2048, 0));
     }

@@ -1,15 +1,15 @@
-//! A line of CSV for each signal, its decimals written without detours.
+//! Fast output of CSV lines.
 
 use crate::atmosphere::Sky;
 
 use super::place::Sight;
 use super::time::Moment;
 
-/// The columns, in this order.
+/// The header line.
 pub const HEADER: &str = "week,tow,constellation,svid,band,pseudorange,carrier,state,\
     x,y,z,vx,vy,vz,clock,modelled,ionosphere,elevation,rate,rx,ry,rz";
 
-/// Puts the digits of a number in front of a place, at least so many; gives where they begin.
+/// Writes the digits of a number before index `at`, padded to `least`. Returns where they begin.
 fn digits(buffer: &mut [u8; 24], mut at: usize, mut n: u64, least: usize) -> usize {
     let stop = at - least;
     while n >= 100 || at >= stop + 2 {
@@ -34,7 +34,7 @@ fn whole(out: &mut Vec<u8>, n: u64) {
     out.extend_from_slice(&buffer[start..]);
 }
 
-/// Appends a number with so many places behind the point, `NaN` where it is none.
+/// Appends a number with a fixed number of decimal places, or `NaN`.
 pub fn fixed(out: &mut Vec<u8>, x: f64, places: usize) {
     const TENS: [u32; 6] = [1, 10, 100, 1_000, 10_000, 100_000];
     let scaled = x * f64::from(TENS[places]);
@@ -42,7 +42,7 @@ pub fn fixed(out: &mut Vec<u8>, x: f64, places: usize) {
         out.extend_from_slice(b"NaN");
         return;
     }
-    // Below that the half is exact enough, and a cast goes towards 0.
+    // Adding a half and truncating rounds to nearest.
     let n = (scaled.abs() + 0.5) as u64;
     let tens = u64::from(TENS[places]);
     let mut buffer = [0; 24];
@@ -56,7 +56,7 @@ pub fn fixed(out: &mut Vec<u8>, x: f64, places: usize) {
     out.extend_from_slice(&buffer[start..]);
 }
 
-/// Appends the time: the week and the second in it, without zeros at the end.
+/// Appends week and time of week, without trailing zeros.
 fn time(out: &mut Vec<u8>, at: Moment) {
     let (week, ticks) = at.ticks();
     whole(out, week.unsigned_abs());
@@ -73,14 +73,14 @@ fn time(out: &mut Vec<u8>, at: Moment) {
     });
 }
 
-/// What all lines of an epoch have: the time in front, and the receiver's place at the end.
+/// The fields that all lines of an epoch share: the time, and the receiver's position.
 pub struct Frame {
     time: Vec<u8>,
     place: Vec<u8>,
 }
 
 impl Frame {
-    /// That of a time and a place.
+    /// Formats a time and a position.
     pub fn new(at: Moment, sky: &Sky) -> Self {
         let (mut front, mut place) = (Vec::new(), Vec::new());
         time(&mut front, at);
@@ -93,11 +93,11 @@ impl Frame {
     }
 }
 
-/// What a line has besides the sight.
+/// The carrier fields of a line.
 pub struct Carrier {
     pub metres: f64,
     pub state: u8,
-    /// The rate of the range, and whether the receiver's own motion is in it.
+    /// The range rate, and whether it includes the receiver's motion.
     pub rate: f64,
     pub known: bool,
 }
@@ -134,7 +134,7 @@ pub fn line(out: &mut Vec<u8>, frame: &Frame, sight: &Sight, carrier: &Carrier) 
     out.extend_from_slice(&frame.place);
 }
 
-/// Appends numbers, each behind a comma.
+/// Appends numbers, each after a comma.
 fn floats(out: &mut Vec<u8>, numbers: &[f64], places: usize) {
     for x in numbers {
         out.push(b',');
@@ -167,7 +167,7 @@ mod tests {
         fixed(&mut out, 1e300, 4);
         assert_eq!(out, b"NaNNaN");
         out.clear();
-        // Zero bears no sign.
+        // Zero has no sign.
         fixed(&mut out, -0.00004, 4);
         assert_eq!(out, b"0.0000");
     }
