@@ -416,3 +416,27 @@ fn a_recording_that_is_cut_anywhere_ends_with_a_word() {
         }
     }
 }
+
+#[test]
+fn the_page_shows_what_is_written() {
+    let root = Path::new(env!("CARGO_MANIFEST_DIR")).join("../..");
+    let page = fs::read_to_string(root.join("docs/RINEX.md")).unwrap();
+    let programs = Path::new(COMMAND).parent().unwrap().display();
+    let path = format!("{programs}:{}", std::env::var("PATH").unwrap());
+    let mut shown = 0;
+    for block in page.split("\n\n") {
+        let Some((command, want)) = block
+            .strip_prefix("    $ ")
+            .and_then(|b| b.split_once('\n'))
+        else {
+            continue;
+        };
+        let mut shell = Command::new("sh");
+        shell.args(["-c", command]).env("PATH", &path);
+        let out = shell.current_dir(&root).output().unwrap();
+        let lines: Vec<&str> = want.lines().map(str::trim_start).collect();
+        assert_eq!(text(&out.stdout).trim_end(), lines.join("\n"), "{command}");
+        shown += 1;
+    }
+    assert_eq!(shown, 2);
+}

@@ -26,24 +26,24 @@ use runner::Runner;
 use time::Moment;
 
 pub const HELP: &str = "\
-zaqnuti rinex [OPTIONS] OBS NAV..: a receiver's own files as CSV for the other commands
+zaqnuti rinex [OPTIONS] OBS NAV..: a receiver's RINEX files as CSV for the other commands
 
-OBS is a RINEX observation file, each NAV a navigation file, of versions 2.00 to
-3.05; gzip may have packed them. A line is written for each signal: the satellite
-by its broadcast orbit, its clock, the delays, the elevation, and where the
-receiver is. GPS, GLONASS, Galileo and BeiDou are read.
+OBS is an observation file, NAV.. are its navigation files, of RINEX 2.00 to 3.05,
+plain or compressed by gzip. Writes a line for each signal of GPS, GLONASS, Galileo
+and BeiDou: the satellite's position, velocity and clock by its broadcast ephemeris,
+modelled delays, elevation, range rate, and the receiver's position.
 
-  --at X,Y,Z          where the receiver stands, m [the header's place while the
-                      epoch's own fix is within 20 m of it, else that fix]
+  --at X,Y,Z          the receiver's position, m [the header's if the epoch's fix is
+                      within 20 m of it, else that fix]
   --systems LETTERS   of G, R, E, C [GREC]
   --band LIST         of G1, G2, G5, R1, R2, E1, E5, E7, C2, C7, C6 [G1,R1,E1,C2]
-  --every SECONDS     epochs that are nearer to the one before are left out
-  --no-models         no ionosphere, no troposphere
+  --every SECONDS     the least time between two epochs written [0]
+  --no-models         no ionosphere and no troposphere
   -o FILE             where it goes, whole or not at all [standard output]
   --help
 
-What is left out is told on standard error: epochs, with status 1, and signals
-whose ephemeris is missing, too old or unhealthy.
+Signals without a healthy, recent ephemeris, and outliers, are left out and counted
+on standard error. Exit status 1: epochs were left out.
 ";
 
 const VALUED: [&str; 5] = ["--at", "--systems", "--band", "--every", "-o"];

@@ -68,7 +68,7 @@ impl Moment {
         Self::new(week * WEEK, second)
     }
 
-    /// The moment of year, month, day, hour, minute and a second; nothing if there is no such date.
+    /// Converts year, month, day, hour, minute and second; nothing if there is no such date.
     pub fn of_date(date: [i64; 5], second: f64, scale: Scale) -> Option<Self> {
         let [year, month, mday, hour, minute] = date;
         let fits = (1980..=2200).contains(&year)
