@@ -1,7 +1,7 @@
 # make            ./run: proves, builds, and says where things are
 # make test       ./test: the gate
-# make install    [PREFIX=/usr/local] [DESTDIR=]: headers, archive, zaqnuti.pc, the program displacement, manual pages,
-#                 licences, the kit's identity, checksums
+# make install    [PREFIX=/usr/local] [DESTDIR=]: headers, archive, zaqnuti.pc, the program displacement, the command zaqnuti where
+#                 it has been built (cargo build --release in bindings/rust), manual pages, licences, the kit's identity, checksums
 # make uninstall  removes what that has put there
 # make dist       target/dist/zaqnuti-VERSION-x86_64-linux.tar.gz: the same tree, which works wherever it is unpacked; with the
 #                 archive for ARM boxes in lib/aarch64 where `make arm` has made it of the sources as they are
@@ -23,12 +23,14 @@ version := $(shell sed -n 's/.*ZAQNUTI_VERSION "\(.*\)"/\1/p' include/zaqnuti.h)
 name = zaqnuti-$(version)-x86_64-linux
 archive = target/staticlib/libzaqnuti.a
 program = target/bin/displacement
+# The command, where cargo has built it.
+command := $(wildcard bindings/rust/target/release/zaqnuti)
 to = $(DESTDIR)$(PREFIX)
 doc = share/doc/zaqnuti
 papers = LICENSE-MIT LICENSE-APACHE NOTICE KIT CHANGELOG.md docs/REFUSALS.md docs/LINE_FORM.md docs/TRUST.md \
 	examples/easy.c examples/firmware.c
 installed = include/zaqnuti.h include/zaqnuti_easy.h lib/libzaqnuti.a lib/pkgconfig/zaqnuti.pc bin/displacement \
-	share/man/man1/displacement.1 share/man/man3/zaqnuti.3 $(addprefix $(doc)/,$(notdir $(papers))) $(ARM)
+	$(if $(command),bin/zaqnuti) share/man/man1/displacement.1 share/man/man1/zaqnuti.1 share/man/man3/zaqnuti.3 $(addprefix $(doc)/,$(notdir $(papers))) $(ARM)
 
 .PHONY: all test install uninstall dist arm arm-test clean
 
@@ -46,9 +48,10 @@ install: $(archive) $(program)
 	$(INSTALL) -d '$(to)/include' '$(to)/lib/pkgconfig' '$(to)/bin' '$(to)/share/man/man1' '$(to)/share/man/man3' '$(to)/$(doc)'
 	$(INSTALL) -m 644 include/zaqnuti.h include/zaqnuti_easy.h '$(to)/include'
 	$(INSTALL) -m 644 $(archive) '$(to)/lib'
-	$(INSTALL) -m 755 $(program) '$(to)/bin'
+	$(INSTALL) -m 755 $(program) $(command) '$(to)/bin'
 	sed -e 's|@PREFIX@|$(PC_PREFIX)|' -e 's|@VERSION@|$(version)|' packaging/zaqnuti.pc.in >'$(to)/lib/pkgconfig/zaqnuti.pc'
 	sed 's|@VERSION@|$(version)|' packaging/displacement.1 >'$(to)/share/man/man1/displacement.1'
+	sed 's|@VERSION@|$(version)|' packaging/zaqnuti.1 >'$(to)/share/man/man1/zaqnuti.1'
 	sed 's|@VERSION@|$(version)|' packaging/zaqnuti.3 >'$(to)/share/man/man3/zaqnuti.3'
 	$(INSTALL) -m 644 $(papers) '$(to)/$(doc)'
 	$(if $(ARM),$(INSTALL) -d '$(to)/$(dir $(ARM))' && $(INSTALL) -m 644 target/aarch64/libzaqnuti.a '$(to)/$(dir $(ARM))')
@@ -56,7 +59,7 @@ install: $(archive) $(program)
 	@echo "Zaqnuti $(version) is in $(to); '(cd $(to) && sha256sum -c $(doc)/SHA256SUMS)' checks it"
 
 uninstall:
-	cd '$(to)' && rm -f $(installed) $(doc)/SHA256SUMS
+	cd '$(to)' && rm -f $(installed) bin/zaqnuti $(doc)/SHA256SUMS
 	-rmdir '$(to)/$(doc)'
 
 # The times of the files are those of the last commit, so that the same tree gives the same bytes.

@@ -11,7 +11,7 @@ use crate::args::Args;
 use crate::csv::{Column, Table};
 use crate::decimal::{metres, written};
 use crate::epochs::{Epoch, Epochs, Time};
-use crate::fault::{self, said, Run};
+use crate::fault::{said, Run};
 
 pub const HELP: &str = "\
 zaqnuti corrections --base BASE.csv --base-at X,Y,Z [OPTIONS] [ROVER.csv]:
@@ -121,14 +121,14 @@ fn base_reader(table: &Table) -> Run<Reader<Measured>> {
 
 /// Epochs whose times go forward, some of them left out.
 struct Forward<R> {
-    epochs: Epochs<R, Reader<R>>,
+    epochs: Epochs<(), R>,
     every: usize,
     count: usize,
     last: Option<Time>,
 }
 
-impl<R> Forward<R> {
-    fn next(&mut self) -> Run<Option<Epoch<R>>> {
+impl<R: 'static> Forward<R> {
+    fn next(&mut self) -> Run<Option<Epoch<(), R>>> {
         loop {
             let Some(epoch) = self.epochs.next()? else {
                 return Ok(None);
@@ -211,7 +211,7 @@ fn settings(args: &Args) -> Run<Settings> {
 /// A run: the base's epochs still to come, and the table of those before.
 struct Work {
     base: Forward<Measured>,
-    next_base: Option<Epoch<Measured>>,
+    next_base: Option<Epoch<(), Measured>>,
     station: Station,
     answers: Answers,
 }
@@ -236,8 +236,8 @@ impl Work {
                 .station
                 .add_with_room(handed, rover.within(start) - gap);
             if let Err(why) = added {
-                let words = self.answers.refused(why);
-                fault::tell(&format!("the base's epoch {}: {words}", base.time));
+                let what = format!("the base's epoch {}", base.time);
+                self.answers.refused_aside(&what, why);
             }
             self.next_base = self.base.next()?;
         }
@@ -246,7 +246,7 @@ impl Work {
 
     /// Answers the lines of a rover's epoch; times count from the week of `start`, so that no
     /// week's end is seen.
-    fn answer(&mut self, epoch: &Epoch<Asked>, start: Time) -> Run<()> {
+    fn answer(&mut self, epoch: &Epoch<(), Asked>, start: Time) -> Run<()> {
         self.add_around(epoch.time, start)?;
         let tow = epoch.time.within(start);
         let signal = |(constellation, svid, band)| Signal {
@@ -295,7 +295,7 @@ fn begin(args: &Args, header: &str) -> Run<Work> {
     }
     let read = base_reader(&table)?;
     let mut base = Forward {
-        epochs: Epochs::new(table, read)?,
+        epochs: Epochs::of_rows(table, read)?,
         every,
         count: 0,
         last: None,
@@ -326,7 +326,7 @@ pub fn run(words: &[String]) -> Run<bool> {
     let header = format!("{},correction,refusal", table.header());
     let read = rover_reader(&table)?;
     let mut rover = Forward {
-        epochs: Epochs::new(table, read)?,
+        epochs: Epochs::of_rows(table, read)?,
         every: 1,
         count: 0,
         last: None,
