@@ -41,8 +41,9 @@ pub struct Locks {
     /// The last epoch that was written.
     written: u64,
     last: Option<Moment>,
-    /// The shortest interval between two epochs so far.
+    /// The usual interval between two epochs, and how many shorter ones have just been seen.
     interval: f64,
+    shorter: u32,
     /// Buffers for the jumps and their medians.
     sorted: Vec<f64>,
     jumps: Vec<[Option<f64>; 2]>,
@@ -71,6 +72,7 @@ impl Locks {
             written: 0,
             last: None,
             interval: f64::INFINITY,
+            shorter: 0,
             sorted: Vec::new(),
             jumps: Vec::new(),
             untold: 0,
@@ -96,9 +98,7 @@ impl Locks {
         let passed = self.last.map(|last| epoch.time.since(last));
         self.last = Some(epoch.time);
         self.epoch += 1;
-        // Where epochs are missing, the lock may have been lost.
-        let gap = passed.map_or(true, |p| p > 1.5 * self.interval);
-        self.interval = passed.map_or(self.interval, |p| p.min(self.interval));
+        let gap = self.gap(passed);
         let wave = |s: &Signal| channel(s.satellite).map(|c| bands[s.band].wavelength(c));
         let middles = self.measure(epoch, passed.filter(|_| !gap), wave);
         for (i, signal) in epoch.signals.iter().enumerate() {
@@ -138,6 +138,22 @@ impl Locks {
                 _ => self.seen[place],
             };
         }
+    }
+
+    /// Checks whether epochs are missing: then the lock may have been lost.
+    fn gap(&mut self, passed: Option<f64>) -> bool {
+        let Some(passed) = passed else {
+            return true;
+        };
+        // A single short interval, such as that of an event, does not make the others gaps.
+        self.shorter = match passed < 0.67 * self.interval {
+            true => self.shorter + 1,
+            false => 0,
+        };
+        if self.interval.is_infinite() || self.shorter == 3 {
+            self.interval = passed;
+        }
+        passed > 1.5 * self.interval
     }
 
     /// Computes each carrier's jump relative to Doppler and code. Returns the two medians.
@@ -318,6 +334,12 @@ mod tests {
             e.time = e.time.plus(if i >= 3 { 5.0 } else { 0.0 });
         };
         assert_eq!(slips(&states(5, late)), [0, 0, 0, 8, 0]);
+        // One epoch right after another is no reason to call all others late.
+        let early = |i: usize, e: &mut Epoch| {
+            e.time = e.time.plus(if i == 2 { -0.9 } else { 0.0 });
+            e.signals.iter_mut().for_each(|s| s.doppler = None);
+        };
+        assert_eq!(slips(&states(6, early)), [0, 0, 0, 8, 0, 0]);
         // Without a carrier in the previous epoch there is no pair.
         let absent =
             |i: usize, e: &mut Epoch| e.signals.retain(|s| i != 2 || s.satellite.number > 1);
