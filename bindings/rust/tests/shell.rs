@@ -227,6 +227,13 @@ fn corrections() {
     let header = csv.lines().next().unwrap();
     assert!(header.ends_with(",rate,correction,refusal"));
     assert_eq!(csv.lines().count(), 949);
+    // A line without a satellite keeps its place.
+    let tunnel = format!("{}1316,518415{}\n", self::rover(9), ",".repeat(15));
+    let tunnel = fed(&correction(&base, &["--csv"]), tunnel.as_bytes());
+    let last = format!("1316,518415{},,0", ",".repeat(15));
+    assert_eq!(text(&tunnel.stdout).lines().last(), Some(last.as_str()));
+    let fixed = fed(&["fix", "--csv"], &tunnel.stdout);
+    assert!(text(&fixed.stdout).ends_with("1316,518415.0,,,,,,,8\n"));
     let twice = said(&correction(&base, &[&corrected]), b"");
     assert!(twice.ends_with("corrected.csv:1: has a column correction already"));
     let back = format!(

@@ -60,6 +60,15 @@ impl Signals {
         })
     }
 
+    /// The signal of a line, none where it has no satellite.
+    fn read_any(&self, table: &Table) -> Run<Option<(u8, u16, u32)>> {
+        let bare = |column| table.field(column).is_empty();
+        match bare(self.constellation) && bare(self.svid) {
+            true => Ok(None),
+            false => self.read(table).map(Some),
+        }
+    }
+
     fn read(&self, table: &Table) -> Run<(u8, u16, u32)> {
         let band = table.whole_or(self.band, 0)?;
         Ok((
@@ -70,9 +79,9 @@ impl Signals {
     }
 }
 
-/// A line of the rover: its signal, and its text to be given out again.
+/// A line of the rover: its signal, none where it has no satellite, and its text to be written again.
 struct Asked {
-    signal: (u8, u16, u32),
+    signal: Option<(u8, u16, u32)>,
     text: String,
 }
 
@@ -87,7 +96,7 @@ type Reader<R> = Box<dyn FnMut(&Table) -> Run<Option<R>>>;
 fn rover_reader(table: &Table) -> Run<Reader<Asked>> {
     let signals = Signals::of(table)?;
     Ok(Box::new(move |t| {
-        let (signal, text) = (signals.read(t)?, t.text().to_string());
+        let (signal, text) = (signals.read_any(t)?, t.text().to_string());
         Ok(Some(Asked { signal, text }))
     }))
 }
@@ -255,19 +264,34 @@ impl Work {
             band,
             tow,
         };
-        let asked: Vec<Signal> = epoch.rows.iter().map(|a| signal(a.signal)).collect();
+        let asked = epoch.rows.iter().filter_map(|a| a.signal);
+        let asked: Vec<Signal> = asked.map(signal).collect();
         let each = match self.station.table.at_each(&asked) {
             Ok(each) => each,
             Err(why) => vec![Err(why); asked.len()],
         };
-        for (asked, found) in epoch.rows.iter().zip(each) {
-            self.tell(epoch.time, asked, found)?;
+        let mut each = each.into_iter();
+        for asked in &epoch.rows {
+            match asked.signal.and_then(|signal| Some((signal, each.next()?))) {
+                Some((signal, found)) => self.tell(epoch.time, signal, &asked.text, found)?,
+                // A line without a satellite has no correction.
+                None => self.answers.tell(
+                    || format!("{}: no satellite", epoch.time),
+                    || format!("{},,0", asked.text),
+                )?,
+            }
         }
         Ok(())
     }
 
-    fn tell(&mut self, time: Time, asked: &Asked, found: Result<f64, Refusal>) -> Run<()> {
-        let ((constellation, svid, _), text) = (asked.signal, &asked.text);
+    fn tell(
+        &mut self,
+        time: Time,
+        signal: (u8, u16, u32),
+        text: &str,
+        found: Result<f64, Refusal>,
+    ) -> Run<()> {
+        let (constellation, svid, _) = signal;
         match found {
             Ok(x) => self.answers.tell(
                 || format!("{time}, {constellation}/{svid}: {} m", metres(x)),
