@@ -35,18 +35,17 @@ fn whole(out: &mut Vec<u8>, n: u64) {
 }
 
 /// Appends a number with a fixed number of decimal places, or `NaN`.
-pub fn fixed(out: &mut Vec<u8>, x: f64, places: usize) {
-    const TENS: [u32; 6] = [1, 10, 100, 1_000, 10_000, 100_000];
-    let scaled = x * f64::from(TENS[places]);
+fn fixed<const PLACES: u32>(out: &mut Vec<u8>, x: f64) {
+    let tens = const { 10_u64.pow(PLACES) };
+    let scaled = x * tens as f64;
     if scaled.is_nan() || scaled.abs() >= 9e15 {
         out.extend_from_slice(b"NaN");
         return;
     }
     // Adding a half and truncating rounds to nearest.
     let n = (scaled.abs() + 0.5) as u64;
-    let tens = u64::from(TENS[places]);
     let mut buffer = [0; 24];
-    let point = digits(&mut buffer, 24, n % tens, places) - 1;
+    let point = digits(&mut buffer, 24, n % tens, PLACES as usize) - 1;
     buffer[point] = b'.';
     let mut start = digits(&mut buffer, point, n / tens, 1);
     if x < 0.0 && n > 0 {
@@ -86,7 +85,7 @@ impl Frame {
         time(&mut front, at);
         for x in sky.place {
             place.push(b',');
-            fixed(&mut place, x, 4);
+            fixed::<4>(&mut place, x);
         }
         place.push(b'\n');
         Self { time: front, place }
@@ -116,11 +115,11 @@ pub fn line(out: &mut Vec<u8>, frame: &Frame, sight: &Sight, carrier: &Carrier) 
         whole(out, n);
     }
     let ranges = [sight.signal.pseudorange - sight.delay, carrier.metres];
-    floats(out, &ranges, 4);
+    floats::<4>(out, &ranges);
     out.push(b',');
     whole(out, u64::from(carrier.state));
-    floats(out, &sight.state.place, 4);
-    floats(out, &sight.state.velocity, 5);
+    floats::<4>(out, &sight.state.place);
+    floats::<5>(out, &sight.state.velocity);
     let modelled = sight.ionosphere + sight.troposphere;
     let elevation = sight.to.elevation.to_degrees();
     let rest = [
@@ -130,15 +129,15 @@ pub fn line(out: &mut Vec<u8>, frame: &Frame, sight: &Sight, carrier: &Carrier) 
         elevation,
         carrier.rate,
     ];
-    floats(out, &rest, 4);
+    floats::<4>(out, &rest);
     out.extend_from_slice(&frame.place);
 }
 
 /// Appends numbers, each after a comma.
-fn floats(out: &mut Vec<u8>, numbers: &[f64], places: usize) {
+fn floats<const PLACES: u32>(out: &mut Vec<u8>, numbers: &[f64]) {
     for x in numbers {
         out.push(b',');
-        fixed(out, *x, places);
+        fixed::<PLACES>(out, *x);
     }
 }
 
@@ -159,16 +158,16 @@ mod tests {
             1e9,
         ] {
             let mut out = Vec::new();
-            fixed(&mut out, x, 4);
+            fixed::<4>(&mut out, x);
             assert_eq!(out, format!("{x:.4}").as_bytes(), "{x}");
         }
         let mut out = Vec::new();
-        fixed(&mut out, f64::NAN, 4);
-        fixed(&mut out, 1e300, 4);
+        fixed::<4>(&mut out, f64::NAN);
+        fixed::<4>(&mut out, 1e300);
         assert_eq!(out, b"NaNNaN");
         out.clear();
         // Zero has no sign.
-        fixed(&mut out, -0.00004, 4);
+        fixed::<4>(&mut out, -0.00004);
         assert_eq!(out, b"0.0000");
     }
 
