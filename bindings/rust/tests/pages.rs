@@ -48,7 +48,7 @@ fn the_programs_pages_have_every_number_and_command() {
         assert!(page.contains(&format!("\n.IP {number} 4\n")), "{number}");
     }
     let page = read("packaging/zaqnuti.1");
-    let commands = "fix displacement corrections track trip rank encode decode plot";
+    let commands = "fix displacement corrections track trip rank encode decode plot rinex";
     for command in commands.split(' ') {
         let named = page.lines().filter(|line| line.starts_with(".B "));
         let mut words = named.flat_map(|line| line.split([' ', ',', '\\']));

@@ -2,6 +2,7 @@
 
 mod answer;
 mod args;
+mod atmosphere;
 mod carriers;
 mod changes;
 mod corrections;
@@ -23,6 +24,7 @@ mod ledger;
 mod local;
 mod names;
 mod odometer;
+mod orbit;
 mod output;
 mod page;
 mod pairs;
@@ -32,6 +34,7 @@ mod progress;
 mod rank;
 mod rating;
 mod report;
+mod rinex;
 mod series;
 mod svg;
 mod tally;
@@ -57,6 +60,7 @@ zaqnuti COMMAND [OPTIONS] [FILE..]: positioning from decimal CSV with a header l
   encode         CSV as texts of the program displacement
   decode         such texts as CSV
   plot           the path of a drive as a picture (SVG)
+  rinex          a receiver's own files as CSV for the commands above
 
   zaqnuti COMMAND --help   its columns and options
   zaqnuti --version
@@ -106,6 +110,7 @@ fn command(name: &str) -> Option<(Command, Vec<&'static str>)> {
         ),
         "rank" => (rank::run, vec![rank::HELP, fields::ENDING]),
         "plot" => (plot::run, vec![plot::HELP, SHORT_ENDING]),
+        "rinex" => (rinex::run, vec![rinex::HELP]),
         _ => return None,
     })
 }
