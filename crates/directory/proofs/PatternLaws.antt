@@ -1,6 +1,6 @@
 -- A column of patterns and its floats, and the range of a float by its pattern. Assumes nothing.
 use mathlib.Core.Path.{_≡_, refl, sym, ap, ap₂, _∙_}
-use mathlib.Core.List.{List, [], _∷_, map}
+use mathlib.Core.List.{List, [], _∷_, _++_, map, map-append}
 use mathlib.Core.Bool.{Bool, true, false, _&&_, _||_}
 use Prim.Native.Nat.{ℕ, zero, suc, _+_, _%_, _^_, _≤_, _<_}
 use native.Mathlib.Nat.{not-suc-le-zero, le-of-suc-le-suc}
@@ -18,11 +18,12 @@ use Rattle.exact.specs.Pattern.{sign}
 use Rattle.numeric.specs.Order.{isNanPattern, patternOf}
 use Rattle.numeric.specs.Real.{inRange}
 use Rattle.numeric.proofs.OrderMagnitude.{unsigned, infinity, bits-nan, eq-bits, lt-bits, isNanPattern-above}
+use Rattle.numeric.proofs.OrderLaws.{pattern-back, pattern-same}
 use Rattle.numeric.proofs.RealLaws.{between}
 use Rattle.walk.specs.Walk.{every, places}
 use Rattle.walk.proofs.Walk.{places-ext, places-map, places-take}
 use Rattle.table.proofs.TableLaws.{and-left, and-right}
-use Rattle.directory.specs.Directory.{Entry, Reading, blockTimes, entryRows, floats, inOrder, inReach, noEntry, noReading, readingRows, tiles, timely}
+use Rattle.directory.specs.Directory.{Entry, Reading, blockTimes, columnOf, entryRows, floats, inOrder, inReach, noEntry, noReading, readingRows, tiles, timely}
 use Rattle.directory.specs.Passes.{timelyBlocks}
 use Rattle.directory.proofs.ColumnLaws.{entry-at, reading-at, readings-length}
 use Rattle.directory.proofs.SoundLaws.{tile-at, times-at}
@@ -101,8 +102,47 @@ floats-length ts = length-map ts bits
 pub floats-fit : (ts : List ℕ) (i : ℕ) → i < length ts → T (fits binary64 (getD (floats ts) i nan))
 floats-fit ts i h = rw (floats-at ts i h) (ofBits-fits binary64 (getD ts i 0))
 
+-- reading patterns that are no NaNs' and writing the floats gives the patterns
+pub patterns-back : (ts : List ℕ) (n : ℕ) → n ≤ length ts → ((x : ℕ) → getD ts x 0 < 2 ^ 64) → ((x : ℕ) → x < n → isNanPattern (getD ts x 0) ≡ false) → map patternOf (take n (floats ts)) ≡ take n ts
+patterns-back ts zero h b f = refl
+patterns-back [] (suc n) h b f = refl
+patterns-back (t ∷ ts) (suc n) h b f =
+    let at : patternOf (bits t) ≡ t = pattern-same t (b 0) (f 0 (omega arith)) in
+    rw at (ap (λ (l : List ℕ). t ∷ l) (patterns-back ts n (le-of-suc-le-suc h) (λ x. b (suc x)) (λ x l. f (suc x) (omega arith))))
+
+pub T-true : (b : Bool) → T b → b ≡ true
+T-true true t = refl
+T-true false t = absurd t
+
+-- floats that are read from patterns are of their format
+pub floats-fit-all : (ts : List ℕ) (n : ℕ) → every (fits binary64) (take n (floats ts)) ≡ true
+unfolding every
+floats-fit-all ts zero = refl
+floats-fit-all [] (suc n) = refl
+floats-fit-all (t ∷ ts) (suc n) = rw (T-true (fits binary64 (bits t)) (ofBits-fits binary64 t)) (floats-fit-all ts n)
+
+pub map-of : {A B C : Type 0} (g : B → C) (f : A → B) (l : List A) → map (λ (x : A). g (f x)) l ≡ map g (map f l)
+map-of g f [] = refl
+map-of g f (x ∷ l) = rw (map-of g f l)
+
+floats-drop : (k : ℕ) (ts : List ℕ) → floats (drop k ts) ≡ drop k (floats ts)
+floats-drop zero ts = refl
+floats-drop (suc k) [] = refl
+floats-drop (suc k) (t ∷ ts) = floats-drop k ts
+
+written-back : {R : Type 0} (f : R → Float) (l : List R) → every (λ (r : R). fits binary64 (f r)) l ≡ true → map bits (map (λ (r : R). patternOf (f r)) l) ≡ map f l
+unfolding every
+written-back f [] e = refl
+written-back f (r ∷ l) e =
+    let at : bits (patternOf (f r)) ≡ f r = pattern-back (f r) (rw (and-left (fits binary64 (f r)) _ e) tt) in
+    rw at (ap (λ (m : List Float). f r ∷ m) (written-back f l (and-right (fits binary64 (f r)) _ e)))
+
+-- patterns that are written are read back as the floats
+pub floats-column : {R : Type 0} (f : R → Float) (l : List R) (ts : List ℕ) → every (λ (r : R). fits binary64 (f r)) l ≡ true → floats (columnOf (λ (r : R). patternOf (f r)) l ts) ≡ columnOf f l (floats ts)
+floats-column f l ts e = map-append bits (map (λ r. patternOf (f r)) l) (drop (length l) ts) ∙ ap₂ _++_ (written-back f l e) (floats-drop (length l) ts)
+
 -- ---- the blocks of a sound directory
-every-of : {A B : Type 0} (p : B → Bool) (f : A → B) (l : List A) → every p (map f l) ≡ every (λ (x : A). p (f x)) l
+pub every-of : {A B : Type 0} (p : B → Bool) (f : A → B) (l : List A) → every p (map f l) ≡ every (λ (x : A). p (f x)) l
 unfolding every
 every-of p f [] = refl
 every-of p f (x ∷ l) = ap (λ (b : Bool). p (f x) && b) (every-of p f l)
@@ -113,17 +153,28 @@ every-at p [] z i e h = absurd (not-suc-le-zero h)
 every-at p (x ∷ l) z zero e h = and-left (p x) _ e
 every-at p (x ∷ l) z (suc i) e h = every-at p l z i (and-right (p x) _ e) (le-of-suc-le-suc h)
 
--- the first n times that passed the range test are no NaN's patterns
-pub numbers-in : (ts xs : List ℕ) (n : ℕ) → n ≤ length (readingRows (floats ts) (floats xs)) → every inReach (take n (readingRows (floats ts) (floats xs))) ≡ true → (j : ℕ) → j < n → isNanPattern (getD ts j 0) ≡ false
-unfolding inReach
-numbers-in ts xs n h e j l =
-    let z = readings-length (floats ts) (floats xs) in
-    let zt = floats-length ts in
-    let k : length (take n (readingRows (floats ts) (floats xs))) ≡ n = length-take-le n _ h in
-    let r = every-at inReach (take n (readingRows (floats ts) (floats xs))) noReading j e (omega arith) in
-    let at : _≡_ {A = Reading} (record { time = getD (floats ts) j nan; correction = getD (floats xs) j nan }) (getD (take n (readingRows (floats ts) (floats xs))) j noReading) =
-    reading-at (floats ts) (floats xs) j (omega arith) ∙ sym (getD-take n (readingRows (floats ts) (floats xs)) j noReading l) in
-    in-range-number (getD ts j 0) (ap inRange (sym (floats-at ts j (omega arith))) ∙ and-left (inRange (getD (floats ts) j nan)) (inRange (getD (floats xs) j nan)) (ap inReach at ∙ r))
+-- the first n times and corrections that passed the range test are no NaNs' patterns
+module _ (ts xs : List ℕ) (n : ℕ) (h : n ≤ length (readingRows (floats ts) (floats xs))) (e : every inReach (take n (readingRows (floats ts) (floats xs))) ≡ true) (j : ℕ) (l : j < n) where
+  ranges : (inRange (getD (floats ts) j nan) && inRange (getD (floats xs) j nan)) ≡ true
+  unfolding inReach
+  ranges =
+      let k : length (take n (readingRows (floats ts) (floats xs))) ≡ n = length-take-le n _ h in
+      let r = every-at inReach (take n (readingRows (floats ts) (floats xs))) noReading j e (omega arith) in
+      let at : _≡_ {A = Reading} (record { time = getD (floats ts) j nan; correction = getD (floats xs) j nan }) (getD (take n (readingRows (floats ts) (floats xs))) j noReading) =
+      reading-at (floats ts) (floats xs) j (omega arith) ∙ sym (getD-take n (readingRows (floats ts) (floats xs)) j noReading l) in
+      ap inReach at ∙ r
+
+  pub numbers-in : isNanPattern (getD ts j 0) ≡ false
+  numbers-in =
+      let z = readings-length (floats ts) (floats xs) in
+      let zt = floats-length ts in
+      in-range-number (getD ts j 0) (ap inRange (sym (floats-at ts j (omega arith))) ∙ and-left (inRange (getD (floats ts) j nan)) _ ranges)
+
+  pub numbers-of : isNanPattern (getD xs j 0) ≡ false
+  numbers-of =
+      let z = readings-length (floats ts) (floats xs) in
+      let zx = floats-length xs in
+      in-range-number (getD xs j 0) (ap inRange (sym (floats-at xs j (omega arith))) ∙ and-right (inRange (getD (floats ts) j nan)) _ ranges)
 
 module _ (dc dv db df dn : List ℕ) (m : ℕ) (few : m ≤ length (entryRows dc dv db df dn)) (n : ℕ) (tiled : tiles 0 n (take m (entryRows dc dv db df dn)) ≡ true) where
   -- each block lies within the n places
