@@ -9,8 +9,7 @@ use lib.Dec.{T, leb, ltb, eqb}
 use lib.ListN.{length, getD, take, drop, length-map}
 use lib.Seq.{getD-take, length-take-le}
 use lib.IntN.{pos}
-use lib.Ieee.{Float, nan, binary64, fits, le, lt, eq, neg, ofBits, ofInt, below, level}
-use lib.Ieee.Scale.{finite}
+use lib.Ieee.{Float, nan, binary64, fits, le, neg, ofBits, ofInt, below, level}
 use lib.Ieee.Bits.{ofBits-fits}
 use borrow.Author.Tests.{lt-ltb, le-ltb, ltb-true, ltb-false, eq-eqb, ne-eqb, eqb-true, eqb-false, leb-true, leb-false, le-leb, lt-leb}
 use Rattle.exact.specs.Float.{bits}

@@ -2,15 +2,14 @@
 use native.Mathlib.Omega.{arith}
 use mathlib.Core.Path.{_≡_, ap}
 use mathlib.Core.List.{List}
-use Prim.Native.Nat.{ℕ, _+_, _-_, _^_, _≤_, _<_}
-use lib.Dec.{T}
-use lib.Ieee.{Float, binary64, fits, nan}
+use Prim.Native.Nat.{ℕ, _+_, _-_, _≤_, _<_}
+use lib.Ieee.{nan}
 use lib.ListN.{length, getD, take}
 use lib.Seq.{length-take-le}
 use borrow.Author.Needs.{needs}
 use Rattle.table.specs.Table.{blank, lent, signalOf, tableOf}
 use Rattle.table.specs.declared.sample.Sample.{Sample}
-use Rattle.directory.specs.Directory.{Entry, Reading, directoryIn, entryRows, flat, floats, lentBlocks, noEntry, readingRows, signalIn}
+use Rattle.directory.specs.Directory.{Entry, directoryIn, entryRows, flat, floats, lentBlocks, noEntry, readingRows, signalIn}
 use Rattle.directory.proofs.ColumnLaws.{readings-length}
 use Rattle.directory.proofs.PatternLaws.{floats-length}
 use Rattle.addition.proofs.CursorLaws.{cursor-some}

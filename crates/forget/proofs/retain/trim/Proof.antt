@@ -2,17 +2,15 @@
 use native.Mathlib.Omega.{arith}
 use mathlib.Core.Path.{_≡_, _∙_, ap}
 use mathlib.Core.List.{List}
-use mathlib.Core.Bool.{false}
 use Prim.Native.Nat.{ℕ, _+_, _-_, _≤_, _<_}
 use lib.ListN.{length, getD}
 use Rattle.numeric.specs.Order.{isNanPattern}
 use Rattle.directory.specs.Directory.{Blocks, floats, lentBlocks}
-use Rattle.directory.specs.Passes.{Timed}
 use Rattle.directory.proofs.DirectoryLaws.{sound-parts}
 use Rattle.directory.proofs.PatternLaws.{floats-length, numbers-in}
 use Rattle.forget.specs.Retain.{Fit}
 use Rattle.forget.proofs.PatternLaws.{Beyond, beyond-at, beyond-start, beyond-turn, floats-moved}
-use Rattle.forget.proofs.TrimLaws.{Here, Trimming, here, trimming-start, trimming-turn, trimming-count, trimming-end}
+use Rattle.forget.proofs.TrimLaws.{Trimming, here, trimming-start, trimming-turn, trimming-count, trimming-end}
 use Rattle.forget.proofs.retain.trim.Statement.{statement}
 use Rattle.forget.proofs.retain.trim.Tie as tie
 
