@@ -942,8 +942,8 @@ uint8_t zaqnuti_directory_of(
  * was.
  *
  * Refuses by 2 (table_count or blocks above the capacity, or one of the three
- * columns shorter than either) and 4 (a float of the table, or its directory,
- * as in zaqnuti_add_epoch); then the three columns are as they were.
+ * columns shorter than table_count) and 4 (a float of the table, or its
+ * directory, as in zaqnuti_add_epoch); then the three columns are as they were.
  */
 uint8_t zaqnuti_signals_of(
     const uint8_t *block_constellation, zaqnuti_size block_constellation_length,

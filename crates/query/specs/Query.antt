@@ -108,12 +108,7 @@ abbrev pub queryNumber : Correction → ℕ
 queryNumber (Refused r) = numberOf r
 queryNumber (Metres x) = 0
 
--- a lent float afterwards: the correction, and as it was where the query is refused
-abbrev pub metresAfter : Correction → Float → Float
-metresAfter (Refused r) old = old
-metresAfter (Metres x) old = x
-
--- the same of its pattern, to the last bit
+-- the pattern of a lent float afterwards, to the last bit: that of the correction, and as it was where the query is refused
 abbrev pub patternAfter : Correction → ℕ → ℕ
 patternAfter (Refused r) old = old
 patternAfter (Metres x) old = patternOf x
