@@ -8,3 +8,4 @@ pub mod Passes
 pub mod Trials
 pub mod Rounds
 pub mod Answers
+pub mod LaterPasses
