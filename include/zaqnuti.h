@@ -881,8 +881,7 @@ uint8_t zaqnuti_signals_of(
  *
  * The needed part of work is all zero bits after an answer and after 10; under
  * 2 to 6 every bit of it is as it was, and of result under every refusal.
- * Nothing beyond the needed part of result and work is
- * written.
+ * Nothing beyond the needed part of result and work is written.
  * Refuses by 2 (too many, or a column, result or work shorter than the counts
  * need), 3, 4, 6 and 10 (the first pass fails; a later one that fails ends the
  * work and keeps the last good track).
