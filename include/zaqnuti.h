@@ -978,9 +978,9 @@ uint8_t zaqnuti_signals_of(
  *                3 epochs floats, finite
  * work           9 epochs + anchors + links floats
  *
- * The needed part of work is all zero after an answer and after 10; under 2
- * to 6 it is as it was. Nothing beyond the needed part of result and work is
- * written.
+ * The needed part of work is all zero bits after an answer and after 10; under
+ * 2 to 6 every bit of it is as it was, and of result under every refusal.
+ * Nothing beyond the needed part of result and work is written.
  * Refuses by 2 (too many, or a column, result or work shorter than the counts
  * need), 3, 4, 6 and 10 (the first pass fails; a later one that fails ends the
  * work and keeps the last good track).

@@ -71,8 +71,9 @@ fn rusty(text: &str, mark: &str, parameter: impl Fn(&str) -> Vec<String>) -> Sig
 }
 
 /// What a caller lends as doubles and the sources take as their patterns, so that what a refusal leaves is promised to the last bit.
-const PATTERNS: [&str; 10] = [
+const PATTERNS: &[&str] = &[
     "delta",
+    "quality",
     "solution",
     "position",
     "metres",
@@ -82,6 +83,11 @@ const PATTERNS: [&str; 10] = [
     "in_force",
     "table_time",
     "table_metres",
+    "result",
+    "work",
+    "l",
+    "x",
+    "dx",
 ];
 
 fn rattle() -> Signatures {
