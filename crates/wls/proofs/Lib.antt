@@ -10,3 +10,4 @@ pub mod FixCall
 pub mod CountedLaws
 pub mod BeforeLaws
 pub mod QualityBefore
+pub mod ChangeLaws

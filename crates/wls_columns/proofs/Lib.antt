@@ -3,3 +3,4 @@ pub mod ColumnValues
 pub mod FixLaws
 pub mod FixValues
 pub mod StepLaws
+pub mod ChangeLaws
