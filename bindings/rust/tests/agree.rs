@@ -71,8 +71,8 @@ fn rusty(text: &str, mark: &str, parameter: impl Fn(&str) -> Vec<String>) -> Sig
 }
 
 /// What a caller lends as doubles and the sources take as their patterns, so that what a refusal leaves is promised to the last bit.
-const PATTERNS: [&str; 8] = [
-    "delta", "solution", "position", "metres", "seconds", "out", "ned", "in_force",
+const PATTERNS: [&str; 11] = [
+    "delta", "solution", "position", "metres", "seconds", "out", "ned", "in_force", "l", "x", "dx",
 ];
 
 fn rattle() -> Signatures {
