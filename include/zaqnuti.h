@@ -80,8 +80,8 @@
  *     round            8,960
  *     centre             768
  *     geometry           256
- *     factor           1,024
- *     solve              256
+ *     factor           1,536
+ *     solve              512
  *     clocks             256
  *     numbers            256
  */

@@ -61,7 +61,7 @@ rulesAt i x = endRules (unknowns i) (rows i) (sightRules (kept i) x) (chiAt (i .
 abbrev answerAt : Input → List Float → Fix
 answerAt i x = At (solutionAt (unknowns i) (rows i) (chiAt (i .settings) (clocks i) (kept i) x) x)
 
-ended : (i : Input) (s : Solution) → fixOf i ≡ At s → Finished (rulesAt i) (answerAt i) (At s) (fitOf i .end)
+pub ended : (i : Input) (s : Solution) → fixOf i ≡ At s → Finished (rulesAt i) (answerAt i) (At s) (fitOf i .end)
 unfolding fixOf foundOver roundsOf fitOf
 ended i s e =
     let rules = fixRules (i .observations) (i .guess) (i .settings) in

@@ -9,3 +9,4 @@ pub mod FixCall
 pub mod CountedLaws
 pub mod BeforeLaws
 pub mod QualityBefore
+pub mod ChangeLaws
