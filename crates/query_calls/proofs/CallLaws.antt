@@ -20,7 +20,7 @@ use Rattle.query_calls.specs.declared.queries.Asking.the-variants as Ask
 use Rattle.query_calls.proofs.QueriesLaws.{number-at, metres-at, finite-there, each-refused}
 
 -- no refusal has the number 0
-not-zero : (r : Refusal) → numberOf r ≡ 0 → ⊥
+pub not-zero : (r : Refusal) → numberOf r ≡ 0 → ⊥
 not-zero BrokenForm e = omega arith
 not-zero TooMany e = omega arith
 not-zero SettingOutOfRange e = omega arith
