@@ -19,7 +19,6 @@ use Rattle.addition.specs.declared.add.Addition.{Addition}
 use Rattle.differential.specs.Record.{placeInRange, rangeInRange, rangesOf, stateInRange, statesCount, statesOf}
 use Rattle.differential.specs.Raw.{rawsOf}
 use Rattle.differential.specs.Sample.{epochSamples, samplesOf}
-use Rattle.differential.specs.Build.{Owned, callOf}
 use Rattle.differential.specs.AddEpoch.{tooMany, settingsInRange, recordsInRange, epochIn}
 use Rattle.differential.proofs.EpochLaws.{told-nothing}
 use Rattle.differential.specs.declared.record.Range.{Range}
@@ -151,11 +150,3 @@ module _ (m n : ℕ) (l : Blocks) (ts xs : List ℕ) (time : Float) (k : ℕ) (r
       → (number ≡ additionNumber x) × (m′ ≡ entriesNow x m) × (n′ ≡ samplesNow x n)
       → (let o = entryIn m n (blockCapacity l) (directoryIn m n l) time k rc rv rb rp present j sc sv sb sf base rover set in Places o number m m′ n n′ l l′ × PatternsAfter o ts xs ts′ xs′)
   adds-number ts′ xs′ {e = e} {s = s} eb h er sr f t g a (r, i, k) = rw (← entry-added e s (sym eb ∙ h) er sr, ← f, ← t, ← g, r, i, k) (a .1)
-
--- where the lent columns are long enough, an entry is the call of which `calls-build` says what a list of them leaves
-pub entry-call : (h : Owned) (time : Float) (k : ℕ) (rc rv rb : List ℕ) (rp : List Float) (present : Bool) (j : ℕ) (sc sv sb : List ℕ) (sf : List Float) (base rover : Vec3) (set : Settings)
-    → recordsShort k rc rv rb rp (cond present j 0) sc sv sb sf ≡ false
-    → entryIn (h .entries) (h .samples) (blockCapacity (h .columns)) (directoryIn (h .entries) (h .samples) (h .columns)) time k rc rv rb rp present j sc sv sb sf base rover set
-    ≡ callOf base rover set h (record { epoch = epochOf time k rc rv rb rp; states = statesIn present j sc sv sb sf })
-unfolding entryIn
-entry-call h time k rc rv rb rp present j sc sv sb sf base rover set e = rw e

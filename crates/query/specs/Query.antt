@@ -118,6 +118,12 @@ abbrev pub GivesFinite : Correction → Type 0
 GivesFinite (Refused n) = Unit {0}
 GivesFinite (Metres x) = finite x ≡ true
 
+-- the number and the lent pattern afterwards are those of the answer, and the correction given is finite
+pub record Answers (q : Correction) (number metres metres′ : ℕ) : Type 0 where
+  pub number-is : number ≡ queryNumber q
+  pub metres-are : metres′ ≡ patternAfter q metres
+  pub given-finite : GivesFinite q
+
 -- ---- what the contract of the answer says
 
 -- rules 2 to 4 let the directory and the gap pass
@@ -126,3 +132,8 @@ pub record PassedQuery (m n room : ℕ) (d : Directory) (gap : Float) : Type 0 w
   pub few-samples : n ≤ room
   pub in-range : inRange gap ≡ true
   pub steady : soundDirectory d ≡ true
+
+-- rules 2 to 4 let the query pass: its time too is in range, or not finite
+pub record Passes (m n room : ℕ) (d : Directory) (gap t : Float) : Type 0 where
+  pub table : PassedQuery m n room d gap
+  pub time : (inRange t || not (finite t)) ≡ true

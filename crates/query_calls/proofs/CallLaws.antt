@@ -11,7 +11,7 @@ use Rattle.numeric.specs.Refusal.{numberOf}
 use Rattle.numeric.specs.declared.refusal.Refusal.{Refusal}
 use Rattle.numeric.specs.declared.refusal.Refusal.the-variants.{BrokenForm, TooMany, SettingOutOfRange, RecordOutOfRange, BadInterval, BadTrack, TooFewPairs, TooFewRows, TooManySlots, FitFailed, TableFull, NoCorrection, BadTime, QualityNotFinite, OnReceiver, BadTrip, NoDistance, BadDropTime, NotTurned, NotCertified, BrokenRecords}
 use Rattle.directory.specs.Directory.{Directory}
-use Rattle.query.specs.Query.{queryIn, queryNumber, patternAfter, GivesFinite}
+use Rattle.query.specs.Query.{queryIn, queryNumber, patternAfter, GivesFinite, Answers}
 use Rattle.query_calls.specs.Queries.{Reply, refusal, answers, placesShort, queriesIn, askingOf, askingNumber, Replies}
 use Rattle.query.specs.declared.query.Correction.{Correction}
 use Rattle.query.specs.declared.query.Correction.the-variants as Correction
@@ -20,7 +20,7 @@ use Rattle.query_calls.specs.declared.queries.Asking.the-variants as Ask
 use Rattle.query_calls.proofs.QueriesLaws.{number-at, metres-at, finite-there, each-refused}
 
 -- no refusal has the number 0
-not-zero : (r : Refusal) → numberOf r ≡ 0 → ⊥
+pub not-zero : (r : Refusal) → numberOf r ≡ 0 → ⊥
 not-zero BrokenForm e = omega arith
 not-zero TooMany e = omega arith
 not-zero SettingOutOfRange e = omega arith
@@ -72,11 +72,11 @@ module _ (m n room : ℕ) (d : Directory) (gap : Float) (c v b : ℕ) (t : Float
   asked = rw long (either (ltb room m || ltb room n))
 
   pub one-refused : {x : Asking} (r : Refusal) {a : ℕ} (y : ℕ) → x ≡ Asking.Refused r → a ≡ numberOf r → x ≡ askingOf one
-      → (a ≡ queryNumber (queryIn m n room d gap c v b t)) × (y ≡ patternAfter (queryIn m n room d gap c v b t) y) × GivesFinite (queryIn m n room d gap c v b t)
+      → Answers (queryIn m n room d gap c v b t) a y y
   one-refused r y e k′ h =
       let q : queryIn m n room d gap c v b t ≡ Correction.Refused r =
       each-refused m n room d gap (c ∷ []) (v ∷ []) (b ∷ []) (t ∷ []) 1 (k ∷ []) (z ∷ []) asked r (refused-of one r (sym e ∙ h)) c v b t in
-      rw q (k′, refl, tt)
+      rw q (record { number-is = k′; metres-are = refl; given-finite = tt })
 
   module _ {x : Asking} (numbers′ : List ℕ) (metres′ : List ℕ) (e : x ≡ Asking.Answered) (h : (x ≡ askingOf one) × Replies one (askingNumber x) (k ∷ []) (z ∷ []) numbers′ metres′) where
     told : Asking.Answered ≡ askingOf one
@@ -94,15 +94,14 @@ module _ (m n room : ℕ) (d : Directory) (gap : Float) (c v b : ℕ) (t : Float
     finite : GivesFinite (queryIn m n room d gap c v b t)
     finite = finite-there m n room d gap (c ∷ []) (v ∷ []) (b ∷ []) (t ∷ []) 1 (k ∷ []) (z ∷ []) numbers′ metres′ told inside 0 (omega arith)
 
-    pub one-given : (y : ℕ) {p : ℕ} → getD numbers′ 0 0 ≡ 0 → p ≡ getD metres′ 0 0
-        → (getD numbers′ 0 0 ≡ queryNumber (queryIn m n room d gap c v b t)) × (p ≡ patternAfter (queryIn m n room d gap c v b t) y) × GivesFinite (queryIn m n room d gap c v b t)
+    pub one-given : (y : ℕ) {p : ℕ} → getD numbers′ 0 0 ≡ 0 → p ≡ getD metres′ 0 0 → Answers (queryIn m n room d gap c v b t) (getD numbers′ 0 0) y p
     one-given y zero p-is =
         let q = given-metres (queryIn m n room d gap c v b t) z y (sym number-is ∙ zero) in
-        (number-is, p-is ∙ metres-are ∙ q, finite)
+        record { number-is = number-is; metres-are = p-is ∙ metres-are ∙ q; given-finite = finite }
 
     pub one-kept : (y : ℕ) → (getD numbers′ 0 0 ≡ 0 → ⊥)
-        → (getD numbers′ 0 0 ≡ queryNumber (queryIn m n room d gap c v b t)) × (y ≡ patternAfter (queryIn m n room d gap c v b t) y) × GivesFinite (queryIn m n room d gap c v b t)
-    one-kept y ne = (number-is, kept-pattern (queryIn m n room d gap c v b t) y (λ q. ne (number-is ∙ q)), finite)
+        → Answers (queryIn m n room d gap c v b t) (getD numbers′ 0 0) y y
+    one-kept y ne = record { number-is = number-is; metres-are = kept-pattern (queryIn m n room d gap c v b t) y (λ q. ne (number-is ∙ q)); given-finite = finite }
 
 -- x is the answer of the call inside
 pub replies-number : {o : Reply} {x : Asking} {numbers : List ℕ} {metres : List ℕ} {numbers′ : List ℕ} {metres′ : List ℕ} (y : Asking) (number : ℕ) → x ≡ y → number ≡ askingNumber y

@@ -1,7 +1,6 @@
 // The calls as a caller in C or Rust makes them: a number, and in lent memory what is given.
-ghost use mathlib.Core.Path.{_≡_};
 ghost use Rattle.directory.specs.Directory.{lentBlocks, blockCapacity, directoryIn};
-ghost use Rattle.query.specs.Query.{queryIn, queryNumber, patternAfter, GivesFinite};
+ghost use Rattle.query.specs.Query.{queryIn, Answers};
 ghost use Rattle.query_calls.specs.Queries.{queriesIn, Replies};
 use crate::queries::Asking;
 use crate::queries::queries;
@@ -28,8 +27,7 @@ pub fn query_call(
     ensures { λ r. ⌜ (let l = lentBlocks
         (now («block_constellation» .entry)) (now («block_svid» .entry)) (now («block_band» .entry))
         (now («block_first» .entry)) (now («block_samples» .entry)) (now («table_time» .entry)) (now («table_metres» .entry)) in
-        let q = queryIn blocks «table_count» (blockCapacity l) (directoryIn blocks «table_count» l) «max_gap» constellation svid band time in
-        (r ≡ queryNumber q) × (now (metres .exit) ≡ patternAfter q (now (metres .entry))) × GivesFinite q) ⌝ }
+        Answers (queryIn blocks «table_count» (blockCapacity l) (directoryIn blocks «table_count» l) «max_gap» constellation svid band time) r (now (metres .entry)) (now (metres .exit))) ⌝ }
 {
     let cs = [constellation; 1];
     let vs = [svid; 1];

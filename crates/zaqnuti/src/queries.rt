@@ -1,7 +1,6 @@
 // Entry points of the corrections: one query of a directory, and many.
-ghost use mathlib.Core.Path.{_≡_};
 ghost use Rattle.directory.specs.Directory.{lentBlocks, blockCapacity, directoryIn};
-ghost use Rattle.query.specs.Query.{queryIn, queryNumber, patternAfter, GivesFinite};
+ghost use Rattle.query.specs.Query.{queryIn, Answers};
 ghost use Rattle.query_calls.specs.Queries.{queriesIn, Replies};
 use query_calls::calls::queries_call;
 use query_calls::calls::query_call;
@@ -28,8 +27,7 @@ pub extern "C" fn zaqnuti_query(
     ensures { λ r. ⌜ (let l = lentBlocks
         (now («block_constellation» .entry)) (now («block_svid» .entry)) (now («block_band» .entry))
         (now («block_first» .entry)) (now («block_samples» .entry)) (now («table_time» .entry)) (now («table_metres» .entry)) in
-        let q = queryIn blocks «table_count» (blockCapacity l) (directoryIn blocks «table_count» l) «max_gap» constellation svid band time in
-        (r ≡ queryNumber q) × (now (metres .exit) ≡ patternAfter q (now (metres .entry))) × GivesFinite q) ⌝ }
+        Answers (queryIn blocks «table_count» (blockCapacity l) (directoryIn blocks «table_count» l) «max_gap» constellation svid band time) r (now (metres .entry)) (now (metres .exit))) ⌝ }
 {
     query_call(
         block_constellation,
