@@ -71,7 +71,7 @@
  *     forget             512
  *     forms              512
  *     widen_bands        256
- *     smooth             768
+ *     smooth             512
  *     times              256
  *     trip               256
  *     mileage            256
