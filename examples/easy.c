@@ -144,7 +144,7 @@ static int drive(const zaqnuti_solution *solution)
     zaqnuti_epoch epoch[2];
     zaqnuti_gps_time time[2];
     zaqnuti_moved moved = {{0.0, 0.0, 0.0}, 0, 0};
-    zaqnuti_rated rated;
+    zaqnuti_rated rated = {{0.0, 0.0, 0.0}, 0.0, 0.0, 0, 0};
     zaqnuti_size k;
 
     zaqnuti_track_clear(&track, 4);
