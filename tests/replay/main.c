@@ -58,6 +58,7 @@ static const struct kind kinds[] = {
     {21, "since", same_since},
     {22, "between", same_between},
     {30, "city", same_city},
+    {44, "rated", same_rated},
     {23, "widen", same_widen},
     {27, "trip", same_trip},
     {45, "mileage", same_mileage},

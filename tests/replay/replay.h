@@ -71,6 +71,7 @@ bool same_time(struct stored *s);
 bool same_since(struct stored *s);
 bool same_between(struct stored *s);
 bool same_city(struct stored *s);
+bool same_rated(struct stored *s);
 bool same_widen(struct stored *s);
 bool same_forget(struct stored *s);
 bool same_directory(struct stored *s);

@@ -218,6 +218,98 @@ fn a_city_displacement() {
 }
 
 #[test]
+fn a_rated_displacement() {
+    let set = tdcp::Settings {
+        screen: 1e3,
+        ..tdcp::Settings::default()
+    };
+    let rated = |p: &[tdcp::Carrier], c: &[tdcp::Carrier], set: &tdcp::Settings| {
+        tdcp::delta_position_rated(p, c, 1.0, AT, set)
+    };
+    let moved = Ecef::new(AT.x + 3.0, AT.y - 2.0, AT.z + 0.5);
+    let (before, after) = (carriers(30, AT), carriers(30, moved));
+    let well = rated(&before, &after, &set).unwrap();
+    let plain = tdcp::delta_position(&before, &after, 1.0, AT, &set).unwrap();
+    assert_eq!(well.moved, plain);
+    assert!(well.chi < 1.0 && well.pdop > 0.0 && well.pdop < 5.0);
+    assert_eq!(well.predicted_error(), well.pdop * 0.01);
+    assert_eq!(Moved::from(well).displacement, plain.delta);
+    // A slip raises chi and leaves the dilution as it is.
+    let mut slipped = after.clone();
+    slipped[7].adr += 0.45;
+    let slip = rated(&before, &slipped, &set).unwrap();
+    assert!(slip.chi > 1.0 && slip.pdop == well.pdop);
+    assert_eq!(slip.predicted_error(), slip.pdop * slip.chi * 0.01);
+    // Where the displacement is refused, so is the rated one, by the same.
+    let few = rated(&before[..5], &after, &set).unwrap_err();
+    assert_eq!(few, Refusal::TooFewPairs);
+    // Six equal pairs have no dilution, with zero rounds too.
+    let six = vec![before[0]; 6];
+    let none = tdcp::Settings {
+        iterations: 0,
+        ..set
+    };
+    assert_eq!(tdcp::delta_position(&six, &six, 1.0, AT, &none).unwrap().used, 6);
+    assert_eq!(rated(&six, &six, &none).unwrap_err(), Refusal::FitFailed);
+    // A sigma of zero leaves no chi, where no round asks for it.
+    let sigma = tdcp::Settings {
+        sigma_a: 0.0,
+        sigma_b: 0.0,
+        ..none
+    };
+    assert!(tdcp::delta_position(&before, &after, 1.0, AT, &sigma).is_ok());
+    assert_eq!(
+        rated(&before, &after, &sigma).unwrap_err(),
+        Refusal::QualityNotFinite
+    );
+}
+
+#[test]
+fn a_rated_city_displacement() {
+    let set = tdcp::Settings {
+        screen: 1e3,
+        ..tdcp::Settings::default()
+    };
+    let moved = Ecef::new(AT.x + 3.0, AT.y - 2.0, AT.z + 0.5);
+    let sky = |at| {
+        let mut all = carriers(30, at);
+        for (k, c) in all.iter_mut().enumerate() {
+            (c.constellation, c.band) = match k % 5 {
+                0..=2 => (1, 1575),
+                3 => (6, 1575),
+                _ => (3, 1602),
+            };
+        }
+        all
+    };
+    let (before, after) = (sky(AT), sky(moved));
+    let rated = tdcp::city_displacement_rated(&before, &after, 1.0, 1575, AT, &set).unwrap();
+    let certified = |all: &[tdcp::Carrier]| -> Vec<_> {
+        all.iter().copied().filter(|c| c.band == 1575).collect()
+    };
+    let (p, c) = (certified(&before), certified(&after));
+    assert_eq!(
+        rated,
+        tdcp::delta_position_rated(&p, &c, 1.0, AT, &set).unwrap()
+    );
+    assert_eq!(
+        rated.moved,
+        tdcp::city_displacement(&before, &after, 1.0, 1575, AT, &set).unwrap()
+    );
+    let why = tdcp::city_displacement_rated(&before, &after, 1.0, 1176, AT, &set);
+    assert_eq!(why.unwrap_err(), Refusal::TooFewPairs);
+    let gps = |all: &[tdcp::Carrier]| -> Vec<_> {
+        all.iter()
+            .copied()
+            .filter(|c| c.constellation == 1)
+            .collect()
+    };
+    let why =
+        tdcp::city_displacement_rated(&gps(&before), &gps(&after), 1.0, 1575, AT, &set);
+    assert_eq!(why.unwrap_err(), Refusal::NotCertified);
+}
+
+#[test]
 fn times() {
     let at = |week, tow| GpsTime::new(week, tow).unwrap();
     let (before, now) = (at(1316, 604_799.5), at(1317, 0.5));

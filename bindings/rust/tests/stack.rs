@@ -155,13 +155,14 @@ fn epochs() -> (Vec<Carrier>, Vec<Carrier>) {
     (carriers(64, AT), after)
 }
 
-/// A displacement over a second, or between two times.
 /// Which of the displacement's entry points is called.
 #[derive(Clone, Copy)]
 enum Way {
     Plain,
     Between([u64; 2]),
     City(u32),
+    Rated,
+    CityRated(u32),
 }
 
 fn displacement(count: usize, rounds: usize, screen: f64, way: Way) -> usize {
@@ -182,16 +183,16 @@ fn displacement(count: usize, rounds: usize, screen: f64, way: Way) -> usize {
     let (before, after) = epochs();
     let (pf, cf) = (floats(&before), floats(&after));
     let mut constellation: Vec<u8> = before.iter().map(|c| c.constellation).collect();
-    if let Way::City(_) = way {
+    if let Way::City(_) | Way::CityRated(_) = way {
         let both = constellation.iter_mut().enumerate();
         both.for_each(|(k, c)| *c = if k % 2 == 0 { 1 } else { 6 });
     }
     let svid: Vec<u16> = before.iter().map(|c| c.svid).collect();
     let (band, state) = (vec![1575u32; 64], vec![1i32; 64]);
-    let (mut delta, mut counts) = ([0.0; 3], [0; 2]);
+    let (mut delta, mut quality, mut counts) = ([0.0; 3], [0.0; 2], [0; 2]);
     measured(move || {
         macro_rules! call {
-            ($entry:ident, $($apart:expr),+) => {
+            ($entry:ident, $($apart:expr),+; $($quality:expr)?) => {
                 sys::$entry(
                     constellation.as_ptr(),
                     64,
@@ -220,17 +221,22 @@ fn displacement(count: usize, rounds: usize, screen: f64, way: Way) -> usize {
                     &[screen, 0.008, 0.002, 1e-3, 10.0],
                     rounds,
                     &mut delta,
+                    $($quality,)?
                     &mut counts,
                 )
             };
         }
         let frame = top();
-        // SAFETY: each column has its length beside it, and the last two are ours alone.
+        // SAFETY: each column has its length beside it, and what is written is ours alone.
         unsafe {
             match way {
-                Way::Plain => call!(zaqnuti_displacement, 1.0),
-                Way::Between([before, now]) => call!(zaqnuti_displacement_between, before, now),
-                Way::City(chosen) => call!(zaqnuti_city_displacement, 1.0, chosen),
+                Way::Plain => call!(zaqnuti_displacement, 1.0;),
+                Way::Between([before, now]) => call!(zaqnuti_displacement_between, before, now;),
+                Way::City(chosen) => call!(zaqnuti_city_displacement, 1.0, chosen;),
+                Way::Rated => call!(zaqnuti_displacement_rated, 1.0; &mut quality),
+                Way::CityRated(chosen) => {
+                    call!(zaqnuti_city_displacement_rated, 1.0, chosen; &mut quality)
+                }
             }
         };
         frame
@@ -963,6 +969,21 @@ fn no_more_than_the_header_says() {
                 displacement(64, 0, 1e9, Way::City(1575)),
                 displacement(65, 4, 1.0, Way::City(1575)),
                 displacement(64, 4, 1.0, Way::City(1)),
+            ]),
+        ),
+        (
+            "rated",
+            most([
+                displacement(64, 50, 1e9, Way::Rated),
+                displacement(64, 50, 4.0, Way::Rated),
+                displacement(64, 0, 1e9, Way::Rated),
+                displacement(65, 4, 1.0, Way::Rated),
+                displacement(5, 4, 1.0, Way::Rated),
+                displacement(64, 50, 1e9, Way::CityRated(1575)),
+                displacement(64, 50, 4.0, Way::CityRated(1575)),
+                displacement(64, 0, 1e9, Way::CityRated(1575)),
+                displacement(65, 4, 1.0, Way::CityRated(1575)),
+                displacement(64, 4, 1.0, Way::CityRated(1)),
             ]),
         ),
         (

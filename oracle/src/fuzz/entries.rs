@@ -28,6 +28,8 @@ pub const ENTRIES: &[Entry] = &[
     ("displacement", displacement::displacement),
     ("between", displacement::between),
     ("city", displacement::city),
+    ("rated", displacement::rated),
+    ("city_rated", displacement::city_rated),
     ("line", line::line),
     ("read_records", wire::read_records),
     ("write_records", wire::write_records),

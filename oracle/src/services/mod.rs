@@ -16,6 +16,7 @@ mod fix;
 pub mod line;
 pub mod mileage;
 mod order;
+mod rated;
 pub mod rearrange;
 mod root;
 pub mod round;
@@ -85,6 +86,7 @@ pub const KINDS: &[(u64, &str, Make)] = &[
     (28, "drive", drive::vectors),
     (38, "settings", drive::settings_vectors),
     (30, "city", city::vectors),
+    (44, "rated", rated::vectors),
 ];
 
 /// Every service, lowest first.
@@ -110,6 +112,8 @@ pub const SERVICES: &[Service] = &[
     wire_tdcp::SERVICE,
     drive::SERVICE,
     city::SERVICE,
+    rated::SERVICE,
+    rated::CITY,
     fix::SERVICE,
     top::DISPLACEMENT,
     top::FIX,

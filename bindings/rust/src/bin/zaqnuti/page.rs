@@ -3,7 +3,6 @@
 use crate::depots::{Bounds, Depot};
 use crate::epochs::Time;
 use crate::ledger::Driven;
-use crate::rating::UNPROVED;
 use crate::report::kilometres;
 
 const CSS: &str = include_str!("page.css");
@@ -207,7 +206,7 @@ fn footer(period: &str, bounds: Bounds) -> String {
 where odometer and carrier distance differ by at most {difference} %. Library: zaqnuti {version}.</p>\n\
 <p>Millilitres for a kilometre are the depot's fuel by the summed distance of its trips. A trip's distance is its counted \
 carrier distance times all its odometer pulses by the counted ones, so that bridges and tunnels are in it.</p>\n\
-<p>Proved: each drive's totals and distance. Not proved: reading the CSV files, {UNPROVED}adding up the drives, and ranking.</p>\n</footer>\n"
+<p>Proved: each drive's totals and distance. Not proved: reading the CSV files, adding up the drives, and ranking.</p>\n</footer>\n"
     )
 }
 
