@@ -11,10 +11,12 @@ import pickle
 import pkgutil
 import re
 import shutil
+import signal
 import subprocess
 import sys
 import tempfile
 import threading
+import time
 import unittest
 import warnings
 from array import array
@@ -33,6 +35,10 @@ try:
     import pandas
 except ImportError:
     pandas = None
+try:
+    import distributed
+except ImportError:
+    distributed = None
 
 ROOT = Path(__file__).resolve().parents[3]
 SOURCES = ROOT / "bindings/python"
@@ -135,6 +141,62 @@ class Month(unittest.TestCase):
         for thread in work:
             thread.join()
         self.assertEqual(found, [zaqnuti.trip(drive, 8000)] * 8)
+
+
+@unittest.skipUnless(distributed, "python3-distributed is not present")
+class Cluster(unittest.TestCase):
+    """examples/month/cluster.py."""
+
+    def months(self, folder, copies):
+        """Copy the month so many times under later days."""
+        for file in FILES:
+            for copy in range(copies):
+                name = Path(file).stem.replace("2026", str(2026 + copy)) + ".csv"
+                os.symlink(file, Path(folder) / name)
+        return sorted(Path(folder).glob("*.csv"))
+
+    def run_on(self, folder, cluster):
+        command = [sys.executable, str(ROOT / "examples/month/cluster.py"), str(folder), "--pulses-per-km", "8000"]
+        where = {"ZAQNUTI_LIBRARY": _library.PATH, "PYTHONPATH": str(Path(zaqnuti.__file__).parents[1])}
+        options = ["--scheduler", cluster.scheduler_address]
+        return subprocess.Popen(command + options, env={**os.environ, **where}, stdout=subprocess.PIPE, stderr=subprocess.PIPE, text=True)
+
+    def expected(self, files):
+        lines = [zaqnuti.COLUMNS]
+        for file in files:
+            depot, van, day = file.stem.split("-", 2)
+            lines.append(zaqnuti.trip(zaqnuti.Drive.from_csv(file), pulses_per_km=8000).line(str(file), depot, van, day))
+        return lines
+
+    def test_a_killed_worker_changes_nothing(self):
+        with tempfile.TemporaryDirectory() as folder:
+            files = self.months(folder, 40)
+            expected = self.expected(files)
+            for workers, kill in ((1, False), (2, True)):
+                with distributed.LocalCluster(n_workers=workers, threads_per_worker=1, dashboard_address=None) as cluster:
+                    with distributed.Client(cluster) as client:
+                        pids = list(client.run(os.getpid).values())
+                        running = self.run_on(folder, cluster)
+                        if kill:
+                            done = lambda dask_scheduler: sum(t.state == "memory" for t in dask_scheduler.tasks.values())
+                            while not 20 <= client.run_on_scheduler(done) < len(files) and running.poll() is None:
+                                time.sleep(0.01)
+                            self.assertIsNone(running.poll(), "the drives were done before a worker could be killed")
+                            os.kill(pids[0], signal.SIGKILL)
+                        out, said = running.communicate(timeout=120)
+                        self.assertEqual(running.returncode, 0, said)
+                        self.assertEqual(out.splitlines(), expected)
+
+    def test_a_drive_that_fails_does_not_lose_the_others(self):
+        with tempfile.TemporaryDirectory() as folder:
+            files = self.months(folder, 1)
+            bad = Path(folder) / "halle-99-2026-11-04.csv"
+            bad.write_text("tow\n")
+            with distributed.LocalCluster(n_workers=1, threads_per_worker=1, dashboard_address=None) as cluster:
+                out, said = (running := self.run_on(folder, cluster)).communicate(timeout=120)
+            self.assertEqual(running.returncode, 1)
+            self.assertEqual(out.splitlines(), self.expected(files))
+            self.assertIn(f"{bad}: ", said)
 
 
 class Columns(unittest.TestCase):
