@@ -92,6 +92,41 @@ class Month(unittest.TestCase):
         self.assertEqual(have, lines[1:])
         self.assertEqual(answers("sys.modules['numpy'] = None")[::2], lines[1:])
 
+    def variants(self, folder):
+        """Files with pulses, a count that wraps, a gap, no week and no satellite, with the options for each."""
+        rows = [row.split(",") for row in Path(HALLE).read_text().splitlines()]
+        header, rows = rows[0], rows[1:]
+        times = sorted({row[1] for row in rows}, key=float)
+        counts = {row[1]: int(row[-1]) for row in rows}
+        since = {now: counts[now] - counts[before] for before, now in zip(times, times[1:])}
+        pulses = [[*row[:-1], str(since.get(row[1], 7))] for row in rows]
+        gone = [row for row in rows if row[1] not in times[20:24]]
+        forms = {
+            "pulses": ([*header[:-1], "pulses"], pulses, None),
+            "lost": ([*header[:-1], "pulses"], [row for row in pulses if row[1] not in times[20:24]], None),
+            "gap": (header, gone, None),
+            "wrap": (header, [[*row[:-1], str((int(row[-1]) + 60_000) % 65_536)] for row in rows], 16),
+            "wide": (header, [[*row[:-1], str((int(row[-1]) + 2**32 - 6_000) % 2**32)] for row in gone], 32),
+            "weekless": (header[1:], [row[1:] for row in rows], None),
+            "late": (header, [[row[0], str(float(row[1]) + 604_000.0), *row[2:]] for row in rows], None),
+            "bare": (header, [[*row[:2], *[""] * (len(row) - 3), row[-1]] for row in rows], None),
+        }
+        for name, (first, lines, wrap) in forms.items():
+            path = Path(folder) / f"{name}.csv"
+            path.write_text("\r\n".join(map(",".join, [first, *lines])))
+            yield str(path), wrap
+
+    @unittest.skipUnless(COMMAND.exists(), "the command is not built")
+    def test_forms_of_a_drive(self):
+        with tempfile.TemporaryDirectory() as folder:
+            for path, wrap in self.variants(folder):
+                for limit in (0.2, 0.02, 0.015):
+                    options = ["--max-error", str(limit), *(["--wrap", str(wrap)] if wrap else [])]
+                    command = [str(COMMAND), "trip", "--pulses-per-km", "8000", "--csv", *options, path]
+                    lines = subprocess.run(command, capture_output=True, text=True).stdout.splitlines()
+                    trip = zaqnuti.trip(zaqnuti.Drive.from_csv(path), 8000, wrap=wrap, max_error=limit)
+                    self.assertEqual([trip.line(path)], lines[1:])
+
     @unittest.skipUnless(COMMAND.exists(), "the command is not built")
     def test_more_than_one_trip_of_the_library(self):
         with tempfile.TemporaryDirectory() as folder:
