@@ -333,6 +333,19 @@ class Library(unittest.TestCase):
             (said,) = self.imported(str(library))
         self.assertEqual(said, f"ImportError: zaqnuti: {library} is of version 5.0.7, this package of {zaqnuti.__version__}")
 
+    def test_the_calls_are_the_headers(self):
+        header = re.sub(r"/\*.*?\*/", "", (ROOT / "include/zaqnuti.h").read_text(), flags=re.DOTALL)
+        kinds = {
+            "zaqnuti_size": _library.SIZE, "uint64_t": _library.U64, "uint32_t": _library.U32, "uint16_t": _library.U16,
+            "uint8_t": _library.U8, "double": _library.DOUBLE, "bool": _library.BOOL,
+        }
+        for name, have in _library._CALLS.items():
+            found = re.search(rf"^uint8_t zaqnuti_{name}\(([^)]*)\);", header, re.MULTILINE)
+            self.assertIsNotNone(found, name)
+            arguments = [argument.strip() for argument in found[1].split(",")]
+            want = [_library.POINTER if "*" in a or "[" in a else kinds[a.split()[0]] for a in arguments]
+            self.assertEqual(have, want, name)
+
     def test_the_version_is_the_headers(self):
         header = (ROOT / "include/zaqnuti.h").read_text()
         self.assertIn(f'#define ZAQNUTI_VERSION "{zaqnuti.__version__}"', header)
