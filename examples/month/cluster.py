@@ -32,7 +32,7 @@ def run(client, files, pulses_per_km, out, told):
     """Run every drive, write the lines that could be had, and give how many drives failed."""
     import zaqnuti
 
-    futures = {path: client.submit(drive, str(path), pulses_per_km, pure=False) for path in files}
+    futures = {path: client.submit(drive, str(path.absolute()), pulses_per_km, pure=False) for path in files}
     depots, failed = {}, 0
     print(zaqnuti.COLUMNS, file=out)
     for path, future in futures.items():

@@ -118,9 +118,13 @@ class Month(unittest.TestCase):
 
     @unittest.skipUnless(COMMAND.exists(), "the command is not built")
     def test_forms_of_a_drive(self):
+        settings = zaqnuti.Settings()
+        _, quality, numbers = _loop.displaced(zaqnuti.Drive.from_csv(HALLE), settings.floats(), settings.rounds, True)
+        errors = [quality[2 * i + 1] * max(quality[2 * i], 1.0) * 0.01 for i in range(len(numbers)) if numbers[i] == 0]
+        middle = float(sorted(errors)[len(errors) // 2])
         with tempfile.TemporaryDirectory() as folder:
             for path, wrap in self.variants(folder):
-                for limit in (0.2, 0.02, 0.015):
+                for limit in (0.2, middle, 0.02):
                     options = ["--max-error", str(limit), *(["--wrap", str(wrap)] if wrap else [])]
                     command = [str(COMMAND), "trip", "--pulses-per-km", "8000", "--csv", *options, path]
                     lines = subprocess.run(command, capture_output=True, text=True).stdout.splitlines()

@@ -96,10 +96,10 @@ def column(name: str, values: Any, code: str, filtered: bool = False) -> Data:
 
     >>> column("svid", [1, 70000], "H")
     Traceback (most recent call last):
-    ValueError: svid: 70000 at place 1; whole numbers from 0 to 65535 are wanted
+    ValueError: svid: 70000 at place 1; expected whole numbers from 0 to 65535
     >>> column("svid", [1.5], "H")
     Traceback (most recent call last):
-    ValueError: svid: 1.5 at place 0; whole numbers from 0 to 65535 are wanted
+    ValueError: svid: 1.5 at place 0; expected whole numbers from 0 to 65535
     """
     if is_numpy(values):
         return _of_numpy(name, values, code, filtered)
@@ -112,7 +112,7 @@ def column(name: str, values: Any, code: str, filtered: bool = False) -> Data:
 
 
 def _fault(name: str, value: object, place: int, code: str) -> ValueError:
-    return ValueError(f"{name}: {value!r} at place {place}; {kind(code)} are wanted")
+    return ValueError(f"{name}: {value!r} at place {place}; expected {kind(code)}")
 
 
 def _of_list(name: str, values: Iterable[Any], code: str, filtered: bool) -> "array[Any]":
@@ -145,7 +145,7 @@ def _of_numpy(name: str, values: Any, code: str, filtered: bool) -> Data:
     else:
         allowed = data.dtype.kind in "iu" or (filtered and data.dtype.kind == "f")
     if not allowed:
-        raise ValueError(f"{name}: the dtype is {data.dtype}; {kind(code)} are wanted")
+        raise ValueError(f"{name}: the dtype is {data.dtype}; expected {kind(code)}")
     if code == "d":
         bad = numpy.abs(data) > 2.0**53 if data.dtype.kind in "iu" else numpy.zeros(len(data), dtype=bool)
     else:
@@ -166,9 +166,9 @@ def vector(name: str, values: Any) -> "array[float]":
     array('d', [1.0, 2.0, 3.0])
     >>> vector("at", (1, 2))
     Traceback (most recent call last):
-    ValueError: at: 2 numbers; three are wanted
+    ValueError: at: 2 numbers; expected three
     """
     data = array("d", column(name, list(values) if isinstance(values, tuple) else values, "d"))
     if len(data) != 3:
-        raise ValueError(f"{name}: {len(data)} numbers; three are wanted")
+        raise ValueError(f"{name}: {len(data)} numbers; expected three")
     return data

@@ -41,7 +41,7 @@ class Corrections:
         self._max_gap, self._max_correction = float(max_gap), float(max_correction)
         for number in corrected:
             if number not in range(8):
-                raise ValueError(f"corrected: {number!r}; whole numbers from 0 to 7 are wanted")
+                raise ValueError(f"corrected: {number!r}; expected whole numbers from 0 to 7")
         self._corrected = array("B", (int(i in corrected) for i in range(8)))
         self._blocks = [array(code, bytes(SAMPLES * array(code).itemsize)) for code in "BHIQQ"]
         self._samples = [array("d", bytes(8 * SAMPLES)) for _ in range(2)]

@@ -44,7 +44,7 @@ class Settings:
         zaqnuti._refused.Refused: refused by 3: a setting is not finite or above 1e9, or the rounds are not allowed
         """
         if isinstance(self.rounds, bool) or not isinstance(self.rounds, int) or not 0 <= self.rounds < 2**64:
-            raise ValueError(f"rounds: {self.rounds!r}; a whole number from 0 to 50 is wanted")
+            raise ValueError(f"rounds: {self.rounds!r}; expected a whole number from 0 to 50")
         given, trip, force = self.floats(), array("Q", bytes(48)), array("d", bytes(40))
         rounds = array("Q", [0])
         addresses = (_columns.address(force), _columns.address(rounds))

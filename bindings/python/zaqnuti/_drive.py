@@ -118,7 +118,7 @@ class Drive:
         >>> Drive.from_columns(tow=[0.0, 1.0], constellation=[1, 300], svid=[5, 5], adr=[0.0, 0.1],
         ...     x=[2e7, 2e7], y=[0.0, 0.0], z=[0.0, 0.0], elevation=[40.0, 40.0], rate=[0.0, 0.0], at=(6.4e6, 0, 0))
         Traceback (most recent call last):
-        ValueError: constellation: 300 at place 1; whole numbers from 0 to 255 are wanted
+        ValueError: constellation: 300 at place 1; expected whole numbers from 0 to 255
         """
         given = _named(columns, named)
         rows = _length("tow", given["tow"]) if "tow" in given else 0

@@ -68,7 +68,7 @@ def fix(
         if len(column) != len(which):
             raise ValueError(f"{name}: has {len(column)} elements, constellation has {len(which)}")
     if not 0 <= settings.rounds < 2**64:
-        raise ValueError(f"rounds: {settings.rounds!r}; a whole number from 1 to 50 is wanted")
+        raise ValueError(f"rounds: {settings.rounds!r}; expected a whole number from 1 to 50")
     floats = array("d", (float(column[i]) for i in range(len(which)) for column in columns))
     set4 = array("d", (settings.sigma_a, settings.sigma_b, settings.huber, settings.mask))
     start, out, used = _columns.vector("guess", guess), (ctypes.c_double * 5)(), ctypes.c_uint64()

@@ -13,7 +13,7 @@ def _three(name: str, values: Any, count: int) -> "array[float]":
     """Give three floats for each of `count` rows."""
     rows = [_columns.vector(name, [float(x) for x in row]) for row in values]
     if len(rows) != count:
-        raise ValueError(f"{name}: has {len(rows)} rows; {count} are wanted")
+        raise ValueError(f"{name}: has {len(rows)} rows; expected {count}")
     return array("d", (x for row in rows for x in row))
 
 
@@ -39,7 +39,7 @@ def smooth(
     """
     for name, value in (("epochs", epochs), ("iterations", iterations)):
         if isinstance(value, bool) or not isinstance(value, int) or not 0 <= value < 2**32:
-            raise ValueError(f"{name}: {value!r}; a whole number is wanted")
+            raise ValueError(f"{name}: {value!r}; expected a whole number")
     anchors, links = (_columns.column(name, values, "Q") for name, values in (("anchor_epoch", anchor_epoch), ("link_epoch", link_epoch)))
     columns = [
         anchors, _three("anchor_position", anchor_position, len(anchors)), _three("anchor_sigma", anchor_sigma, len(anchors)),

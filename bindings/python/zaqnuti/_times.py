@@ -15,7 +15,7 @@ def gps_time(week: int, tow: float) -> int:
     1000000000
     """
     if isinstance(week, bool) or not isinstance(week, int) or not 0 <= week <= 4_294_967_295:
-        raise ValueError(f"week: {week!r}; a whole number from 0 to 15000 is wanted")
+        raise ValueError(f"week: {week!r}; expected a whole number from 0 to 15000")
     nanos = ctypes.c_uint64()
     accepted(LIBRARY.zaqnuti_time(week, float(tow), ctypes.byref(nanos)))
     return nanos.value
