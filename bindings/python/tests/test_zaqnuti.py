@@ -8,6 +8,7 @@ import glob
 import importlib
 import os
 import pickle
+import random
 import re
 import shutil
 import signal
@@ -45,6 +46,12 @@ COMMAND = ROOT / "bindings/rust/target/release/zaqnuti"
 FILES = sorted(glob.glob(str(ROOT / "examples/month/*-2026-*.csv")))
 HALLE = str(ROOT / "examples/month/halle-03-2026-11-03.csv")
 DRESDEN = str(ROOT / "examples/month/dresden-21-2026-11-03.csv")
+
+# Fields that a reader of decimals may take in its own way.
+ODD = (
+    "|NaN|inf|-inf|1e10|-1|256|65536|4294967296|0|1|6|7|90.5|-90|abc|1_0| 5 |+5|1e3|0x10|1.5|-0|\u0661|1e400|2e7|"
+    "NaN:7FF8000000000001|1.|.5|infinity|nan|-NaN|00005|1e-320"
+).split("|")
 
 LINES = """
 import glob, sys, warnings
@@ -130,6 +137,44 @@ class Month(unittest.TestCase):
                     lines = subprocess.run(command, capture_output=True, text=True).stdout.splitlines()
                     trip = zaqnuti.trip(zaqnuti.Drive.from_csv(path), 8000, wrap=wrap, max_error=limit)
                     self.assertEqual([trip.line(path)], lines[1:])
+
+    def damaged(self, some, rows):
+        """Give the lines of a drive with a few of them changed, doubled or left out."""
+        for _ in range(some.choice([1, 1, 2, 5])):
+            i = some.randrange(1, len(rows))
+            match some.choice(["field", "field", "field", "column", "gone", "again", "bare", "longer"]):
+                case "field":
+                    rows[i][some.randrange(len(rows[i]))] = some.choice(ODD)
+                case "column":
+                    column, value = some.randrange(2, len(rows[0])), some.choice(ODD)
+                    for row in rows[1:]:
+                        row[column] = value
+                case "gone" if len(rows) > 50:
+                    del rows[i : i + some.randrange(1, 40)]
+                case "again":
+                    rows.insert(i, list(rows[some.randrange(1, len(rows))]))
+                case "bare":
+                    rows[i][2:-1] = [""] * (len(rows[i]) - 3)
+                case "longer":
+                    rows[i].append("1")
+        return rows
+
+    @unittest.skipUnless(COMMAND.exists(), "the command is not built")
+    def test_damaged_files(self):
+        some = random.Random(44)
+        with tempfile.TemporaryDirectory() as folder:
+            path = str(Path(folder) / "damaged.csv")
+            for case in range(300):
+                rows = [row.split(",") for row in Path(some.choice(FILES)).read_text().splitlines()]
+                Path(path).write_text("\n".join(map(",".join, self.damaged(some, rows))))
+                command = [str(COMMAND), "trip", "--pulses-per-km", "8000", "--csv", path]
+                done = subprocess.run(command, capture_output=True, text=True)
+                want = None if done.returncode == 2 else done.stdout.splitlines()[1]
+                try:
+                    have = zaqnuti.trip(zaqnuti.Drive.from_csv(path), 8000).line(path)
+                except ValueError:
+                    have = None
+                self.assertEqual(have, want, f"case {case}: {done.stderr}")
 
     @unittest.skipUnless(COMMAND.exists(), "the command is not built")
     def test_more_than_one_trip_of_the_library(self):

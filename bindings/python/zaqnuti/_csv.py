@@ -38,6 +38,13 @@ def _whole(field: str) -> int:
     return int(field)
 
 
+def _natural(field: str) -> int:
+    """Read a whole number without a minus sign, also of 0."""
+    if field.startswith("-"):
+        raise ValueError(field)
+    return _whole(field)
+
+
 class Table:
     """The fields of a CSV file by their columns."""
 
@@ -116,6 +123,8 @@ class Table:
 
     def wholes(self, name: str, code: str, bare: list[int] | None = None) -> Data:
         """Read a column of whole numbers, without the bare rows."""
+        if code != "i" and "-" in "".join(self._column(name)):
+            return self._slowly(name, code, _columns.without(self._column(name), bare or []), bare or [], _natural)
         return self._read(name, code, bare or [], int, _whole)
 
     def places(self, names: Sequence[str], rows: list[int]) -> "array[float]":
