@@ -28,7 +28,7 @@ class Corrections:
     7.0
     >>> table.query(1, 8, 1575, 10.0)
     Traceback (most recent call last):
-    zaqnuti._refused.Refused: refused by 12: the table gives no correction for the signal and time
+    zaqnuti.Refused: refused by 12: the table gives no correction for the signal and time
     >>> table.forget(20.0)
     """
 

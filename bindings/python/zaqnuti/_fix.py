@@ -59,7 +59,7 @@ def fix(
 
     >>> fix([1], [2e7], [2e7], [0.0], [0.0], [45.0])
     Traceback (most recent call last):
-    zaqnuti._refused.Refused: refused by 8: fewer rows than 4 plus the clock slots
+    zaqnuti.Refused: refused by 8: fewer rows than 4 plus the clock slots
     """
     names = ("pseudorange", "x", "y", "z", "elevation")
     which = _columns.column("constellation", constellation, "B")

@@ -30,8 +30,11 @@ class Refused(Exception):
 
     >>> raise Refused(13)
     Traceback (most recent call last):
-    zaqnuti._refused.Refused: refused by 13: a week is above 15,000, a time of week is not in 0 to below 604,800 s, or a time is past the start of week 15,001
+    zaqnuti.Refused: refused by 13: a week is above 15,000, a time of week is not in 0 to below 604,800 s, or a time is past the start of week 15,001
     """
+
+    # The name under which users know it.
+    __module__ = "zaqnuti"
 
     number: int
     """The number of the refusal, as docs/REFUSALS.md has it."""
