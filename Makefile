@@ -10,6 +10,7 @@
 # make arm-test   [N=1000000]: runs it under qemu-aarch64 (Debian's qemu-user) beside the one for x86-64, with N answers of the
 #                 Rust of each kind; with a million about 20 minutes of a processor
 # make boxes      the library for every target of docs/BOXES.md whose packages are installed
+# make deb        target/deb/*.deb: libzaqnuti0.MINOR, libzaqnuti-dev, zaqnuti, python3-zaqnuti; `packaging/deb test` tries them
 # make clean      removes target/
 
 PREFIX = /usr/local
@@ -39,7 +40,7 @@ installed = include/zaqnuti.h include/zaqnuti_easy.h lib/libzaqnuti.a lib/$(notd
 	$(if $(command),bin/zaqnuti) share/man/man1/displacement.1 share/man/man1/zaqnuti.1 share/man/man3/zaqnuti.3 \
 	$(addprefix $(doc)/,$(notdir $(papers))) $(BOXES)
 
-.PHONY: all test shared install uninstall dist arm arm-test boxes clean
+.PHONY: all test shared install uninstall dist deb arm arm-test boxes clean
 
 all:
 	./run
@@ -93,6 +94,9 @@ dist: $(archive) $(program) $(shared)
 	gzip -9n target/dist/$(name).tar
 	cd target/dist && sha256sum $(name).tar.gz >$(name).tar.gz.sha256 && rm -rf $(name)
 	@cat target/dist/$(name).tar.gz.sha256
+
+deb: $(archive) $(program) $(shared)
+	packaging/deb
 
 arm:
 	packaging/box aarch64 archive
