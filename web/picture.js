@@ -1,7 +1,6 @@
 "use strict";
 // Draws the path: plain SVG with two axes of one scale.
 
-const WIDE = 900;
 const EDGE = { left: 62, right: 14, top: 14, bottom: 42 };
 
 // A step of the grid: 1, 2 or 5 times a power of ten.
@@ -21,7 +20,7 @@ function range(points, odd) {
 }
 
 // The frame that holds every place: metres to pixels. No side is less than two fifths of the other.
-function frameOf(points) {
+function frameOf(points, wide) {
   let [east, north] = [range(points, 0), range(points, 1)];
   const longest = Math.max(east[1] - east[0], north[1] - north[0], 0.01);
   const grown = ([low, high]) => {
@@ -29,16 +28,16 @@ function frameOf(points) {
     return [(low + high) / 2 - half, (low + high) / 2 + half];
   };
   [east, north] = [grown(east), grown(north)];
-  const plane = WIDE - EDGE.left - EDGE.right;
-  const scale = Math.min(plane / (east[1] - east[0]), 640 / (north[1] - north[0]));
+  const plane = wide - EDGE.left - EDGE.right;
+  const scale = Math.min(plane / (east[1] - east[0]), Math.min(480, wide) / (north[1] - north[0]));
   const spare = (plane / scale - (east[1] - east[0])) / 2;
   east = [east[0] - spare, east[1] + spare];
   const high = EDGE.top + EDGE.bottom + scale * (north[1] - north[0]);
-  return { east, north, high, step: gridStep(longest), x: (e) => EDGE.left + scale * (e - east[0]), y: (n) => EDGE.top + scale * (north[1] - n) };
+  return { east, north, wide, high, step: gridStep(longest), x: (e) => EDGE.left + scale * (e - east[0]), y: (n) => EDGE.top + scale * (north[1] - n) };
 }
 
 function gridOf(frame) {
-  const { step, x, y } = frame;
+  const { step, wide, x, y } = frame;
   const digits = Math.max(0, -Math.floor(Math.log10(step) + 1e-9));
   const ticks = ([low, high]) => {
     const out = [];
@@ -49,16 +48,16 @@ function gridOf(frame) {
   const across = ticks(frame.east).map((e) =>
     `<path class="grid" d="M${x(e).toFixed(1)} ${EDGE.top}V${bottom.toFixed(1)}"/><text x="${x(e).toFixed(1)}" y="${(bottom + 17).toFixed(1)}" text-anchor="middle">${e.toFixed(digits)}</text>`);
   const along = ticks(frame.north).map((n) =>
-    `<path class="grid" d="M${EDGE.left} ${y(n).toFixed(1)}H${WIDE - EDGE.right}"/><text x="${EDGE.left - 6}" y="${(y(n) + 4).toFixed(1)}" text-anchor="end">${n.toFixed(digits)}</text>`);
-  const names = `<text x="${WIDE / 2}" y="${(frame.high - 5).toFixed(1)}" text-anchor="middle">metres to the east</text>` +
+    `<path class="grid" d="M${EDGE.left} ${y(n).toFixed(1)}H${wide - EDGE.right}"/><text x="${EDGE.left - 6}" y="${(y(n) + 4).toFixed(1)}" text-anchor="end">${n.toFixed(digits)}</text>`);
+  const names = `<text x="${wide / 2}" y="${(frame.high - 5).toFixed(1)}" text-anchor="middle">metres to the east</text>` +
     `<text transform="translate(12 ${(frame.high / 2).toFixed(1)}) rotate(-90)" text-anchor="middle">metres to the north</text>`;
   return across.join("") + along.join("") + names;
 }
 
-// The picture of an answer; a cross where an epoch is refused, and a break in the line there.
-function pictureOf({ points, truth, rows }) {
+// The picture of an answer, so many pixels wide; a cross where an epoch is refused, and a break in the line there.
+function pictureOf({ points, truth, rows }, wide) {
   if (![...points, ...truth].every((v) => Math.abs(v) < 1e9)) return "<p>The path is longer than a picture holds.</p>";
-  const frame = frameOf(truth.length ? points.concat(truth) : points);
+  const frame = frameOf(truth.length ? points.concat(truth) : points, wide);
   const spot = (list, i) => `${frame.x(list[2 * i]).toFixed(1)} ${frame.y(list[2 * i + 1]).toFixed(1)}`;
   const [path, crosses, dots] = [[`M${spot(points, 0)}`], [], []];
   rows.forEach((row, i) => {
@@ -70,5 +69,5 @@ function pictureOf({ points, truth, rows }) {
   const known = [];
   for (let i = 0; 2 * i < truth.length; i += 1) known.push(`${i ? "L" : "M"}${spot(truth, i)}`);
   const parts = [gridOf(frame), known.length ? `<path class="truth" d="${known.join("")}"/>` : "", `<path class="path" d="${path.join("")}"/>`, ...dots, `<path class="cross" d="${crosses.join("")}"/>`];
-  return `<svg viewBox="0 0 ${WIDE} ${frame.high.toFixed(0)}" role="img" aria-label="The path of the drive">${parts.join("")}</svg>`;
+  return `<svg width="${wide}" height="${frame.high.toFixed(0)}" viewBox="0 0 ${wide} ${frame.high.toFixed(0)}" role="img" aria-label="The path of the drive">${parts.join("")}</svg>`;
 }

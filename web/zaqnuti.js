@@ -76,6 +76,8 @@ function faultOf(file) {
 function finish(fault) {
   stop();
   say(fault);
+  // The same file may be chosen again.
+  if (fault) at("file").value = "";
   document.body.dataset.state = fault ? "fault" : "done";
 }
 
@@ -121,7 +123,6 @@ function show(answer) {
   const trouble = [answer.warning, drive.fault && `No distance: ${drive.fault}`, drive.lost && `${drive.lost}; no distance`].filter(Boolean).join(" ");
   at("trouble").textContent = trouble;
   at("trouble").hidden = trouble === "";
-  at("picture").innerHTML = pictureOf(answer);
   at("legend").innerHTML = `<span class="key"></span>displacements joined end to end${answer.truth.length ? '<span class="key t"></span>truth' : ""}<span class="key c">×</span>refused`;
   if (at("download").href) URL.revokeObjectURL(at("download").href);
   at("download").href = URL.createObjectURL(new Blob([answer.csv], { type: "text/csv" }));
@@ -130,6 +131,13 @@ function show(answer) {
   at("only").checked = false;
   listEpochs();
   at("result").hidden = false;
+  draw();
+}
+
+// Draws the path as wide as the page has room.
+function draw() {
+  const wide = Math.max(280, Math.min(960, at("picture").clientWidth));
+  if (shown) at("picture").innerHTML = pictureOf(shown.answer, wide);
 }
 
 // Shows a part of the epochs.
@@ -161,6 +169,7 @@ at("cancel").addEventListener("click", () => finish("Cancelled."));
 at("only").addEventListener("change", () => turn(0));
 at("back").addEventListener("click", () => turn(-1));
 at("on").addEventListener("click", () => turn(1));
+addEventListener("resize", draw);
 for (const [event, over] of [["dragover", true], ["dragleave", false], ["drop", false]]) {
   document.addEventListener(event, (e) => {
     e.preventDefault();

@@ -2,6 +2,7 @@
 "use strict";
 const fs = require("fs");
 const http = require("http");
+const os = require("os");
 const path = require("path");
 const { spawn } = require("child_process");
 
@@ -75,28 +76,60 @@ async function look(s, name, width, height) {
   return wide <= width;
 }
 
-// Compares the page's answers with the command's.
-async function browse(driver, page, files, check) {
+// The file that the page's link saves.
+async function download(s) {
+  const room = fs.mkdtempSync(path.join(os.tmpdir(), "zaqnuti-"));
+  try {
+    await s.post("/goog/cdp/execute", { cmd: "Browser.setDownloadBehavior", params: { behavior: "allow", downloadPath: room } });
+    await run(s, "document.getElementById('download').click()");
+    for (let i = 0; i < 200; i += 1) {
+      const [name] = fs.readdirSync(room).filter((file) => file.endsWith(".csv"));
+      if (name) return fs.readFileSync(path.join(room, name), "utf8");
+      await pause(50);
+    }
+    return null;
+  } finally {
+    fs.rmSync(room, { recursive: true });
+  }
+}
+
+// Compares one answer of the page with the command's; gives the milliseconds that it took.
+async function compare(s, { file, csv }, check) {
+  const state = await handOver(s, file);
+  const fault = await run(s, "return document.getElementById('fault').textContent");
+  check(`Chromium answers ${file}: ${state} ${fault}`, state === "done");
+  check(`Chromium's displacements of ${file}`, (await download(s)) === csv);
+  const rows = await run(s, "return document.querySelectorAll('#rows tr').length");
+  check(`Chromium's epochs of ${file}`, rows === Math.min(200, csv.split("\n").length - 2));
+  check("the page fits a desk", await look(s, "desk.png", 1100, 1400));
+  check("the page fits a phone", await look(s, "phone.png", 390, 1600));
+  return Number(await run(s, "return document.body.dataset.milliseconds"));
+}
+
+// A cancelled run shows nothing, and the page takes another file.
+async function cancel(s, file, check) {
+  await run(s, "document.body.dataset.state = ''");
+  const found = await s.post("/element", { using: "css selector", value: "#file" });
+  await s.post(`/element/${Object.values(found)[0]}/value`, { text: path.resolve(file) });
+  const state = await run(s, "document.getElementById('cancel').click(); return [document.body.dataset.state, document.getElementById('result').hidden, worker === null]");
+  check("Chromium cancels", String(state) === "fault,true,true");
+}
+
+// Compares the page's answers with the command's, a day first.
+async function browse(driver, page, files, bad, check) {
   const s = await session(driver);
   try {
     await s.post("/url", { url: `file://${path.resolve(page)}` });
-    for (const { file, csv } of files) {
-      const state = await handOver(s, file);
-      const fault = await run(s, "return document.getElementById('fault').textContent");
-      check(`Chromium answers ${file}: ${state} ${fault}`, state === "done");
-      const own = await run(s, "return shown && shown.answer.csv");
-      check(`Chromium's displacements of ${file}`, own === csv);
-      const saved = await s.post("/execute/async", { script: "const end = arguments[0]; new Response(0); fetch; const x = new XMLHttpRequest(); x.open('GET', document.getElementById('download').href); x.onload = () => end(x.responseText); x.onerror = () => end(null); x.send();", args: [] });
-      check(`Chromium's download of ${file}`, saved === csv);
-      const rows = await run(s, "return document.querySelectorAll('#rows tr').length");
-      check(`Chromium's epochs of ${file}`, rows === Math.min(200, csv.split("\n").length - 2));
-      check(`the page fits a desk`, await look(s, "desk.png", 1100, 1400));
-      check(`the page fits a phone`, await look(s, "phone.png", 390, 1200));
-    }
-    console.log(`Chromium: the displacements of ${files.map(({ file }) => file).join(", ")} are the command's, and the page fits a desk and a phone`);
+    check("Chromium tells of a bad file", (await handOver(s, bad.file)) === "fault" && (await run(s, "return document.getElementById('fault').textContent")) === bad.fault);
+    await cancel(s, files[0].file, check);
+    const [day, ...others] = files;
+    const took = await compare(s, day, check);
+    check(`a day takes ${took} ms`, took <= 10000);
+    for (const file of others) await compare(s, file, check);
+    console.log(`Chromium: the displacements of ${others.map(({ file }) => file).join(", ")} and of a day (28,800 epochs in ${took} ms) are the command's; the page fits a desk and a phone`);
   } finally {
     await s.end();
   }
 }
 
-module.exports = { browse, session, handOver, look, run };
+module.exports = { browse };

@@ -4,7 +4,7 @@
 const fs = require("fs");
 const os = require("os");
 const path = require("path");
-const { execFileSync, spawnSync } = require("child_process");
+const { spawnSync } = require("child_process");
 const { browse } = require("./browser.js");
 const [page, command, driver] = process.argv.slice(2);
 const drives = ["examples/drive/drive.csv", "examples/month/halle-03-2026-11-03.csv"];
@@ -110,16 +110,45 @@ function compareDecimals({ written, readFloat }) {
   }
 }
 
+// A day of 28,800 epochs: one drive again and again.
+function writeDay(file) {
+  const [header, ...lines] = fs.readFileSync(drives[1], "utf8").trimEnd().split("\n");
+  const names = header.split(",");
+  const [tow, odometer] = [names.indexOf("tow"), names.indexOf("odometer")];
+  const rows = lines.map((line) => line.split(","));
+  const times = [...new Set(rows.map((row) => row[tow]))].map(Number);
+  const counts = rows.map((row) => Number(row[odometer]));
+  const [span, driven] = [times.length * (times[1] - times[0]), Math.max(...counts) - counts[0]];
+  const out = [header];
+  for (let epochs = 0, turn = 0; epochs <= 28800; epochs += times.length, turn += 1) {
+    for (const row of rows) {
+      const own = [...row];
+      own[tow] = Number(row[tow]) - times[0] + turn * span;
+      own[odometer] = Number(row[odometer]) + turn * driven;
+      if (epochs + times.indexOf(Number(row[tow])) <= 28800) out.push(own.join(","));
+    }
+  }
+  fs.writeFileSync(file, `${out.join("\n")}\n`);
+}
+
+async function compareInBrowser() {
+  const room = fs.mkdtempSync(path.join(os.tmpdir(), "zaqnuti-"));
+  const [day, bad] = [path.join(room, "day.csv"), path.join(room, "bad.csv")];
+  writeDay(day);
+  fs.writeFileSync(bad, "tow,x\n1,far\n");
+  const files = [day, ...drives].map((file) => ({ file, csv: said("displacement", "--csv", file).stdout }));
+  const fault = said("displacement", "--csv", bad).stderr.replace("zaqnuti: ", "").replace(bad, "bad.csv").trimEnd();
+  await browse(driver, page, files, { file: bad, fault }, check).finally(() => fs.rmSync(room, { recursive: true }));
+}
+
 async function main() {
   const own = loaded();
   compareDecimals(own);
   compareDrives(own.answer);
   const bad = compareBadFiles(own.answer);
   console.log(`node: the displacements and totals of ${drives.length + month.length - 1} drives and the messages of ${bad} odd files are the command's`);
-  if (driver) {
-    const files = drives.map((file) => ({ file, csv: said("displacement", "--csv", file).stdout }));
-    await browse(driver, page, files, check);
-  } else console.log("skipped: the page in Chromium (chromium and chromedriver are needed)");
+  if (driver) await compareInBrowser();
+  else console.log("skipped: the page in Chromium (chromium and chromedriver are needed)");
   process.exitCode = failed === 0 ? 0 : 1;
 }
 
