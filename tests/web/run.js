@@ -146,7 +146,7 @@ async function main() {
   compareDecimals(own);
   compareDrives(own.answer);
   const bad = compareBadFiles(own.answer);
-  console.log(`node: the displacements and totals of ${drives.length + month.length - 1} drives and the messages of ${bad} odd files are the command's`);
+  if (failed === 0) console.log(`node: the displacements and totals of ${drives.length + month.length - 1} drives and the messages of ${bad} odd files are the command's`);
   if (driver) await compareInBrowser();
   else console.log("skipped: the page in Chromium (chromium and chromedriver are needed)");
   process.exitCode = failed === 0 ? 0 : 1;
