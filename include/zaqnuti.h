@@ -3,13 +3,14 @@
  * epochs, in columns or as bytes, times in whole nanoseconds, the totals of a
  * trip, base-station corrections and a smoothed track.
  *
- * Link libzaqnuti.a (`./run` leaves it in target/staticlib): Linux on x86-64,
- * System V calling convention. For ARM boxes `make arm` leaves another one in
- * target/aarch64: Linux on aarch64, AAPCS64. Nothing of this interface differs
- * between the two, and no bit of an answer; a size_t has 64 bits in both, so
- * that 32-bit ARM is not served. Of other libraries it needs memcpy and memset,
- * which every C library has and a program without one supplies. It allocates
- * nothing, reads no clock or file, and prints nothing.
+ * Link libzaqnuti.a (`./run` leaves it in target/staticlib) or libzaqnuti.so:
+ * Linux on x86-64, System V calling convention. `packaging/box TARGET archive`
+ * leaves the library for another target in target/TARGET: aarch64, armv7 and
+ * riscv64 on Linux, a bare Cortex-M4, and WebAssembly (docs/BOXES.md). Nothing
+ * of this interface differs between them, and no bit of an answer. Of other
+ * libraries it needs memcpy, memmove and memset, which every C library has and
+ * a program without one supplies. It allocates nothing, reads no clock or file,
+ * and prints nothing.
  *
  * zaqnuti_easy.h has the same calls on structs, for people; this header is
  * what the library exports, for machines.
@@ -30,7 +31,7 @@
  * what is beyond is neither read nor written. A column that is shorter is
  * refused by 2. A pointer of an array with a number in brackets leads to that
  * many elements. An empty column may have any pointer, NULL too; every other
- * pointer is valid, and aligned as its type asks (double, size_t, uint64_t and
+ * pointer is valid, and aligned as its type asks (double, zaqnuti_size, uint64_t and
  * int64_t by 8 bytes, uint32_t and int32_t by 4, uint16_t by 2).
  * What a call writes overlaps nothing else that is handed to it; what it only
  * reads may overlap. A bool is 0 or 1, as C's own conversion to bool makes it.
@@ -53,8 +54,8 @@
  * arguments on the stack included, rounded up to 256: measured over full
  * epochs, all rounds and refusals (bindings/rust/tests/stack.rs). No call
  * recurses. Each page is touched in order, so that a stack that is too small
- * ends at its guard page. These are of x86-64; `packaging/aarch64 stack` prints
- * those of aarch64, and docs/TIMES.md has them.
+ * ends at its guard page. These are of x86-64; docs/BOXES.md has those of
+ * other targets.
  *
  *     fix             22,784
  *     position        22,784
@@ -71,7 +72,7 @@
  *     forget             512
  *     forms              512
  *     widen_bands        256
- *     smooth             768
+ *     smooth             512
  *     times              256
  *     trip               256
  *     mileage            256

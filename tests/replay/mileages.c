@@ -21,7 +21,7 @@ bool same_mileage(struct stored *s)
     uint16_t pulses;
     uint32_t millilitres;
     uint8_t number;
-    size_t k;
+    zaqnuti_size k;
     bool same;
     for (k = 0; k < 10; k++) {
         mileage[k] = next_number(s);

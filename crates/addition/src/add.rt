@@ -84,7 +84,7 @@ fn tested(
     Test::Passed
 }
 
-// The k sorted samples of five columns into a sound directory that has room for them all; the answer is how many entries there are now.
+// The sorted samples of five columns into a sound directory that has room for them all; the answer is how many entries there are now.
 fn merge(
     block_constellation: &mut [u8],
     block_svid: &mut [u16],
@@ -162,7 +162,7 @@ fn merge(
     count
 }
 
-// The first k samples of new, sorted, into a sound directory that has room for them all; the answer is how many entries there are now.
+// The first new_count samples of new, sorted, into a sound directory that has room for them all; the answer is how many entries there are now.
 fn place(
     block_constellation: &mut [u8],
     block_svid: &mut [u16],
@@ -223,7 +223,7 @@ fn place(
     )
 }
 
-// The counted samples of new to the directory of m entries and n samples, or the refusal, which leaves every column as it was.
+// The counted samples of new to the directory of `blocks` entries and `table_count` samples, or the refusal, which leaves every column as it was.
 pub fn add(
     block_constellation: &mut [u8],
     block_svid: &mut [u16],

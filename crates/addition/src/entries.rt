@@ -112,7 +112,7 @@ fn last_of(
     }
 }
 
-// How many entries the directory of m entries and n samples has with the k new samples.
+// How many entries the directory of `blocks` entries and `table_count` samples has with the new samples.
 pub(crate) fn entries_after(
     block_constellation: &[u8],
     block_svid: &[u16],
@@ -161,7 +161,7 @@ pub(crate) fn entries_after(
     count + i
 }
 
-// The entries of the directory of m entries and n samples with the k new samples, `count` of them; each old one is moved at most once.
+// The entries of the directory of `blocks` entries and `table_count` samples with the new samples, `count` of them; each old one is moved at most once.
 pub(crate) fn merge_entries(
     block_constellation: &mut [u8],
     block_svid: &mut [u16],

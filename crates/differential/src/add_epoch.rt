@@ -53,7 +53,7 @@ fn records_tested(
     Test::Passed
 }
 
-// The corrections of the epoch to the directory of m entries and n samples, or the refusal, which leaves every column as it was.
+// The corrections of the epoch to the directory of `blocks` entries and `table_count` samples, or the refusal, which leaves every column as it was.
 pub fn add_epoch(
     block_constellation: &mut [u8],
     block_svid: &mut [u16],

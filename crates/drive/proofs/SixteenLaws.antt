@@ -1,5 +1,5 @@
 -- Which six words the calls of a trip with settings refuse by 16: those that are not sound, after the numbers of the settings and of the displacement. Assumes nothing.
-use mathlib.Core.Path.{_≡_, refl, ap, _∙_}
+use mathlib.Core.Path.{_≡_, refl, _∙_}
 use mathlib.Core.Bool.{Bool, true, false, cond, not, _&&_}
 use mathlib.Core.List.{List}
 use Prim.Native.Nat.{ℕ}

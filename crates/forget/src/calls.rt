@@ -5,7 +5,7 @@ use crate::forget::Forgetting;
 use crate::forget::forget;
 
 // Of each satellite's samples earlier than the time only the last is retained: 0, and the columns and the count with what is left; or the number of
-// the refusal, which leaves them as they were. The directory keeps its m entries.
+// the refusal, which leaves them as they were. The directory keeps its entries.
 pub fn forget_call(
     block_constellation: &[u8],
     block_svid: &[u16],

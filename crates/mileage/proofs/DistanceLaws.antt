@@ -10,12 +10,12 @@ use lib.Dec.{eqb, lit≤}
 use lib.ListN.{length, take, getD}
 use borrow.Author.Tests.{lt-ltb, ne-eqb, ltb-true}
 use lib.Ieee.{Float}
-use Rattle.walk.specs.Walk.{collect, fold, every}
+use Rattle.walk.specs.Walk.{collect, every}
 use Rattle.walk.proofs.Walk.{and-both}
 use Rattle.trip.specs.Measure.{measurable}
-use Rattle.trip.specs.Trip.{Leg, carrierOf, tripOf, measurables, counting, narrow as trip-narrow}
-use Rattle.trip.specs.Words.{wordsOf as trip-words, wordsNext}
-use Rattle.trip.proofs.HeldLaws.{words-law as trip-words-law}
+use Rattle.trip.specs.Trip.{Leg, carrierOf, measurables, counting, narrow as trip-narrow}
+use Rattle.trip.specs.Words.{Addition, legOf as legIn, wordsAfterCalls, countedLegs}
+use Rattle.trip.proofs.HeldLaws.{calls-law}
 use Rattle.mileage.specs.Mileage.{isRefused, isUsable, isAside, moves, lengthOf, Placed, near, isStanding, isCounted, nextMoves, none, placed, sum, count, reportOf, mileageOf, scaled, held, distanceOf, isTaken, takens, taking, narrow}
 use Rattle.mileage.specs.Words.{distanceWords, called}
 use Rattle.mileage.specs.declared.mileage.Epoch.{Epoch}
@@ -96,6 +96,15 @@ module _ (limit : Float) (es : List Epoch) (g : Given limit es) (w : List ℕ) w
 
 abbrev legOf : Epoch → Leg
 legOf e = record { displacement = e .displacement; pulses = e .pulses }
+
+-- what a caller hands to the trip of an epoch
+abbrev pub additionOf : Epoch → Addition
+additionOf e = record { delta = e .displacement .x ∷ e .displacement .y ∷ e .displacement .z ∷ []; pulses = e .pulses }
+
+legs-same : (es : List Epoch) → map legIn (map additionOf es) ≡ map legOf es
+unfolding legIn
+legs-same [] = refl
+legs-same (e ∷ es) = ap (λ (ls : List Leg). legOf e ∷ ls) (legs-same es)
 
 map-take : (n : ℕ) (es : List Epoch) → map legOf (take n es) ≡ take n (map legOf es)
 map-take zero es = refl
@@ -220,7 +229,13 @@ module _ (limit : Float) (es : List Epoch) (g : Given limit es) (w : List ℕ) (
       ∙ all-covered (c .counted) (c .pulses) pulse (omega (arith, counted-bound limit es g))
       ∙ ap Millimetres all-lengths
 
-  -- which is word 2 of the trip after the calls that add them to it
-  pub trip-law : (rate : ℕ) → 0 < rate → rate ≤ 65535 → distanceWords (called limit w es) ≡ Millimetres (getD (fold wordsNext (trip-words (tripOf rate [])) (map legOf es)) 2 0)
-  unfolding tripOf
-  trip-law rate p q = carrier-law ∙ ap (λ (v : List ℕ). Millimetres (getD v 2 0)) (sym (trip-words-law rate (map legOf es) p q (narrow-legs es (g .pulses))))
+  -- which is word 2 of the trip after its start, whatever the words held, and the calls that add them to it
+  pub trip-law : (rate : ℕ) → 0 < rate → rate ≤ 65535 → (before : List ℕ)
+      → distanceWords (called limit w es) ≡ Millimetres (getD (wordsAfterCalls rate before (map additionOf es)) 2 0)
+  unfolding countedLegs
+  trip-law rate p q before =
+      let calls = map additionOf es in
+      let n : every trip-narrow (map legIn calls) ≡ true = rw (legs-same es) (narrow-legs es (g .pulses)) in
+      carrier-law
+      ∙ ap (λ (ls : List Leg). Millimetres (carrierOf (counting ls))) (sym (legs-same es))
+      ∙ ap (λ (v : List ℕ). Millimetres (getD v 2 0)) (sym (calls-law rate p q before calls n .words-are))

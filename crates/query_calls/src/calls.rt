@@ -5,7 +5,7 @@ ghost use Rattle.query_calls.specs.Queries.{queriesIn, Replies};
 use crate::queries::Asking;
 use crate::queries::queries;
 
-// The correction of the signal c, v, b at the time t in metres and 0, or the number of the refusal, which leaves metres as it was. It is one place of
+// The correction of a signal (constellation, svid, band) at a time in metres and 0, or the number of the refusal, which leaves metres as it was. It is one place of
 // many queries, so that one search serves both calls.
 pub fn query_call(
     block_constellation: &[u8],
@@ -66,7 +66,7 @@ pub fn query_call(
     }
 }
 
-// The queries at the first count places of c, v, b and t: 0, and at each place its number and, where it is given, its correction in metres; or the
+// The queries at the first count places of constellation, svid, band and time: 0, and at each place its number and, where it is given, its correction in metres; or the
 // number of the refusal of the whole call, which leaves numbers and metres as they were.
 pub fn queries_call(
     block_constellation: &[u8],

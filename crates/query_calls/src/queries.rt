@@ -113,7 +113,7 @@ fn fill(
     }
 }
 
-// The answers of the first count places of c, v, b and t, each its number and, where it is given, its correction; or the refusal, which leaves numbers and
+// The answers of the first count places of constellation, svid, band and time, each its number and, where it is given, its correction; or the refusal, which leaves numbers and
 // metres as they were. The directory is tested once.
 pub fn queries(
     block_constellation: &[u8],

@@ -9,7 +9,6 @@ use lib.IntN.{ℤ, pos}
 use lib.Ieee.{Float}
 use Rattle.walk.specs.Walk.{places}
 use Rattle.walk.proofs.Walk.{places-all, places-take, places-ext}
-use Rattle.signal.specs.Signal.{signal}
 use Rattle.signal.proofs.SignalLaws.{constellation-is, svid-is, band-is, signal-small}
 use Rattle.records.specs.Record.{counted}
 use Rattle.records.specs.Carriers.{carrierColumns, carrierAt, epochOf}

@@ -1,6 +1,6 @@
 -- THE LAW: a later pass that fails never fails the track. Where 2 to 6 pass and the first pass is good, the track is given, and it is that of the last pass before the first
 -- that fails, or of the last pass where none fails; no iterations run one pass. Assumes nothing.
-use mathlib.Core.Path.{_≡_, refl, sym, _∙_, ap}
+use mathlib.Core.Path.{_≡_, _∙_, ap}
 use mathlib.Core.Bool.{Bool, true, false, cond}
 use mathlib.Core.Logic.{_⊎_, inl, inr, ⊎-elim}
 use Prim.Native.Nat.{ℕ, zero, suc, _+_, _-_, _≤_, _<_}

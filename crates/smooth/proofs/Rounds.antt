@@ -12,7 +12,7 @@ use lib.Seq.{getD-take}
 use lib.Ieee.{Float, nan, isNan, binary64, fits}
 use lib.Ieee.Scale.{finite}
 use lib.Ieee.Fits.{add-fits}
-use Rattle.exact.specs.Float.{_⊕_, 1·0, bits}
+use Rattle.exact.specs.Float.{_⊕_, bits}
 use Rattle.numeric.specs.Order.{patternOf}
 use Rattle.numeric.specs.Real.{inRange}
 use Rattle.numeric.proofs.OrderLaws.{pattern-back}
@@ -26,7 +26,7 @@ use Rattle.trajectory.specs.Pass.{passes, fitOf}
 use Rattle.trajectory.specs.Steps.{Lent, Valid, scalesIn, PassDone}
 use Rattle.trajectory.proofs.Passing.{passes-same, fit-same}
 use Rattle.smooth.specs.Track.{anchorScale, linkScale, scalesOf, ones, refined, smoothed}
-use Rattle.smooth.specs.Steps.{fitIn, Numbers, Weighed, Reweighed, FiniteCells, SmallOrigin, Tabulated, Published, FitDone}
+use Rattle.smooth.specs.Steps.{fitIn, Numbers, Weighed, Reweighed, FiniteCells, Tabulated, Published, FitDone}
 use Rattle.smooth.proofs.Weights.{held-anchor, held-link}
 use Rattle.smooth.proofs.Finite.{solution-finite, pass-finite}
 

@@ -13,8 +13,7 @@ use Rattle.numeric.specs.Order.{patternOf}
 use Rattle.numeric.specs.Real.{inRange}
 use Rattle.tridiagonal.specs.Rows.{floatAt, cell, SameOutside}
 use Rattle.trajectory.specs.Input.{Trajectory, workNeed}
-use Rattle.trajectory.specs.Equations.{Scales}
-use Rattle.trajectory.specs.Pass.{passes, fitOf}
+use Rattle.trajectory.specs.Pass.{passes}
 use Rattle.smooth.specs.Track.{anchorScale, linkScale, ones, smoothed}
 
 -- the fit in a list

@@ -1,6 +1,6 @@
 -- An anchor, added to the row of one axis. Assumes nothing.
 use mathlib.Core.Path.{_≡_, refl, sym, _∙_, ap}
-use mathlib.Core.Logic.{_⊎_, inl, inr, ⊎-elim}
+use mathlib.Core.Logic.{inl, inr, ⊎-elim}
 use mathlib.Core.Bool.{Bool, true, false, not, _&&_}
 use mathlib.Core.List.{List}
 use Prim.Native.Nat.{ℕ, _+_, _*_, _≤_, _<_}
@@ -13,15 +13,15 @@ use Rattle.exact.specs.Float.{_⊕_, _⊖_, _⊗_, _⊘_}
 use Rattle.numeric.specs.Order.{patternOf}
 use Rattle.numeric.proofs.OrderLaws.{pattern-bits, isNan-differs}
 use Rattle.tridiagonal.specs.Rows.{floatAt, cell, axisIn}
-use Rattle.tridiagonal.specs.Steps.{Alike, NoNan, NumbersAt, Spoilt}
+use Rattle.tridiagonal.specs.Steps.{Alike, NumbersAt}
 use Rattle.tridiagonal.proofs.EachBelow.{left-true, right-true}
 use Rattle.tridiagonal.proofs.Cells.{same-float, float-place, float-hit, float-miss, number-set, update}
 use Rattle.tridiagonal.proofs.Axes.{touched-none, touched-diagonal, touched-right, touched-if, taken}
 use Rattle.tridiagonal.proofs.Nan.{which-fails, un-not}
-use Rattle.trajectory.specs.Input.{Measured, indexAt, valueAt, sigmaAt, origin}
+use Rattle.trajectory.specs.Input.{Measured, indexAt}
 use Rattle.trajectory.specs.Equations.{weight, anchorPull, anchorChange, changedBy}
 use Rattle.trajectory.specs.Steps.{number, AnchorAdded, AddDone}
-use Rattle.trajectory.proofs.Changed.{changed-none, changed-next, raise-next}
+use Rattle.trajectory.proofs.Changed.{changed-next, raise-next}
 use Rattle.trajectory.proofs.Adding.{AxisAdded, Step, Adding, anchors-steady, y-next, z-next, adding-ends, adding-more}
 
 -- ---- the call

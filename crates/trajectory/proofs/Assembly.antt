@@ -1,9 +1,9 @@
 -- The equations of the three axes, from the steps that put them together, and what they depend on. Assumes nothing.
 use mathlib.Core.Bool.{false}
-use mathlib.Core.Path.{_≡_, refl, sym, _∙_, ap, fun-ext}
+use mathlib.Core.Path.{_≡_, refl, _∙_, ap, fun-ext}
 use mathlib.Core.Logic.{inl, inr, ⊎-elim}
 use mathlib.Core.List.{List}
-use Prim.Native.Nat.{ℕ, zero, suc, _+_, _*_, _≤_, _<_}
+use Prim.Native.Nat.{ℕ, zero, suc, _+_, _*_, _<_}
 use native.Mathlib.Omega.{arith}
 use lib.Ieee.{Float, isNan, ofBits}
 use Rattle.exact.specs.Float.{+0, bits}
@@ -11,13 +11,12 @@ use Rattle.tridiagonal.specs.Rows.{floatAt, cell, axisIn, Filled}
 use Rattle.tridiagonal.specs.Tridiagonal.{Equations}
 use Rattle.tridiagonal.specs.Steps.{Alike, NoNan, Spoilt}
 use Rattle.tridiagonal.proofs.Cells.{same-float}
-use Rattle.tridiagonal.proofs.Alike.{alike-then, spoilt-same}
-use Rattle.tridiagonal.proofs.Nan.{IsNan}
+use Rattle.tridiagonal.proofs.Alike.{alike-then}
 use Rattle.trajectory.specs.Input.{Measured, Trajectory, indexAt}
 use Rattle.trajectory.specs.Equations.{changed, raise, lower, zeros, Scales, weight, anchorPull, linkDiagonal, linkRight, anchorChange, linkChange, changedBy, diagonal, upper, right, equationsOf}
 use Rattle.trajectory.specs.Steps.{scalesIn}
 use Rattle.trajectory.proofs.Changed.{changed-same}
-use Rattle.trajectory.proofs.Adding.{Steady, links-steady, changed-keeps}
+use Rattle.trajectory.proofs.Adding.{links-steady, changed-keeps}
 
 -- ---- the same scales give the same steps
 

@@ -1,6 +1,6 @@
 -- A link, added to the row of one axis and the next. Assumes nothing.
 use mathlib.Core.Path.{_≡_, refl, sym, _∙_, ap}
-use mathlib.Core.Logic.{_⊎_, inl, inr, ⊎-elim}
+use mathlib.Core.Logic.{inl, inr, ⊎-elim}
 use mathlib.Core.Bool.{Bool, true, false, _&&_, cond}
 use mathlib.Core.List.{List}
 use Prim.Native.Nat.{ℕ, _+_, _*_, _≤_, _<_}
@@ -13,12 +13,12 @@ use Rattle.exact.specs.Float.{_⊕_, _⊖_, _⊗_, _⊘_}
 use Rattle.numeric.specs.Order.{patternOf}
 use Rattle.numeric.proofs.OrderLaws.{pattern-bits}
 use Rattle.tridiagonal.specs.Rows.{floatAt, cell, axisIn}
-use Rattle.tridiagonal.specs.Steps.{Alike, NoNan, NumbersAt, Spoilt}
+use Rattle.tridiagonal.specs.Steps.{Alike, NumbersAt, Spoilt}
 use Rattle.tridiagonal.proofs.EachBelow.{left-true, right-true}
 use Rattle.tridiagonal.proofs.Cells.{same-float, float-place, float-hit, float-miss, float-miss2, float-miss3, number-set, update}
 use Rattle.tridiagonal.proofs.Axes.{touched-none, touched-diagonal, touched-upper, touched-right, touched-if, taken}
 use Rattle.tridiagonal.proofs.Nan.{IsNan, which-fails, un-not}
-use Rattle.trajectory.specs.Input.{Measured, indexAt, valueAt, sigmaAt}
+use Rattle.trajectory.specs.Input.{Measured, indexAt}
 use Rattle.trajectory.specs.Equations.{weight, linkPull, linkChange, changedBy}
 use Rattle.trajectory.specs.Steps.{number, LinkAdded, AddDone}
 use Rattle.trajectory.proofs.Changed.{lower-next, both-next, across-next}

@@ -1,11 +1,10 @@
 -- The pass as a whole, from its steps. Assumes nothing.
-use mathlib.Core.Path.{_≡_, refl, sym, _∙_, ap}
+use mathlib.Core.Path.{_≡_, sym, _∙_, ap}
 use mathlib.Core.Bool.{Bool, true, false}
 use mathlib.Core.Logic.{_⊎_, inl, inr, ⊎-elim}
 use mathlib.Core.List.{List}
 use Prim.Native.Nat.{ℕ, zero, suc, _+_, _*_, _<_}
 use native.Mathlib.Omega.{arith}
-use lib.Ieee.{Float}
 use Rattle.tridiagonal.specs.Rows.{floatAt, axisIn, Axes, onAxes, SameOutside, Filled}
 use Rattle.tridiagonal.specs.Tridiagonal.{Equations, axisSolved}
 use Rattle.tridiagonal.specs.Steps.{Alike, NoNan, Spoilt, Solved}
@@ -16,7 +15,7 @@ use Rattle.tridiagonal.proofs.Nan.{spoilt-fails}
 use Rattle.trajectory.specs.Input.{Trajectory}
 use Rattle.trajectory.specs.Equations.{Scales, anchorChange, linkChange, changedBy, equationsOf}
 use Rattle.trajectory.specs.Pass.{passes, fitOf}
-use Rattle.trajectory.specs.Steps.{AddDone, Added, scalesIn, PassDone}
+use Rattle.trajectory.specs.Steps.{AddDone, scalesIn, PassDone}
 use Rattle.trajectory.proofs.Assembly.{anchored-alike, anchored-spoilt, linked-alike, cleared-numbers, equations-same}
 
 three : (f g : ℕ → Bool) → f 0 ≡ g 0 → f 1 ≡ g 1 → f 2 ≡ g 2 → onAxes f ≡ onAxes g

@@ -14,7 +14,7 @@ use lib.Ieee.Bits.{nanBits-is}
 use Rattle.exact.specs.Float.{bits}
 use Rattle.numeric.specs.Order.{patternOf}
 use Rattle.numeric.proofs.OrderLaws.{pattern-back}
-use lib.Ieee.{Float, isNan, nanBits, binary64, fits, toBits}
+use lib.Ieee.{Float, isNan, nanBits, binary64, fits}
 use borrow.Author.Tests.{eqb-true, eqb-false}
 use Rattle.tridiagonal.specs.Rows.{floatAt, cell, SameOutside, Filled}
 

@@ -19,7 +19,7 @@ use Rattle.tridiagonal.specs.Tridiagonal.{Equations, pivot, reduced, van
 use Rattle.tridiagonal.specs.Steps.{NoNan, NumbersAt, FirstRow, RowEliminated, Left, Eliminated}
 use Rattle.tridiagonal.specs.declared.solve.Row.{Row}
 use Rattle.tridiagonal.proofs.EachBelow.{each-of, left-true, right-true, first-fails, second-fails, third-fails, who-fails}
-use Rattle.tridiagonal.proofs.Cells.{grown, kept-none, kept-then, float-place, float-hit, float-miss}
+use Rattle.tridiagonal.proofs.Cells.{grown, kept-then, float-place, float-hit, float-miss}
 use Rattle.tridiagonal.proofs.Axes.{Beside, beside, Touched, touched-none, touched-diagonal, touched-right, touched-if, taken}
 use Rattle.tridiagonal.proofs.Nan.{bad-fails}
 

@@ -1,6 +1,6 @@
 -- THE LAW: a NaN anywhere in n equations, or where the elimination leaves one, makes the last unknown a NaN, so that the equations are not solved. Assumes nothing.
 -- A NaN beside the diagonal counts only where a row follows. So a pass that ends where it would store a NaN ends where it fails.
-use mathlib.Core.Path.{_≡_, refl, sym, _∙_, ap}
+use mathlib.Core.Path.{_≡_, refl, sym}
 use mathlib.Core.Bool.{Bool, true, false, not, _&&_}
 use mathlib.Core.Logic.{_⊎_, inl, inr, ⊎-elim}
 use Prim.Native.Nat.{ℕ, zero, suc, _+_, _-_, _<_}
@@ -10,7 +10,7 @@ use lib.Dec.{T}
 use lib.Ieee.{Float, nan, inf, fin, isNan, le, add, sub, mul, div}
 use lib.Ieee.Scale.{finite}
 use Rattle.exact.specs.Float.{_⊕_, _⊖_, _⊗_, _⊘_, +0}
-use Rattle.tridiagonal.specs.Tridiagonal.{Equations, pivot, factor, reduced, vanishing, eliminated, solvable, back, solution, held, finiteSolution, axisSolved, goodRow}
+use Rattle.tridiagonal.specs.Tridiagonal.{Equations, pivot, factor, reduced, vanishing, solvable, back, solution, held, finiteSolution, axisSolved, goodRow}
 use Rattle.tridiagonal.specs.Steps.{Spoilt}
 use Rattle.tridiagonal.proofs.EachBelow.{each-fails, first-fails, second-fails, third-fails, who-fails}
 

@@ -15,11 +15,11 @@ use lib.Ieee.Fits.{div-fits}
 use Rattle.exact.specs.Float.{_⊖_, _⊗_, _⊘_, +0}
 use Rattle.numeric.specs.Order.{patternOf}
 use Rattle.numeric.proofs.OrderLaws.{pattern-bits}
-use Rattle.tridiagonal.specs.Rows.{floatAt, cell, axisIn, Axes, onAxes, SameOutside}
+use Rattle.tridiagonal.specs.Rows.{floatAt, cell, axisIn, Axes, SameOutside}
 use Rattle.tridiagonal.specs.Tridiagonal.{Equations, eachBelow, pivot, reduced, vanishing, eliminated, solvable, back, solution, held, finiteSolution, axisSolved, goodRow}
 use Rattle.tridiagonal.specs.Steps.{NoNan, NumbersAt, RowSolved, Left, Eliminated, Substituted, Solved}
 use Rattle.tridiagonal.proofs.EachBelow.{each-at, each-of, each-same, each-fails, left-true, right-true, first-fails, second-fails, third-fails, who-fails, all-three}
-use Rattle.tridiagonal.proofs.Cells.{kept-none, kept-then, float-place, float-hit, float-miss}
+use Rattle.tridiagonal.proofs.Cells.{kept-then, float-place, float-hit, float-miss}
 use Rattle.tridiagonal.proofs.Axes.{Beside, beside, Touched, touched-none, touched-right, touched-if, taken}
 use Rattle.tridiagonal.proofs.Alike.{back-same}
 

@@ -1,7 +1,7 @@
 -- There and back, of the two calls: what writing wrote is read again, and what reading read is written again, with no acceptance of the second call assumed.
 -- Assumes nothing.
 use mathlib.Core.Path.{_≡_, refl, sym, ap, _∙_, subst}
-use mathlib.Core.Bool.{Bool, true, false, cond, _&&_}
+use mathlib.Core.Bool.{true}
 use mathlib.Core.List.{List, [], _∷_, _++_, map}
 use Prim.Native.Nat.{ℕ, zero, suc, _+_, _*_, _%_, _^_, _≤_, _<_}
 use native.Mathlib.Nat.{mul-mod-right}
@@ -15,12 +15,12 @@ use mir.Val.{SFits}
 use Rattle.walk.specs.Walk.{collect, places}
 use Rattle.walk.proofs.Walk.{places-length}
 use Rattle.wire.specs.Number.{Bytes}
-use Rattle.wire.specs.Record.{Fitting, AllFitting, none, more, epochBytes, recordAt, countIn, isWhole, recordsOf}
+use Rattle.wire.specs.Record.{Fitting, AllFitting, none, more, epochBytes, recordAt, countIn, recordsOf}
 use Rattle.wire.specs.Columns.{RecordColumns, columnsFit, columnsWith, floatsOf, columnRecord, columnRecords, over}
 use Rattle.wire.specs.Lent.{readNumber, ReadAnswers, writeNumber, WriteAnswers}
 use Rattle.wire.specs.declared.record.CarrierRecord.{CarrierRecord}
 use Rattle.wire.proofs.RecordLaws.{collect-length, epoch-length, count-written}
-use Rattle.wire.proofs.ColumnLaws.{Room, columns-room}
+use Rattle.wire.proofs.ColumnLaws.{columns-room}
 use Rattle.wire.proofs.LentLaws.{same-count, same-records, had-room, same-bytes}
 
 -- ---- columns within their widths

@@ -25,12 +25,12 @@ use Rattle.estimator.specs.declared.rules.Check.{Check}
 use Rattle.estimator.specs.declared.rules.Check.the-variants.{Refused as Stops, Passed}
 use Rattle.estimator.proofs.RulesLaws.{checked, ruled-append, refused-by, passed-by}
 use Rattle.wls.specs.Front.{fixRules}
-use Rattle.wls.specs.Fix.{Input, sightAt, sightRules, roundAt, limit, start, fitOver, kept, clocks, chiAt, qualityRules, endRules, solutionAt, foundOver, fixOf}
+use Rattle.wls.specs.Fix.{Input, sightAt, sightRules, roundAt, limit, start, fitOver, kept, clocks, chiAt, qualityRules, endRules, foundOver, fixOf}
 use Rattle.quality.specs.Quality.{unweightedMatrix, dilutionOf}
 use Rattle.wls.specs.Before.{bare, fitBefore, rulesBefore, answerBefore, foundBefore, fixBefore, seenAt}
 use Rattle.wls.specs.declared.fix.Settings.{Settings}
 use Rattle.wls.specs.declared.fix.Fix.{Fix}
-use Rattle.wls.specs.declared.fix.Fix.the-variants.{Refused, At}
+use Rattle.wls.specs.declared.fix.Fix.the-variants.{Refused}
 
 -- the states that rounds of n unknowns begin at, from x on, and the one that they leave
 pub met : ℕ → List Float → List Round → List (List Float)

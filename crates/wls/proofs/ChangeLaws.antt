@@ -36,9 +36,8 @@ use Rattle.clocks.specs.Clocks.{slot}
 use Rattle.clocks.specs.declared.clocks.Clocks.{Clocks}
 use Rattle.records.specs.declared.record.Observation.{Observation}
 use Rattle.estimator.specs.Rules.{Rule, rule, ruled, rowRules}
-use Rattle.estimator.specs.Rounds.{End, Stopped, Reached, Fit, vector, moved, shortStep, ended, begun, after, fitFrom, lastRows, finiteAt, concluded}
-use Rattle.estimator.specs.declared.rules.Check.{Check}
-use Rattle.estimator.specs.declared.rules.Check.the-variants.{Refused as Stops, Passed}
+use Rattle.estimator.specs.Rounds.{End, Stopped, Reached, Fit, vector, moved, shortStep, ended, after, fitFrom, lastRows, finiteAt, concluded}
+use Rattle.estimator.specs.declared.rules.Check.the-variants.{Passed}
 use Rattle.estimator.proofs.RulesLaws.{checked, ruled-append, passed-by}
 use Rattle.wls.specs.Valid.{fixInputRules}
 use Rattle.wls.specs.Front.{fixRules}
@@ -49,8 +48,8 @@ use Rattle.wls.specs.declared.fix.Settings.{Settings}
 use Rattle.wls.specs.declared.fix.Solution.{Solution}
 use Rattle.wls.specs.declared.fix.Fix.{Fix}
 use Rattle.wls.specs.declared.fix.Fix.the-variants.{Refused, At}
-use Rattle.wls.proofs.BeforeLaws.{sights-are, round-is, round-seen, round-not, fifteen-or-before}
-use Rattle.wls.proofs.QualityBefore.{figureRules, withChi, Became, Same, Anew, became}
+use Rattle.wls.proofs.BeforeLaws.{sights-are, round-seen, round-not, fifteen-or-before}
+use Rattle.wls.proofs.QualityBefore.{withChi, Became, Same, Anew, became}
 use Rattle.wls.proofs.FixSound.{ended as finished-at}
 
 -- ---- 15 of the rows is what the geometry of each satellite passes on

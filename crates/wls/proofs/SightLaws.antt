@@ -1,7 +1,7 @@
 -- Rule 15 of the rows of a fit, one row after the other, and a round that it refuses or lets pass. Assumes nothing.
 use mathlib.Core.Path.{_≡_, refl, sym, _∙_, subst}
 use mathlib.Core.Bool.{cond}
-use mathlib.Core.List.{List, [], map}
+use mathlib.Core.List.{List, []}
 use Prim.Native.Nat.{ℕ, _+_, _≤_, _<_}
 use native.Mathlib.Omega.{arith}
 use lib.ListN.{length, getD, take, drop}
@@ -15,7 +15,7 @@ use Rattle.numeric.specs.declared.sight.Sighting.{Sighting}
 use Rattle.numeric.specs.declared.sight.Sighting.the-variants.{Refused as NotSeen, Seen}
 use Rattle.numeric.proofs.SightLaws.{seen-by}
 use Rattle.numeric.proofs.SightLaws.{refused-by as not-seen-by}
-use Rattle.robust.specs.Round.{Round, Outcome, Refused as NoRound, Solved, roundOf}
+use Rattle.robust.specs.Round.{Round, Outcome, Refused as NoRound, Solved}
 use Rattle.robust.specs.Solving.{Solving}
 use Rattle.robust.specs.declared.round.Stepping.the-variants as Stepping
 use Rattle.clocks.specs.declared.clocks.Clocks.{Clocks}
@@ -25,7 +25,7 @@ use Rattle.estimator.specs.Rules.{ruled}
 use Rattle.estimator.specs.Rounds.{vector}
 use Rattle.estimator.specs.declared.rules.Check.the-variants.{Refused as Stops, Passed}
 use Rattle.estimator.proofs.RulesLaws.{checked, refused-by, passed-by, passed-of}
-use Rattle.wls.specs.Fix.{sightAt, sightRules, rowAt, roundAt}
+use Rattle.wls.specs.Fix.{sightAt, sightRules, roundAt}
 use Rattle.wls.specs.Before.{bare}
 use Rattle.wls.specs.declared.fix.Settings.{Settings}
 

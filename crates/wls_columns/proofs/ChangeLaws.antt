@@ -4,7 +4,6 @@ use mathlib.Core.Bool.{Bool, true, false, cond}
 use Prim.Native.Nat.{ℕ}
 use native.Mathlib.Omega.{arith}
 use Rattle.numeric.specs.declared.vec3.Vec3.{Vec3}
-use Rattle.numeric.specs.declared.refusal.Refusal.{Refusal}
 use Rattle.numeric.specs.declared.refusal.Refusal.the-variants.{TooMany, QualityNotFinite, OnReceiver}
 use Rattle.wls.specs.Fix.{fixOf}
 use Rattle.wls.specs.declared.fix.Settings.{Settings}

@@ -3,7 +3,7 @@ use Rattle.trajectory.specs.Input.{measured, trajectory}
 use borrow.Author.Tests.{not-true, not-false, ltb-true, ltb-false}
 use lib.Seq.{length-take-le}
 use Prim.Native.Nat.{_-_}
-use mathlib.Core.Path.{_≡_, refl, sym, _∙_}
+use mathlib.Core.Path.{sym, _∙_}
 use native.Mathlib.Omega.{arith}
 use Rattle.smooth.proofs.fit.fit.Statement.{statement}
 use Rattle.smooth.proofs.fit.fit.Tie as tie

@@ -2,7 +2,7 @@ use Rattle.smooth.proofs.Rounds.{published-none, published-more, publis
 use Rattle.smooth.specs.Steps.{Published}
 use lib.ListN.{length, length-set}
 use Prim.Native.Nat.{_-_, _≤_}
-use mathlib.Core.Path.{_≡_, refl, _∙_}
+use mathlib.Core.Path.{_≡_, refl}
 use native.Mathlib.Omega.{arith}
 use Rattle.smooth.proofs.fit.publish.Statement.{statement}
 use Rattle.smooth.proofs.fit.publish.Tie as tie

@@ -1,6 +1,5 @@
 use Rattle.smooth.proofs.Rounds.{lent-third, lent-next, reweighed}
 use Rattle.trajectory.specs.Input.{measured, trajectory}
-use mathlib.Core.Path.{_∙_}
 use native.Mathlib.Omega.{arith}
 use borrow.Author.Needs.{needs}
 use Rattle.smooth.proofs.fit.reweigh.Statement.{statement}

@@ -4,7 +4,7 @@ use Rattle.smooth.specs.Track.{anchorScale}
 use Rattle.trajectory.specs.Input.{measured}
 use lib.ListN.{length, length-set}
 use Prim.Native.Nat.{_-_, _≤_}
-use mathlib.Core.Path.{_≡_, refl, _∙_}
+use mathlib.Core.Path.{_≡_, refl}
 use native.Mathlib.Omega.{arith}
 use borrow.Author.Needs.{needs}
 use Rattle.smooth.proofs.weigh.weigh_anchors.Statement.{statement}

@@ -6,7 +6,7 @@ use Rattle.smooth.specs.Track.{linkScale}
 use Rattle.trajectory.specs.Input.{measured}
 use lib.ListN.{length, length-set}
 use Prim.Native.Nat.{_-_, _≤_}
-use mathlib.Core.Path.{_≡_, refl, _∙_, ap}
+use mathlib.Core.Path.{_≡_, refl, ap}
 use native.Mathlib.Omega.{arith}
 use borrow.Author.Needs.{needs}
 use Rattle.smooth.proofs.weigh.weigh_links.Statement.{statement}

@@ -4,7 +4,7 @@ use mathlib.Core.List.{List, [], _∷_}
 use Prim.Native.Nat.{ℕ}
 use lib.Dec.{eqb}
 use lib.ListN.{getD}
-use lib.Ieee.{isNan, toBits, ofInt}
+use lib.Ieee.{isNan, toBits, ofBits, ofInt}
 use Rattle.numeric.specs.Order.{patternOf}
 use Rattle.exact.specs.Float.{whole}
 use Rattle.smooth.specs.Answer.{Tracked, Points, answerOf, trackNumber, resultAfter}
@@ -67,6 +67,7 @@ array-read-result-3 : tie.Need-array-read-result-3
 array-read-result-3 c = search needs
 
 returns : tie.Need-returns
+unfolding ofBits ofInt
 returns c =
     found _ _ _ _ one-point (c .number .ensures ∙ ap trackNumber (c .before .before .before .smooth .ensures .answer)) (c .before .before .before .smooth .ensures .result)
 

@@ -1,7 +1,7 @@
 use Rattle.tridiagonal.proofs.Elimination.{Eliminating, reached-none, eliminating-ends, eliminating-all, row-x-needs, row-y-needs, row-z-needs, eliminating-more, first-needs}
 use Rattle.tridiagonal.proofs.Cells.{kept-none}
 use Prim.Native.Nat.{_-_}
-use mathlib.Core.Path.{refl, _∙_}
+use mathlib.Core.Path.{refl}
 use native.Mathlib.Omega.{arith}
 use Rattle.tridiagonal.proofs.solve.eliminate.Statement.{statement}
 use Rattle.tridiagonal.proofs.solve.eliminate.Tie as tie

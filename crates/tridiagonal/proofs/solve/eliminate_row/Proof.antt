@@ -1,9 +1,8 @@
 use Rattle.tridiagonal.proofs.Elimination.{pivot-writable, right-writable, row-ends, row-goes}
 use Rattle.tridiagonal.proofs.Cells.{readable}
-use Rattle.numeric.proofs.OrderLaws.{pattern-bits}
 use borrow.Author.Tests.{not-true, not-false}
 use lib.ListN.{length-set}
-use mathlib.Core.Path.{refl, sym, _∙_, ap}
+use mathlib.Core.Path.{refl, sym, _∙_}
 use native.Mathlib.Omega.{arith}
 use borrow.Author.Needs.{needs}
 use Rattle.tridiagonal.proofs.solve.eliminate_row.Statement.{statement}

@@ -1,4 +1,3 @@
-use mathlib.Core.Path.{_∙_}
 use Rattle.tridiagonal.proofs.Substitution.{left-numbers, solved, unsolved}
 use native.Mathlib.Omega.{arith}
 use borrow.Author.Needs.{needs}

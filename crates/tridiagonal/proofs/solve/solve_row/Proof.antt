@@ -2,7 +2,7 @@ use Rattle.tridiagonal.proofs.Substitution.{row-left, row-stored}
 use Rattle.tridiagonal.proofs.Nan.{finite-writable}
 use Rattle.tridiagonal.proofs.Cells.{readable}
 use borrow.Author.Tests.{not-true, not-false}
-use mathlib.Core.Path.{sym, _∙_, ap}
+use mathlib.Core.Path.{sym, _∙_}
 use borrow.Author.Needs.{needs}
 use Rattle.tridiagonal.proofs.solve.solve_row.Statement.{statement}
 use Rattle.tridiagonal.proofs.solve.solve_row.Tie as tie

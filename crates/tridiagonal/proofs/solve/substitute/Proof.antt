@@ -1,10 +1,7 @@
 use Rattle.tridiagonal.proofs.Substitution.{Substituting, found-none, substituting-all, row-x-needs, row-y-needs, row-z-needs, substituting-ends, substituting-more, at-next, last-same, three-finite}
 use Rattle.tridiagonal.proofs.Cells.{kept-none}
 use borrow.Author.Tests.{not-true, not-false}
-use Prim.Native.Nat.{ℕ}
-use lib.Dec.{eqb}
-use mathlib.Core.Bool.{_&&_, Bool}
-use mathlib.Core.Path.{refl, sym, _∙_, ap₂}
+use mathlib.Core.Path.{refl, _∙_}
 use native.Mathlib.Omega.{arith}
 use borrow.Author.Needs.{needs}
 use Rattle.tridiagonal.proofs.solve.substitute.Statement.{statement}

@@ -1,6 +1,5 @@
 -- `wire_tdcp::displacement::displacement_of` meets its contract: the epochs are those of the records. Assumes nothing.
 use mathlib.Core.Path.{sym, ap₂, _∙_}
-use native.Mathlib.Omega.{arith}
 use borrow.Author.Needs.{needs}
 use Rattle.records.specs.declared.record.Epoch.{Epoch}
 use Rattle.tdcp.specs.Displacement.{general, displacementOf}

@@ -1,7 +1,7 @@
 -- `wls_columns::bits::row_bits` meets its contract: before place k the first k bits are in r. Assumes nothing.
 use Prim.Native.Nat.{_-_, _<_}
 use native.Mathlib.Omega.{arith}
-use mathlib.Core.Path.{refl, sym}
+use mathlib.Core.Path.{refl}
 use Rattle.cholesky.specs.Factor.{row}
 use Rattle.wls_columns.proofs.BitLaws.{Patterned, patterned-next, patterned-all, finite-number, finite-pattern}
 use Rattle.wls_columns.proofs.bits.row_bits.Statement.{statement}
