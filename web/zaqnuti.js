@@ -67,8 +67,7 @@ function take(file) {
 
 // Why a file is not taken at all.
 function faultOf(file) {
-  if (typeof WebAssembly !== "object" || typeof BigUint64Array !== "function") return "This browser has no WebAssembly with 64-bit numbers; a newer one is needed.";
-  if (typeof Worker !== "function") return "This browser has no workers; a newer one is needed.";
+  if (lacking) return lacking;
   if (file.size > LARGEST) return `${file.name}: has ${Math.ceil(file.size / 1e6)} MB; this page takes up to ${Math.floor(LARGEST / 1e6)} MB. The command zaqnuti takes any size.`;
   return "";
 }

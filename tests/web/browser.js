@@ -76,18 +76,19 @@ async function look(s, name, width, height) {
   return wide <= width;
 }
 
-// The file that the page's link saves.
-async function download(s) {
+// Whether the file that the page's link saves comes to be a text.
+async function saves(s, csv) {
   const room = fs.mkdtempSync(path.join(os.tmpdir(), "zaqnuti-"));
   try {
     await s.post("/goog/cdp/execute", { cmd: "Browser.setDownloadBehavior", params: { behavior: "allow", downloadPath: room } });
     await run(s, "document.getElementById('download').click()");
-    for (let i = 0; i < 200; i += 1) {
-      const [name] = fs.readdirSync(room).filter((file) => file.endsWith(".csv"));
-      if (name) return fs.readFileSync(path.join(room, name), "utf8");
-      await pause(50);
+    for (let i = 0; i < 100; i += 1) {
+      // The file has its name before it has all its bytes.
+      const names = fs.readdirSync(room).filter((file) => file.endsWith("-displacements.csv"));
+      if (names.some((name) => fs.readFileSync(path.join(room, name), "utf8") === csv)) return true;
+      await pause(100);
     }
-    return null;
+    return false;
   } finally {
     fs.rmSync(room, { recursive: true });
   }
@@ -98,7 +99,7 @@ async function compare(s, { file, csv }, check) {
   const state = await handOver(s, file);
   const fault = await run(s, "return document.getElementById('fault').textContent");
   check(`Chromium answers ${file}: ${state} ${fault}`, state === "done");
-  check(`Chromium's displacements of ${file}`, (await download(s)) === csv);
+  check(`Chromium's displacements of ${file}`, await saves(s, csv));
   const rows = await run(s, "return document.querySelectorAll('#rows tr').length");
   check(`Chromium's epochs of ${file}`, rows === Math.min(200, csv.split("\n").length - 2));
   check("the page fits a desk", await look(s, "desk.png", 1100, 1400));
@@ -115,12 +116,22 @@ async function cancel(s, file, check) {
   check("Chromium cancels", String(state) === "fault,true,true");
 }
 
+// What the page cannot take, it turns away in words.
+async function turnAway(s, check) {
+  const fault = "return document.getElementById('fault').textContent";
+  const large = await run(s, `take({ name: "year.csv", size: 2 ** 31 }); ${fault}`);
+  check(`Chromium turns a large file away: ${large}`, large.startsWith("year.csv: has 2148 MB; this page takes up to 1073 MB."));
+  const old = await run(s, `lacking = "lacks"; take({ name: "a.csv", size: 1 }); lacking = ""; ${fault}`);
+  check(`Chromium without WebAssembly: ${old}`, old === "lacks");
+}
+
 // Compares the page's answers with the command's, a day first.
 async function browse(driver, page, files, bad, check) {
   const s = await session(driver);
   try {
     await s.post("/url", { url: `file://${path.resolve(page)}` });
     check("Chromium tells of a bad file", (await handOver(s, bad.file)) === "fault" && (await run(s, "return document.getElementById('fault').textContent")) === bad.fault);
+    await turnAway(s, check);
     await cancel(s, files[0].file, check);
     const [day, ...others] = files;
     const took = await compare(s, day, check);

@@ -31,7 +31,7 @@ function part(id) {
 
 // The page's worker in node.
 function loaded() {
-  const names = ["answerFile", "errorWords", "Library", "written", "readFloat"];
+  const names = ["answerFile", "errorWords", "Library", "written", "readFloat", "WHY", "KNOWN"];
   const own = new Function(`${part("worker")}\nreturn { ${names.join(", ")} };`)();
   const wasm = Buffer.from(part("wasm").replace(/\s+/g, ""), "base64");
   const library = new own.Library(new WebAssembly.Instance(new WebAssembly.Module(wasm), {}).exports);
@@ -51,6 +51,7 @@ function compareDrives(answer) {
   for (const file of [...drives, ...month]) {
     const own = answer(file);
     check(`displacements of ${file}`, own.csv === said("displacement", "--csv", file).stdout);
+    check(`words of ${file}`, own.rows.map(({ name, words }) => `${name}: ${words}\n`).join("") === said("displacement", file).stdout);
     const trip = said("trip", "--pulses-per-km", "8000", file);
     if (own.drive.fault === null) check(`totals of ${file}`, `${own.drive.words}\n` === trip.stdout);
     else check(`fault of ${file}`, `zaqnuti: ${own.drive.fault}\n` === trip.stderr);
@@ -103,6 +104,15 @@ function compareBadFiles(answer) {
   return files.length;
 }
 
+// The words of refusals and the names of columns are the command's.
+function compareTables({ WHY, KNOWN }) {
+  const source = (file) => fs.readFileSync(`bindings/rust/src/${file}`, "utf8");
+  const words = [...source("refusal.rs").matchAll(/Self::\w+ =>\s*\{?\s*"([^"]*)"/g)].map((found) => found[1]);
+  check("words of refusals", words.length > 20 && String(words) === String(WHY.slice(1)));
+  const names = source("bin/zaqnuti/names.rs").match(/KNOWN: &str = "([^"]*)"/)[1].split(/[\s\\]+/);
+  check("names of columns", names.length > 50 && String(names.sort()) === String([...KNOWN].sort()));
+}
+
 // Decimals go to and fro as the command has them: it writes the dt of a pair that it reads.
 function compareDecimals({ written, readFloat }) {
   for (const [x, text] of [[1, "1.0"], [-0, "-0.0"], [1e16, "1e16"], [1e15, "1000000000000000.0"], [1e-4, "0.0001"], [1.5e-5, "1.5e-5"], [5e-324, "5e-324"], [0.1, "0.1"], [1 / 0, "inf"]]) {
@@ -144,6 +154,7 @@ async function compareInBrowser() {
 async function main() {
   const own = loaded();
   compareDecimals(own);
+  compareTables(own);
   compareDrives(own.answer);
   const bad = compareBadFiles(own.answer);
   if (failed === 0) console.log(`node: the displacements and totals of ${drives.length + month.length - 1} drives and the messages of ${bad} odd files are the command's`);
