@@ -1,6 +1,6 @@
 // Decimals as the command zaqnuti reads and writes them, and its faults.
 
-// What ends a run before its end, in the command's words.
+// An error that ends a run, in the command's words.
 class Fault extends Error {}
 
 // The seconds of a week, the most records of an epoch, and the longest line in bytes.
@@ -11,14 +11,14 @@ const LONGEST = 65536;
 const EDGE = "[\\t-\\r \\u0085\\u00a0\\u1680\\u2000-\\u200a\\u2028\\u2029\\u202f\\u205f\\u3000]+";
 const EDGES = new RegExp(`^${EDGE}|${EDGE}$`, "g");
 
-// Takes the spaces around a text away.
+// Removes the white space around a text, by Unicode's definition.
 function trimmed(text) {
   const graphic = (c) => c > 32 && c < 127;
   if (text === "" || (graphic(text.charCodeAt(0)) && graphic(text.charCodeAt(text.length - 1)))) return text;
   return text.replace(EDGES, "");
 }
 
-// A text in quotes, as messages have it.
+// Quotes and escapes a text for a message.
 function quoted(text) {
   const named = { '"': '\\"', "\\": "\\\\", "\n": "\\n", "\r": "\\r", "\t": "\\t", "\0": "\\0" };
   const escaped = text.replace(/["\\\u0000-\u001f\u007f-\u00a0\u00ad\u200b-\u200f\u2028-\u202f\u2060-\u206f\ufeff]/g, (c) => named[c] || `\\u{${c.charCodeAt(0).toString(16)}}`);
@@ -27,17 +27,17 @@ function quoted(text) {
 
 const DECIMAL = /^[+-]?(?:\d+\.?\d*|\.\d+)(?:[eE][+-]?\d+)?$/;
 
-// Reads a decimal to the nearest float; undefined where it is none.
+// Returns the float nearest to a decimal, or undefined for any other text.
 function readFloat(field) {
   if (DECIMAL.test(field)) return Number(field);
   if (/^[+-]?nan$/i.test(field)) return NaN;
   if (/^[+-]?inf(?:inity)?$/i.test(field)) return field[0] === "-" ? -Infinity : Infinity;
-  // A NaN by its bits: the exponent is full, and the fraction is not 0.
+  // A NaN given by its bits: every exponent bit is set, and the fraction is not 0.
   if (/^NaN:[7F]FF[0-9A-F]{13}$/.test(field) && !field.endsWith("FF0000000000000")) return NaN;
   return undefined;
 }
 
-// Writes the shortest decimal that reads back as x.
+// Returns the shortest decimal that reads back as x.
 function written(x) {
   if (Number.isNaN(x)) return "NaN";
   if (!Number.isFinite(x)) return x < 0 ? "-inf" : "inf";
@@ -50,7 +50,7 @@ function written(x) {
   return `${sign}${whole}.${digits.slice(power + 1) || "0"}`;
 }
 
-// Writes a decimal with three places; a number between two goes to the even one.
+// Rounds to three decimals, ties to even.
 function fixed(x) {
   const text = x.toFixed(3);
   if (!Number.isFinite(x) || Math.abs(x * 16) % 2 !== 1) return text;
@@ -59,13 +59,13 @@ function fixed(x) {
   return `${x < 0 ? "-" : ""}${even.slice(0, -3)}.${even.slice(-3)}`;
 }
 
-// Metres for reading, to the millimetre; zero bears no sign.
+// Formats metres to the millimetre, zero without a sign.
 function metres(x) {
   const text = fixed(x);
   return text === "-0.000" ? "0.000" : text;
 }
 
-// Millimetres as kilometres, to the metre and rounded down.
+// Formats millimetres as kilometres, rounded down to the metre.
 function kilometres(mm) {
   return `${mm / 1000000n}.${String((mm / 1000n) % 1000n).padStart(3, "0")}`;
 }
@@ -77,7 +77,7 @@ const U32 = { low: 0n, high: 4294967295n };
 const U64 = { low: 0n, high: 18446744073709551615n };
 const I32 = { low: -2147483648n, high: 2147483647n };
 
-// Reads a whole number; undefined where it is none of its kind.
+// Returns the whole number of a field, or undefined if it is not of the kind.
 function readWhole(field, kind) {
   if (/^\d{1,9}$/.test(field)) {
     const x = Number(field);

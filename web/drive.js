@@ -25,7 +25,7 @@ class Meter {
     else if (!this.running && wrap) this.fault = `--wrap: ${name} has pulses, which do not wrap`;
   }
 
-  // Does a step, and keeps its fault.
+  // Runs a step, unless an earlier one failed, and records its fault.
   keeping(step) {
     if (this.fault !== null) return null;
     try {
@@ -66,7 +66,7 @@ class Meter {
     this.keeping(() => this.step(epoch));
   }
 
-  // The pulses since the count before.
+  // Returns the pulses since the previous count.
   step(epoch) {
     const { count } = epoch;
     if (!this.running) return count;
@@ -79,12 +79,12 @@ class Meter {
     }
     const size = 1n << BigInt(this.wrap);
     const step = (count + size - last) % size;
-    // Half a turn or more is a step back.
+    // Half the range or more counts as a step back.
     if (step >= size / 2n) throw this.faultAt(epoch, back);
     return step;
   }
 
-  // The pulses of an epoch; 0 where the odometer is of no use.
+  // Returns the pulses of an epoch, 0 after a fault.
   pulses(before, now) {
     this.intervals.add(since(now.time, before.time));
     const pulses = this.keeping(() => {
@@ -95,7 +95,7 @@ class Meter {
     return Number(pulses || 0n);
   }
 
-  // Why pulses may be missing in a drive with gaps; null where none may.
+  // Says why pulses may be missing in a drive with gaps, or returns null.
   lost(perKm) {
     const gap = this.intervals.missing();
     const wraps = this.wrap && this.intervals.longest * FASTEST * perKm / 1000 >= 2 ** (this.wrap - 1);
@@ -122,7 +122,7 @@ class Intervals {
     this.longest = Math.max(this.longest, seconds);
   }
 
-  // The seconds that are missing: of each interval above 1.5 medians what it has beyond the median.
+  // Returns the missing seconds: the excess over the median of each interval above 1.5 medians.
   missing() {
     const sorted = [...this.classes.entries()].sort((a, b) => a[0] - b[0]).map(([, held]) => held);
     let [below, median] = [0, 0];
@@ -170,7 +170,7 @@ class Totals {
     this.epochs = 0;
   }
 
-  // Adds an epoch, and gives the number that refused it.
+  // Adds an epoch. Returns 0, or the number that refused it.
   add(moved, pulses) {
     if (this.epochs === EPOCHS) {
       this.past = this.sums();
@@ -183,7 +183,7 @@ class Totals {
     return number;
   }
 
-  // Keeps the greatest difference of a drive of several trips.
+  // Updates the greatest difference of a drive that takes several trips.
   compare() {
     const { past, library } = this;
     const [epochs, carrier, pulses] = [1, 2, 3].map((i) => past.trip[i] + library.trip[i]);
@@ -192,7 +192,7 @@ class Totals {
     if (apart > past.greatest || epochs === 1n) Object.assign(past, { greatest: apart, reached: epochs });
   }
 
-  // The sums of the drive so far.
+  // Returns the sums of the drive so far.
   sums() {
     const { trip, report, totals, distance } = this.library.reports();
     const [carrier, odometer, greatest, reached] = report;

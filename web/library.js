@@ -11,13 +11,13 @@ const WHY = [
   "the bytes are no whole number of records",
 ];
 
-// A refusal in words.
+// Describes a refusal.
 function refusedWords(number) {
   return `refused by ${number}: ${WHY[number]}`;
 }
 
 class Library {
-  // Of the exports of an instance.
+  // Takes an instance's exports, and places the buffers behind the library's own memory.
   constructor(calls) {
     this.calls = calls;
     const { buffer } = calls.memory;
@@ -41,7 +41,7 @@ class Library {
     this.distance = lent(BigUint64Array, 1);
   }
 
-  // Puts an epoch's carriers into its columns, and gives the arguments that hand it over.
+  // Copies an epoch's carriers into its columns. Returns the arguments that pass them to a call.
   lend(columns, rows) {
     rows.slice(0, RECORDS).forEach((row, i) => {
       columns.constellation[i] = row.constellation;
@@ -54,7 +54,7 @@ class Library {
     return [...[constellation, svid, band, state, floats].flatMap((c) => [c.byteOffset, BigInt(c.length)]), BigInt(rows.length)];
   }
 
-  // The displacement of a pair. `refusal` is the displacement's; `unrated` is that of its quality, which may be refused where it is not.
+  // Computes the displacement of a pair of epochs. `refusal` is the number of zaqnuti_displacement, `unrated` that of zaqnuti_displacement_rated.
   solve(pair) {
     if (pair.refusal !== 0) return { refusal: pair.refusal, unrated: pair.refusal };
     this.receiver.set(pair.at);
@@ -68,7 +68,7 @@ class Library {
     return { refusal, unrated, delta: [...this.delta], chi, pdop, used: Number(this.counts[0]), screened: Number(this.counts[1]) };
   }
 
-  // The seconds between two times with weeks.
+  // Returns the seconds between two times with weeks.
   seconds(before, now) {
     const { nanos, interval, calls } = this;
     const place = nanos.byteOffset;
@@ -77,7 +77,7 @@ class Library {
     return { number, dt: interval[0] };
   }
 
-  // A displacement along north, east and down at a place; null where it cannot be turned.
+  // Returns a displacement as north, east and down at a place, or null if it is refused.
   compass(place, delta) {
     this.receiver.set(place);
     this.delta.set(delta);
@@ -90,7 +90,7 @@ class Library {
     return this.calls.zaqnuti_trip_start(perKm, this.trip.byteOffset) || this.calls.zaqnuti_mileage_start(limit, this.mileage.byteOffset);
   }
 
-  // Adds an epoch to both, and gives the number that refused it, 0 where the trip took it.
+  // Adds an epoch to both. Returns 0, or the number that refused the epoch.
   add(moved, pulses) {
     let number = moved.unrated;
     if (number === 0) {
@@ -103,7 +103,7 @@ class Library {
     return number;
   }
 
-  // The reports of both, and the distance; null where no pulse was counted.
+  // Returns the reports of both and the distance, null if no pulse was counted.
   reports() {
     const number = this.calls.zaqnuti_trip_report(this.trip.byteOffset, this.report.byteOffset) ||
       this.calls.zaqnuti_mileage_report(this.mileage.byteOffset, this.totals.byteOffset);

@@ -3,13 +3,13 @@
 
 const EDGE = { left: 62, right: 14, top: 14, bottom: 42 };
 
-// A step of the grid: 1, 2 or 5 times a power of ten.
+// Chooses the grid's step: 1, 2 or 5 times a power of ten.
 function gridStep(size) {
   const power = 10 ** Math.floor(Math.log10(size / 5));
   return [1, 2, 5, 10].map((k) => k * power).find((step) => size / step <= 6) || 10 * power;
 }
 
-// The least and the greatest of the places at even or odd positions, with some room.
+// Returns the range of the eastings (even places) or northings (odd places), 0 included.
 function range(points, odd) {
   let [low, high] = [0, 0];
   for (let i = odd; i < points.length; i += 2) {
@@ -19,7 +19,7 @@ function range(points, odd) {
   return [low, high];
 }
 
-// The frame that holds every place: metres to pixels. No side is less than two fifths of the other.
+// Maps metres to pixels so that every place is inside. The shorter side has at least two fifths of the longer one.
 function frameOf(points, wide) {
   let [east, north] = [range(points, 0), range(points, 1)];
   const longest = Math.max(east[1] - east[0], north[1] - north[0], 0.01);
@@ -54,7 +54,7 @@ function gridOf(frame) {
   return across.join("") + along.join("") + names;
 }
 
-// The picture of an answer, so many pixels wide; a cross where an epoch is refused, and a break in the line there.
+// Draws an answer, `wide` pixels wide. A refused epoch is a cross, and breaks the line.
 function pictureOf({ points, truth, rows }, wide) {
   if (![...points, ...truth].every((v) => Math.abs(v) < 1e9)) return "<p>The path is longer than a picture holds.</p>";
   const frame = frameOf(truth.length ? points.concat(truth) : points, wide);

@@ -35,7 +35,7 @@ class Carriers {
     return { constellation, svid, band, state, floats };
   }
 
-  // The carrier of a row; null where its satellite fields are all empty.
+  // Returns the carrier of a row, or null if its satellite fields are all empty.
   readAny(t) {
     const fields = [this.constellation, this.svid, this.phase, ...this.place, this.elevation, this.rate];
     const bare = t.field(this.constellation) === "" && fields.every((column) => t.field(column) === "");
@@ -43,7 +43,7 @@ class Carriers {
   }
 }
 
-// The columns of a time, which is a GPS week, where the file has one, and the second within it.
+// The columns of a time: a GPS week, if the file has one, and the time of week in seconds.
 class Times {
   constructor(table) {
     this.week = table.optional("week");
@@ -55,11 +55,11 @@ class Times {
     const week = filled ? t.whole(this.week, U32) : null;
     const tow = t.float(this.tow);
     if (!Number.isFinite(tow)) throw t.faultIn(this.tow, "is not finite");
-    // Of the two zeros only one is a time of its own.
+    // -0 and 0 are the same time.
     return { week, tow: tow + 0 };
   }
 
-  // Checks that the time of the line that was read last is after the time before it.
+  // Checks that the current line's time is after the previous one.
   checkForward(t, before, now) {
     if ((before.week === null) !== (now.week === null)) {
       throw t.faultIn(this.week === undefined ? this.tow : this.week, "is empty in some lines and not in others");
@@ -77,7 +77,7 @@ function timeWords(time) {
   return `${time.week === null ? "" : `week ${time.week}, `}${fixed(time.tow)} s`;
 }
 
-// A series of epochs. A meter reads what the lines say of the odometer, and keeps its own faults.
+// A series of epochs. The meter reads the odometer's fields and keeps its faults to itself.
 class Series {
   constructor(table, options, meter) {
     this.table = table;
@@ -108,7 +108,7 @@ class Series {
     if (epoch.rows.length <= RECORDS) epoch.rows.push(carrier);
   }
 
-  // The next epoch; null at the end of the file.
+  // Returns the next epoch, or null at the end of the file.
   epoch() {
     const { table, times } = this;
     let epoch = this.ahead;
@@ -129,7 +129,7 @@ class Series {
     return epoch;
   }
 
-  // The next pair; null at the end of the file.
+  // Returns the next pair of epochs, or null at the end of the file.
   next(library) {
     if (this.before === null) {
       this.before = this.epoch();
@@ -157,7 +157,7 @@ class Series {
   }
 }
 
-// The seconds between two times, exact to the nanosecond where both have a week, or why a time is refused.
+// Returns the seconds between two times, computed in nanoseconds if both have a week, and the number that refuses a time.
 function seconds(library, before, now) {
   const plain = { dt: since(now, before), refusal: 0 };
   if (before.week === null || now.week === null) return plain;
@@ -192,13 +192,13 @@ class Pairs {
     const at = t.floats(this.carriers.place);
     const settings = [...t.floats(this.heads.slice(1)), t.whole(this.rounds, U32)];
     const truth = readTruth(t, this.truth);
-    // A NaN other than the one that is written by its word alone keeps its bits.
+    // A NaN other than the default one is written with its bits.
     const field = t.field(this.heads[0]);
     const own = field.startsWith("NaN:") && field !== "NaN:7FF8000000000000" ? field : written(dt);
     return { name, fields: `,,${name},${own}`, dt, refusal: 0, at, settings, previous: [], current: [], truth, pulses: 0 };
   }
 
-  // The next pair; null at the end of the file.
+  // Returns the next pair of epochs, or null at the end of the file.
   next() {
     const t = this.table;
     while (t.next()) {
@@ -213,7 +213,7 @@ class Pairs {
       const carrier = this.carriers.read(t);
       if (!this.ahead) throw t.faultIn(this.line, "no line S comes before it");
       const { previous, current } = this.ahead;
-      // The library refuses an epoch of fewer.
+      // The library refuses epochs of more than 64 carriers anyway.
       if (previous.length + current.length < 300) (kind === "P" ? previous : current).push(carrier);
     }
     const done = this.ahead;

@@ -19,13 +19,13 @@ class Lines {
     this.decoder = new TextDecoder("utf-8", { fatal: true, ignoreBOM: true });
   }
 
-  // Reads the next block up to its last line's end.
+  // Reads the next block, up to its last line end.
   load() {
     const { source } = this;
     const end = Math.min(this.at + BLOCK, source.size);
     const bytes = source.read(this.at, end);
     const last = end === source.size ? bytes.length : bytes.lastIndexOf(10) + 1;
-    // A block without a line's end is one line that is too long.
+    // A block without a line end is part of a line that is too long.
     const part = last === 0 ? bytes : bytes.subarray(0, last);
     this.at += part.length;
     this.next = 0;
@@ -41,7 +41,7 @@ class Lines {
     } catch {
       lines = [];
     }
-    // Some line is no text: each is read by itself.
+    // Some line is not UTF-8: decode line by line to find it.
     for (let at = 0; at < bytes.length; ) {
       const end = bytes.indexOf(10, at);
       const part = bytes.subarray(at, end < 0 ? bytes.length : end);
@@ -55,7 +55,7 @@ class Lines {
     return lines;
   }
 
-  // The next line without its LF, null where it is no text; undefined at the end.
+  // Returns the next line without its LF: null if it is not UTF-8, undefined at the end.
   read() {
     while (this.next === this.block.length) {
       if (this.at >= this.source.size) return undefined;
@@ -65,7 +65,7 @@ class Lines {
   }
 }
 
-// A CSV file and the line of it that was read last.
+// A CSV file and its current line.
 class Table {
   constructor(source, strangers) {
     this.source = source;
@@ -85,7 +85,7 @@ class Table {
     return new Fault(`${this.name}:${this.line}: ${why}`);
   }
 
-  // A fault in a field of the line that was read last.
+  // Returns a fault in a field of the current line.
   faultIn(column, why) {
     return this.fault(`${this.header[column]}: ${why}`);
   }
@@ -101,7 +101,7 @@ class Table {
     return true;
   }
 
-  // Goes to the next line that is not blank; false at the end of the file.
+  // Moves to the next line that is not blank. Returns false at the end of the file.
   next() {
     do {
       if (!this.readLine()) return false;
@@ -112,7 +112,7 @@ class Table {
     return true;
   }
 
-  // The place of a column; undefined where the file has none of the name.
+  // Returns the index of a column, or undefined if the file lacks it.
   optional(name) {
     const place = this.header.indexOf(name);
     return place < 0 ? undefined : place;
@@ -128,7 +128,7 @@ class Table {
     return names.map((name) => this.column(name));
   }
 
-  // Columns that are there where the first of them is.
+  // Returns the indices of columns, or undefined if the file lacks the first of them.
   optionals(names) {
     return this.optional(names[0]) === undefined ? undefined : this.columns(names);
   }

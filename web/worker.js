@@ -1,22 +1,22 @@
-// Answers a file: in a worker of the page, and in node for the test.
+// Processes a file, in a worker of the page or, for the test, in node.
 
 const HEADER = "week,tow,pair,dt,dx,dy,dz,used,screened,refusal";
 const PHONE = [0.5, 0.008, 0.002, 1.5, 10, 4];
 const GEODETIC = [2, 0.008, 0.002, 1.5, 10, 4];
 
-// The way of a displacement in words.
+// Describes a displacement.
 function movedWords({ delta, used, screened }) {
   const length = Math.sqrt(delta[0] * delta[0] + delta[1] * delta[1] + delta[2] * delta[2]);
   return `${delta.map(metres).join(" ")} m, ${metres(length)} m in all; ${used} used, ${screened} screened`;
 }
 
-// A line of the displacement CSV.
+// Formats a line of the displacement CSV.
 function line(pair, moved) {
   if (moved.refusal !== 0) return `${pair.fields},,,,,,${moved.refusal}`;
   return `${pair.fields},${moved.delta.map(written).join(",")},${moved.used},${moved.screened},0`;
 }
 
-// The drive in words, as `zaqnuti trip` has it, and its figures.
+// Returns the drive's figures, and the line that `zaqnuti trip` prints.
 function driveSummary(name, totals, meter, perKm) {
   const sums = totals.sums();
   const [epochs, refused, aside, counted, covered, standing, pulses] = sums.totals;
@@ -34,7 +34,7 @@ function driveSummary(name, totals, meter, perKm) {
   };
 }
 
-// The path to the north and the east of its start; after a refusal it goes on where it stood, or at the true place.
+// The path relative to its start. After a refusal it continues from the true position if known, else from the last one.
 class Path {
   constructor(library) {
     Object.assign(this, { library, start: null, at: [0, 0], trueAt: [0, 0], points: [0, 0], truth: [] });
@@ -45,7 +45,7 @@ class Path {
     return ned === null ? [0, 0] : [ned[1], ned[0]];
   }
 
-  // Adds a pair; gives the place after it, to the east and to the north.
+  // Adds the displacement of a pair.
   add(pair, moved) {
     this.start = this.start || pair.at;
     if (pair.truth) {
@@ -64,7 +64,7 @@ class Path {
   }
 }
 
-// Answers every pair of a source. `tell` hears how many bytes were read.
+// Computes every displacement of a file. `tell` is called with the bytes read so far.
 function answerFile(library, source, options, tell) {
   const table = new Table(source, options.strangers);
   const meter = new Meter(table, options.wrap);
@@ -91,7 +91,7 @@ function answerFile(library, source, options, tell) {
   return { name: source.name, csv: csv.join("\n") + "\n", rows, points: path.points, truth: path.truth, drive, warning, refused: { total: tally.total, words: tally.words } };
 }
 
-// What is told of an error that ends a run.
+// Describes an error that ends a run.
 function errorWords(name, e) {
   if (e instanceof Fault) return e.message;
   if (e instanceof RangeError || /memory|allocat/i.test(String(e))) return `${name}: is too large for this browser's memory; the command zaqnuti reads it line by line`;

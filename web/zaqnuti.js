@@ -1,4 +1,4 @@
-// The page: takes a file, has a worker answer it, and shows the answers.
+// The page: passes a file to a worker, and shows its answers.
 
 const LARGEST = 1 << 30;
 const SHOWN = 200;
@@ -11,7 +11,7 @@ function say(fault) {
   at("fault").hidden = fault === "";
 }
 
-// Ends the work that is under way.
+// Stops the worker.
 function stop() {
   if (worker) worker.terminate();
   worker = null;
@@ -23,7 +23,7 @@ function wasmBytes() {
   return Uint8Array.from(text, (c) => c.charCodeAt(0));
 }
 
-// Reads the options; a fault where one of them is wrong.
+// Reads the options. Returns a fault if one of them is wrong.
 function optionsOf() {
   const perKm = at("per-km").value.trim();
   if (!/^\d+$/.test(perKm) || Number(perKm) < 1 || Number(perKm) > 65535) return { fault: `--pulses-per-km: "${perKm}" is not 1 to 65535` };
@@ -36,7 +36,7 @@ function optionsOf() {
   };
 }
 
-// Answers a file.
+// Starts work on a file.
 function take(file) {
   stop();
   say("");
@@ -65,7 +65,7 @@ function take(file) {
   return undefined;
 }
 
-// Why a file is not taken at all.
+// Says why the page cannot take a file, or returns "".
 function faultOf(file) {
   if (lacking) return lacking;
   if (file.size > LARGEST) return `${file.name}: has ${Math.ceil(file.size / 1e6)} MB; this page takes up to ${Math.floor(LARGEST / 1e6)} MB. The command zaqnuti takes any size.`;
@@ -90,7 +90,7 @@ function element(name, text, kind) {
 const km = (mm) => `${mm / 1000000n}.${String((mm / 1000n) % 1000n).padStart(3, "0")} km`;
 const m = (mm) => `${mm / 1000n}.${String(mm % 1000n).padStart(3, "0")} m`;
 
-// The drive's figures, name and value.
+// Returns the drive's figures as names and values.
 function figuresOf(d) {
   const carrier = ["Carrier distance", km(d.carrier)];
   const refused = ["Epochs refused", `${d.refused} of ${d.epochs}${d.tally ? ` (${d.tally})` : ""}`];
@@ -133,13 +133,13 @@ function show(answer) {
   draw();
 }
 
-// Draws the path as wide as the page has room.
+// Draws the path at the width of the page.
 function draw() {
   const wide = Math.max(280, Math.min(960, at("picture").clientWidth));
   if (shown) at("picture").innerHTML = pictureOf(shown.answer, wide);
 }
 
-// Shows a part of the epochs.
+// Lists one page of epochs.
 function listEpochs() {
   const rows = at("only").checked ? shown.answer.rows.filter((row) => row.refusal !== 0 || row.aside) : shown.answer.rows;
   shown.from = Math.max(0, Math.min(shown.from, Math.floor((rows.length - 1) / SHOWN) * SHOWN));
