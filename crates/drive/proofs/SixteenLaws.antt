@@ -20,7 +20,8 @@ use Rattle.trip.specs.declared.trip.Step.the-variants.{Refused, Goes}
 use Rattle.trip.proofs.HeldLaws.{sound-held, held-number}
 use Rattle.drive.specs.Drive.{drivenBy, underNew, tested, travelBy, travelWith}
 use Rattle.drive.specs.declared.drive.Driving.the-variants as Driving
-use Rattle.drive.specs.Lent.{Lent, movedOf, travelledIn, drivingNumber, travelNumber}
+use Rattle.tdcp_columns.specs.Displacement.{Lent, columnsDisplaced}
+use Rattle.drive.specs.Lent.{travelledBy, drivingNumber, travelNumber}
 
 -- New settings: 3 of these, and then 16 exactly where the words are not sound.
 pub settings-number : (s : Settings) (w : List ℕ) → drivingNumber (underNew s (tested (heldOf w))) ≡ cond (settingsPass s) (cond (soundWords w) 0 16) 3
@@ -36,13 +37,13 @@ settings-number s w = rw (sound-held w) (go (settingsPass s) (tooWide w) (soundT
 
 module _ (l : Lent) (pulses : ℕ) (w : List ℕ) where
   -- A displacement that is refused gives its number, whatever the words hold.
-  pub travel-refused : (r : Refusal) → movedOf l ≡ Still r → travelNumber (travelledIn l pulses w) ≡ numberOf r
+  pub travel-refused : (r : Refusal) → columnsDisplaced l ≡ Still r → travelNumber (travelledBy (columnsDisplaced l) pulses w) ≡ numberOf r
   unfolding travelBy
   travel-refused r e = rw e
 
   -- One that is not is refused by 16 exactly where the words are not sound, the trip is full, or it is longer than 1,000 m.
-  pub travel-number : (d : Delta) → movedOf l ≡ Moved d
-      → travelNumber (travelledIn l pulses w) ≡ cond (soundWords w && ltb (getD w 1 0) 65535 && measurable (d .delta)) 0 16
+  pub travel-number : (d : Delta) → columnsDisplaced l ≡ Moved d
+      → travelNumber (travelledBy (columnsDisplaced l) pulses w) ≡ cond (soundWords w && ltb (getD w 1 0) 65535 && measurable (d .delta)) 0 16
   unfolding travelBy
   travel-number d e = rw e (as-step (addedHeld (heldOf w) (d .delta) pulses) ∙ held-number w (d .delta) pulses)
     where
