@@ -2,5 +2,5 @@
 use Prim.Native.Nat.{ℕ, _+_, _*_}
 
 -- 10000 major + 100 minor + patch, as the header's ZAQNUTI_VERSION_NUMBER
-unfoldable pub versionNumber : ℕ
+abbrev pub versionNumber : ℕ
 versionNumber = 10000 * 0 + 100 * 6 + 0
