@@ -11,12 +11,15 @@
 #                 Rust of each kind; with a million about 20 minutes of a processor
 # make boxes      the library for every target of docs/BOXES.md whose packages are installed
 # make deb        target/deb/*.deb: libzaqnuti0.MINOR, libzaqnuti-dev, zaqnuti, python3-zaqnuti; `packaging/deb test` tries them
+# make web        target/web/zaqnuti.html, one file for a browser, with the library as WebAssembly in it: needs Debian's nodejs
 # make clean      removes target/
 
 PREFIX = /usr/local
 DESTDIR =
 # The libraries for other targets, where they are packed: lib/TARGET/libzaqnuti.a, lib/wasm32/zaqnuti.wasm.
 BOXES =
+# The page for a browser, where it is packed: $(doc)/zaqnuti.html.
+PAGE =
 N = 1000000
 # What zaqnuti.pc has as its prefix.
 PC_PREFIX = $(PREFIX)
@@ -38,9 +41,9 @@ papers = LICENSE-MIT LICENSE-APACHE NOTICE KIT CHANGELOG.md docs/REFUSALS.md doc
 links = lib/$(soname) lib/libzaqnuti.so
 installed = include/zaqnuti.h include/zaqnuti_easy.h lib/libzaqnuti.a lib/$(notdir $(shared)) lib/pkgconfig/zaqnuti.pc bin/displacement \
 	$(if $(command),bin/zaqnuti) share/man/man1/displacement.1 share/man/man1/zaqnuti.1 share/man/man3/zaqnuti.3 \
-	$(addprefix $(doc)/,$(notdir $(papers))) $(BOXES)
+	$(addprefix $(doc)/,$(notdir $(papers))) $(BOXES) $(PAGE)
 
-.PHONY: all test shared install uninstall dist deb arm arm-test boxes clean
+.PHONY: all test shared install uninstall dist deb arm arm-test boxes web clean
 
 all:
 	./run
@@ -76,6 +79,7 @@ install: $(archive) $(program) $(shared)
 	sed 's|@VERSION@|$(version)|' packaging/zaqnuti.3 >'$(to)/share/man/man3/zaqnuti.3'
 	$(INSTALL) -m 644 $(papers) '$(to)/$(doc)'
 	for file in $(BOXES); do $(INSTALL) -d "$(to)/$$(dirname $$file)" && $(INSTALL) -m 644 "target/$${file#lib/}" "$(to)/$$file" || exit 1; done
+	for file in $(PAGE); do $(INSTALL) -m 644 target/web/zaqnuti.html "$(to)/$$file" || exit 1; done
 	cd '$(to)' && sha256sum $(installed) >$(doc)/SHA256SUMS
 	@echo "Zaqnuti $(version) is in $(to); '(cd $(to) && sha256sum -c $(doc)/SHA256SUMS)' checks it"
 
@@ -88,7 +92,10 @@ dist: $(archive) $(program) $(shared)
 	rm -rf target/dist
 	boxes=$$(for target in $$(packaging/box targets); do packaging/box $$target fresh && packaging/box $$target file | sed 's|^target/|lib/|'; done); \
 	[ -n "$$boxes" ] || echo 'without libraries for other targets: none is of these sources (make boxes)'; \
-	$(MAKE) --no-print-directory install DESTDIR=target/dist PREFIX=/$(name) PC_PREFIX='$$$${pcfiledir}/../..' BOXES="$$(echo $$boxes)"
+	page=; case $$boxes in *zaqnuti.wasm*) \
+		[ ! -f target/web/zaqnuti.html ] || [ -n "$$(find web target/wasm32/zaqnuti.wasm -newer target/web/zaqnuti.html)" ] || page=$(doc)/zaqnuti.html ;; esac; \
+	[ -n "$$page" ] || echo 'without the page for a browser: none is of these sources (make web)'; \
+	$(MAKE) --no-print-directory install DESTDIR=target/dist PREFIX=/$(name) PC_PREFIX='$$$${pcfiledir}/../..' BOXES="$$(echo $$boxes)" PAGE="$$page"
 	when=$$(git log -1 --format=%ct 2>/dev/null || echo 0); \
 	tar -C target/dist --sort=name --owner=0 --group=0 --numeric-owner --mtime="@$$when" -cf target/dist/$(name).tar $(name)
 	gzip -9n target/dist/$(name).tar
@@ -106,6 +113,10 @@ arm-test:
 
 boxes:
 	for target in $$(packaging/box targets); do packaging/box $$target archive; status=$$?; [ $$status -eq 0 ] || [ $$status -eq 3 ] || exit 1; done
+
+web:
+	packaging/box wasm32 fresh || packaging/box wasm32 archive
+	web/build target/wasm32/zaqnuti.wasm target/web/zaqnuti.html
 
 clean:
 	rm -rf target
