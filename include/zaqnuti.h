@@ -59,12 +59,12 @@
  *
  *     fix             22,784
  *     position        22,784
- *     displacement    17,152
- *     between         16,384
- *     city            16,384
- *     rated           17,152
- *     line            40,960
- *     records         24,320
+ *     displacement    17,664
+ *     between         17,664
+ *     city            17,664
+ *     rated           17,664
+ *     line            24,320
+ *     records         24,064
  *     read_records       256
  *     write_records      256
  *     add_epoch       18,688
@@ -78,7 +78,7 @@
  *     trip               256
  *     mileage            256
  *     north_east_down    256
- *     trip_displacement 17,152
+ *     trip_displacement 17,920
  *     round            8,960
  *     centre             768
  *     geometry           256
