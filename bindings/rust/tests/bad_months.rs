@@ -389,7 +389,7 @@ fn a_page_shows_names_as_text() {
         "url(#hatch)",
         "Not ranked: coverage 0.7015 is below 0.9.",
         "2026-11-03 to 2026-11-17",
-        "zaqnuti 0.5.0",
+        concat!("zaqnuti ", env!("CARGO_PKG_VERSION")),
         "Not proved: ",
     ] {
         assert!(html.contains(part), "{part}");

@@ -9,10 +9,10 @@ use zaqnuti::differential::{
 use zaqnuti::forms::{directory_of, signals_of, Directory, Signals};
 use zaqnuti::frames::north_east_down;
 use zaqnuti::math::{self, Cholesky};
+use zaqnuti::mileage::{predicted_error, Epoch, Mileage, Moved};
 use zaqnuti::robust::{centre_scale, elevation_sigma, geometry, step, Clocks, Row};
 use zaqnuti::smooth::{smooth, Anchor, Link};
 use zaqnuti::time::{GpsTime, NANOS_PER_WEEK};
-use zaqnuti::mileage::{predicted_error, Epoch, Mileage, Moved};
 use zaqnuti::trip::{Drive, Report, Trip};
 use zaqnuti::{differential, line, smooth as track, tdcp, wire, wls, Ecef, Refusal, Vec3, TEXT};
 
@@ -249,7 +249,12 @@ fn a_rated_displacement() {
         iterations: 0,
         ..set
     };
-    assert_eq!(tdcp::delta_position(&six, &six, 1.0, AT, &none).unwrap().used, 6);
+    assert_eq!(
+        tdcp::delta_position(&six, &six, 1.0, AT, &none)
+            .unwrap()
+            .used,
+        6
+    );
     assert_eq!(rated(&six, &six, &none).unwrap_err(), Refusal::FitFailed);
     // A sigma of zero leaves no chi, where no round asks for it.
     let sigma = tdcp::Settings {
@@ -304,8 +309,7 @@ fn a_rated_city_displacement() {
             .filter(|c| c.constellation == 1)
             .collect()
     };
-    let why =
-        tdcp::city_displacement_rated(&gps(&before), &gps(&after), 1.0, 1575, AT, &set);
+    let why = tdcp::city_displacement_rated(&gps(&before), &gps(&after), 1.0, 1575, AT, &set);
     assert_eq!(why.unwrap_err(), Refusal::NotCertified);
 }
 
@@ -516,8 +520,17 @@ fn a_mileage() {
 
 #[test]
 fn a_mileage_refuses() {
-    for limit in [f64::NAN, f64::INFINITY, 1e9f64.next_up(), (-1e9f64).next_down()] {
-        assert_eq!(Mileage::start(limit), Err(Refusal::SettingOutOfRange), "{limit}");
+    for limit in [
+        f64::NAN,
+        f64::INFINITY,
+        1e9f64.next_up(),
+        (-1e9f64).next_down(),
+    ] {
+        assert_eq!(
+            Mileage::start(limit),
+            Err(Refusal::SettingOutOfRange),
+            "{limit}"
+        );
     }
     let bits = 1e9f64.to_bits();
     let moved = Ok(Moved {
@@ -526,7 +539,10 @@ fn a_mileage_refuses() {
         pdop: 1.0,
     });
     let mut mileage = Mileage::start(1e9).unwrap();
-    assert_eq!(mileage.add(&Epoch { moved, pulses: 1 }), Err(Refusal::BadTrip));
+    assert_eq!(
+        mileage.add(&Epoch { moved, pulses: 1 }),
+        Err(Refusal::BadTrip)
+    );
     assert_eq!(mileage.words(), [bits, 0, 0, 0, 0, 0, 0, 0, 0, 0]);
     // One above each bound; 17 comes after 16.
     let epoch = Epoch {
@@ -555,7 +571,18 @@ fn a_mileage_refuses() {
         }
     }
     // 65,535,000,000 mm with one pulse counted of 4,294,836,225, and the longest distance that 63 bits hold.
-    let far = Mileage::from_words([bits, 65_535, 0, 0, 65_535_000_000, 1, 0, 4_294_836_225, 1, 0]);
+    let far = Mileage::from_words([
+        bits,
+        65_535,
+        0,
+        0,
+        65_535_000_000,
+        1,
+        0,
+        4_294_836_225,
+        1,
+        0,
+    ]);
     assert_eq!(far.distance(), Err(Refusal::BadTrip));
     assert_eq!(far.fuel(1), Err(Refusal::BadTrip));
     let none = Mileage::from_words([bits, 2, 0, 0, 0, 3, 0, 3, 1, 0]);

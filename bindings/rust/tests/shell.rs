@@ -39,7 +39,10 @@ fn rover(lines: usize) -> String {
 #[test]
 fn help() {
     assert!(answered(&["--help"], 0).contains("Exit status"));
-    assert_eq!(answered(&["--version"], 0), "zaqnuti 0.5.0\n");
+    assert_eq!(
+        answered(&["--version"], 0),
+        concat!("zaqnuti ", env!("CARGO_PKG_VERSION"), "\n")
+    );
     for name in [
         "fix",
         "displacement",
