@@ -12,7 +12,7 @@
 #include "zaqnuti.h"
 
 /* What follows the k-th comma of a line; its end where there are fewer. */
-static const char *field(const char *line, size_t k)
+static const char *field(const char *line, zaqnuti_size k)
 {
     for (; k > 0 && *line != '\0'; line++) {
         if (*line == ',') {
@@ -29,7 +29,7 @@ static double float_at(const char *digits)
 {
     uint64_t bits = 0;
     double x;
-    size_t k;
+    zaqnuti_size k;
 
     for (k = 0; k < 16; k++) {
         const char *found = strchr(hexadecimal, digits[k]);
@@ -49,12 +49,12 @@ int main(void)
 {
     static char text[ZAQNUTI_TEXT + 2];
     char line[ZAQNUTI_LINE + 1] = "";
-    size_t length = fread(text, 1, ZAQNUTI_TEXT + 1, stdin);
+    zaqnuti_size length = fread(text, 1, ZAQNUTI_TEXT + 1, stdin);
     double position[3];
     double delta[3];
     double ned[3];
     uint8_t number;
-    size_t k;
+    zaqnuti_size k;
 
     line[zaqnuti_line((const uint8_t *)text, length, (uint8_t *)line, ZAQNUTI_LINE)] = '\0';
     if (line[0] != 'A') {

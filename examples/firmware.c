@@ -78,9 +78,9 @@ static void fix(void)
     double floats[5 * SATELLITES];
     double solution[5] = {0.0, 0.0, 0.0, 0.0, 0.0};
     double position[3] = {0.0, 0.0, 0.0};
-    size_t used = 0;
+    zaqnuti_size used = 0;
     uint8_t number;
-    size_t i;
+    zaqnuti_size i;
 
     for (i = 0; i < SATELLITES; i++) {
         const struct satellite *s = &sky[i];
@@ -147,7 +147,7 @@ struct epoch {
 /* What a receiver at `place` measures `drift` metres of clock later, with the range rate of each satellite. */
 static void measure(struct epoch *e, const double place[3], double drift, const double rate[SATELLITES])
 {
-    size_t i;
+    zaqnuti_size i;
     for (i = 0; i < SATELLITES; i++) {
         const struct satellite *s = &sky[i];
         e->constellation[i] = s->constellation;
@@ -161,7 +161,7 @@ static void measure(struct epoch *e, const double place[3], double drift, const 
     }
 }
 
-static uint8_t displace(const struct epoch *p, const struct epoch *c, size_t count, double delta[3], size_t counts[2])
+static uint8_t displace(const struct epoch *p, const struct epoch *c, zaqnuti_size count, double delta[3], zaqnuti_size counts[2])
 {
     const double settings[5] = {0.5, 0.008, 0.002, 1.5, 10.0};
     return zaqnuti_displacement(
@@ -173,7 +173,7 @@ static uint8_t displace(const struct epoch *p, const struct epoch *c, size_t cou
 }
 
 /* The same by the times of the two epochs. */
-static uint8_t displace_between(const struct epoch *p, const struct epoch *c, uint64_t before, uint64_t now, double delta[3], size_t counts[2])
+static uint8_t displace_between(const struct epoch *p, const struct epoch *c, uint64_t before, uint64_t now, double delta[3], zaqnuti_size counts[2])
 {
     const double settings[5] = {0.5, 0.008, 0.002, 1.5, 10.0};
     return zaqnuti_displacement_between(
@@ -185,7 +185,7 @@ static uint8_t displace_between(const struct epoch *p, const struct epoch *c, ui
 }
 
 /* The same by GPS and Galileo on one band alone. */
-static uint8_t displace_city(const struct epoch *p, const struct epoch *c, uint32_t band, double delta[3], size_t counts[2])
+static uint8_t displace_city(const struct epoch *p, const struct epoch *c, uint32_t band, double delta[3], zaqnuti_size counts[2])
 {
     const double settings[5] = {0.5, 0.008, 0.002, 1.5, 10.0};
     return zaqnuti_city_displacement(
@@ -206,7 +206,7 @@ static void drive(void)
 {
     double place[3];
     double rate[SATELLITES];
-    size_t i;
+    zaqnuti_size i;
 
     for (i = 0; i < 3; i++) {
         place[i] = receiver[i] + moved[i];
@@ -224,7 +224,7 @@ static void displacement(void)
 {
     double delta[3] = {0.0, 0.0, 0.0};
     double across[3] = {0.0, 0.0, 0.0};
-    size_t counts[2] = {0, 0};
+    zaqnuti_size counts[2] = {0, 0};
     uint8_t number;
 
     printf("displacement\n");
@@ -266,7 +266,7 @@ static uint8_t pack(const struct epoch *e, uint8_t bytes[EPOCH_BYTES])
 }
 
 /* The epoch of such bytes; 21 where some of them were lost. */
-static uint8_t unpack(const uint8_t *bytes, size_t length, struct epoch *e, size_t *count)
+static uint8_t unpack(const uint8_t *bytes, zaqnuti_size length, struct epoch *e, zaqnuti_size *count)
 {
     uint64_t floats[6 * SATELLITES];
     uint8_t number = zaqnuti_read_records(
@@ -274,7 +274,7 @@ static uint8_t unpack(const uint8_t *bytes, size_t length, struct epoch *e, size
         floats, 6 * SATELLITES, count);
 
     if (number == 0) {
-        memcpy(e->floats, floats, *count * 6 * sizeof *floats);
+        memcpy(e->floats, floats, (size_t)(*count * 6 * sizeof *floats));
     }
     return number;
 }
@@ -283,7 +283,7 @@ static uint8_t unpack(const uint8_t *bytes, size_t length, struct epoch *e, size
 static uint64_t word(const uint8_t *bytes)
 {
     uint64_t n = 0;
-    size_t i;
+    zaqnuti_size i;
 
     for (i = 8; i > 0; i--) {
         n = n << 8 | bytes[i - 1];
@@ -301,11 +301,11 @@ static void records(void)
     struct epoch received;
     double delta[3] = {0.0, 0.0, 0.0};
     double same[3] = {0.0, 0.0, 0.0};
-    size_t counts[2] = {0, 0};
-    size_t count = 0;
+    zaqnuti_size counts[2] = {0, 0};
+    zaqnuti_size count = 0;
     uint64_t bits;
     uint8_t number;
-    size_t i;
+    zaqnuti_size i;
 
     printf("records\n");
     expect_number("written", pack(&previous, kept), 0);
@@ -349,15 +349,15 @@ static void line_form(void)
         "3FE0000000000000,3FF0000000000000,0000000000000000,3FF8000000000000,"
         "4024000000000000,4\n";
     static const char wanted[] = "R,7\n";
-    const size_t text_length = sizeof text - 1;
-    const size_t wanted_length = sizeof wanted - 1;
+    const zaqnuti_size text_length = sizeof text - 1;
+    const zaqnuti_size wanted_length = sizeof wanted - 1;
     uint8_t line[ZAQNUTI_LINE];
-    size_t length;
+    zaqnuti_size length;
 
     printf("line form\n");
     length = zaqnuti_line((const uint8_t *)text, text_length, line, sizeof line);
     expect_number("bytes of the line", (unsigned)length, (unsigned)wanted_length);
-    expect_number("it is R,7", length == wanted_length && memcmp(line, wanted, wanted_length) == 0, 1);
+    expect_number("it is R,7", length == wanted_length && memcmp(line, wanted, (size_t)wanted_length) == 0, 1);
     /* A buffer that is one byte short keeps its bytes. */
     memset(line, 0, sizeof line);
     length = zaqnuti_line((const uint8_t *)text, text_length, line, wanted_length - 1);
@@ -370,12 +370,12 @@ struct table {
     uint8_t constellation[ZAQNUTI_SAMPLES];
     uint16_t svid[ZAQNUTI_SAMPLES];
     uint32_t band[ZAQNUTI_SAMPLES];
-    size_t first[ZAQNUTI_SAMPLES];
-    size_t samples[ZAQNUTI_SAMPLES];
-    size_t blocks;
+    zaqnuti_size first[ZAQNUTI_SAMPLES];
+    zaqnuti_size samples[ZAQNUTI_SAMPLES];
+    zaqnuti_size blocks;
     double time[ZAQNUTI_SAMPLES];
     double metres[ZAQNUTI_SAMPLES];
-    size_t count;
+    zaqnuti_size count;
 };
 
 /* Adds the epoch of a base station whose range to the first satellite is `error` metres too long. */
@@ -387,7 +387,7 @@ static uint8_t add(struct table *t, double time, double error)
     uint32_t band[SATELLITES];
     double range[SATELLITES];
     double states[8 * SATELLITES];
-    size_t i;
+    zaqnuti_size i;
 
     memset(states, 0, sizeof states);
     for (i = 0; i < SATELLITES; i++) {
@@ -417,7 +417,7 @@ static uint8_t query(const struct table *t, double time, double *metres)
 }
 
 /* The same signal at several times: the table is tested once. */
-static uint8_t queries(const struct table *t, const double *times, size_t count, uint8_t *numbers, double *metres)
+static uint8_t queries(const struct table *t, const double *times, zaqnuti_size count, uint8_t *numbers, double *metres)
 {
     static const uint8_t constellation[3] = {1, 1, 1};
     static const uint16_t svid[3] = {2, 2, 2};
@@ -473,7 +473,7 @@ static uint8_t report_base(struct table *t, double time)
     uint32_t band[SIGNALS];
     double range[SIGNALS];
     double states[8 * SIGNALS];
-    size_t i;
+    zaqnuti_size i;
 
     memset(states, 0, sizeof states);
     for (i = 0; i < SIGNALS; i++) {
@@ -517,7 +517,7 @@ static void morning(void)
     double before = 0.0;
     double after = 0.0;
     double metres = 0.0;
-    size_t most = 0;
+    zaqnuti_size most = 0;
     unsigned refused = 0;
     unsigned changed = 0;
     unsigned full_at = 0;
@@ -551,10 +551,10 @@ static void morning(void)
 /* Three epochs, the first and the last anchored, with a link of a metre between neighbours. */
 static void track(void)
 {
-    const size_t anchor_at[2] = {0, 2};
+    const zaqnuti_size anchor_at[2] = {0, 2};
     const double anchors[6] = {0.0, 0.0, 0.0, 2.0, 0.0, 0.0};
     const double anchor_sigma[6] = {5.0, 5.0, 8.0, 5.0, 5.0, 8.0};
-    const size_t link_at[2] = {0, 1};
+    const zaqnuti_size link_at[2] = {0, 1};
     const double links[6] = {1.0, 0.0, 0.0, 1.0, 0.0, 0.0};
     const double link_sigma[6] = {0.01, 0.01, 0.02, 0.01, 0.01, 0.02};
     double result[9] = {0.0};
@@ -641,7 +641,7 @@ static void directions(void)
 }
 
 /* The trip's next epoch: one second under the settings in force. */
-static uint8_t travel(uint64_t day[6], const double in_force[5], size_t rounds, const struct epoch *p, const struct epoch *c, size_t count, double delta[3], size_t counts[2])
+static uint8_t travel(uint64_t day[6], const double in_force[5], zaqnuti_size rounds, const struct epoch *p, const struct epoch *c, zaqnuti_size count, double delta[3], zaqnuti_size counts[2])
 {
     return zaqnuti_trip_displacement(
         day, in_force, rounds,
@@ -666,9 +666,9 @@ static void new_settings(void)
     uint64_t report[4] = {0, 0, 0, 0};
     double in_force[5] = {0.0, 0.0, 0.0, 0.0, 0.0};
     double delta[3] = {0.0, 0.0, 0.0};
-    size_t counts[2] = {0, 0};
-    size_t rounds = 0;
-    size_t used[2] = {0, 0};
+    zaqnuti_size counts[2] = {0, 0};
+    zaqnuti_size rounds = 0;
+    zaqnuti_size used[2] = {0, 0};
     unsigned refused = 0;
     unsigned i;
 

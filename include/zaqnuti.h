@@ -3,13 +3,14 @@
  * epochs, in columns or as bytes, times in whole nanoseconds, the totals of a
  * trip, base-station corrections and a smoothed track.
  *
- * Link libzaqnuti.a (`./run` leaves it in target/staticlib): Linux on x86-64,
- * System V calling convention. For ARM boxes `make arm` leaves another one in
- * target/aarch64: Linux on aarch64, AAPCS64. Nothing of this interface differs
- * between the two, and no bit of an answer; a size_t has 64 bits in both, so
- * that 32-bit ARM is not served. Of other libraries it needs memcpy and memset,
- * which every C library has and a program without one supplies. It allocates
- * nothing, reads no clock or file, and prints nothing.
+ * Link libzaqnuti.a (`./run` leaves it in target/staticlib) or libzaqnuti.so:
+ * Linux on x86-64, System V calling convention. `packaging/box TARGET archive`
+ * leaves the library for another target in target/TARGET: aarch64, armv7 and
+ * riscv64 on Linux, a bare Cortex-M4, and WebAssembly (docs/BOXES.md). Nothing
+ * of this interface differs between them, and no bit of an answer. Of other
+ * libraries it needs memcpy, memmove and memset, which every C library has and
+ * a program without one supplies. It allocates nothing, reads no clock or file,
+ * and prints nothing.
  *
  * zaqnuti_easy.h has the same calls on structs, for people; this header is
  * what the library exports, for machines.
@@ -30,7 +31,7 @@
  * what is beyond is neither read nor written. A column that is shorter is
  * refused by 2. A pointer of an array with a number in brackets leads to that
  * many elements. An empty column may have any pointer, NULL too; every other
- * pointer is valid, and aligned as its type asks (double, size_t, uint64_t and
+ * pointer is valid, and aligned as its type asks (double, zaqnuti_size, uint64_t and
  * int64_t by 8 bytes, uint32_t and int32_t by 4, uint16_t by 2).
  * What a call writes overlaps nothing else that is handed to it; what it only
  * reads may overlap. A bool is 0 or 1, as C's own conversion to bool makes it.
@@ -53,16 +54,17 @@
  * arguments on the stack included, rounded up to 256: measured over full
  * epochs, all rounds and refusals (bindings/rust/tests/stack.rs). No call
  * recurses. Each page is touched in order, so that a stack that is too small
- * ends at its guard page. These are of x86-64; `packaging/aarch64 stack` prints
- * those of aarch64, and docs/TIMES.md has them.
+ * ends at its guard page. These are of x86-64; docs/BOXES.md has those of
+ * other targets.
  *
  *     fix             22,784
  *     position        22,784
- *     displacement    17,152
- *     between         16,384
- *     city            16,384
- *     line            40,960
- *     records         24,320
+ *     displacement    17,664
+ *     between         17,664
+ *     city            17,664
+ *     rated           17,664
+ *     line            24,320
+ *     records         24,064
  *     read_records       256
  *     write_records      256
  *     add_epoch       18,688
@@ -71,16 +73,17 @@
  *     forget             512
  *     forms              512
  *     widen_bands        256
- *     smooth             768
+ *     smooth             512
  *     times              256
  *     trip               256
+ *     mileage            256
  *     north_east_down    256
- *     trip_displacement 17,152
+ *     trip_displacement 17,920
  *     round            8,960
  *     centre             768
  *     geometry           256
- *     factor           1,024
- *     solve              256
+ *     factor           1,536
+ *     solve              512
  *     clocks             256
  *     numbers            256
  */
@@ -91,16 +94,29 @@
 #include <stddef.h>
 #include <stdint.h>
 
+/* A length or a count, of 64 bits on every target: size_t where that has 64 bits. */
+#if SIZE_MAX > 0xFFFFFFFFu
+typedef size_t zaqnuti_size;
+#else
+typedef uint64_t zaqnuti_size;
+#endif
+
 #ifdef __cplusplus
 extern "C" {
 #endif
 
 /* The version of this header and its library: 10000 major + 100 minor + patch in the last. */
-#define ZAQNUTI_VERSION "0.5.0"
+#define ZAQNUTI_VERSION "0.6.0"
 #define ZAQNUTI_VERSION_MAJOR 0
-#define ZAQNUTI_VERSION_MINOR 5
+#define ZAQNUTI_VERSION_MINOR 6
 #define ZAQNUTI_VERSION_PATCH 0
-#define ZAQNUTI_VERSION_NUMBER 500
+#define ZAQNUTI_VERSION_NUMBER 600
+
+/*
+ * Returns the version of the library, as ZAQNUTI_VERSION_NUMBER has that of the
+ * header: compare the two where the library is loaded at run time.
+ */
+uint32_t zaqnuti_version(void);
 
 /* Limits. */
 #define ZAQNUTI_RECORDS 64       /* records of an epoch, states beside it, rows, residuals */
@@ -108,6 +124,7 @@ extern "C" {
 #define ZAQNUTI_EPOCHS 1024      /* epochs, anchors or links of a track */
 #define ZAQNUTI_WEEKS 15000      /* the last week of a time */
 #define ZAQNUTI_TRIP_EPOCHS 65535 /* epochs of a trip */
+#define ZAQNUTI_MILEAGE_EPOCHS 65535 /* epochs of a mileage */
 #define ZAQNUTI_ROUNDS 50        /* rounds of an estimate, iterations of a track */
 #define ZAQNUTI_TEXT 32768       /* bytes of a text in the line form */
 #define ZAQNUTI_LINE 59          /* bytes that are always enough for its answer */
@@ -241,25 +258,25 @@ uint8_t zaqnuti_seconds_since(uint64_t later, uint64_t earlier, double *seconds)
  * and 14 (chi or pdop is not finite).
  */
 uint8_t zaqnuti_fix(
-    const uint8_t *constellation, size_t constellation_length,
-    const double *floats, size_t floats_length,
-    size_t count,
+    const uint8_t *constellation, zaqnuti_size constellation_length,
+    const double *floats, zaqnuti_size floats_length,
+    zaqnuti_size count,
     const double guess[3],
     const double settings[4],
-    size_t rounds,
+    zaqnuti_size rounds,
     double solution[5],
-    size_t *used);
+    zaqnuti_size *used);
 
 /*
  * The same fix by its position alone: x, y, z (m). The refusals are the same.
  */
 uint8_t zaqnuti_position(
-    const uint8_t *constellation, size_t constellation_length,
-    const double *floats, size_t floats_length,
-    size_t count,
+    const uint8_t *constellation, zaqnuti_size constellation_length,
+    const double *floats, zaqnuti_size floats_length,
+    zaqnuti_size count,
     const double guess[3],
     const double settings[4],
-    size_t rounds,
+    zaqnuti_size rounds,
     double position[3]);
 
 /* ---- the displacement */
@@ -291,24 +308,24 @@ uint8_t zaqnuti_position(
  * is zero or not finite), 7, 8, 9 and 10, in this order.
  */
 uint8_t zaqnuti_displacement(
-    const uint8_t *previous_constellation, size_t previous_constellation_length,
-    const uint16_t *previous_svid, size_t previous_svid_length,
-    const uint32_t *previous_band, size_t previous_band_length,
-    const int32_t *previous_state, size_t previous_state_length,
-    const double *previous_floats, size_t previous_floats_length,
-    size_t previous_count,
-    const uint8_t *current_constellation, size_t current_constellation_length,
-    const uint16_t *current_svid, size_t current_svid_length,
-    const uint32_t *current_band, size_t current_band_length,
-    const int32_t *current_state, size_t current_state_length,
-    const double *current_floats, size_t current_floats_length,
-    size_t current_count,
+    const uint8_t *previous_constellation, zaqnuti_size previous_constellation_length,
+    const uint16_t *previous_svid, zaqnuti_size previous_svid_length,
+    const uint32_t *previous_band, zaqnuti_size previous_band_length,
+    const int32_t *previous_state, zaqnuti_size previous_state_length,
+    const double *previous_floats, zaqnuti_size previous_floats_length,
+    zaqnuti_size previous_count,
+    const uint8_t *current_constellation, zaqnuti_size current_constellation_length,
+    const uint16_t *current_svid, zaqnuti_size current_svid_length,
+    const uint32_t *current_band, zaqnuti_size current_band_length,
+    const int32_t *current_state, zaqnuti_size current_state_length,
+    const double *current_floats, zaqnuti_size current_floats_length,
+    zaqnuti_size current_count,
     double dt,
     const double receiver[3],
     const double settings[5],
-    size_t rounds,
+    zaqnuti_size rounds,
     double delta[3],
-    size_t counts[2]);
+    zaqnuti_size counts[2]);
 
 /*
  * The same between two epochs by their times.
@@ -323,25 +340,25 @@ uint8_t zaqnuti_displacement(
  * order.
  */
 uint8_t zaqnuti_displacement_between(
-    const uint8_t *previous_constellation, size_t previous_constellation_length,
-    const uint16_t *previous_svid, size_t previous_svid_length,
-    const uint32_t *previous_band, size_t previous_band_length,
-    const int32_t *previous_state, size_t previous_state_length,
-    const double *previous_floats, size_t previous_floats_length,
-    size_t previous_count,
-    const uint8_t *current_constellation, size_t current_constellation_length,
-    const uint16_t *current_svid, size_t current_svid_length,
-    const uint32_t *current_band, size_t current_band_length,
-    const int32_t *current_state, size_t current_state_length,
-    const double *current_floats, size_t current_floats_length,
-    size_t current_count,
+    const uint8_t *previous_constellation, zaqnuti_size previous_constellation_length,
+    const uint16_t *previous_svid, zaqnuti_size previous_svid_length,
+    const uint32_t *previous_band, zaqnuti_size previous_band_length,
+    const int32_t *previous_state, zaqnuti_size previous_state_length,
+    const double *previous_floats, zaqnuti_size previous_floats_length,
+    zaqnuti_size previous_count,
+    const uint8_t *current_constellation, zaqnuti_size current_constellation_length,
+    const uint16_t *current_svid, zaqnuti_size current_svid_length,
+    const uint32_t *current_band, zaqnuti_size current_band_length,
+    const int32_t *current_state, zaqnuti_size current_state_length,
+    const double *current_floats, zaqnuti_size current_floats_length,
+    zaqnuti_size current_count,
     uint64_t previous_time,
     uint64_t current_time,
     const double receiver[3],
     const double settings[5],
-    size_t rounds,
+    zaqnuti_size rounds,
     double delta[3],
-    size_t counts[2]);
+    zaqnuti_size counts[2]);
 
 /*
  * The displacement of the city profile: by GPS (1) and Galileo (6) on one band.
@@ -354,25 +371,97 @@ uint8_t zaqnuti_displacement_between(
  * absent among the pairs kept) and 10, in this order.
  */
 uint8_t zaqnuti_city_displacement(
-    const uint8_t *previous_constellation, size_t previous_constellation_length,
-    const uint16_t *previous_svid, size_t previous_svid_length,
-    const uint32_t *previous_band, size_t previous_band_length,
-    const int32_t *previous_state, size_t previous_state_length,
-    const double *previous_floats, size_t previous_floats_length,
-    size_t previous_count,
-    const uint8_t *current_constellation, size_t current_constellation_length,
-    const uint16_t *current_svid, size_t current_svid_length,
-    const uint32_t *current_band, size_t current_band_length,
-    const int32_t *current_state, size_t current_state_length,
-    const double *current_floats, size_t current_floats_length,
-    size_t current_count,
+    const uint8_t *previous_constellation, zaqnuti_size previous_constellation_length,
+    const uint16_t *previous_svid, zaqnuti_size previous_svid_length,
+    const uint32_t *previous_band, zaqnuti_size previous_band_length,
+    const int32_t *previous_state, zaqnuti_size previous_state_length,
+    const double *previous_floats, zaqnuti_size previous_floats_length,
+    zaqnuti_size previous_count,
+    const uint8_t *current_constellation, zaqnuti_size current_constellation_length,
+    const uint16_t *current_svid, zaqnuti_size current_svid_length,
+    const uint32_t *current_band, zaqnuti_size current_band_length,
+    const int32_t *current_state, zaqnuti_size current_state_length,
+    const double *current_floats, zaqnuti_size current_floats_length,
+    zaqnuti_size current_count,
     double dt,
     uint32_t band,
     const double receiver[3],
     const double settings[5],
-    size_t rounds,
+    zaqnuti_size rounds,
     double delta[3],
-    size_t counts[2]);
+    zaqnuti_size counts[2]);
+
+/*
+ * The displacement with its quality: a displacement from few or badly placed
+ * satellites is accepted like any other, and these two figures tell it apart.
+ *
+ * quality        chi, the root of the mean squared residual of the pairs kept,
+ *                in units of sigma: about 1 where the carriers agree as well
+ *                as sigma says, more where one slips; and pdop, the dilution
+ *                of precision of the displacement: by how much the place of
+ *                the satellites makes an error of the carriers larger, about
+ *                1 to 3 under an open sky
+ *
+ * The predicted error is (pdop * max(chi, 1)) * 0.01 m. In a study of 300
+ * simulated van-days, setting aside displacements at or above 0.2 m lost 1.6 %
+ * of the moving ones and removed 96 % of the errors above a metre. This call
+ * refuses nothing by it: the limit is the caller's. A distance that leaves out
+ * what is set aside is worse than one that counts all, unless it is scaled by
+ * what was covered: zaqnuti_mileage_add takes number, delta and quality, and
+ * its distance is scaled.
+ *
+ * delta and counts are those of zaqnuti_displacement. Refuses by the numbers
+ * of that call in their order, 2, 3, 4, 5, 15, 7, 8, 9 and 10, then by 10 (a
+ * pivot of the unweighted matrix is refused, as with six equal pairs and 0
+ * rounds) and 14 (chi or pdop is not finite).
+ */
+uint8_t zaqnuti_displacement_rated(
+    const uint8_t *previous_constellation, zaqnuti_size previous_constellation_length,
+    const uint16_t *previous_svid, zaqnuti_size previous_svid_length,
+    const uint32_t *previous_band, zaqnuti_size previous_band_length,
+    const int32_t *previous_state, zaqnuti_size previous_state_length,
+    const double *previous_floats, zaqnuti_size previous_floats_length,
+    zaqnuti_size previous_count,
+    const uint8_t *current_constellation, zaqnuti_size current_constellation_length,
+    const uint16_t *current_svid, zaqnuti_size current_svid_length,
+    const uint32_t *current_band, zaqnuti_size current_band_length,
+    const int32_t *current_state, zaqnuti_size current_state_length,
+    const double *current_floats, zaqnuti_size current_floats_length,
+    zaqnuti_size current_count,
+    double dt,
+    const double receiver[3],
+    const double settings[5],
+    zaqnuti_size rounds,
+    double delta[3],
+    double quality[2],
+    zaqnuti_size counts[2]);
+
+/*
+ * The displacement of the city profile with its quality, likewise. Refuses by
+ * the numbers of zaqnuti_city_displacement in their order, 2, 3, 4, 5, 15, 7,
+ * 8, 9, 20 and 10, then by 10 and 14 as above.
+ */
+uint8_t zaqnuti_city_displacement_rated(
+    const uint8_t *previous_constellation, zaqnuti_size previous_constellation_length,
+    const uint16_t *previous_svid, zaqnuti_size previous_svid_length,
+    const uint32_t *previous_band, zaqnuti_size previous_band_length,
+    const int32_t *previous_state, zaqnuti_size previous_state_length,
+    const double *previous_floats, zaqnuti_size previous_floats_length,
+    zaqnuti_size previous_count,
+    const uint8_t *current_constellation, zaqnuti_size current_constellation_length,
+    const uint16_t *current_svid, zaqnuti_size current_svid_length,
+    const uint32_t *current_band, zaqnuti_size current_band_length,
+    const int32_t *current_state, zaqnuti_size current_state_length,
+    const double *current_floats, zaqnuti_size current_floats_length,
+    zaqnuti_size current_count,
+    double dt,
+    uint32_t band,
+    const double receiver[3],
+    const double settings[5],
+    zaqnuti_size rounds,
+    double delta[3],
+    double quality[2],
+    zaqnuti_size counts[2]);
 
 /*
  * The displacement of a text in the line form, `S`, `P` and `C` lines: writes
@@ -381,9 +470,9 @@ uint8_t zaqnuti_city_displacement(
  * nothing and gives 0; ZAQNUTI_LINE bytes are always enough. A text above
  * 32,768 bytes, or one that breaks the form, is answered by `R,1`.
  */
-size_t zaqnuti_line(
-    const uint8_t *text, size_t text_length,
-    uint8_t *line, size_t line_length);
+zaqnuti_size zaqnuti_line(
+    const uint8_t *text, zaqnuti_size text_length,
+    uint8_t *line, zaqnuti_size line_length);
 
 /* ---- the trip */
 
@@ -406,9 +495,9 @@ size_t zaqnuti_line(
  *     zaqnuti_trip_fuel(trip, 850, &ml);
  *
  * Each call refuses by 16 a trip that no calls can have left: a rate of 0 or
- * above 65,535, more than 65,535 epochs, more than 1,000,000 mm or 65,535
- * pulses times its epochs, or an epoch in word 5 above 32 bits. A refusal
- * leaves the trip as it was.
+ * above 65,535, more than 65,535 epochs, or more than 1,000,000 mm or 65,535
+ * pulses times its epochs. Words 4 and 5 decide no refusal. A refusal leaves
+ * the trip as it was.
  */
 
 /* A trip just started: zeros behind its rate. Refuses by 16 (a rate of 0). */
@@ -442,6 +531,90 @@ uint8_t zaqnuti_trip_report(const uint64_t trip[6], uint64_t report[4]);
  * carrier distance.
  */
 uint8_t zaqnuti_trip_fuel(const uint64_t trip[6], uint32_t millilitres, uint64_t *per_km);
+
+/* ---- the mileage */
+
+/*
+ * A trip leaves a refused epoch and its pulses out, so that its fuel figure
+ * depends on how much sky a van loses. A mileage keeps all pulses, adds the
+ * lengths of well rated epochs, and multiplies by all pulses over the pulses
+ * of the epochs counted. The caller holds it as ten words:
+ *
+ *     0  the limit of the predicted error in metres, as the bits of a double
+ *     1  epochs so far, at most 65,535
+ *     2  of them refused
+ *     3  of them set aside
+ *     4  millimetres of counted epochs
+ *     5  pulses of counted epochs
+ *     6  millimetres of standing epochs, without those of word 9
+ *     7  all pulses
+ *     8  whether the last epoch had a pulse, 0 or 1
+ *     9  millimetres of the last epoch where it stands so far, else 0
+ *
+ * An epoch is
+ *   refused     where its displacement was refused
+ *   set aside   otherwise, where chi or pdop is not finite or below 0, or the
+ *               predicted error (pdop * max(chi, 1)) * 0.01 is not below the
+ *               limit
+ *   standing    otherwise, where neither it nor the epoch before nor the one
+ *               after has a pulse; a missing neighbour counts as without
+ *   counted     otherwise
+ *
+ *     uint64_t mileage[10], mm, ml;
+ *     zaqnuti_mileage_start(0.2, mileage);
+ *     zaqnuti_mileage_add(mileage, number, delta, quality, 53);   for each epoch
+ *     zaqnuti_mileage_distance(mileage, &mm);
+ *     zaqnuti_mileage_fuel(mileage, 850, &ml);
+ *
+ * Each call refuses by 16 words that no calls can have left: a limit not
+ * finite or above 1e9 in magnitude, more than 65,535 epochs, more refused and
+ * set aside than epochs, words 4, 6 and 9 above 1,000,000 times the epochs,
+ * word 7 above 65,535 times the epochs, word 5 above word 7, or word 8 above
+ * 1. A refusal changes nothing.
+ */
+
+/*
+ * Starts a mileage. Refuses by 3: a limit that is not finite or above 1e9 in
+ * magnitude. A limit of 0.2 m suited simulated vans.
+ */
+uint8_t zaqnuti_mileage_start(double limit, uint64_t mileage[10]);
+
+/*
+ * Adds an epoch.
+ *
+ * refused_by     the number that refused its displacement, 0 where it was
+ *                accepted; where it is not 0, delta and quality must still
+ *                lead to doubles, of any value
+ * delta          the displacement in metres, measured in whole millimetres as
+ *                by zaqnuti_trip_add
+ * quality        chi and pdop of the displacement
+ * pulses         the odometer's in this epoch, added whatever becomes of it
+ *
+ * Refuses by 16: an accepted displacement that is not finite or longer than
+ * 1,000 m, one epoch more than 65,535, or words as above.
+ */
+uint8_t zaqnuti_mileage_add(uint64_t mileage[10], uint8_t refused_by, const double delta[3], const double quality[2], uint16_t pulses);
+
+/*
+ * Writes epochs, refused, set aside, counted millimetres, counted pulses,
+ * standing millimetres and all pulses to report. Refuses by 16.
+ */
+uint8_t zaqnuti_mileage_report(const uint64_t mileage[10], uint64_t report[7]);
+
+/*
+ * Writes the distance: counted millimetres times all pulses by counted
+ * pulses, rounded down. Refuses by 16, also where that is above 2^63 - 1, and
+ * by 17 where no pulse was counted.
+ */
+uint8_t zaqnuti_mileage_distance(const uint64_t mileage[10], uint64_t *millimetres);
+
+/*
+ * Writes millilitres for a kilometre: millilitres times 1,000,000 by the
+ * distance in millimetres, rounded down. Refuses as the distance does, and by
+ * 17 where that is 0.
+ */
+uint8_t zaqnuti_mileage_fuel(const uint64_t mileage[10], uint32_t millilitres, uint64_t *per_km);
+
 /* ---- carrier records as bytes */
 
 /*
@@ -480,13 +653,13 @@ uint8_t zaqnuti_trip_fuel(const uint64_t trip[6], uint32_t millilitres, uint64_t
  * Refuses by 2 (more than 64, a column or bytes shorter than count needs).
  */
 uint8_t zaqnuti_write_records(
-    const uint8_t *constellation, size_t constellation_length,
-    const uint16_t *svid, size_t svid_length,
-    const uint32_t *band, size_t band_length,
-    const int32_t *state, size_t state_length,
-    const uint64_t *floats, size_t floats_length,
-    size_t count,
-    uint8_t *bytes, size_t bytes_length);
+    const uint8_t *constellation, zaqnuti_size constellation_length,
+    const uint16_t *svid, zaqnuti_size svid_length,
+    const uint32_t *band, zaqnuti_size band_length,
+    const int32_t *state, zaqnuti_size state_length,
+    const uint64_t *floats, zaqnuti_size floats_length,
+    zaqnuti_size count,
+    uint8_t *bytes, zaqnuti_size bytes_length);
 
 /*
  * Reads the records of bytes into the columns, from their first places on, and
@@ -497,13 +670,13 @@ uint8_t zaqnuti_write_records(
  * are as they were.
  */
 uint8_t zaqnuti_read_records(
-    const uint8_t *bytes, size_t bytes_length,
-    uint8_t *constellation, size_t constellation_length,
-    uint16_t *svid, size_t svid_length,
-    uint32_t *band, size_t band_length,
-    int32_t *state, size_t state_length,
-    uint64_t *floats, size_t floats_length,
-    size_t *count);
+    const uint8_t *bytes, zaqnuti_size bytes_length,
+    uint8_t *constellation, zaqnuti_size constellation_length,
+    uint16_t *svid, zaqnuti_size svid_length,
+    uint32_t *band, zaqnuti_size band_length,
+    int32_t *state, zaqnuti_size state_length,
+    uint64_t *floats, zaqnuti_size floats_length,
+    zaqnuti_size *count);
 
 /*
  * The displacement between two epochs that are held as bytes: that of
@@ -521,8 +694,8 @@ uint8_t zaqnuti_read_records(
  * this order.
  */
 uint8_t zaqnuti_displacement_records(
-    const uint8_t *previous, size_t previous_length,
-    const uint8_t *current, size_t current_length,
+    const uint8_t *previous, zaqnuti_size previous_length,
+    const uint8_t *current, zaqnuti_size current_length,
     double dt,
     double x,
     double y,
@@ -533,7 +706,7 @@ uint8_t zaqnuti_displacement_records(
     double huber,
     double mask,
     uint32_t rounds,
-    uint8_t *result, size_t result_length);
+    uint8_t *result, zaqnuti_size result_length);
 /* ---- directions */
 
 /*
@@ -559,7 +732,7 @@ uint8_t zaqnuti_north_east_down(const double position[3], const double displacem
  *
  *     uint64_t trip[6];
  *     double in_force[5];
- *     size_t rounds;
+ *     zaqnuti_size rounds;
  *     zaqnuti_trip_begin(morning, 4, 4000, trip, in_force, &rounds);
  *     zaqnuti_trip_displacement(trip, in_force, rounds, ..);   for each epoch
  *     zaqnuti_trip_settings(trip, afternoon, 4, in_force, &rounds);
@@ -576,11 +749,11 @@ uint8_t zaqnuti_north_east_down(const double position[3], const double displacem
  */
 uint8_t zaqnuti_trip_begin(
     const double settings[5],
-    size_t rounds,
+    zaqnuti_size rounds,
     uint16_t per_km,
     uint64_t trip[6],
     double in_force[5],
-    size_t *in_force_rounds);
+    zaqnuti_size *in_force_rounds);
 
 /*
  * New settings between two epochs. Refuses by 3 (of the new settings; those in
@@ -590,9 +763,9 @@ uint8_t zaqnuti_trip_begin(
 uint8_t zaqnuti_trip_settings(
     const uint64_t trip[6],
     const double settings[5],
-    size_t rounds,
+    zaqnuti_size rounds,
     double in_force[5],
-    size_t *in_force_rounds);
+    zaqnuti_size *in_force_rounds);
 
 /*
  * The displacement between two epochs under the settings in force, added to
@@ -606,24 +779,24 @@ uint8_t zaqnuti_trip_settings(
 uint8_t zaqnuti_trip_displacement(
     uint64_t trip[6],
     const double in_force[5],
-    size_t in_force_rounds,
-    const uint8_t *previous_constellation, size_t previous_constellation_length,
-    const uint16_t *previous_svid, size_t previous_svid_length,
-    const uint32_t *previous_band, size_t previous_band_length,
-    const int32_t *previous_state, size_t previous_state_length,
-    const double *previous_floats, size_t previous_floats_length,
-    size_t previous_count,
-    const uint8_t *current_constellation, size_t current_constellation_length,
-    const uint16_t *current_svid, size_t current_svid_length,
-    const uint32_t *current_band, size_t current_band_length,
-    const int32_t *current_state, size_t current_state_length,
-    const double *current_floats, size_t current_floats_length,
-    size_t current_count,
+    zaqnuti_size in_force_rounds,
+    const uint8_t *previous_constellation, zaqnuti_size previous_constellation_length,
+    const uint16_t *previous_svid, zaqnuti_size previous_svid_length,
+    const uint32_t *previous_band, zaqnuti_size previous_band_length,
+    const int32_t *previous_state, zaqnuti_size previous_state_length,
+    const double *previous_floats, zaqnuti_size previous_floats_length,
+    zaqnuti_size previous_count,
+    const uint8_t *current_constellation, zaqnuti_size current_constellation_length,
+    const uint16_t *current_svid, zaqnuti_size current_svid_length,
+    const uint32_t *current_band, zaqnuti_size current_band_length,
+    const int32_t *current_state, zaqnuti_size current_state_length,
+    const double *current_floats, zaqnuti_size current_floats_length,
+    zaqnuti_size current_count,
     double dt,
     const double receiver[3],
     uint16_t pulses,
     double delta[3],
-    size_t counts[2]);
+    zaqnuti_size counts[2]);
 
 /* ---- the corrections */
 
@@ -669,27 +842,27 @@ uint8_t zaqnuti_trip_displacement(
  * 11.
  */
 uint8_t zaqnuti_add_epoch(
-    uint8_t *block_constellation, size_t block_constellation_length,
-    uint16_t *block_svid, size_t block_svid_length,
-    uint32_t *block_band, size_t block_band_length,
-    size_t *block_first, size_t block_first_length,
-    size_t *block_samples, size_t block_samples_length,
-    size_t *blocks,
-    double *table_time, size_t table_time_length,
-    double *table_metres, size_t table_metres_length,
-    size_t *table_count,
+    uint8_t *block_constellation, zaqnuti_size block_constellation_length,
+    uint16_t *block_svid, zaqnuti_size block_svid_length,
+    uint32_t *block_band, zaqnuti_size block_band_length,
+    zaqnuti_size *block_first, zaqnuti_size block_first_length,
+    zaqnuti_size *block_samples, zaqnuti_size block_samples_length,
+    zaqnuti_size *blocks,
+    double *table_time, zaqnuti_size table_time_length,
+    double *table_metres, zaqnuti_size table_metres_length,
+    zaqnuti_size *table_count,
     double time,
-    size_t ranges,
-    const uint8_t *range_constellation, size_t range_constellation_length,
-    const uint16_t *range_svid, size_t range_svid_length,
-    const uint32_t *range_band, size_t range_band_length,
-    const double *range_pseudorange, size_t range_pseudorange_length,
+    zaqnuti_size ranges,
+    const uint8_t *range_constellation, zaqnuti_size range_constellation_length,
+    const uint16_t *range_svid, zaqnuti_size range_svid_length,
+    const uint32_t *range_band, zaqnuti_size range_band_length,
+    const double *range_pseudorange, zaqnuti_size range_pseudorange_length,
     bool states_present,
-    size_t states,
-    const uint8_t *state_constellation, size_t state_constellation_length,
-    const uint16_t *state_svid, size_t state_svid_length,
-    const uint32_t *state_band, size_t state_band_length,
-    const double *state_floats, size_t state_floats_length,
+    zaqnuti_size states,
+    const uint8_t *state_constellation, zaqnuti_size state_constellation_length,
+    const uint16_t *state_svid, zaqnuti_size state_svid_length,
+    const uint32_t *state_band, zaqnuti_size state_band_length,
+    const double *state_floats, zaqnuti_size state_floats_length,
     const double base[3],
     const double rover[3],
     double max_gap,
@@ -708,15 +881,15 @@ uint8_t zaqnuti_add_epoch(
  * finite).
  */
 uint8_t zaqnuti_query(
-    const uint8_t *block_constellation, size_t block_constellation_length,
-    const uint16_t *block_svid, size_t block_svid_length,
-    const uint32_t *block_band, size_t block_band_length,
-    const size_t *block_first, size_t block_first_length,
-    const size_t *block_samples, size_t block_samples_length,
-    size_t blocks,
-    const double *table_time, size_t table_time_length,
-    const double *table_metres, size_t table_metres_length,
-    size_t table_count,
+    const uint8_t *block_constellation, zaqnuti_size block_constellation_length,
+    const uint16_t *block_svid, zaqnuti_size block_svid_length,
+    const uint32_t *block_band, zaqnuti_size block_band_length,
+    const zaqnuti_size *block_first, zaqnuti_size block_first_length,
+    const zaqnuti_size *block_samples, zaqnuti_size block_samples_length,
+    zaqnuti_size blocks,
+    const double *table_time, zaqnuti_size table_time_length,
+    const double *table_metres, zaqnuti_size table_metres_length,
+    zaqnuti_size table_count,
     double max_gap,
     uint8_t constellation,
     uint16_t svid,
@@ -739,23 +912,23 @@ uint8_t zaqnuti_query(
  * place is as it was.
  */
 uint8_t zaqnuti_queries(
-    const uint8_t *block_constellation, size_t block_constellation_length,
-    const uint16_t *block_svid, size_t block_svid_length,
-    const uint32_t *block_band, size_t block_band_length,
-    const size_t *block_first, size_t block_first_length,
-    const size_t *block_samples, size_t block_samples_length,
-    size_t blocks,
-    const double *table_time, size_t table_time_length,
-    const double *table_metres, size_t table_metres_length,
-    size_t table_count,
+    const uint8_t *block_constellation, zaqnuti_size block_constellation_length,
+    const uint16_t *block_svid, zaqnuti_size block_svid_length,
+    const uint32_t *block_band, zaqnuti_size block_band_length,
+    const zaqnuti_size *block_first, zaqnuti_size block_first_length,
+    const zaqnuti_size *block_samples, zaqnuti_size block_samples_length,
+    zaqnuti_size blocks,
+    const double *table_time, zaqnuti_size table_time_length,
+    const double *table_metres, zaqnuti_size table_metres_length,
+    zaqnuti_size table_count,
     double max_gap,
-    const uint8_t *constellation, size_t constellation_length,
-    const uint16_t *svid, size_t svid_length,
-    const uint32_t *band, size_t band_length,
-    const double *time, size_t time_length,
-    size_t count,
-    uint8_t *numbers, size_t numbers_length,
-    double *metres, size_t metres_length);
+    const uint8_t *constellation, zaqnuti_size constellation_length,
+    const uint16_t *svid, zaqnuti_size svid_length,
+    const uint32_t *band, zaqnuti_size band_length,
+    const double *time, zaqnuti_size time_length,
+    zaqnuti_size count,
+    uint8_t *numbers, zaqnuti_size numbers_length,
+    double *metres, zaqnuti_size metres_length);
 
 /*
  * Forgetting what came before a time (s of the week), so that a table lasts:
@@ -773,15 +946,15 @@ uint8_t zaqnuti_queries(
  * of the table, or its directory, as above) and 18.
  */
 uint8_t zaqnuti_forget(
-    const uint8_t *block_constellation, size_t block_constellation_length,
-    const uint16_t *block_svid, size_t block_svid_length,
-    const uint32_t *block_band, size_t block_band_length,
-    size_t *block_first, size_t block_first_length,
-    size_t *block_samples, size_t block_samples_length,
-    size_t blocks,
-    double *table_time, size_t table_time_length,
-    double *table_metres, size_t table_metres_length,
-    size_t *table_count,
+    const uint8_t *block_constellation, zaqnuti_size block_constellation_length,
+    const uint16_t *block_svid, zaqnuti_size block_svid_length,
+    const uint32_t *block_band, zaqnuti_size block_band_length,
+    zaqnuti_size *block_first, zaqnuti_size block_first_length,
+    zaqnuti_size *block_samples, zaqnuti_size block_samples_length,
+    zaqnuti_size blocks,
+    double *table_time, zaqnuti_size table_time_length,
+    double *table_metres, zaqnuti_size table_metres_length,
+    zaqnuti_size *table_count,
     double time);
 
 /*
@@ -800,9 +973,9 @@ uint8_t zaqnuti_forget(
  * Refuses by 2 (count above 2,048, a column shorter than count).
  */
 uint8_t zaqnuti_widen_bands(
-    const uint8_t *narrow, size_t narrow_length,
-    size_t count,
-    uint32_t *wide, size_t wide_length);
+    const uint8_t *narrow, zaqnuti_size narrow_length,
+    zaqnuti_size count,
+    uint32_t *wide, zaqnuti_size wide_length);
 
 /*
  * The directory of a table that was stored before 0.5.0, with a constellation,
@@ -824,18 +997,18 @@ uint8_t zaqnuti_widen_bands(
  * directory and its count are as they were.
  */
 uint8_t zaqnuti_directory_of(
-    const uint8_t *constellation, size_t constellation_length,
-    const uint16_t *svid, size_t svid_length,
-    const uint32_t *band, size_t band_length,
-    const double *table_time, size_t table_time_length,
-    const double *table_metres, size_t table_metres_length,
-    size_t table_count,
-    uint8_t *block_constellation, size_t block_constellation_length,
-    uint16_t *block_svid, size_t block_svid_length,
-    uint32_t *block_band, size_t block_band_length,
-    size_t *block_first, size_t block_first_length,
-    size_t *block_samples, size_t block_samples_length,
-    size_t *blocks);
+    const uint8_t *constellation, zaqnuti_size constellation_length,
+    const uint16_t *svid, zaqnuti_size svid_length,
+    const uint32_t *band, zaqnuti_size band_length,
+    const double *table_time, zaqnuti_size table_time_length,
+    const double *table_metres, zaqnuti_size table_metres_length,
+    zaqnuti_size table_count,
+    uint8_t *block_constellation, zaqnuti_size block_constellation_length,
+    uint16_t *block_svid, zaqnuti_size block_svid_length,
+    uint32_t *block_band, zaqnuti_size block_band_length,
+    zaqnuti_size *block_first, zaqnuti_size block_first_length,
+    zaqnuti_size *block_samples, zaqnuti_size block_samples_length,
+    zaqnuti_size *blocks);
 
 /*
  * The way back: the constellation, svid and band of each sample of a table
@@ -843,22 +1016,22 @@ uint8_t zaqnuti_directory_of(
  * was.
  *
  * Refuses by 2 (table_count or blocks above the capacity, or one of the three
- * columns shorter than either) and 4 (a float of the table, or its directory,
- * as in zaqnuti_add_epoch); then the three columns are as they were.
+ * columns shorter than table_count) and 4 (a float of the table, or its
+ * directory, as in zaqnuti_add_epoch); then the three columns are as they were.
  */
 uint8_t zaqnuti_signals_of(
-    const uint8_t *block_constellation, size_t block_constellation_length,
-    const uint16_t *block_svid, size_t block_svid_length,
-    const uint32_t *block_band, size_t block_band_length,
-    const size_t *block_first, size_t block_first_length,
-    const size_t *block_samples, size_t block_samples_length,
-    size_t blocks,
-    const double *table_time, size_t table_time_length,
-    const double *table_metres, size_t table_metres_length,
-    size_t table_count,
-    uint8_t *constellation, size_t constellation_length,
-    uint16_t *svid, size_t svid_length,
-    uint32_t *band, size_t band_length);
+    const uint8_t *block_constellation, zaqnuti_size block_constellation_length,
+    const uint16_t *block_svid, zaqnuti_size block_svid_length,
+    const uint32_t *block_band, zaqnuti_size block_band_length,
+    const zaqnuti_size *block_first, zaqnuti_size block_first_length,
+    const zaqnuti_size *block_samples, zaqnuti_size block_samples_length,
+    zaqnuti_size blocks,
+    const double *table_time, zaqnuti_size table_time_length,
+    const double *table_metres, zaqnuti_size table_metres_length,
+    zaqnuti_size table_count,
+    uint8_t *constellation, zaqnuti_size constellation_length,
+    uint16_t *svid, zaqnuti_size svid_length,
+    uint32_t *band, zaqnuti_size band_length);
 
 /* ---- the track */
 
@@ -879,9 +1052,9 @@ uint8_t zaqnuti_signals_of(
  *                3 epochs floats, finite
  * work           9 epochs + anchors + links floats
  *
- * The needed part of work is all zero after an answer and after 10; under 2
- * to 6 it is as it was. Nothing beyond the needed part of result and work is
- * written.
+ * The needed part of work is all zero bits after an answer and after 10; under
+ * 2 to 6 every bit of it is as it was, and of result under every refusal.
+ * Nothing beyond the needed part of result and work is written.
  * Refuses by 2 (too many, or a column, result or work shorter than the counts
  * need), 3, 4, 6 and 10 (the first pass fails; a later one that fails ends the
  * work and keeps the last good track).
@@ -889,19 +1062,19 @@ uint8_t zaqnuti_signals_of(
  * docs/SCOPE.md, "Track", and proved for every call.
  */
 uint8_t zaqnuti_smooth(
-    size_t epochs,
-    size_t anchors,
-    size_t links,
-    const size_t *anchor_epoch, size_t anchor_epoch_length,
-    const double *anchor_position, size_t anchor_position_length,
-    const double *anchor_sigma, size_t anchor_sigma_length,
-    const size_t *link_epoch, size_t link_epoch_length,
-    const double *link_change, size_t link_change_length,
-    const double *link_sigma, size_t link_sigma_length,
+    zaqnuti_size epochs,
+    zaqnuti_size anchors,
+    zaqnuti_size links,
+    const zaqnuti_size *anchor_epoch, zaqnuti_size anchor_epoch_length,
+    const double *anchor_position, zaqnuti_size anchor_position_length,
+    const double *anchor_sigma, zaqnuti_size anchor_sigma_length,
+    const zaqnuti_size *link_epoch, zaqnuti_size link_epoch_length,
+    const double *link_change, zaqnuti_size link_change_length,
+    const double *link_sigma, zaqnuti_size link_sigma_length,
     double huber,
-    size_t iterations,
-    double *result, size_t result_length,
-    double *work, size_t work_length);
+    zaqnuti_size iterations,
+    double *result, zaqnuti_size result_length,
+    double *work, zaqnuti_size work_length);
 
 /* ---- the pieces; they take every float and test no setting */
 
@@ -922,12 +1095,12 @@ uint8_t zaqnuti_smooth(
  * (unknowns, a clock index) and 10 (a pivot).
  */
 uint8_t zaqnuti_round(
-    const double *units, size_t units_length,
-    const size_t *clocks, size_t clocks_length,
-    const uint64_t *residuals, size_t residuals_length,
-    const double *sigmas, size_t sigmas_length,
-    size_t rows,
-    size_t unknowns,
+    const double *units, zaqnuti_size units_length,
+    const zaqnuti_size *clocks, zaqnuti_size clocks_length,
+    const uint64_t *residuals, zaqnuti_size residuals_length,
+    const double *sigmas, zaqnuti_size sigmas_length,
+    zaqnuti_size rows,
+    zaqnuti_size unknowns,
     double huber,
     double dx[9]);
 
@@ -937,7 +1110,7 @@ uint8_t zaqnuti_round(
  * plus 1e-6. Of none they are 0 and 1. Refuses by 2 (more than 64).
  */
 uint8_t zaqnuti_centre(
-    const uint64_t *residuals, size_t residuals_length,
+    const uint64_t *residuals, zaqnuti_size residuals_length,
     double out[2]);
 
 /* The one-sigma of an elevation in degrees: a + b / sin(elevation), at least 3 degrees. */
@@ -971,16 +1144,16 @@ void zaqnuti_solve(const double l[81], const double b[9], double x[9]);
  */
 
 /* The state of no constellation given. */
-void zaqnuti_clocks_new(size_t slot[8], size_t *count);
+void zaqnuti_clocks_new(zaqnuti_size slot[8], zaqnuti_size *count);
 
 /* One constellation more; a count above 7 leaves the state as it is. */
-void zaqnuti_clocks_given(size_t slot[8], size_t *count, uint8_t constellation);
+void zaqnuti_clocks_given(zaqnuti_size slot[8], zaqnuti_size *count, uint8_t constellation);
 
 /* The slot of a constellation. */
-size_t zaqnuti_clocks_slot(const size_t slot[8], uint8_t constellation);
+zaqnuti_size zaqnuti_clocks_slot(const zaqnuti_size slot[8], uint8_t constellation);
 
 /* Three coordinates and the clocks: 3 + count, which wraps. */
-size_t zaqnuti_clocks_unknowns(const size_t slot[8], size_t count);
+zaqnuti_size zaqnuti_clocks_unknowns(const zaqnuti_size slot[8], zaqnuti_size count);
 
 /* The square root, correctly rounded; of -0 it is -0, of a negative a NaN. */
 double zaqnuti_sqrt(double x);

@@ -116,7 +116,7 @@ typedef struct zaqnuti_observation {
 
 /* The observations of an epoch, as columns. */
 typedef struct zaqnuti_observations {
-    size_t count;
+    zaqnuti_size count;
     uint8_t constellation[ZAQNUTI_RECORDS];
     double floats[5 * ZAQNUTI_RECORDS];
 } zaqnuti_observations;
@@ -126,7 +126,7 @@ typedef struct zaqnuti_fix_settings {
     double sigma_b;  /* m */
     double huber;    /* in robust sigmas */
     double mask;     /* degrees */
-    size_t rounds;   /* 1 to 50 */
+    zaqnuti_size rounds;   /* 1 to 50 */
 } zaqnuti_fix_settings;
 
 #define ZAQNUTI_EASY_FIX_PHONE {0.3, 16.0, 1.0, 10.0, ZAQNUTI_FIX_ROUNDS}
@@ -136,7 +136,7 @@ typedef struct zaqnuti_solution {
     zaqnuti_vector position;
     double chi;   /* the root of the reduced chi-squared at this position, finite */
     double pdop;  /* finite */
-    size_t used;  /* observations at or above the mask */
+    zaqnuti_size used;  /* observations at or above the mask */
 } zaqnuti_solution;
 
 static inline void zaqnuti_observations_clear(zaqnuti_observations *epoch)
@@ -173,7 +173,7 @@ static inline uint8_t zaqnuti_easy_fix(
     const double from[3] = {guess.x, guess.y, guess.z};
     const double set[4] = {settings->sigma_a, settings->sigma_b, settings->huber, settings->mask};
     double found[5] = {0.0, 0.0, 0.0, 0.0, 0.0};
-    size_t used = 0;
+    zaqnuti_size used = 0;
     uint8_t number = zaqnuti_fix(
         epoch->constellation, ZAQNUTI_RECORDS, epoch->floats, 5 * ZAQNUTI_RECORDS, epoch->count,
         from, set, settings->rounds, found, &used);
@@ -210,7 +210,7 @@ typedef struct zaqnuti_carrier {
 
 /* The carriers of an epoch, as columns. */
 typedef struct zaqnuti_epoch {
-    size_t count;
+    zaqnuti_size count;
     uint8_t constellation[ZAQNUTI_RECORDS];
     uint16_t svid[ZAQNUTI_RECORDS];
     uint32_t band[ZAQNUTI_RECORDS];
@@ -224,7 +224,7 @@ typedef struct zaqnuti_displacement_settings {
     double sigma_b;  /* m */
     double huber;    /* in robust sigmas */
     double mask;     /* degrees */
-    size_t rounds;   /* 0 to 50; with 0 the displacement is zero */
+    zaqnuti_size rounds;   /* 0 to 50; with 0 the displacement is zero */
 } zaqnuti_displacement_settings;
 
 #define ZAQNUTI_EASY_DISPLACEMENT_PHONE {0.5, 0.008, 0.002, 1.5, 10.0, ZAQNUTI_DISPLACEMENT_ROUNDS}
@@ -232,8 +232,8 @@ typedef struct zaqnuti_displacement_settings {
 
 typedef struct zaqnuti_moved {
     zaqnuti_vector delta;  /* m */
-    size_t used;           /* carrier pairs */
-    size_t screened;       /* pairs that the screen dropped */
+    zaqnuti_size used;           /* carrier pairs */
+    zaqnuti_size screened;       /* pairs that the screen dropped */
 } zaqnuti_moved;
 
 static inline void zaqnuti_epoch_clear(zaqnuti_epoch *epoch)
@@ -244,7 +244,7 @@ static inline void zaqnuti_epoch_clear(zaqnuti_epoch *epoch)
 /* One carrier more; the 65th is refused by 2 and leaves the epoch as it was. */
 static inline uint8_t zaqnuti_epoch_add(zaqnuti_epoch *epoch, const zaqnuti_carrier *one)
 {
-    const size_t i = epoch->count;
+    const zaqnuti_size i = epoch->count;
     double *floats;
 
     if (i >= ZAQNUTI_RECORDS) {
@@ -277,7 +277,7 @@ static inline uint8_t zaqnuti_easy_displacement(
     const double from[3] = {receiver.x, receiver.y, receiver.z};
     const double set[5] = {settings->screen, settings->sigma_a, settings->sigma_b, settings->huber, settings->mask};
     double delta[3] = {0.0, 0.0, 0.0};
-    size_t counts[2] = {0, 0};
+    zaqnuti_size counts[2] = {0, 0};
     uint8_t number = zaqnuti_displacement(
         previous->constellation, ZAQNUTI_RECORDS, previous->svid, ZAQNUTI_RECORDS, previous->band, ZAQNUTI_RECORDS,
         previous->state, ZAQNUTI_RECORDS, previous->floats, 6 * ZAQNUTI_RECORDS, previous->count,
@@ -308,7 +308,7 @@ static inline uint8_t zaqnuti_easy_displacement_between(
     const double from[3] = {receiver.x, receiver.y, receiver.z};
     const double set[5] = {settings->screen, settings->sigma_a, settings->sigma_b, settings->huber, settings->mask};
     double delta[3] = {0.0, 0.0, 0.0};
-    size_t counts[2] = {0, 0};
+    zaqnuti_size counts[2] = {0, 0};
     uint8_t number = zaqnuti_displacement_between(
         previous->constellation, ZAQNUTI_RECORDS, previous->svid, ZAQNUTI_RECORDS, previous->band, ZAQNUTI_RECORDS,
         previous->state, ZAQNUTI_RECORDS, previous->floats, 6 * ZAQNUTI_RECORDS, previous->count,
@@ -339,7 +339,7 @@ static inline uint8_t zaqnuti_easy_city_displacement(
     const double from[3] = {receiver.x, receiver.y, receiver.z};
     const double set[5] = {settings->screen, settings->sigma_a, settings->sigma_b, settings->huber, settings->mask};
     double delta[3] = {0.0, 0.0, 0.0};
-    size_t counts[2] = {0, 0};
+    zaqnuti_size counts[2] = {0, 0};
     uint8_t number = zaqnuti_city_displacement(
         previous->constellation, ZAQNUTI_RECORDS, previous->svid, ZAQNUTI_RECORDS, previous->band, ZAQNUTI_RECORDS,
         previous->state, ZAQNUTI_RECORDS, previous->floats, 6 * ZAQNUTI_RECORDS, previous->count,
@@ -353,6 +353,85 @@ static inline uint8_t zaqnuti_easy_city_displacement(
         moved->delta.z = delta[2];
         moved->used = counts[0];
         moved->screened = counts[1];
+    }
+    return number;
+}
+
+/*
+ * A displacement with its quality: zaqnuti_easy_predicted_error of chi and pdop is the error in metres to expect. Set aside by a mileage,
+ * which scales by what was covered: zaqnuti_easy_mileage_add(&mileage, rated.delta, rated.chi, rated.pdop, pulses).
+ */
+typedef struct zaqnuti_rated {
+    zaqnuti_vector delta;   /* m */
+    double chi;             /* root of the mean squared residual, in units of sigma */
+    double pdop;            /* dilution of precision */
+    zaqnuti_size used;      /* carrier pairs */
+    zaqnuti_size screened;  /* pairs that the screen dropped */
+} zaqnuti_rated;
+
+/* How the receiver moved in `dt` seconds, with the quality of the fit; `receiver` is where it was at the previous epoch. */
+static inline uint8_t zaqnuti_easy_displacement_rated(
+    const zaqnuti_epoch *previous,
+    const zaqnuti_epoch *current,
+    double dt,
+    zaqnuti_vector receiver,
+    const zaqnuti_displacement_settings *settings,
+    zaqnuti_rated *rated)
+{
+    const double from[3] = {receiver.x, receiver.y, receiver.z};
+    const double set[5] = {settings->screen, settings->sigma_a, settings->sigma_b, settings->huber, settings->mask};
+    double delta[3] = {0.0, 0.0, 0.0};
+    double quality[2] = {0.0, 0.0};
+    zaqnuti_size counts[2] = {0, 0};
+    uint8_t number = zaqnuti_displacement_rated(
+        previous->constellation, ZAQNUTI_RECORDS, previous->svid, ZAQNUTI_RECORDS, previous->band, ZAQNUTI_RECORDS,
+        previous->state, ZAQNUTI_RECORDS, previous->floats, 6 * ZAQNUTI_RECORDS, previous->count,
+        current->constellation, ZAQNUTI_RECORDS, current->svid, ZAQNUTI_RECORDS, current->band, ZAQNUTI_RECORDS,
+        current->state, ZAQNUTI_RECORDS, current->floats, 6 * ZAQNUTI_RECORDS, current->count,
+        dt, from, set, settings->rounds, delta, quality, counts);
+
+    if (number == 0) {
+        rated->delta.x = delta[0];
+        rated->delta.y = delta[1];
+        rated->delta.z = delta[2];
+        rated->chi = quality[0];
+        rated->pdop = quality[1];
+        rated->used = counts[0];
+        rated->screened = counts[1];
+    }
+    return number;
+}
+
+/* How the receiver moved in `dt` seconds by GPS and Galileo on one band (MHz) alone, with the quality of the fit. */
+static inline uint8_t zaqnuti_easy_city_displacement_rated(
+    const zaqnuti_epoch *previous,
+    const zaqnuti_epoch *current,
+    double dt,
+    uint32_t band,
+    zaqnuti_vector receiver,
+    const zaqnuti_displacement_settings *settings,
+    zaqnuti_rated *rated)
+{
+    const double from[3] = {receiver.x, receiver.y, receiver.z};
+    const double set[5] = {settings->screen, settings->sigma_a, settings->sigma_b, settings->huber, settings->mask};
+    double delta[3] = {0.0, 0.0, 0.0};
+    double quality[2] = {0.0, 0.0};
+    zaqnuti_size counts[2] = {0, 0};
+    uint8_t number = zaqnuti_city_displacement_rated(
+        previous->constellation, ZAQNUTI_RECORDS, previous->svid, ZAQNUTI_RECORDS, previous->band, ZAQNUTI_RECORDS,
+        previous->state, ZAQNUTI_RECORDS, previous->floats, 6 * ZAQNUTI_RECORDS, previous->count,
+        current->constellation, ZAQNUTI_RECORDS, current->svid, ZAQNUTI_RECORDS, current->band, ZAQNUTI_RECORDS,
+        current->state, ZAQNUTI_RECORDS, current->floats, 6 * ZAQNUTI_RECORDS, current->count,
+        dt, band, from, set, settings->rounds, delta, quality, counts);
+
+    if (number == 0) {
+        rated->delta.x = delta[0];
+        rated->delta.y = delta[1];
+        rated->delta.z = delta[2];
+        rated->chi = quality[0];
+        rated->pdop = quality[1];
+        rated->used = counts[0];
+        rated->screened = counts[1];
     }
     return number;
 }
@@ -428,7 +507,7 @@ static inline uint8_t zaqnuti_easy_north_east_down(zaqnuti_vector place, zaqnuti
 #define ZAQNUTI_EASY_EPOCH_BYTES (ZAQNUTI_RECORDS * ZAQNUTI_RECORD)
 
 /* Writes the epoch's carriers, ZAQNUTI_RECORD bytes each, to be kept or sent. */
-static inline uint8_t zaqnuti_easy_write_records(const zaqnuti_epoch *epoch, uint8_t *bytes, size_t bytes_length)
+static inline uint8_t zaqnuti_easy_write_records(const zaqnuti_epoch *epoch, uint8_t *bytes, zaqnuti_size bytes_length)
 {
     return zaqnuti_write_records(
         epoch->constellation, ZAQNUTI_RECORDS, epoch->svid, ZAQNUTI_RECORDS, epoch->band, ZAQNUTI_RECORDS,
@@ -437,7 +516,7 @@ static inline uint8_t zaqnuti_easy_write_records(const zaqnuti_epoch *epoch, uin
 }
 
 /* The epoch of carriers that were written so. */
-static inline uint8_t zaqnuti_easy_read_records(const uint8_t *bytes, size_t bytes_length, zaqnuti_epoch *epoch)
+static inline uint8_t zaqnuti_easy_read_records(const uint8_t *bytes, zaqnuti_size bytes_length, zaqnuti_epoch *epoch)
 {
     return zaqnuti_read_records(
         bytes, bytes_length,
@@ -449,7 +528,7 @@ static inline uint8_t zaqnuti_easy_read_records(const uint8_t *bytes, size_t byt
 static inline uint64_t zaqnuti_easy_word(const uint8_t *bytes)
 {
     uint64_t word = 0;
-    size_t i;
+    zaqnuti_size i;
 
     for (i = 8; i > 0; i--) {
         word = word << 8 | bytes[i - 1];
@@ -468,8 +547,8 @@ static inline double zaqnuti_easy_float(uint64_t bits)
 
 /* How the receiver moved in `dt` seconds between two epochs that are held as bytes; `receiver` is where it was at the previous one. */
 static inline uint8_t zaqnuti_easy_displacement_records(
-    const uint8_t *previous, size_t previous_length,
-    const uint8_t *current, size_t current_length,
+    const uint8_t *previous, zaqnuti_size previous_length,
+    const uint8_t *current, zaqnuti_size current_length,
     double dt,
     zaqnuti_vector receiver,
     const zaqnuti_displacement_settings *settings,
@@ -485,8 +564,8 @@ static inline uint8_t zaqnuti_easy_displacement_records(
         result, sizeof result);
 
     if (number == 0) {
-        moved->used = (size_t)zaqnuti_easy_word(result);
-        moved->screened = (size_t)zaqnuti_easy_word(result + 8);
+        moved->used = (zaqnuti_size)zaqnuti_easy_word(result);
+        moved->screened = (zaqnuti_size)zaqnuti_easy_word(result + 8);
         moved->delta.x = zaqnuti_easy_float(zaqnuti_easy_word(result + 16));
         moved->delta.y = zaqnuti_easy_float(zaqnuti_easy_word(result + 24));
         moved->delta.z = zaqnuti_easy_float(zaqnuti_easy_word(result + 32));
@@ -500,6 +579,85 @@ static inline uint8_t zaqnuti_easy_trip_fuel(const zaqnuti_trip *trip, uint32_t 
     return zaqnuti_trip_fuel(trip->word, millilitres, per_km);
 }
 
+/* ---- the mileage */
+
+/* A mileage, which its calls alone write. */
+typedef struct zaqnuti_mileage {
+    uint64_t word[10];
+} zaqnuti_mileage;
+
+typedef struct zaqnuti_mileage_totals {
+    uint64_t epochs;
+    uint64_t refused;
+    uint64_t aside;
+    uint64_t counted;   /* mm of counted epochs */
+    uint64_t covered;   /* pulses of counted epochs */
+    uint64_t standing;  /* mm of standing epochs */
+    uint64_t pulses;    /* of all epochs */
+} zaqnuti_mileage_totals;
+
+/*
+ * The predicted error of a displacement in metres, (pdop * max(chi, 1)) * 0.01; NaN where chi or pdop is NaN or below 0.
+ * A mileage counts a displacement where this is below its limit and both are finite. In a study of 300 simulated van-days, setting aside
+ * displacements at or above 0.5, 0.2 and 0.1 m lost 0.3, 1.6 and 4.0 % of the moving ones and removed 84, 96 and 99 % of the errors above
+ * a metre. Setting them aside without scaling by what was covered makes a distance worse, not better: a mileage scales.
+ */
+static inline double zaqnuti_easy_predicted_error(double chi, double pdop)
+{
+    if (!(chi >= 0.0) || !(pdop >= 0.0)) return zaqnuti_easy_float(0x7FF8000000000000u);
+    return pdop * (chi > 1.0 ? chi : 1.0) * 0.01;
+}
+
+/* Starts a mileage that counts displacements whose predicted error is below `limit` metres. */
+static inline uint8_t zaqnuti_easy_mileage_start(double limit, zaqnuti_mileage *mileage)
+{
+    return zaqnuti_mileage_start(limit, mileage->word);
+}
+
+/* Adds an epoch: how far the van moved with what quality, and the odometer's pulses. */
+static inline uint8_t zaqnuti_easy_mileage_add(zaqnuti_mileage *mileage, zaqnuti_vector delta, double chi, double pdop, uint16_t pulses)
+{
+    const double d[3] = {delta.x, delta.y, delta.z};
+    const double q[2] = {chi, pdop};
+    return zaqnuti_mileage_add(mileage->word, 0, d, q, pulses);
+}
+
+/* Adds an epoch whose displacement was refused by `number`, which is not 0: its pulses count all the same. */
+static inline uint8_t zaqnuti_easy_mileage_refused(zaqnuti_mileage *mileage, uint8_t number, uint16_t pulses)
+{
+    const double d[3] = {0.0, 0.0, 0.0};
+    const double q[2] = {0.0, 0.0};
+    return zaqnuti_mileage_add(mileage->word, number, d, q, pulses);
+}
+
+static inline uint8_t zaqnuti_easy_mileage_report(const zaqnuti_mileage *mileage, zaqnuti_mileage_totals *totals)
+{
+    uint64_t r[7] = {0, 0, 0, 0, 0, 0, 0};
+    const uint8_t number = zaqnuti_mileage_report(mileage->word, r);
+    if (number == 0) {
+        totals->epochs = r[0];
+        totals->refused = r[1];
+        totals->aside = r[2];
+        totals->counted = r[3];
+        totals->covered = r[4];
+        totals->standing = r[5];
+        totals->pulses = r[6];
+    }
+    return number;
+}
+
+/* The distance in millimetres. */
+static inline uint8_t zaqnuti_easy_mileage_distance(const zaqnuti_mileage *mileage, uint64_t *millimetres)
+{
+    return zaqnuti_mileage_distance(mileage->word, millimetres);
+}
+
+/* Millilitres for a kilometre of that distance. */
+static inline uint8_t zaqnuti_easy_mileage_fuel(const zaqnuti_mileage *mileage, uint32_t millilitres, uint64_t *per_km)
+{
+    return zaqnuti_mileage_fuel(mileage->word, millilitres, per_km);
+}
+
 /* A trip whose displacements are worked out under the settings in force, which may change between two epochs. */
 typedef struct zaqnuti_drive {
     zaqnuti_trip trip;
@@ -507,7 +665,7 @@ typedef struct zaqnuti_drive {
 } zaqnuti_drive;
 
 /* The settings of five floats, as a call has left them. */
-static inline void zaqnuti_drive_settings(zaqnuti_drive *drive, const double set[5], size_t rounds)
+static inline void zaqnuti_drive_settings(zaqnuti_drive *drive, const double set[5], zaqnuti_size rounds)
 {
     drive->in_force.screen = set[0];
     drive->in_force.sigma_a = set[1];
@@ -522,7 +680,7 @@ static inline uint8_t zaqnuti_easy_drive_begin(const zaqnuti_displacement_settin
 {
     const double set[5] = {settings->screen, settings->sigma_a, settings->sigma_b, settings->huber, settings->mask};
     double in_force[5] = {0.0, 0.0, 0.0, 0.0, 0.0};
-    size_t rounds = 0;
+    zaqnuti_size rounds = 0;
     const uint8_t number = zaqnuti_trip_begin(set, settings->rounds, per_km, drive->trip.word, in_force, &rounds);
     if (number == 0) {
         zaqnuti_drive_settings(drive, in_force, rounds);
@@ -535,7 +693,7 @@ static inline uint8_t zaqnuti_easy_drive_settings(zaqnuti_drive *drive, const za
 {
     const double set[5] = {settings->screen, settings->sigma_a, settings->sigma_b, settings->huber, settings->mask};
     double in_force[5] = {0.0, 0.0, 0.0, 0.0, 0.0};
-    size_t rounds = 0;
+    zaqnuti_size rounds = 0;
     const uint8_t number = zaqnuti_trip_settings(drive->trip.word, set, settings->rounds, in_force, &rounds);
     if (number == 0) {
         zaqnuti_drive_settings(drive, in_force, rounds);
@@ -557,7 +715,7 @@ static inline uint8_t zaqnuti_easy_drive_displacement(
     const double from[3] = {receiver.x, receiver.y, receiver.z};
     const double set[5] = {settings->screen, settings->sigma_a, settings->sigma_b, settings->huber, settings->mask};
     double delta[3] = {0.0, 0.0, 0.0};
-    size_t counts[2] = {0, 0};
+    zaqnuti_size counts[2] = {0, 0};
     uint8_t number = zaqnuti_trip_displacement(
         drive->trip.word, set, settings->rounds,
         previous->constellation, ZAQNUTI_RECORDS, previous->svid, ZAQNUTI_RECORDS, previous->band, ZAQNUTI_RECORDS,
@@ -603,13 +761,13 @@ typedef struct zaqnuti_base_state {
 /* An epoch of a base station: its ranges and the satellites' states, as columns. */
 typedef struct zaqnuti_base_epoch {
     double time;  /* s of the week */
-    size_t ranges;
+    zaqnuti_size ranges;
     uint8_t range_constellation[ZAQNUTI_RECORDS];
     uint16_t range_svid[ZAQNUTI_RECORDS];
     uint32_t range_band[ZAQNUTI_RECORDS];
     double range_pseudorange[ZAQNUTI_RECORDS];
     bool states_present;  /* false: no states are known, and the epoch adds nothing */
-    size_t states;
+    zaqnuti_size states;
     uint8_t state_constellation[ZAQNUTI_RECORDS];
     uint16_t state_svid[ZAQNUTI_RECORDS];
     uint32_t state_band[ZAQNUTI_RECORDS];
@@ -630,13 +788,13 @@ typedef struct zaqnuti_correction_settings {
  * a block of samples for each signal, and where it stands.
  */
 typedef struct zaqnuti_table {
-    size_t blocks;
-    size_t count;
+    zaqnuti_size blocks;
+    zaqnuti_size count;
     uint8_t constellation[ZAQNUTI_EASY_SAMPLES];
     uint16_t svid[ZAQNUTI_EASY_SAMPLES];
     uint32_t band[ZAQNUTI_EASY_SAMPLES];
-    size_t first[ZAQNUTI_EASY_SAMPLES];
-    size_t samples[ZAQNUTI_EASY_SAMPLES];
+    zaqnuti_size first[ZAQNUTI_EASY_SAMPLES];
+    zaqnuti_size samples[ZAQNUTI_EASY_SAMPLES];
     double time[ZAQNUTI_EASY_SAMPLES];
     double metres[ZAQNUTI_EASY_SAMPLES];
 } zaqnuti_table;
@@ -654,7 +812,7 @@ static inline void zaqnuti_table_clear(zaqnuti_table *table)
  * first.)
  */
 static inline uint8_t zaqnuti_easy_directory_of(
-    zaqnuti_table *table, const uint8_t *constellation, const uint16_t *svid, const uint32_t *band, size_t length)
+    zaqnuti_table *table, const uint8_t *constellation, const uint16_t *svid, const uint32_t *band, zaqnuti_size length)
 {
     return zaqnuti_directory_of(
         constellation, length, svid, length, band, length,
@@ -665,7 +823,7 @@ static inline uint8_t zaqnuti_easy_directory_of(
 
 /* The way back: the signal of each sample, in columns of so many places. */
 static inline uint8_t zaqnuti_easy_signals_of(
-    const zaqnuti_table *table, uint8_t *constellation, uint16_t *svid, uint32_t *band, size_t length)
+    const zaqnuti_table *table, uint8_t *constellation, uint16_t *svid, uint32_t *band, zaqnuti_size length)
 {
     return zaqnuti_signals_of(
         table->constellation, ZAQNUTI_EASY_SAMPLES, table->svid, ZAQNUTI_EASY_SAMPLES, table->band, ZAQNUTI_EASY_SAMPLES,
@@ -686,7 +844,7 @@ static inline void zaqnuti_base_epoch_clear(zaqnuti_base_epoch *epoch, double ti
 /* One range more; the 65th is refused by 2 and leaves the epoch as it was. */
 static inline uint8_t zaqnuti_base_epoch_add_range(zaqnuti_base_epoch *epoch, const zaqnuti_base_range *one)
 {
-    const size_t i = epoch->ranges;
+    const zaqnuti_size i = epoch->ranges;
 
     if (i >= ZAQNUTI_RECORDS) {
         return ZAQNUTI_TOO_MANY;
@@ -702,7 +860,7 @@ static inline uint8_t zaqnuti_base_epoch_add_range(zaqnuti_base_epoch *epoch, co
 /* One state more; the 65th is refused by 2 and leaves the epoch as it was. */
 static inline uint8_t zaqnuti_base_epoch_add_state(zaqnuti_base_epoch *epoch, const zaqnuti_base_state *one)
 {
-    const size_t i = epoch->states;
+    const zaqnuti_size i = epoch->states;
     double *floats;
 
     if (i >= ZAQNUTI_RECORDS) {
@@ -774,7 +932,7 @@ static inline uint8_t zaqnuti_easy_query(
 static inline uint8_t zaqnuti_easy_queries(
     const zaqnuti_table *table,
     const zaqnuti_signal *signals,
-    size_t count,
+    zaqnuti_size count,
     double time,
     const zaqnuti_correction_settings *settings,
     uint8_t *numbers,
@@ -784,7 +942,7 @@ static inline uint8_t zaqnuti_easy_queries(
     uint16_t svid[ZAQNUTI_RECORDS] = {0};
     uint32_t band[ZAQNUTI_RECORDS] = {0};
     double times[ZAQNUTI_RECORDS] = {0.0};
-    size_t i;
+    zaqnuti_size i;
 
     if (count > ZAQNUTI_RECORDS) {
         return ZAQNUTI_TOO_MANY;
@@ -819,20 +977,20 @@ static inline uint8_t zaqnuti_easy_forget(zaqnuti_table *table, double time)
 
 typedef struct zaqnuti_track_settings {
     double huber;       /* in sigmas */
-    size_t iterations;  /* at most 50; 0 runs one, as 1 does */
+    zaqnuti_size iterations;  /* at most 50; 0 runs one, as 1 does */
 } zaqnuti_track_settings;
 
 #define ZAQNUTI_EASY_TRACK {ZAQNUTI_TRACK_HUBER, ZAQNUTI_TRACK_ITERATIONS}
 
 /* A track: its anchors, its links, its places once it is smoothed, and work space. */
 typedef struct zaqnuti_track {
-    size_t epochs;
-    size_t anchors;
-    size_t links;
-    size_t anchor_epoch[ZAQNUTI_EASY_EPOCHS];
+    zaqnuti_size epochs;
+    zaqnuti_size anchors;
+    zaqnuti_size links;
+    zaqnuti_size anchor_epoch[ZAQNUTI_EASY_EPOCHS];
     double anchor_position[3 * ZAQNUTI_EASY_EPOCHS];
     double anchor_sigma[3 * ZAQNUTI_EASY_EPOCHS];
-    size_t link_epoch[ZAQNUTI_EASY_EPOCHS];
+    zaqnuti_size link_epoch[ZAQNUTI_EASY_EPOCHS];
     double link_change[3 * ZAQNUTI_EASY_EPOCHS];
     double link_sigma[3 * ZAQNUTI_EASY_EPOCHS];
     double place[3 * ZAQNUTI_EASY_EPOCHS];
@@ -840,7 +998,7 @@ typedef struct zaqnuti_track {
 } zaqnuti_track;
 
 /* A track of so many epochs, without anchor or link yet. */
-static inline void zaqnuti_track_clear(zaqnuti_track *track, size_t epochs)
+static inline void zaqnuti_track_clear(zaqnuti_track *track, zaqnuti_size epochs)
 {
     track->epochs = epochs;
     track->anchors = 0;
@@ -848,9 +1006,9 @@ static inline void zaqnuti_track_clear(zaqnuti_track *track, size_t epochs)
 }
 
 /* Where the receiver was at an epoch, with one-sigma by axis; refused by 2 where there is no room. */
-static inline uint8_t zaqnuti_track_anchor(zaqnuti_track *track, size_t epoch, zaqnuti_vector position, zaqnuti_vector sigma)
+static inline uint8_t zaqnuti_track_anchor(zaqnuti_track *track, zaqnuti_size epoch, zaqnuti_vector position, zaqnuti_vector sigma)
 {
-    const size_t i = track->anchors;
+    const zaqnuti_size i = track->anchors;
 
     if (i >= ZAQNUTI_EASY_EPOCHS) {
         return ZAQNUTI_TOO_MANY;
@@ -867,9 +1025,9 @@ static inline uint8_t zaqnuti_track_anchor(zaqnuti_track *track, size_t epoch, z
 }
 
 /* How it moved from an epoch to the next, with one-sigma by axis; refused by 2 where there is no room. */
-static inline uint8_t zaqnuti_track_link(zaqnuti_track *track, size_t epoch, zaqnuti_vector change, zaqnuti_vector sigma)
+static inline uint8_t zaqnuti_track_link(zaqnuti_track *track, zaqnuti_size epoch, zaqnuti_vector change, zaqnuti_vector sigma)
 {
-    const size_t i = track->links;
+    const zaqnuti_size i = track->links;
 
     if (i >= ZAQNUTI_EASY_EPOCHS) {
         return ZAQNUTI_TOO_MANY;
@@ -899,7 +1057,7 @@ static inline uint8_t zaqnuti_easy_smooth(zaqnuti_track *track, const zaqnuti_tr
 }
 
 /* The place at an epoch of a smoothed track; the origin where there is no such epoch. */
-static inline zaqnuti_vector zaqnuti_track_place(const zaqnuti_track *track, size_t epoch)
+static inline zaqnuti_vector zaqnuti_track_place(const zaqnuti_track *track, zaqnuti_size epoch)
 {
     zaqnuti_vector place = {0.0, 0.0, 0.0};
 

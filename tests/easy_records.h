@@ -6,9 +6,9 @@
 #define EASY_RECORDS_H
 
 /* The bytes of n, the least significant first. */
-static uint8_t *put_number(uint8_t *to, uint64_t n, size_t width)
+static uint8_t *put_number(uint8_t *to, uint64_t n, zaqnuti_size width)
 {
-    size_t i;
+    zaqnuti_size i;
     for (i = 0; i < width; i++) {
         to[i] = (uint8_t)(n % 256);
         n /= 256;
@@ -39,18 +39,18 @@ static uint8_t *put_record(uint8_t *to, const zaqnuti_carrier *c)
 }
 
 /* The bytes of an epoch, at most MOST records. */
-static size_t put_epoch(uint8_t *to, const zaqnuti_carrier *record, size_t count)
+static zaqnuti_size put_epoch(uint8_t *to, const zaqnuti_carrier *record, zaqnuti_size count)
 {
     uint8_t *end = to;
-    size_t i;
+    zaqnuti_size i;
     for (i = 0; i < count; i++) {
         end = put_record(end, &record[i]);
     }
-    return (size_t)(end - to);
+    return (zaqnuti_size)(end - to);
 }
 
 /* An epoch of at most 64 written and read by structs. */
-static void records_there_and_back(const zaqnuti_carrier *record, size_t count, const uint8_t *wanted, size_t length)
+static void records_there_and_back(const zaqnuti_carrier *record, zaqnuti_size count, const uint8_t *wanted, zaqnuti_size length)
 {
     static uint8_t bytes[MOST * ZAQNUTI_RECORD];
     static uint8_t before[MOST * ZAQNUTI_RECORD];
@@ -65,8 +65,8 @@ static void records_there_and_back(const zaqnuti_carrier *record, size_t count, 
         same(zaqnuti_easy_write_records(&epoch, bytes, length - 1) == ZAQNUTI_TOO_MANY, "records, one byte too few");
         same(memcmp(bytes, before, sizeof before) == 0, "records, the bytes of a refusal");
     }
-    same(zaqnuti_easy_write_records(&epoch, bytes, sizeof bytes) == 0 && memcmp(bytes, wanted, length) == 0, "records, written");
-    same(memcmp(bytes + length, before + length, sizeof before - length) == 0, "records, bytes behind them");
+    same(zaqnuti_easy_write_records(&epoch, bytes, sizeof bytes) == 0 && memcmp(bytes, wanted, (size_t)length) == 0, "records, written");
+    same(memcmp(bytes + length, before + length, (size_t)(sizeof before - length)) == 0, "records, bytes behind them");
     /* The places behind the count are alike, since `epoch_of` and this mark them alike. */
     memset(&back, 0xA5, sizeof back);
     marked = back;
@@ -77,14 +77,14 @@ static void records_there_and_back(const zaqnuti_carrier *record, size_t count, 
 
 /* Two epochs as bytes: what the displacement of the same epochs as columns gave, now and then with a byte lost. */
 static void records_both(
-    const zaqnuti_carrier *before, size_t before_count, const zaqnuti_carrier *after, size_t after_count,
+    const zaqnuti_carrier *before, zaqnuti_size before_count, const zaqnuti_carrier *after, zaqnuti_size after_count,
     double dt, zaqnuti_vector receiver, const zaqnuti_displacement_settings *set, uint8_t wanted, const zaqnuti_moved *columns)
 {
     static uint8_t p[MOST * ZAQNUTI_RECORD];
     static uint8_t c[MOST * ZAQNUTI_RECORD];
-    size_t lost = (size_t)chance(16);
-    size_t m = put_epoch(p, before, before_count);
-    size_t n = put_epoch(c, after, after_count);
+    zaqnuti_size lost = (zaqnuti_size)chance(16);
+    zaqnuti_size m = put_epoch(p, before, before_count);
+    zaqnuti_size n = put_epoch(c, after, after_count);
     zaqnuti_moved moved;
     uint8_t number;
 

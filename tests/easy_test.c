@@ -60,7 +60,7 @@ static void alter(double *x, uint64_t one_in)
 
 /* ---- the fix */
 
-static void fix_both(const zaqnuti_observation *record, size_t count, zaqnuti_vector guess, const zaqnuti_fix_settings *set)
+static void fix_both(const zaqnuti_observation *record, zaqnuti_size count, zaqnuti_vector guess, const zaqnuti_fix_settings *set)
 {
     uint8_t constellation[MOST] = {0};
     double floats[5 * MOST] = {0.0};
@@ -68,14 +68,14 @@ static void fix_both(const zaqnuti_observation *record, size_t count, zaqnuti_ve
     const double settings[4] = {set->sigma_a, set->sigma_b, set->huber, set->mask};
     double solution[5];
     double position[3];
-    size_t used = 77;
+    zaqnuti_size used = 77;
     zaqnuti_observations epoch;
     zaqnuti_observations before;
     zaqnuti_solution easy;
     zaqnuti_solution marked;
     uint8_t plain_number;
     uint8_t easy_number = 0;
-    size_t i;
+    zaqnuti_size i;
 
     memset(&epoch, 0xA5, sizeof epoch);
     memset(&easy, 0xA5, sizeof easy);
@@ -117,12 +117,12 @@ struct columns {
     uint32_t band[MOST];
     int32_t state[MOST];
     double floats[6 * MOST];
-    size_t count;
+    zaqnuti_size count;
 };
 
-static void columns_of(struct columns *to, const zaqnuti_carrier *record, size_t count)
+static void columns_of(struct columns *to, const zaqnuti_carrier *record, zaqnuti_size count)
 {
-    size_t i;
+    zaqnuti_size i;
     to->count = count;
     for (i = 0; i < count; i++) {
         const zaqnuti_carrier *c = &record[i];
@@ -135,11 +135,11 @@ static void columns_of(struct columns *to, const zaqnuti_carrier *record, size_t
     }
 }
 
-static uint8_t epoch_of(zaqnuti_epoch *to, const zaqnuti_carrier *record, size_t count)
+static uint8_t epoch_of(zaqnuti_epoch *to, const zaqnuti_carrier *record, zaqnuti_size count)
 {
     zaqnuti_epoch before;
     uint8_t number = 0;
-    size_t i;
+    zaqnuti_size i;
     memset(to, 0xA5, sizeof *to);
     zaqnuti_epoch_clear(to);
     for (i = 0; i < count && number == 0; i++) {
@@ -153,7 +153,7 @@ static uint8_t epoch_of(zaqnuti_epoch *to, const zaqnuti_carrier *record, size_t
 /* The plain call on columns: by the interval, or between the two times where there are any. */
 static uint8_t plain_displacement(
     const struct columns *p, const struct columns *c, double dt, const zaqnuti_gps_time *time,
-    const double from[3], const double settings[5], size_t rounds, double delta[3], size_t counts[2])
+    const double from[3], const double settings[5], zaqnuti_size rounds, double delta[3], zaqnuti_size counts[2])
 {
     if (time == NULL) {
         return zaqnuti_displacement(
@@ -176,7 +176,7 @@ static void city_both(
     const double settings[5] = {set->screen, set->sigma_a, set->sigma_b, set->huber, set->mask};
     const uint32_t band = c->count > 0 ? c->band[0] : 1575;
     double delta[3] = {0.25, 0.25, 0.25};
-    size_t counts[2] = {7, 7};
+    zaqnuti_size counts[2] = {7, 7};
     zaqnuti_moved moved = {{0.25, 0.25, 0.25}, 7, 7};
     uint8_t number = zaqnuti_city_displacement(
         p->constellation, p->count, p->svid, p->count, p->band, p->count, p->state, p->count, p->floats, 6 * p->count, p->count,
@@ -189,9 +189,44 @@ static void city_both(
     same(moved.used == counts[0] && moved.screened == counts[1], "city displacement, its counts");
 }
 
+/* The displacement with its quality by both calls, and in the city profile where there is a band. */
+static void rated_both(
+    const struct columns *p, const struct columns *c, const zaqnuti_epoch *previous, const zaqnuti_epoch *current,
+    double dt, const uint32_t *band, zaqnuti_vector receiver, const zaqnuti_displacement_settings *set)
+{
+    const double from[3] = {receiver.x, receiver.y, receiver.z};
+    const double settings[5] = {set->screen, set->sigma_a, set->sigma_b, set->huber, set->mask};
+    double delta[3] = {0.25, 0.25, 0.25};
+    double quality[2] = {0.5, 0.5};
+    zaqnuti_size counts[2] = {7, 7};
+    zaqnuti_rated rated = {{0.25, 0.25, 0.25}, 0.5, 0.5, 7, 7};
+    uint8_t number;
+    uint8_t easy;
+
+    if (band == NULL) {
+        number = zaqnuti_displacement_rated(
+            p->constellation, p->count, p->svid, p->count, p->band, p->count, p->state, p->count, p->floats, 6 * p->count, p->count,
+            c->constellation, c->count, c->svid, c->count, c->band, c->count, c->state, c->count, c->floats, 6 * c->count, c->count,
+            dt, from, settings, set->rounds, delta, quality, counts);
+        easy = zaqnuti_easy_displacement_rated(previous, current, dt, receiver, set, &rated);
+    } else {
+        number = zaqnuti_city_displacement_rated(
+            p->constellation, p->count, p->svid, p->count, p->band, p->count, p->state, p->count, p->floats, 6 * p->count, p->count,
+            c->constellation, c->count, c->svid, c->count, c->band, c->count, c->state, c->count, c->floats, 6 * c->count, c->count,
+            dt, *band, from, settings, set->rounds, delta, quality, counts);
+        easy = zaqnuti_easy_city_displacement_rated(previous, current, dt, *band, receiver, set, &rated);
+    }
+    met[number] += 1;
+    same(easy == number, "rated displacement, its number");
+    same(memcmp(&rated.delta, delta, sizeof delta) == 0, "rated displacement, its vector");
+    same(memcmp(&rated.chi, &quality[0], sizeof(double)) == 0, "rated displacement, chi");
+    same(memcmp(&rated.pdop, &quality[1], sizeof(double)) == 0, "rated displacement, pdop");
+    same(rated.used == counts[0] && rated.screened == counts[1], "rated displacement, its counts");
+}
+
 /* Gives the number, and the displacement in `easy`; between two times where there are any, else by the interval. */
 static uint8_t displacement_both(
-    const zaqnuti_carrier *before, size_t before_count, const zaqnuti_carrier *after, size_t after_count,
+    const zaqnuti_carrier *before, zaqnuti_size before_count, const zaqnuti_carrier *after, zaqnuti_size after_count,
     double dt, const zaqnuti_gps_time *time, zaqnuti_vector receiver, const zaqnuti_displacement_settings *set, zaqnuti_moved *easy)
 {
     static struct columns p;
@@ -199,7 +234,7 @@ static uint8_t displacement_both(
     const double from[3] = {receiver.x, receiver.y, receiver.z};
     const double settings[5] = {set->screen, set->sigma_a, set->sigma_b, set->huber, set->mask};
     double delta[3];
-    size_t counts[2];
+    zaqnuti_size counts[2];
     zaqnuti_epoch previous;
     zaqnuti_epoch current;
     zaqnuti_moved marked;
@@ -221,7 +256,10 @@ static uint8_t displacement_both(
         easy_number = zaqnuti_easy_displacement_between(&previous, &current, time[0], time[1], receiver, set, easy);
     }
     if (easy_number == 0 && time == NULL) {
+        const uint32_t band = c.count > 0 ? c.band[0] : 1575;
         city_both(&p, &c, &previous, &current, dt, receiver, set);
+        rated_both(&p, &c, &previous, &current, dt, NULL, receiver, set);
+        rated_both(&p, &c, &previous, &current, dt, &band, receiver, set);
     }
     met[plain_number] += 1;
     same(plain_number == easy_number, "displacement, its number");
@@ -238,7 +276,7 @@ static uint8_t displacement_both(
 
 /* New settings and a displacement under those in force, by both calls on the same trip; at first it is begun. */
 static void drive_both(
-    const zaqnuti_carrier *before, size_t before_count, const zaqnuti_carrier *after, size_t after_count,
+    const zaqnuti_carrier *before, zaqnuti_size before_count, const zaqnuti_carrier *after, zaqnuti_size after_count,
     double dt, zaqnuti_vector receiver, const zaqnuti_displacement_settings *set)
 {
     static zaqnuti_drive easy;
@@ -248,10 +286,10 @@ static void drive_both(
     const double settings[5] = {set->screen, set->sigma_a, set->sigma_b, set->huber, set->mask};
     const uint16_t pulses = (uint16_t)chance(65536);
     double in_force[5] = {easy.in_force.screen, easy.in_force.sigma_a, easy.in_force.sigma_b, easy.in_force.huber, easy.in_force.mask};
-    size_t rounds = easy.in_force.rounds;
+    zaqnuti_size rounds = easy.in_force.rounds;
     uint64_t word[6];
     double delta[3] = {1.0, 2.0, 3.0};
-    size_t counts[2] = {4, 5};
+    zaqnuti_size counts[2] = {4, 5};
     zaqnuti_moved moved = {{1.0, 2.0, 3.0}, 4, 5};
     zaqnuti_epoch previous;
     zaqnuti_epoch current;
@@ -290,12 +328,12 @@ static void drive_both(
 /* A trip by both calls: the words, the numbers and the results are the same. */
 static void trips(void)
 {
-    size_t round;
+    zaqnuti_size round;
     for (round = 0; round < 200; round++) {
         const uint16_t per_km = (uint16_t)(round % 9 == 0 ? 0 : chance(65536));
         zaqnuti_trip easy = {{round, 1, 2, 3, 4, 5}};
         uint64_t word[6] = {round, 1, 2, 3, 4, 5};
-        size_t k;
+        zaqnuti_size k;
         same(zaqnuti_easy_trip_start(per_km, &easy) == zaqnuti_trip_start(per_km, word), "the start of a trip, its number");
         same(memcmp(easy.word, word, sizeof word) == 0, "the start of a trip");
         for (k = 0; k < 40; k++) {
@@ -330,6 +368,10 @@ static void trips(void)
         }
     }
 }
+/* ---- the mileage */
+
+#include "easy_mileage.h"
+
 /* ---- carrier records as bytes */
 
 #include "easy_records.h"
@@ -369,7 +411,7 @@ static void times(void)
     static const double edges[6] = {604799.9999999999, 604799.5, 0.5, 5e-10, 604800.0, 3600.25};
     zaqnuti_gps_time before = {0};
     zaqnuti_gps_time now = {0};
-    size_t k;
+    zaqnuti_size k;
 
     for (k = 0; k < 20000; k++) {
         const uint32_t week = chance(9) == 0 ? (uint32_t)(14999 + chance(4)) : (uint32_t)chance(2500);
@@ -385,7 +427,7 @@ static void times(void)
 /* The same of a displacement at a place. */
 static void directions(void)
 {
-    size_t k;
+    zaqnuti_size k;
 
     for (k = 0; k < 20000; k++) {
         const double earth = chance(9) == 0 ? 1e-9 : 6378137.0;
@@ -396,7 +438,7 @@ static void directions(void)
         double along[3];
         double ned[3] = {7.5, 7.5, 7.5};
         uint8_t number;
-        size_t i;
+        zaqnuti_size i;
         for (i = 0; i < 3; i++) {
             at[i] = earth * (1e-3 * (double)chance(2001) - 1.0);
             along[i] = 1e-3 * (double)chance(200001) - 100.0;
@@ -421,13 +463,13 @@ static void directions(void)
 
 static zaqnuti_table easy_table;
 static struct {
-    size_t count;
+    zaqnuti_size count;
     uint8_t constellation[ZAQNUTI_SAMPLES];
     uint16_t svid[ZAQNUTI_SAMPLES];
     uint32_t band[ZAQNUTI_SAMPLES];
-    size_t first[ZAQNUTI_SAMPLES];
-    size_t samples[ZAQNUTI_SAMPLES];
-    size_t blocks;
+    zaqnuti_size first[ZAQNUTI_SAMPLES];
+    zaqnuti_size samples[ZAQNUTI_SAMPLES];
+    zaqnuti_size blocks;
     double time[ZAQNUTI_SAMPLES];
     double metres[ZAQNUTI_SAMPLES];
 } plain_table;
@@ -457,10 +499,10 @@ static void tables_clear(void)
 /* An epoch of the base as records. */
 struct base_records {
     double time;
-    size_t ranges;
+    zaqnuti_size ranges;
     zaqnuti_base_range range[MOST];
     bool present;
-    size_t states;
+    zaqnuti_size states;
     zaqnuti_base_state state[MOST];
 };
 
@@ -469,7 +511,7 @@ static uint8_t easy_add(const struct base_records *e, zaqnuti_vector base, zaqnu
     static zaqnuti_base_epoch epoch;
     static zaqnuti_base_epoch before;
     uint8_t number = 0;
-    size_t i;
+    zaqnuti_size i;
 
     memset(&epoch, 0xA5, sizeof epoch);
     zaqnuti_base_epoch_clear(&epoch, e->time);
@@ -504,7 +546,7 @@ static uint8_t plain_add(const struct base_records *e, zaqnuti_vector base, zaqn
     double sf[8 * MOST] = {0.0};
     const double at_base[3] = {base.x, base.y, base.z};
     const double at_rover[3] = {rover.x, rover.y, rover.z};
-    size_t i;
+    zaqnuti_size i;
 
     for (i = 0; i < e->ranges; i++) {
         rc[i] = e->range[i].signal.constellation;
@@ -539,7 +581,7 @@ static void add_both(const struct base_records *e, zaqnuti_vector base, zaqnuti_
     tables_same("base epoch, the table after it");
 }
 
-static void query_both(const zaqnuti_signal *signals, size_t count, double time, const zaqnuti_correction_settings *set)
+static void query_both(const zaqnuti_signal *signals, zaqnuti_size count, double time, const zaqnuti_correction_settings *set)
 {
     uint8_t numbers[MOST];
     uint8_t easy_numbers[MOST];
@@ -549,7 +591,7 @@ static void query_both(const zaqnuti_signal *signals, size_t count, double time,
     double easy_one;
     uint8_t number;
     uint8_t easy_number;
-    size_t i;
+    zaqnuti_size i;
 
     memset(easy_numbers, 0xA5, sizeof easy_numbers);
     memset(easy_metres, 0xA5, sizeof easy_metres);
@@ -596,11 +638,11 @@ static void forget_both(double time)
 }
 
 /* The bands of a table of 8 bits each, in columns that may be too short. */
-static void widen_both(size_t count, size_t length)
+static void widen_both(zaqnuti_size count, zaqnuti_size length)
 {
     static uint8_t narrow[ZAQNUTI_SAMPLES + 1];
     uint8_t number;
-    size_t i;
+    zaqnuti_size i;
 
     tables_clear();
     for (i = 0; i < length; i++) {
@@ -616,7 +658,7 @@ static void widen_both(size_t count, size_t length)
 }
 
 /* The signals of the easy table, and its directory made of them again: by both calls, and the table as it was. */
-static void forms_both(size_t length)
+static void forms_both(zaqnuti_size length)
 {
     static uint8_t constellation[2][ZAQNUTI_SAMPLES];
     static uint16_t svid[2][ZAQNUTI_SAMPLES];
@@ -642,9 +684,9 @@ static void forms_both(size_t length)
         again.blocks = 0;
         memset(again.first, 0, sizeof again.first);
         same(zaqnuti_easy_directory_of(&again, constellation[1], svid[1], band[1], length) == 0, "directory, the number");
-        same(again.blocks == easy_table.blocks && memcmp(again.first, easy_table.first, again.blocks * sizeof *again.first) == 0 &&
-                 memcmp(again.samples, easy_table.samples, again.blocks * sizeof *again.samples) == 0 &&
-                 memcmp(again.band, easy_table.band, again.blocks * sizeof *again.band) == 0, "directory, as it was");
+        same(again.blocks == easy_table.blocks && memcmp(again.first, easy_table.first, (size_t)(again.blocks * sizeof *again.first)) == 0 &&
+                 memcmp(again.samples, easy_table.samples, (size_t)(again.blocks * sizeof *again.samples)) == 0 &&
+                 memcmp(again.band, easy_table.band, (size_t)(again.blocks * sizeof *again.band)) == 0, "directory, as it was");
     }
 }
 
@@ -654,30 +696,30 @@ static zaqnuti_track easy_track;
 
 /* The anchors and links that were handed over, as columns of this test's own. */
 static struct {
-    size_t anchors;
-    size_t links;
-    size_t anchor_epoch[ZAQNUTI_EPOCHS];
+    zaqnuti_size anchors;
+    zaqnuti_size links;
+    zaqnuti_size anchor_epoch[ZAQNUTI_EPOCHS];
     double anchor_position[3 * ZAQNUTI_EPOCHS];
     double anchor_sigma[3 * ZAQNUTI_EPOCHS];
-    size_t link_epoch[ZAQNUTI_EPOCHS];
+    zaqnuti_size link_epoch[ZAQNUTI_EPOCHS];
     double link_change[3 * ZAQNUTI_EPOCHS];
     double link_sigma[3 * ZAQNUTI_EPOCHS];
 } given;
 
-static void begin_track(size_t epochs)
+static void begin_track(zaqnuti_size epochs)
 {
     zaqnuti_track_clear(&easy_track, epochs);
     given.anchors = 0;
     given.links = 0;
 }
 
-static void three(double *to, size_t i, zaqnuti_vector v)
+static void three(double *to, zaqnuti_size i, zaqnuti_vector v)
 {
     const double f[3] = {v.x, v.y, v.z};
     memcpy(&to[3 * i], f, sizeof f);
 }
 
-static uint8_t give_anchor(size_t epoch, zaqnuti_vector position, zaqnuti_vector sigma)
+static uint8_t give_anchor(zaqnuti_size epoch, zaqnuti_vector position, zaqnuti_vector sigma)
 {
     const uint8_t number = zaqnuti_track_anchor(&easy_track, epoch, position, sigma);
     if (number == 0) {
@@ -689,7 +731,7 @@ static uint8_t give_anchor(size_t epoch, zaqnuti_vector position, zaqnuti_vector
     return number;
 }
 
-static uint8_t give_link(size_t epoch, zaqnuti_vector change, zaqnuti_vector sigma)
+static uint8_t give_link(zaqnuti_size epoch, zaqnuti_vector change, zaqnuti_vector sigma)
 {
     const uint8_t number = zaqnuti_track_link(&easy_track, epoch, change, sigma);
     if (number == 0) {
@@ -705,11 +747,11 @@ static void smooth_both(const zaqnuti_track_settings *set)
 {
     static double result[3 * ZAQNUTI_EPOCHS];
     static double work[11 * ZAQNUTI_EPOCHS];
-    const size_t a = given.anchors;
-    const size_t l = given.links;
+    const zaqnuti_size a = given.anchors;
+    const zaqnuti_size l = given.links;
     uint8_t plain_number;
     uint8_t easy_number;
-    size_t k;
+    zaqnuti_size k;
 
     memcpy(result, easy_track.place, sizeof result);
     memcpy(work, easy_track.work, sizeof work);
@@ -744,13 +786,13 @@ struct text {
     zaqnuti_vector receiver;
     zaqnuti_displacement_settings settings;
     zaqnuti_carrier carrier[2][MOST];
-    size_t count[2];
+    zaqnuti_size count[2];
 };
 
 static void read_line(struct text *t, char *line)
 {
     char *field[11];
-    size_t n = 0;
+    zaqnuti_size n = 0;
     char *at;
 
     for (at = strtok(line, ",\n"); at != NULL && n < 11; at = strtok(NULL, ",\n")) {
@@ -771,7 +813,7 @@ static void read_line(struct text *t, char *line)
         t->settings.mask = float_of(field[9]);
         t->settings.rounds = strtoul(field[10], NULL, 10);
     } else {
-        const size_t which = field[0][0] == 'P' ? 0 : 1;
+        const zaqnuti_size which = field[0][0] == 'P' ? 0 : 1;
         zaqnuti_carrier *c = &t->carrier[which][t->count[which]++];
         c->constellation = (uint8_t)strtoul(field[1], NULL, 10);
         c->svid = (uint16_t)strtoul(field[2], NULL, 10);
@@ -787,14 +829,14 @@ static void read_line(struct text *t, char *line)
 }
 
 /* The answer line of a displacement, as zaqnuti_line writes it. */
-static void line_of(char *line, size_t size, uint8_t number, const zaqnuti_moved *moved)
+static void line_of(char *line, zaqnuti_size size, uint8_t number, const zaqnuti_moved *moved)
 {
     uint64_t bits[3];
     memcpy(bits, &moved->delta, sizeof bits);
     if (number != 0) {
-        snprintf(line, size, "R,%u\n", (unsigned)number);
+        snprintf(line, (size_t)size, "R,%u\n", (unsigned)number);
     } else {
-        snprintf(line, size, "A,%lu,%lu,%016llX,%016llX,%016llX\n", (unsigned long)moved->used, (unsigned long)moved->screened,
+        snprintf(line, (size_t)size, "A,%lu,%lu,%016llX,%016llX,%016llX\n", (unsigned long)moved->used, (unsigned long)moved->screened,
                  (unsigned long long)bits[0], (unsigned long long)bits[1], (unsigned long long)bits[2]);
     }
 }
@@ -810,17 +852,17 @@ static void times_of(zaqnuti_gps_time time[2], double dt)
     time[1].nanos = time[0].nanos + apart;
     /* A statement asks chance once, so that every compiler has the same run. */
     if (chance(12) == 0) {
-        const size_t k = (size_t)chance(2);
+        const zaqnuti_size k = (zaqnuti_size)chance(2);
         time[k].nanos = 9072604800000000000u + chance(3) - 1;
     }
     if (chance(12) == 0) {
-        const size_t k = (size_t)chance(2);
+        const zaqnuti_size k = (zaqnuti_size)chance(2);
         time[k].nanos = end + chance(3) - 1;
     }
 }
 
 /* Altered copies of two epochs. */
-static void alter_displacements(const struct text *t, size_t times)
+static void alter_displacements(const struct text *t, zaqnuti_size times)
 {
     static struct text a;
     zaqnuti_gps_time time[2];
@@ -828,8 +870,8 @@ static void alter_displacements(const struct text *t, size_t times)
     zaqnuti_moved between;
     double dt;
     uint8_t number;
-    size_t which;
-    size_t i;
+    zaqnuti_size which;
+    zaqnuti_size i;
 
     while (times-- > 0) {
         double *s[5] = {&a.settings.screen, &a.settings.sigma_a, &a.settings.sigma_b, &a.settings.huber, &a.settings.mask};
@@ -837,10 +879,10 @@ static void alter_displacements(const struct text *t, size_t times)
         alter(&a.dt, 20);
         alter(&a.receiver.x, 40);
         alter(s[chance(5)], 10);
-        a.settings.rounds = chance(10) == 0 ? (size_t)chance(53) : a.settings.rounds;
+        a.settings.rounds = chance(10) == 0 ? (zaqnuti_size)chance(53) : a.settings.rounds;
         for (which = 0; which < 2; which++) {
             if (chance(12) == 0) {
-                a.count[which] = (size_t)chance(a.count[which] + 1);
+                a.count[which] = (zaqnuti_size)chance(a.count[which] + 1);
             }
             for (i = 0; i < a.count[which]; i++) {
                 zaqnuti_carrier *c = &a.carrier[which][i];
@@ -889,8 +931,8 @@ static void drive(const char *folder)
 
     for (k = 1; k <= 10; k++) {
         char one[256];
-        size_t length = 0;
-        size_t answered;
+        zaqnuti_size length = 0;
+        zaqnuti_size answered;
         uint8_t number;
         FILE *in;
         memset(&t, 0, sizeof t);
@@ -901,7 +943,7 @@ static void drive(const char *folder)
             return;
         }
         while (fgets(one, sizeof one, in) != NULL && length + strlen(one) <= sizeof whole) {
-            memcpy(&whole[length], one, strlen(one));
+            memcpy(&whole[length], one, (size_t)(strlen(one)));
             length += strlen(one);
             read_line(&t, one);
         }
@@ -909,7 +951,7 @@ static void drive(const char *folder)
         number = displacement_both(t.carrier[0], t.count[0], t.carrier[1], t.count[1], t.dt, NULL, t.receiver, &t.settings, &moved);
         answered = zaqnuti_line((const uint8_t *)whole, length, line, sizeof line);
         line_of(wanted, sizeof wanted, number, &moved);
-        same(answered == strlen(wanted) && memcmp(line, wanted, answered) == 0, "the line of a drive's text");
+        same(answered == strlen(wanted) && memcmp(line, wanted, (size_t)answered) == 0, "the line of a drive's text");
         alter_displacements(&t, 1500);
     }
 }
@@ -926,8 +968,8 @@ static void fixes(const struct geonet_epoch *e)
 {
     static zaqnuti_observation record[MOST];
     const zaqnuti_fix_settings plain = ZAQNUTI_EASY_FIX_GEODETIC;
-    size_t i;
-    size_t times;
+    zaqnuti_size i;
+    zaqnuti_size times;
 
     for (i = 0; i < e->count; i++) {
         record[i] = geonet_observation(&e->line[i]);
@@ -937,19 +979,19 @@ static void fixes(const struct geonet_epoch *e)
         zaqnuti_observation a[MOST];
         zaqnuti_fix_settings set = plain;
         zaqnuti_vector guess = base_place;
-        size_t count = chance(8) == 0 ? (size_t)chance(e->count + 1) : e->count;
+        zaqnuti_size count = chance(8) == 0 ? (zaqnuti_size)chance(e->count + 1) : e->count;
         double *s[4] = {&set.sigma_a, &set.sigma_b, &set.huber, &set.mask};
         memcpy(a, record, sizeof a);
         alter(s[chance(4)], 10);
         alter(&guess.y, 30);
-        set.rounds = chance(10) == 0 ? (size_t)chance(53) : set.rounds;
+        set.rounds = chance(10) == 0 ? (zaqnuti_size)chance(53) : set.rounds;
         for (i = 0; i < count; i++) {
             double *f[5] = {&a[i].pseudorange, &a[i].satellite.x, &a[i].satellite.y, &a[i].satellite.z, &a[i].elevation};
             alter(f[chance(5)], 200);
             a[i].constellation = chance(60) == 0 ? (uint8_t)chance(10) : a[i].constellation;
         }
         if (chance(20) == 0) {
-            const size_t full = (size_t)(63 + chance(3));
+            const zaqnuti_size full = (zaqnuti_size)(63 + chance(3));
             for (i = count; i < full; i++) {
                 a[i] = record[i % e->count];
                 a[i].constellation = (uint8_t)(i % (1 + chance(9)));
@@ -965,12 +1007,12 @@ static void fixes(const struct geonet_epoch *e)
     }
 }
 
-static void displacements(size_t k)
+static void displacements(zaqnuti_size k)
 {
     static struct text t;
     const zaqnuti_displacement_settings set = ZAQNUTI_EASY_DISPLACEMENT_GEODETIC;
-    size_t which;
-    size_t i;
+    zaqnuti_size which;
+    zaqnuti_size i;
     zaqnuti_moved moved;
 
     t.dt = rover.epoch[k + 1].tow - rover.epoch[k].tow;
@@ -992,7 +1034,7 @@ static void displacements(size_t k)
 /* The records of an epoch of the base. */
 static void base_records_of(const struct geonet_epoch *from, struct base_records *e)
 {
-    size_t i;
+    zaqnuti_size i;
 
     memset(e, 0, sizeof *e);
     e->time = from->tow;
@@ -1012,10 +1054,10 @@ static void base_records_of(const struct geonet_epoch *from, struct base_records
 /* A refused or empty epoch of each kind. */
 static void alter_epoch(struct base_records *e)
 {
-    const size_t i = (size_t)chance(e->ranges);
+    const zaqnuti_size i = (zaqnuti_size)chance(e->ranges);
     zaqnuti_base_state *s = &e->state[i];
     double *f[8] = {&s->satellite.x, &s->satellite.y, &s->satellite.z, &s->velocity.x, &s->velocity.y, &s->velocity.z, &s->clock, &s->modelled};
-    size_t k;
+    zaqnuti_size k;
 
     alter(&e->time, 8);
     alter(&e->range[i].pseudorange, 8);
@@ -1030,7 +1072,7 @@ static void alter_epoch(struct base_records *e)
         }
         e->ranges = 65;
     } else if (chance(4) == 0) {
-        e->ranges = (size_t)chance(4);
+        e->ranges = (zaqnuti_size)chance(4);
     }
     if (chance(8) == 0) {
         for (k = e->states; k < 65; k++) {
@@ -1045,9 +1087,9 @@ static void corrections(void)
     static struct base_records e;
     const zaqnuti_correction_settings plain = ZAQNUTI_EASY_CORRECTIONS;
     zaqnuti_signal signals[MOST];
-    size_t k;
-    size_t i;
-    size_t times;
+    zaqnuti_size k;
+    zaqnuti_size i;
+    zaqnuti_size times;
 
     tables_clear();
     for (k = 0; k < base.count; k++) {
@@ -1069,7 +1111,7 @@ static void corrections(void)
     }
     for (k = 0; k < rover.count; k++) {
         zaqnuti_correction_settings set = plain;
-        const size_t count = k % 40 == 39 ? 65 : rover.epoch[k].count;
+        const zaqnuti_size count = k % 40 == 39 ? 65 : rover.epoch[k].count;
         double time = rover.epoch[k].tow + (double)chance(40) - 10.0;
         for (i = 0; i < count; i++) {
             signals[i] = rover.epoch[k].line[i % rover.epoch[k].count].signal;
@@ -1099,8 +1141,8 @@ static void corrections(void)
         add_both(&e, base_place, rover_place, &plain);
     }
     for (k = 0; k < 40; k++) {
-        const size_t samples = (size_t)chance(50);
-        widen_both(samples, (size_t)chance(60));
+        const zaqnuti_size samples = (zaqnuti_size)chance(50);
+        widen_both(samples, (zaqnuti_size)chance(60));
     }
     widen_both(ZAQNUTI_SAMPLES, ZAQNUTI_SAMPLES);
     widen_both(ZAQNUTI_SAMPLES + 1, ZAQNUTI_SAMPLES + 1);
@@ -1110,13 +1152,13 @@ static void tracks(void)
 {
     const zaqnuti_track_settings plain = ZAQNUTI_EASY_TRACK;
     const zaqnuti_vector sigma = {1.0, 1.0, 1.0};
-    size_t times;
-    size_t k;
+    zaqnuti_size times;
+    zaqnuti_size k;
 
     smooth_both(&plain);
     for (times = 0; times < 400; times++) {
         zaqnuti_track_settings set = plain;
-        const size_t epochs = chance(20) == 0 ? (size_t)(1022 + chance(4)) : (size_t)chance(40);
+        const zaqnuti_size epochs = chance(20) == 0 ? (zaqnuti_size)(1022 + chance(4)) : (zaqnuti_size)chance(40);
         begin_track(epochs);
         memset(easy_track.place, 0xA5, sizeof easy_track.place);
         memset(easy_track.work, 0xA5, sizeof easy_track.work);
@@ -1136,7 +1178,7 @@ static void tracks(void)
             }
         }
         alter(&set.huber, 10);
-        set.iterations = (size_t)chance(53);
+        set.iterations = (zaqnuti_size)chance(53);
         smooth_both(&set);
     }
     /* No room for another anchor or link. */
@@ -1175,7 +1217,7 @@ static void settings(void)
     const zaqnuti_fix_settings easy_fix[2] = {ZAQNUTI_EASY_FIX_PHONE, ZAQNUTI_EASY_FIX_GEODETIC};
     const double moved[2][5] = {ZAQNUTI_DISPLACEMENT_PHONE, ZAQNUTI_DISPLACEMENT_GEODETIC};
     const zaqnuti_displacement_settings easy_moved[2] = {ZAQNUTI_EASY_DISPLACEMENT_PHONE, ZAQNUTI_EASY_DISPLACEMENT_GEODETIC};
-    size_t i;
+    zaqnuti_size i;
     for (i = 0; i < 2; i++) {
         same(memcmp(fix[i], &easy_fix[i], sizeof fix[i]) == 0, "settings of a fix");
         same(memcmp(moved[i], &easy_moved[i], sizeof moved[i]) == 0, "settings of a displacement");
@@ -1185,7 +1227,7 @@ static void settings(void)
 int main(int count, char **word)
 {
     const zaqnuti_vector sigma = {1.0, 1.0, 1.0};
-    size_t k;
+    zaqnuti_size k;
 
     if (count != 3 || !geonet_read(word[2], "rover.csv", &rover) || !geonet_read(word[2], "base.csv", &base)) {
         fprintf(stderr, "usage: easy_test DRIVE_FOLDER GEONET_FOLDER\n");
@@ -1203,6 +1245,7 @@ int main(int count, char **word)
     }
     times();
     trips();
+    mileages();
     directions();
     tracks();
     corrections();

@@ -38,7 +38,7 @@ static bool has_fix[GEONET_EPOCHS];
 /* A sum of squared errors, and of how many. */
 struct errors {
     double squares;
-    size_t count;
+    zaqnuti_size count;
 };
 
 static void note(struct errors *e, zaqnuti_vector got, zaqnuti_vector truth)
@@ -66,8 +66,8 @@ static struct errors fixes(void)
     struct errors e = {0.0, 0};
     zaqnuti_observations sky;
     zaqnuti_solution solution;
-    size_t k;
-    size_t i;
+    zaqnuti_size k;
+    zaqnuti_size i;
 
     for (k = 0; k < rover.count; k++) {
         zaqnuti_observations_clear(&sky);
@@ -85,9 +85,9 @@ static struct errors fixes(void)
     return e;
 }
 
-static void carriers(size_t k, zaqnuti_epoch *epoch)
+static void carriers(zaqnuti_size k, zaqnuti_epoch *epoch)
 {
-    size_t i;
+    zaqnuti_size i;
 
     zaqnuti_epoch_clear(epoch);
     for (i = 0; i < rover.epoch[k].count; i++) {
@@ -104,7 +104,7 @@ static struct errors displacements(void)
     zaqnuti_epoch previous;
     zaqnuti_epoch current;
     zaqnuti_moved moved;
-    size_t k;
+    zaqnuti_size k;
 
     for (k = 0; k + 1 < rover.count; k++) {
         const double dt = rover.epoch[k + 1].tow - rover.epoch[k].tow;
@@ -130,7 +130,7 @@ static struct errors displacements(void)
 static void corrections(void)
 {
     zaqnuti_base_epoch epoch;
-    size_t k;
+    zaqnuti_size k;
 
     zaqnuti_table_clear(&table);
     for (k = 0; k < base.count; k += 2) {
@@ -148,8 +148,8 @@ static struct errors corrected_fixes(void)
     double metres[GEONET_SATELLITES];
     zaqnuti_observations sky;
     zaqnuti_solution solution;
-    size_t k;
-    size_t i;
+    zaqnuti_size k;
+    zaqnuti_size i;
 
     for (k = 0; k < rover.count; k++) {
         const struct geonet_epoch *epoch = &rover.epoch[k];
@@ -179,7 +179,7 @@ static struct errors corrected_fixes(void)
 static struct errors smoothed(zaqnuti_track *one)
 {
     struct errors e = {0.0, 0};
-    size_t k;
+    zaqnuti_size k;
 
     if (zaqnuti_easy_smooth(one, &track_settings) == 0) {
         for (k = 0; k < rover.count; k++) {

@@ -10,11 +10,11 @@ use drifters_gnss::tdcp::{self, Carrier, Delta};
 use drifters_gnss::wls::{self, Observation, Solution};
 
 /// The number of no refusal: the rules refuse what the Rust does not.
-const AT_ODDS: u8 = 255;
+pub const AT_ODDS: u8 = 255;
 /// The fit fails.
-const FIT_FAILED: u8 = 10;
+pub const FIT_FAILED: u8 = 10;
 /// chi or pdop is not finite.
-const QUALITY_NOT_FINITE: u8 = 14;
+pub const QUALITY_NOT_FINITE: u8 = 14;
 /// A range is zero or not finite.
 const ON_RECEIVER: u8 = 15;
 

@@ -12,6 +12,7 @@ mod instructions;
 mod line_form;
 mod numbers;
 mod random;
+mod rated;
 mod rules;
 mod services;
 mod sky;

@@ -20,10 +20,10 @@ struct carriers {
 struct drive {
     struct carriers before;
     struct carriers now;
-    size_t counts[2];
+    zaqnuti_size counts[2];
     double receiver[3];
     double settings[5];
-    size_t rounds;
+    zaqnuti_size rounds;
 };
 
 /* Receiver 3, settings 5, rounds, how many carriers before and how many now; each of them. */

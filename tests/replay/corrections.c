@@ -21,19 +21,19 @@ struct table {
     uint8_t dc[TABLE + BEYOND];
     uint16_t dv[TABLE + BEYOND];
     uint32_t db[TABLE + BEYOND];
-    size_t df[TABLE + BEYOND];
-    size_t dn[TABLE + BEYOND];
-    size_t m;
+    zaqnuti_size df[TABLE + BEYOND];
+    zaqnuti_size dn[TABLE + BEYOND];
+    zaqnuti_size m;
     double ts[TABLE + BEYOND];
     double xs[TABLE + BEYOND];
-    size_t n;
+    zaqnuti_size n;
     uint8_t margin[MARGIN];
 };
 
 /* How many blocks; of each, of 32 at most, constellation, svid, band, first sample, how many. */
 static void next_blocks(struct stored *s, struct table *t)
 {
-    size_t i;
+    zaqnuti_size i;
     t->m = next_size(s);
     for (i = 0; i < least(t->m, TABLE); i++) {
         t->dc[i] = next_byte(s);
@@ -47,7 +47,7 @@ static void next_blocks(struct stored *s, struct table *t)
 /* The blocks; how many samples; of each, of 32 at most, time, correction. */
 static void next_samples(struct stored *s, struct table *t)
 {
-    size_t i;
+    zaqnuti_size i;
     next_blocks(s, t);
     t->n = next_size(s);
     for (i = 0; i < least(t->n, TABLE); i++) {
@@ -84,9 +84,9 @@ struct epoch {
 };
 
 /* Of each range constellation, svid, band, pseudorange; of each state constellation, svid, band and eight floats. */
-static void next_epoch(struct stored *s, struct epoch *e, size_t ranges, size_t states)
+static void next_epoch(struct stored *s, struct epoch *e, zaqnuti_size ranges, zaqnuti_size states)
 {
-    size_t i;
+    zaqnuti_size i;
     memset(e, 0, sizeof *e);
     for (i = 0; i < least(ranges, 64); i++) {
         e->rc[i] = next_byte(s);
@@ -105,9 +105,9 @@ static void next_epoch(struct stored *s, struct epoch *e, size_t ranges, size_t 
 /* What an epoch is added by beside its records. */
 struct terms {
     double time;
-    size_t ranges;
+    zaqnuti_size ranges;
     bool present;
-    size_t states;
+    zaqnuti_size states;
     double base[3];
     double rover[3];
     double gap;
@@ -119,7 +119,7 @@ struct terms {
 static void next_terms(struct stored *s, struct terms *w)
 {
     uint64_t on;
-    size_t i;
+    zaqnuti_size i;
     w->time = next_float(s);
     w->ranges = next_size(s);
     w->present = next_number(s) == 1;
@@ -141,7 +141,7 @@ bool same_epoch(struct stored *s)
     struct table before;
     struct terms w;
     struct epoch e;
-    size_t k, m;
+    zaqnuti_size k, m;
     uint8_t number;
     next_table(s, &t);
     memcpy(&before, &t, sizeof before);
@@ -209,15 +209,15 @@ struct signals {
 };
 
 /* The lengths of so many columns. */
-static void next_lengths(struct stored *s, size_t *lengths, size_t count)
+static void next_lengths(struct stored *s, zaqnuti_size *lengths, zaqnuti_size count)
 {
-    size_t i;
+    zaqnuti_size i;
     for (i = 0; i < count; i++) {
         lengths[i] = least(next_size(s), TABLE + BEYOND);
     }
 }
 
-static void next_signal(struct stored *s, struct signals *g, size_t i)
+static void next_signal(struct stored *s, struct signals *g, zaqnuti_size i)
 {
     g->c[i] = next_byte(s);
     g->v[i] = next_short(s);
@@ -230,7 +230,7 @@ bool same_directory(struct stored *s)
     struct table t;
     struct table before;
     struct signals g;
-    size_t n, i, k[10];
+    zaqnuti_size n, i, k[10];
     uint8_t number;
     lend(&t, sizeof t - MARGIN);
     lend(&g, sizeof g - MARGIN);
@@ -260,7 +260,7 @@ bool same_signals(struct stored *s)
     struct table t;
     struct signals g;
     struct signals expected;
-    size_t i, k[3];
+    zaqnuti_size i, k[3];
     uint8_t number;
     next_table(s, &t);
     next_lengths(s, k, 3);
@@ -289,9 +289,9 @@ struct queries {
 };
 
 /* Of each query constellation, svid, band, time. */
-static void next_queries(struct stored *s, struct queries *q, size_t count)
+static void next_queries(struct stored *s, struct queries *q, zaqnuti_size count)
 {
-    size_t i;
+    zaqnuti_size i;
     for (i = 0; i < count; i++) {
         q->c[i] = next_byte(s);
         q->v[i] = next_short(s);
@@ -303,9 +303,9 @@ static void next_queries(struct stored *s, struct queries *q, size_t count)
 }
 
 /* Whether the next numbers are those of each query with its metres, which a refused one leaves as they were. */
-static bool is_each(struct stored *s, struct queries *q, size_t count)
+static bool is_each(struct stored *s, struct queries *q, zaqnuti_size count)
 {
-    size_t i;
+    zaqnuti_size i;
     for (i = 0; i < count; i++) {
         if (q->numbers[i] != 0) {
             if (!kept(q->metres + i, sizeof *q->metres)) {
@@ -326,7 +326,7 @@ bool same_queries(struct stored *s)
     struct table t;
     struct queries q;
     double gap;
-    size_t count;
+    zaqnuti_size count;
     uint8_t number;
     next_table(s, &t);
     gap = next_float(s);
@@ -352,7 +352,7 @@ bool same_widen(struct stored *s)
 {
     uint8_t narrow[BANDS] = {0};
     uint32_t wide[BANDS + MARGIN / 4];
-    size_t n, from, to, i;
+    zaqnuti_size n, from, to, i;
     uint8_t number;
     n = next_size(s);
     from = least(next_size(s), BANDS);
@@ -366,7 +366,7 @@ bool same_widen(struct stored *s)
     if (!kept(wide + i, (to - i) * sizeof *wide + MARGIN)) {
         return false;
     }
-    memset(wide + i, 0, (BANDS - i) * sizeof *wide);
+    memset(wide + i, 0, (size_t)((BANDS - i) * sizeof *wide));
     if (!is_number(s, number)) {
         return false;
     }

@@ -4,7 +4,7 @@
 #include "carriers.h"
 
 /* Whether the lent settings are as the number allows, and the next numbers are their floats and rounds. */
-static bool is_force(struct stored *s, uint8_t number, double *floats, size_t *rounds)
+static bool is_force(struct stored *s, uint8_t number, double *floats, zaqnuti_size *rounds)
 {
     return given(number, floats, 5 * sizeof *floats) && given(number, rounds, sizeof *rounds) && is_floats(s, floats, 5) && is_number(s, *rounds);
 }
@@ -19,11 +19,11 @@ bool same_settings(struct stored *s)
     uint64_t trip[6];
     uint64_t begun[6 + MARGIN / 8];
     double floats[5 + MARGIN / 8];
-    size_t force[1 + MARGIN / sizeof(size_t)];
-    size_t rounds;
+    zaqnuti_size force[1 + MARGIN / sizeof(zaqnuti_size)];
+    zaqnuti_size rounds;
     uint16_t per_km;
     uint8_t number;
-    size_t k;
+    zaqnuti_size k;
     bool same;
     next_floats(s, settings, 5);
     rounds = next_size(s);
@@ -54,11 +54,11 @@ bool same_drive(struct stored *s)
     uint64_t before[6];
     uint64_t trip[6 + MARGIN / 8];
     double delta[3 + MARGIN / 8];
-    size_t counts[2 + MARGIN / sizeof(size_t)];
+    zaqnuti_size counts[2 + MARGIN / sizeof(zaqnuti_size)];
     uint16_t pulses;
     double dt;
     uint8_t number;
-    size_t k, n, m;
+    zaqnuti_size k, n, m;
     bool same;
     for (k = 0; k < 6; k++) {
         before[k] = next_number(s);

@@ -1,12 +1,12 @@
-/* The cases of the displacement, by its interval and between two times, the line form and the fix. */
+/* The cases of the displacement, by its interval, between two times and with its quality, the line form and the fix. */
 #include <string.h>
 
 #include "carriers.h"
 
 /* Of each carrier constellation, svid, band, state and six floats. */
-static void next_carriers(struct stored *s, struct carriers *e, size_t count)
+static void next_carriers(struct stored *s, struct carriers *e, zaqnuti_size count)
 {
-    size_t i;
+    zaqnuti_size i;
     memset(e, 0, sizeof *e);
     for (i = 0; i < least(count, 64); i++) {
         e->constellation[i] = next_byte(s);
@@ -29,7 +29,7 @@ void next_drive(struct stored *s, struct drive *d)
 }
 
 /* Whether the next numbers are number, used, screened and displacement 3. */
-static bool is_moved(struct stored *s, uint8_t number, double *delta, size_t *counts)
+static bool is_moved(struct stored *s, uint8_t number, double *delta, zaqnuti_size *counts)
 {
     return given(number, delta, 3 * sizeof *delta) && given(number, counts, 2 * sizeof *counts) &&
         is_number(s, number) && is_number(s, counts[0]) && is_number(s, counts[1]) && is_floats(s, delta, 3);
@@ -40,9 +40,9 @@ bool same_displacement(struct stored *s)
 {
     struct drive d;
     double delta[3 + MARGIN / 8];
-    size_t counts[2 + MARGIN / sizeof(size_t)];
+    zaqnuti_size counts[2 + MARGIN / sizeof(zaqnuti_size)];
     double dt = next_float(s);
-    size_t n, m;
+    zaqnuti_size n, m;
     uint8_t number;
     next_drive(s, &d);
     n = least(d.counts[0], ROOM);
@@ -61,10 +61,10 @@ bool same_between(struct stored *s)
 {
     struct drive d;
     double delta[3 + MARGIN / 8];
-    size_t counts[2 + MARGIN / sizeof(size_t)];
+    zaqnuti_size counts[2 + MARGIN / sizeof(zaqnuti_size)];
     uint64_t before = next_number(s);
     uint64_t now = next_number(s);
-    size_t n, m;
+    zaqnuti_size n, m;
     uint8_t number;
     next_drive(s, &d);
     n = least(d.counts[0], ROOM);
@@ -83,10 +83,10 @@ bool same_city(struct stored *s)
 {
     struct drive d;
     double delta[3 + MARGIN / 8];
-    size_t counts[2 + MARGIN / sizeof(size_t)];
+    zaqnuti_size counts[2 + MARGIN / sizeof(zaqnuti_size)];
     double dt = next_float(s);
     uint32_t band = (uint32_t)next_number(s);
-    size_t n, m;
+    zaqnuti_size n, m;
     uint8_t number;
     next_drive(s, &d);
     n = least(d.counts[0], ROOM);
@@ -100,20 +100,58 @@ bool same_city(struct stored *s)
     return is_moved(s, number, delta, counts);
 }
 
+/* Whether the next numbers are number, used, screened, displacement 3, chi and pdop. */
+static bool is_rated(struct stored *s, uint8_t number, double *delta, double *quality, zaqnuti_size *counts)
+{
+    return given(number, quality, 2 * sizeof *quality) && is_moved(s, number, delta, counts) && is_floats(s, quality, 2);
+}
+
+/* dt, whether in the city profile, the band and a drive; number, used, screened, displacement 3, chi, pdop. */
+bool same_rated(struct stored *s)
+{
+    struct drive d;
+    double delta[3 + MARGIN / 8];
+    double quality[2 + MARGIN / 8];
+    zaqnuti_size counts[2 + MARGIN / sizeof(zaqnuti_size)];
+    double dt = next_float(s);
+    bool city = next_number(s) != 0;
+    uint32_t band = (uint32_t)next_number(s);
+    zaqnuti_size n, m;
+    uint8_t number;
+    next_drive(s, &d);
+    n = least(d.counts[0], ROOM);
+    m = least(d.counts[1], ROOM);
+    lend(delta, 3 * sizeof *delta);
+    lend(quality, 2 * sizeof *quality);
+    lend(counts, 2 * sizeof *counts);
+    if (city) {
+        number = zaqnuti_city_displacement_rated(
+            d.before.constellation, n, d.before.svid, n, d.before.band, n, d.before.state, n, d.before.floats, 6 * n, d.counts[0],
+            d.now.constellation, m, d.now.svid, m, d.now.band, m, d.now.state, m, d.now.floats, 6 * m, d.counts[1],
+            dt, band, d.receiver, d.settings, d.rounds, delta, quality, counts);
+    } else {
+        number = zaqnuti_displacement_rated(
+            d.before.constellation, n, d.before.svid, n, d.before.band, n, d.before.state, n, d.before.floats, 6 * n, d.counts[0],
+            d.now.constellation, m, d.now.svid, m, d.now.band, m, d.now.state, m, d.now.floats, 6 * m, d.counts[1],
+            dt, d.receiver, d.settings, d.rounds, delta, quality, counts);
+    }
+    return is_rated(s, number, delta, quality, counts);
+}
+
 /* What is handed to a fix. */
 struct sky {
     uint8_t constellation[ROOM];
     double floats[5 * ROOM];
-    size_t count;
+    zaqnuti_size count;
     double guess[3];
     double settings[4];
-    size_t rounds;
+    zaqnuti_size rounds;
 };
 
 /* Guess 3, settings 4, rounds, how many observations; of each constellation and five floats. */
 static void next_sky(struct stored *s, struct sky *k)
 {
-    size_t i;
+    zaqnuti_size i;
     memset(k, 0, sizeof *k);
     next_floats(s, k->guess, 3);
     next_floats(s, k->settings, 4);
@@ -126,7 +164,7 @@ static void next_sky(struct stored *s, struct sky *k)
 }
 
 /* Whether the call for the position alone gives the number and the position of the whole fix. */
-static bool is_position(const struct sky *k, size_t n, uint8_t whole, const double solution[3])
+static bool is_position(const struct sky *k, zaqnuti_size n, uint8_t whole, const double solution[3])
 {
     double position[3 + MARGIN / 8];
     uint8_t number;
@@ -142,8 +180,8 @@ bool same_fix(struct stored *s)
 {
     struct sky k;
     double solution[5 + MARGIN / 8];
-    size_t used[1 + MARGIN / sizeof(size_t)];
-    size_t n;
+    zaqnuti_size used[1 + MARGIN / sizeof(zaqnuti_size)];
+    zaqnuti_size n;
     uint8_t number;
     next_sky(s, &k);
     n = least(k.count, ROOM);
@@ -157,13 +195,13 @@ bool same_fix(struct stored *s)
 }
 
 /* Whether a text is answered by the line in a buffer of so many bytes, or not at all where that is too short. */
-static bool answers(const uint8_t *text, size_t size, const uint8_t *line, size_t length, size_t room)
+static bool answers(const uint8_t *text, zaqnuti_size size, const uint8_t *line, zaqnuti_size length, zaqnuti_size room)
 {
     uint8_t buffer[ZAQNUTI_LINE + 1 + MARGIN];
-    size_t expected = length <= room ? length : 0;
+    zaqnuti_size expected = length <= room ? length : 0;
     lend(buffer, room);
     return zaqnuti_line(text, size, buffer, room) == expected &&
-        memcmp(buffer, line, expected) == 0 &&
+        memcmp(buffer, line, (size_t)expected) == 0 &&
         kept(buffer + expected, room - expected + MARGIN);
 }
 
@@ -172,8 +210,8 @@ bool same_line(struct stored *s)
 {
     static uint8_t text[ZAQNUTI_TEXT + 1];
     uint8_t line[ZAQNUTI_LINE + 1];
-    size_t size = least(next_size(s), sizeof text);
-    size_t length;
+    zaqnuti_size size = least(next_size(s), sizeof text);
+    zaqnuti_size length;
     next_bytes(s, text, size);
     length = least(next_size(s), sizeof line);
     next_bytes(s, line, length);

@@ -58,8 +58,10 @@ static const struct kind kinds[] = {
     {21, "since", same_since},
     {22, "between", same_between},
     {30, "city", same_city},
+    {44, "rated", same_rated},
     {23, "widen", same_widen},
     {27, "trip", same_trip},
+    {45, "mileage", same_mileage},
     {33, "directory", same_directory},
     {34, "signals", same_signals},
     {35, "forget", same_forget},
@@ -82,7 +84,7 @@ struct tally {
 /* A message, and the end. */
 static void broken(const char *why, size_t place)
 {
-    fprintf(stderr, "replay: case %zu: %s\n", place, why);
+    fprintf(stderr, "replay: case %lu: %s\n", (unsigned long)place, why);
     exit(1);
 }
 
@@ -168,7 +170,7 @@ static void replay_all(struct stored *stream, struct tally *tallies)
         tallies[k].cases[altered] += 1;
         tallies[k].differ[altered] += same ? 0 : 1;
         if (same == (altered == 1)) {
-            printf("%s: case %zu, %s\n", kinds[k].name, place, same ? "altered, is taken as the answer" : "differs");
+            printf("%s: case %lu, %s\n", kinds[k].name, (unsigned long)place, same ? "altered, is taken as the answer" : "differs");
         }
     }
 }
@@ -176,8 +178,8 @@ static void replay_all(struct stored *stream, struct tally *tallies)
 /* A kind's line; whether there are cases of it and all are as they have to be. */
 static bool report(const struct kind *kind, const struct tally *t)
 {
-    printf("%s: %zu replayed, %zu differ; %zu altered, %zu differ\n",
-        kind->name, t->cases[0], t->differ[0], t->cases[1], t->differ[1]);
+    printf("%s: %lu replayed, %lu differ; %lu altered, %lu differ\n", kind->name,
+        (unsigned long)t->cases[0], (unsigned long)t->differ[0], (unsigned long)t->cases[1], (unsigned long)t->differ[1]);
     if (t->cases[0] == 0 || t->cases[1] == 0) {
         printf("%s: there is no stored case, or no altered one\n", kind->name);
         return false;

@@ -72,9 +72,9 @@ bool same_solve(struct stored *s)
 }
 
 /* Whether the next numbers are the state of clocks. */
-static bool is_state(struct stored *s, const size_t slot[8], size_t count)
+static bool is_state(struct stored *s, const zaqnuti_size slot[8], zaqnuti_size count)
 {
-    size_t i;
+    zaqnuti_size i;
     for (i = 0; i < 8; i++) {
         if (!is_number(s, slot[i])) {
             return false;
@@ -90,10 +90,10 @@ static bool is_state(struct stored *s, const size_t slot[8], size_t count)
  */
 bool same_clocks(struct stored *s)
 {
-    size_t slot[8 + MARGIN / 8];
-    size_t count;
-    size_t more;
-    size_t i;
+    zaqnuti_size slot[8 + MARGIN / 8];
+    zaqnuti_size count;
+    zaqnuti_size more;
+    zaqnuti_size i;
     uint8_t asked;
     lend(slot, 8 * sizeof *slot);
     if (next_number(s) == 1) {
@@ -122,8 +122,8 @@ bool same_centre(struct stored *s)
 {
     uint64_t residuals[ROOM];
     double out[2 + MARGIN / 8];
-    size_t n = least(next_size(s), ROOM);
-    size_t i;
+    zaqnuti_size n = least(next_size(s), ROOM);
+    zaqnuti_size i;
     uint8_t number;
     for (i = 0; i < n; i++) {
         residuals[i] = next_number(s);
@@ -163,15 +163,15 @@ bool same_sight(struct stored *s)
 bool same_round(struct stored *s)
 {
     double units[3 * ROOM] = {0.0};
-    size_t clocks[ROOM] = {0};
+    zaqnuti_size clocks[ROOM] = {0};
     uint64_t residuals[ROOM] = {0};
     double sigmas[ROOM] = {0.0};
     double dx[9 + MARGIN / 8];
-    size_t rows = next_size(s);
-    size_t unknowns = next_size(s);
+    zaqnuti_size rows = next_size(s);
+    zaqnuti_size unknowns = next_size(s);
     double huber = next_float(s);
-    size_t n = least(rows, ROOM);
-    size_t i;
+    zaqnuti_size n = least(rows, ROOM);
+    zaqnuti_size i;
     uint8_t number;
     for (i = 0; i < least(rows, 64); i++) {
         next_floats(s, units + 3 * i, 3);

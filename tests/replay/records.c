@@ -15,22 +15,22 @@ struct columns {
     uint32_t band[ROOM + MARGIN / 4];
     int32_t state[ROOM + MARGIN / 4];
     uint64_t floats[6 * ROOM + MARGIN / 8];
-    size_t lengths[5];
+    zaqnuti_size lengths[5];
 };
 
 /* How long each of the five columns is, in the order of the header. */
 static void next_lengths(struct stored *s, struct columns *c)
 {
-    size_t i;
+    zaqnuti_size i;
     for (i = 0; i < 5; i++) {
         c->lengths[i] = least(next_size(s), i < 4 ? ROOM : 6 * ROOM);
     }
 }
 
 /* How many bytes, and these. */
-static size_t next_slice(struct stored *s, uint8_t bytes[ROOM * ZAQNUTI_RECORD])
+static zaqnuti_size next_slice(struct stored *s, uint8_t bytes[ROOM * ZAQNUTI_RECORD])
 {
-    size_t length = least(next_size(s), ROOM * ZAQNUTI_RECORD);
+    zaqnuti_size length = least(next_size(s), ROOM * ZAQNUTI_RECORD);
     next_bytes(s, bytes, length);
     return length;
 }
@@ -40,9 +40,9 @@ bool same_read(struct stored *s)
 {
     uint8_t bytes[ROOM * ZAQNUTI_RECORD];
     struct columns c;
-    size_t count[1 + MARGIN / sizeof(size_t)];
-    size_t length = next_slice(s, bytes);
-    size_t n, i;
+    zaqnuti_size count[1 + MARGIN / sizeof(zaqnuti_size)];
+    zaqnuti_size length = next_slice(s, bytes);
+    zaqnuti_size n, i;
     bool same;
     uint8_t number;
     next_lengths(s, &c);
@@ -65,7 +65,7 @@ bool same_read(struct stored *s)
     for (i = 0; i < SHOWN && same; i++) {
         const bool is = i < n;
         const uint64_t *f = c.floats + 6 * i;
-        size_t k;
+        zaqnuti_size k;
         same = is_number(s, is ? c.constellation[i] : 0) && is_number(s, is ? c.svid[i] : 0) &&
             is_number(s, is ? c.band[i] : 0) && is_number(s, is ? (uint64_t)(int64_t)c.state[i] : 0);
         for (k = 0; k < 6 && same; k++) {
@@ -80,8 +80,8 @@ bool same_write(struct stored *s)
 {
     struct columns c;
     uint8_t bytes[ROOM * ZAQNUTI_RECORD + MARGIN];
-    size_t count = next_size(s);
-    size_t room, written, i, k;
+    zaqnuti_size count = next_size(s);
+    zaqnuti_size room, written, i, k;
     bool same;
     uint8_t number;
     memset(&c, 0, sizeof c);
@@ -102,7 +102,7 @@ bool same_write(struct stored *s)
         count, bytes, room);
     written = number == 0 ? ZAQNUTI_RECORD * least(count, ROOM) : 0;
     same = kept(bytes + written, ROOM * ZAQNUTI_RECORD - written + MARGIN) && is_number(s, number);
-    memset(bytes + written, 0, sizeof bytes - written);
+    memset(bytes + written, 0, (size_t)(sizeof bytes - written));
     for (i = 0; i < 24 && same; i++) {
         uint64_t eight = 0;
         for (k = 8; k > 0; k--) {
@@ -120,10 +120,10 @@ bool same_records(struct stored *s)
     uint8_t c[ROOM * ZAQNUTI_RECORD];
     uint8_t result[ZAQNUTI_RESULT + 8 + MARGIN];
     double f[9];
-    size_t m = next_slice(s, p);
-    size_t n = next_slice(s, c);
+    zaqnuti_size m = next_slice(s, p);
+    zaqnuti_size n = next_slice(s, c);
     uint32_t rounds;
-    size_t room, i, k;
+    zaqnuti_size room, i, k;
     bool same;
     uint8_t number;
     next_floats(s, f, 9);

@@ -10,8 +10,8 @@
 /* The numbers of one case, and how far they are read. */
 struct stored {
     const uint64_t *numbers;
-    size_t count;
-    size_t next;
+    zaqnuti_size count;
+    zaqnuti_size next;
     bool beyond;  /* more was read than there is */
 };
 
@@ -21,20 +21,20 @@ uint8_t next_byte(struct stored *s);
 uint16_t next_short(struct stored *s);
 uint32_t next_word(struct stored *s);
 int32_t next_int(struct stored *s);
-size_t next_size(struct stored *s);
+zaqnuti_size next_size(struct stored *s);
 double next_float(struct stored *s);
-void next_floats(struct stored *s, double *floats, size_t count);
+void next_floats(struct stored *s, double *floats, zaqnuti_size count);
 
 /* So many bytes, packed into numbers, the first one lowest. */
-void next_bytes(struct stored *s, uint8_t *bytes, size_t count);
+void next_bytes(struct stored *s, uint8_t *bytes, zaqnuti_size count);
 
 /* Whether the next number is n, and the next floats those given, all NaNs as one. */
 bool is_number(struct stored *s, uint64_t n);
 bool is_float(struct stored *s, double x);
-bool is_floats(struct stored *s, const double *floats, size_t count);
+bool is_floats(struct stored *s, const double *floats, zaqnuti_size count);
 
 /* The lesser of two. */
-size_t least(size_t a, size_t b);
+zaqnuti_size least(zaqnuti_size a, zaqnuti_size b);
 
 /*
  * A result is lent with room for MARGIN bytes beyond it, all of it filled.
@@ -43,11 +43,11 @@ size_t least(size_t a, size_t b);
  * refused result is then cleared, since zeros are stored in its place.
  */
 #define MARGIN 32
-void lend(void *result, size_t size);
-bool given(uint8_t number, void *result, size_t size);
+void lend(void *result, zaqnuti_size size);
+bool given(uint8_t number, void *result, zaqnuti_size size);
 
 /* Whether all of the bytes are as `lend` left them. */
-bool kept(const void *bytes, size_t size);
+bool kept(const void *bytes, zaqnuti_size size);
 
 /* One for each kind: whether the library gives what the case says. */
 bool same_root(struct stored *s);
@@ -71,11 +71,13 @@ bool same_time(struct stored *s);
 bool same_since(struct stored *s);
 bool same_between(struct stored *s);
 bool same_city(struct stored *s);
+bool same_rated(struct stored *s);
 bool same_widen(struct stored *s);
 bool same_forget(struct stored *s);
 bool same_directory(struct stored *s);
 bool same_signals(struct stored *s);
 bool same_trip(struct stored *s);
+bool same_mileage(struct stored *s);
 bool same_read(struct stored *s);
 bool same_write(struct stored *s);
 bool same_records(struct stored *s);

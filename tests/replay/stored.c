@@ -38,9 +38,9 @@ int32_t next_int(struct stored *s)
     return n;
 }
 
-size_t next_size(struct stored *s)
+zaqnuti_size next_size(struct stored *s)
 {
-    return (size_t)next_number(s);
+    return (zaqnuti_size)next_number(s);
 }
 
 double next_float(struct stored *s)
@@ -51,18 +51,18 @@ double next_float(struct stored *s)
     return x;
 }
 
-void next_floats(struct stored *s, double *floats, size_t count)
+void next_floats(struct stored *s, double *floats, zaqnuti_size count)
 {
-    size_t i;
+    zaqnuti_size i;
     for (i = 0; i < count; i++) {
         floats[i] = next_float(s);
     }
 }
 
-void next_bytes(struct stored *s, uint8_t *bytes, size_t count)
+void next_bytes(struct stored *s, uint8_t *bytes, zaqnuti_size count)
 {
     uint64_t packed = 0;
-    size_t i;
+    zaqnuti_size i;
     for (i = 0; i < count; i++) {
         packed = i % 8 == 0 ? next_number(s) : packed >> 8;
         bytes[i] = (uint8_t)packed;
@@ -84,9 +84,9 @@ bool is_float(struct stored *s, double x)
     return is_number(s, bits);
 }
 
-bool is_floats(struct stored *s, const double *floats, size_t count)
+bool is_floats(struct stored *s, const double *floats, zaqnuti_size count)
 {
-    size_t i;
+    zaqnuti_size i;
     for (i = 0; i < count; i++) {
         if (!is_float(s, floats[i])) {
             return false;
@@ -95,20 +95,20 @@ bool is_floats(struct stored *s, const double *floats, size_t count)
     return true;
 }
 
-size_t least(size_t a, size_t b)
+zaqnuti_size least(zaqnuti_size a, zaqnuti_size b)
 {
     return a < b ? a : b;
 }
 
-void lend(void *result, size_t size)
+void lend(void *result, zaqnuti_size size)
 {
-    memset(result, FILL, size + MARGIN);
+    memset(result, FILL, (size_t)(size + MARGIN));
 }
 
-bool kept(const void *bytes, size_t size)
+bool kept(const void *bytes, zaqnuti_size size)
 {
     const uint8_t *b = bytes;
-    size_t i;
+    zaqnuti_size i;
     for (i = 0; i < size; i++) {
         if (b[i] != FILL) {
             return false;
@@ -117,13 +117,13 @@ bool kept(const void *bytes, size_t size)
     return true;
 }
 
-bool given(uint8_t number, void *result, size_t size)
+bool given(uint8_t number, void *result, zaqnuti_size size)
 {
     bool unchanged;
     if (number == 0) {
         return kept((uint8_t *)result + size, MARGIN);
     }
     unchanged = kept(result, size + MARGIN);
-    memset(result, 0, size);
+    memset(result, 0, (size_t)size);
     return unchanged;
 }

@@ -9,15 +9,15 @@
 
 /* The columns of anchors or links. */
 struct measured {
-    size_t index[ROOM];
+    zaqnuti_size index[ROOM];
     double value[3 * ROOM];
     double sigma[3 * ROOM];
 };
 
 /* Of each the epoch's index, three floats of value and three sigmas. */
-static void next_measured(struct stored *s, struct measured *m, size_t count)
+static void next_measured(struct stored *s, struct measured *m, zaqnuti_size count)
 {
-    size_t i;
+    zaqnuti_size i;
     for (i = 0; i < least(count, ROOM); i++) {
         m->index[i] = next_size(s);
         next_floats(s, m->value + 3 * i, 3);
@@ -26,9 +26,9 @@ static void next_measured(struct stored *s, struct measured *m, size_t count)
 }
 
 /* Whether all of the floats are x. */
-static bool all(const double *floats, size_t count, double x)
+static bool all(const double *floats, zaqnuti_size count, double x)
 {
-    size_t i;
+    zaqnuti_size i;
     for (i = 0; i < count; i++) {
         if (floats[i] != x) {
             return false;
@@ -38,9 +38,9 @@ static bool all(const double *floats, size_t count, double x)
 }
 
 /* Ones, which a call that refuses leaves as they are. */
-static void ones(double *floats, size_t count)
+static void ones(double *floats, zaqnuti_size count)
 {
-    size_t i;
+    zaqnuti_size i;
     for (i = 0; i < count; i++) {
         floats[i] = 1.0;
     }
@@ -56,14 +56,14 @@ bool same_track(struct stored *s)
     struct measured a, l;
     double result[RESULT + BEYOND];
     double work[WORK + BEYOND];
-    size_t n = next_size(s);
-    size_t anchors = next_size(s);
-    size_t links = next_size(s);
+    zaqnuti_size n = next_size(s);
+    zaqnuti_size anchors = next_size(s);
+    zaqnuti_size links = next_size(s);
     double huber = next_float(s);
-    size_t iterations = next_size(s);
-    size_t p = least(anchors, ROOM);
-    size_t q = least(links, ROOM);
-    size_t zeros;
+    zaqnuti_size iterations = next_size(s);
+    zaqnuti_size p = least(anchors, ROOM);
+    zaqnuti_size q = least(links, ROOM);
+    zaqnuti_size zeros;
     uint8_t number;
     next_measured(s, &a, anchors);
     next_measured(s, &l, links);

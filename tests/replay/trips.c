@@ -18,7 +18,7 @@ bool same_trip(struct stored *s)
     uint16_t pulses;
     uint32_t millilitres;
     uint8_t number;
-    size_t k;
+    zaqnuti_size k;
     bool same;
     for (k = 0; k < 6; k++) {
         trip[k] = next_number(s);

@@ -50,11 +50,7 @@ pub struct Directory {
 /// assert_eq!(signals_of(&directory, &time, &metres)?, signals);
 /// # Ok::<(), zaqnuti::Refusal>(())
 /// ```
-pub fn directory_of(
-    signals: &Signals,
-    time: &[f64],
-    metres: &[f64],
-) -> Result<Directory, Refusal> {
+pub fn directory_of(signals: &Signals, time: &[f64], metres: &[f64]) -> Result<Directory, Refusal> {
     let n = time.len();
     let mut out = Directory {
         constellation: vec![0; n],
@@ -102,11 +98,7 @@ pub fn directory_of(
 
 /// The signals of the samples of a table that has a directory. The capacity is that of the shortest
 /// column, so the directory's columns count with as many places as there are samples.
-pub fn signals_of(
-    directory: &Directory,
-    time: &[f64],
-    metres: &[f64],
-) -> Result<Signals, Refusal> {
+pub fn signals_of(directory: &Directory, time: &[f64], metres: &[f64]) -> Result<Signals, Refusal> {
     let n = time.len();
     let m = directory.constellation.len();
     let mut d = directory.clone();

@@ -6,6 +6,7 @@
 //! | [`tdcp`] | the displacement between two epochs of carrier phases |
 //! | [`time`] | epoch times in whole nanoseconds |
 //! | [`trip`] | odometer beside carrier distance: the totals of a trip |
+//! | [`mileage`] | a drive's distance, whichever of its epochs were refused |
 //! | [`wire`] | carrier records as bytes, and the displacement between two epochs of them |
 //! | [`frames`] | displacements along north, east and down |
 //! | [`line`](mod@line) | the displacement of a text in the line form |
@@ -48,6 +49,7 @@ pub mod forms;
 pub mod frames;
 pub mod line;
 pub mod math;
+pub mod mileage;
 mod refusal;
 pub mod robust;
 pub mod smooth;

@@ -3,6 +3,8 @@
 //! A column is a pointer and a length in elements. What a call writes overlaps nothing else that is handed to it.
 
 extern "C" {
+    /// The version of the library: 10000 major + 100 minor + patch.
+    pub fn zaqnuti_version() -> u32;
     /// The time of a week and a time of week, in nanoseconds.
     pub fn zaqnuti_time(week: u32, tow: f64, nanos: *mut u64) -> u8;
     /// The nanoseconds between two times.
@@ -17,6 +19,26 @@ extern "C" {
     pub fn zaqnuti_trip_report(trip: *const [u64; 6], report: *mut [u64; 4]) -> u8;
     /// The fuel of a trip for a kilometre.
     pub fn zaqnuti_trip_fuel(trip: *const [u64; 6], millilitres: u32, per_km: *mut u64) -> u8;
+    /// A mileage just started.
+    pub fn zaqnuti_mileage_start(limit: f64, mileage: *mut [u64; 10]) -> u8;
+    /// One epoch more for a mileage.
+    pub fn zaqnuti_mileage_add(
+        mileage: *mut [u64; 10],
+        refused_by: u8,
+        delta: *const [f64; 3],
+        quality: *const [f64; 2],
+        pulses: u16,
+    ) -> u8;
+    /// The report of a mileage.
+    pub fn zaqnuti_mileage_report(mileage: *const [u64; 10], report: *mut [u64; 7]) -> u8;
+    /// The distance of a mileage.
+    pub fn zaqnuti_mileage_distance(mileage: *const [u64; 10], millimetres: *mut u64) -> u8;
+    /// The fuel of a mileage for a kilometre.
+    pub fn zaqnuti_mileage_fuel(
+        mileage: *const [u64; 10],
+        millilitres: u32,
+        per_km: *mut u64,
+    ) -> u8;
     /// A displacement at a place along north, east and down.
     pub fn zaqnuti_north_east_down(
         position: *const [f64; 3],
@@ -191,6 +213,71 @@ extern "C" {
         settings: *const [f64; 5],
         rounds: usize,
         delta: *mut [f64; 3],
+        counts: *mut [usize; 2],
+    ) -> u8;
+    /// The displacement with the quality of its fit.
+    pub fn zaqnuti_displacement_rated(
+        previous_constellation: *const u8,
+        previous_constellation_length: usize,
+        previous_svid: *const u16,
+        previous_svid_length: usize,
+        previous_band: *const u32,
+        previous_band_length: usize,
+        previous_state: *const i32,
+        previous_state_length: usize,
+        previous_floats: *const f64,
+        previous_floats_length: usize,
+        previous_count: usize,
+        current_constellation: *const u8,
+        current_constellation_length: usize,
+        current_svid: *const u16,
+        current_svid_length: usize,
+        current_band: *const u32,
+        current_band_length: usize,
+        current_state: *const i32,
+        current_state_length: usize,
+        current_floats: *const f64,
+        current_floats_length: usize,
+        current_count: usize,
+        dt: f64,
+        receiver: *const [f64; 3],
+        settings: *const [f64; 5],
+        rounds: usize,
+        delta: *mut [f64; 3],
+        quality: *mut [f64; 2],
+        counts: *mut [usize; 2],
+    ) -> u8;
+    /// The displacement by GPS and Galileo on one band, with the quality of its fit.
+    pub fn zaqnuti_city_displacement_rated(
+        previous_constellation: *const u8,
+        previous_constellation_length: usize,
+        previous_svid: *const u16,
+        previous_svid_length: usize,
+        previous_band: *const u32,
+        previous_band_length: usize,
+        previous_state: *const i32,
+        previous_state_length: usize,
+        previous_floats: *const f64,
+        previous_floats_length: usize,
+        previous_count: usize,
+        current_constellation: *const u8,
+        current_constellation_length: usize,
+        current_svid: *const u16,
+        current_svid_length: usize,
+        current_band: *const u32,
+        current_band_length: usize,
+        current_state: *const i32,
+        current_state_length: usize,
+        current_floats: *const f64,
+        current_floats_length: usize,
+        current_count: usize,
+        dt: f64,
+        band: u32,
+        receiver: *const [f64; 3],
+        settings: *const [f64; 5],
+        rounds: usize,
+        delta: *mut [f64; 3],
+        quality: *mut [f64; 2],
         counts: *mut [usize; 2],
     ) -> u8;
     /// The displacement of a text in the line form.

@@ -1,5 +1,6 @@
 //! Position change between two epochs from time-differenced carrier phase.
 
+use crate::mileage::{predicted_error, Moved};
 use crate::refusal::answered;
 use crate::time::GpsTime;
 use crate::{column, columns, sys, Ecef, Refusal, Vec3, RECORDS};
@@ -94,6 +95,45 @@ pub struct Delta {
     pub used: usize,
     /// Pairs discarded by the screen.
     pub screened: usize,
+}
+
+/// A displacement with the quality of its fit.
+///
+/// A displacement from few or badly placed satellites is accepted like any other; these two figures
+/// tell it apart. [`Rated::predicted_error`] is one number of both.
+#[derive(Clone, Copy, Debug, PartialEq)]
+pub struct Rated {
+    /// The displacement.
+    pub moved: Delta,
+    /// The root of the mean squared residual of the pairs used, in units of sigma: about 1 where the
+    /// carriers agree as well as sigma says, more where one slips. Finite.
+    pub chi: f64,
+    /// The dilution of precision of the displacement: by how much the place of the satellites makes
+    /// an error of the carriers larger, about 1 to 3 under an open sky. Finite.
+    pub pdop: f64,
+}
+
+impl Rated {
+    /// Returns the predicted error in metres, `(pdop * max(chi, 1)) * 0.01`.
+    ///
+    /// In a study of 300 simulated van-days, setting aside displacements at or above 0.5, 0.2 and
+    /// 0.1 m lost 0.3, 1.6 and 4.0 % of the moving ones and removed 84, 96 and 99 % of the errors
+    /// above a metre. Setting them aside without scaling by what was covered makes a distance worse,
+    /// not better: a [mileage](crate::mileage) scales.
+    pub fn predicted_error(&self) -> f64 {
+        predicted_error(self.chi, self.pdop)
+    }
+}
+
+/// What a mileage adds.
+impl From<Rated> for Moved {
+    fn from(rated: Rated) -> Self {
+        Self {
+            displacement: rated.moved.delta,
+            chi: rated.chi,
+            pdop: rated.pdop,
+        }
+    }
 }
 
 /// What a call writes.
@@ -379,4 +419,149 @@ pub fn city_displacement(
         )
     };
     lent.answer(number)
+}
+
+/// The displacement of [`delta_position`] with the quality of its fit.
+///
+/// Refused where that is, by the same; then by [`Refusal::FitFailed`] where the unweighted equations
+/// have no factor, and by [`Refusal::QualityNotFinite`] where `chi` or `pdop` is not finite.
+///
+/// ```
+/// use zaqnuti::mileage::{Epoch, Mileage};
+/// use zaqnuti::tdcp::{delta_position, delta_position_rated, Carrier, Settings};
+/// use zaqnuti::{Ecef, Refusal};
+///
+/// # let satellites = [
+/// #     [10026487.6901, 18601864.0690, 16597421.8539],
+/// #     [-683949.7926, 26351230.7650, 79787.4804],
+/// #     [-14822915.6595, 8930208.3680, 20079386.0967],
+/// #     [-23358517.4998, -5407967.0045, 11505396.1790],
+/// #     [-23036169.0859, 13172079.7389, 766984.1650],
+/// #     [-4410870.9394, 25703724.4991, 4806330.1948],
+/// #     [-2383676.5779, 17483698.3984, 19982740.5748],
+/// # ];
+/// # let epoch: Vec<Carrier> = (0..7)
+/// #     .map(|k| Carrier {
+/// #         constellation: 1,
+/// #         svid: k as u16,
+/// #         band: 1575,
+/// #         adr: 1e6 * k as f64,
+/// #         state: 1,
+/// #         satellite: satellites[k],
+/// #         elevation: 45.0,
+/// #         rate: 0.0,
+/// #     })
+/// #     .collect();
+/// # let (previous, current) = (epoch.clone(), epoch);
+/// # let at = Ecef::new(-3976219.5082, 3382372.5671, 3652512.9849);
+/// let set = Settings::default();
+/// let rated = delta_position_rated(&previous, &current, 1.0, at, &set)?;
+/// assert_eq!(rated.moved, delta_position(&previous, &current, 1.0, at, &set)?);
+/// assert!(rated.chi < 1.0 && rated.pdop < 10.0);
+/// assert_eq!(rated.predicted_error(), rated.pdop * 0.01);
+///
+/// // A mileage counts it, or sets it aside and scales by what was covered.
+/// let mut mileage = Mileage::start(0.2)?;
+/// mileage.add(&Epoch { moved: Ok(rated.into()), pulses: 53 })?;
+/// # Ok::<(), Refusal>(())
+/// ```
+pub fn delta_position_rated(
+    previous: &[Carrier],
+    current: &[Carrier],
+    dt: f64,
+    at: Ecef,
+    set: &Settings,
+) -> Result<Rated, Refusal> {
+    let (p, c) = (Columns::of(previous), Columns::of(current));
+    let (pf, cf) = (p.floats.as_flattened(), c.floats.as_flattened());
+    let (mut lent, mut quality) = (Lent::default(), [0.0; 2]);
+    // SAFETY: each column has its length beside it, and the last three are ours alone.
+    let number = unsafe {
+        sys::zaqnuti_displacement_rated(
+            p.constellation.as_ptr(),
+            p.constellation.len(),
+            p.svid.as_ptr(),
+            p.svid.len(),
+            p.band.as_ptr(),
+            p.band.len(),
+            p.state.as_ptr(),
+            p.state.len(),
+            pf.as_ptr(),
+            pf.len(),
+            previous.len(),
+            c.constellation.as_ptr(),
+            c.constellation.len(),
+            c.svid.as_ptr(),
+            c.svid.len(),
+            c.band.as_ptr(),
+            c.band.len(),
+            c.state.as_ptr(),
+            c.state.len(),
+            cf.as_ptr(),
+            cf.len(),
+            current.len(),
+            dt,
+            &at.coordinates(),
+            &set.floats(),
+            set.iterations,
+            &mut lent.delta,
+            &mut quality,
+            &mut lent.counts,
+        )
+    };
+    let (moved, [chi, pdop]) = (lent.answer(number)?, quality);
+    Ok(Rated { moved, chi, pdop })
+}
+
+/// The displacement of [`city_displacement`] with the quality of its fit.
+///
+/// Refused where that is, by the same; then as [`delta_position_rated`] is.
+pub fn city_displacement_rated(
+    previous: &[Carrier],
+    current: &[Carrier],
+    dt: f64,
+    band: u32,
+    at: Ecef,
+    set: &Settings,
+) -> Result<Rated, Refusal> {
+    let (p, c) = (Columns::of(previous), Columns::of(current));
+    let (pf, cf) = (p.floats.as_flattened(), c.floats.as_flattened());
+    let (mut lent, mut quality) = (Lent::default(), [0.0; 2]);
+    // SAFETY: each column has its length beside it, and the last three are ours alone.
+    let number = unsafe {
+        sys::zaqnuti_city_displacement_rated(
+            p.constellation.as_ptr(),
+            p.constellation.len(),
+            p.svid.as_ptr(),
+            p.svid.len(),
+            p.band.as_ptr(),
+            p.band.len(),
+            p.state.as_ptr(),
+            p.state.len(),
+            pf.as_ptr(),
+            pf.len(),
+            previous.len(),
+            c.constellation.as_ptr(),
+            c.constellation.len(),
+            c.svid.as_ptr(),
+            c.svid.len(),
+            c.band.as_ptr(),
+            c.band.len(),
+            c.state.as_ptr(),
+            c.state.len(),
+            cf.as_ptr(),
+            cf.len(),
+            current.len(),
+            dt,
+            band,
+            &at.coordinates(),
+            &set.floats(),
+            set.iterations,
+            &mut lent.delta,
+            &mut quality,
+            &mut lent.counts,
+        )
+    };
+    let (moved, [chi, pdop]) = (lent.answer(number)?, quality);
+    Ok(Rated { moved, chi, pdop })
 }

@@ -71,8 +71,23 @@ fn rusty(text: &str, mark: &str, parameter: impl Fn(&str) -> Vec<String>) -> Sig
 }
 
 /// What a caller lends as doubles and the sources take as their patterns, so that what a refusal leaves is promised to the last bit.
-const PATTERNS: [&str; 8] = [
-    "delta", "solution", "position", "metres", "seconds", "out", "ned", "in_force",
+const PATTERNS: &[&str] = &[
+    "delta",
+    "quality",
+    "solution",
+    "position",
+    "metres",
+    "seconds",
+    "out",
+    "ned",
+    "in_force",
+    "table_time",
+    "table_metres",
+    "result",
+    "work",
+    "l",
+    "x",
+    "dx",
 ];
 
 fn rattle() -> Signatures {
@@ -126,7 +141,7 @@ fn number(c: &str) -> &str {
         "uint64_t" => "u64",
         "int32_t" => "i32",
         "int64_t" => "i64",
-        "size_t" => "usize",
+        "zaqnuti_size" => "usize",
         "double" => "f64",
         "bool" => "bool",
         "void" => "()",
@@ -153,6 +168,7 @@ fn header() -> Signatures {
             continue;
         };
         let list = list.rsplit_once(')').unwrap().0;
+        let list = if list.trim() == "void" { "" } else { list };
         let types = items(list).iter().map(|i| parameter_of_c(i)).collect();
         out.insert(name.to_string(), (types, number(result).to_string()));
     }

@@ -9,6 +9,7 @@ use zaqnuti::differential::{
 use zaqnuti::forms::{directory_of, signals_of, Directory, Signals};
 use zaqnuti::frames::north_east_down;
 use zaqnuti::math::{self, Cholesky};
+use zaqnuti::mileage::{predicted_error, Epoch, Mileage, Moved};
 use zaqnuti::robust::{centre_scale, elevation_sigma, geometry, step, Clocks, Row};
 use zaqnuti::smooth::{smooth, Anchor, Link};
 use zaqnuti::time::{GpsTime, NANOS_PER_WEEK};
@@ -217,6 +218,102 @@ fn a_city_displacement() {
 }
 
 #[test]
+fn a_rated_displacement() {
+    let set = tdcp::Settings {
+        screen: 1e3,
+        ..tdcp::Settings::default()
+    };
+    let rated = |p: &[tdcp::Carrier], c: &[tdcp::Carrier], set: &tdcp::Settings| {
+        tdcp::delta_position_rated(p, c, 1.0, AT, set)
+    };
+    let moved = Ecef::new(AT.x + 3.0, AT.y - 2.0, AT.z + 0.5);
+    let (before, after) = (carriers(30, AT), carriers(30, moved));
+    let well = rated(&before, &after, &set).unwrap();
+    let plain = tdcp::delta_position(&before, &after, 1.0, AT, &set).unwrap();
+    assert_eq!(well.moved, plain);
+    assert!(well.chi < 1.0 && well.pdop > 0.0 && well.pdop < 5.0);
+    assert_eq!(well.predicted_error(), well.pdop * 0.01);
+    assert_eq!(Moved::from(well).displacement, plain.delta);
+    // A slip raises chi and leaves the dilution as it is.
+    let mut slipped = after.clone();
+    slipped[7].adr += 0.45;
+    let slip = rated(&before, &slipped, &set).unwrap();
+    assert!(slip.chi > 1.0 && slip.pdop == well.pdop);
+    assert_eq!(slip.predicted_error(), slip.pdop * slip.chi * 0.01);
+    // Where the displacement is refused, so is the rated one, by the same.
+    let few = rated(&before[..5], &after, &set).unwrap_err();
+    assert_eq!(few, Refusal::TooFewPairs);
+    // Six equal pairs have no dilution, with zero rounds too.
+    let six = vec![before[0]; 6];
+    let none = tdcp::Settings {
+        iterations: 0,
+        ..set
+    };
+    assert_eq!(
+        tdcp::delta_position(&six, &six, 1.0, AT, &none)
+            .unwrap()
+            .used,
+        6
+    );
+    assert_eq!(rated(&six, &six, &none).unwrap_err(), Refusal::FitFailed);
+    // A sigma of zero leaves no chi, where no round asks for it.
+    let sigma = tdcp::Settings {
+        sigma_a: 0.0,
+        sigma_b: 0.0,
+        ..none
+    };
+    assert!(tdcp::delta_position(&before, &after, 1.0, AT, &sigma).is_ok());
+    assert_eq!(
+        rated(&before, &after, &sigma).unwrap_err(),
+        Refusal::QualityNotFinite
+    );
+}
+
+#[test]
+fn a_rated_city_displacement() {
+    let set = tdcp::Settings {
+        screen: 1e3,
+        ..tdcp::Settings::default()
+    };
+    let moved = Ecef::new(AT.x + 3.0, AT.y - 2.0, AT.z + 0.5);
+    let sky = |at| {
+        let mut all = carriers(30, at);
+        for (k, c) in all.iter_mut().enumerate() {
+            (c.constellation, c.band) = match k % 5 {
+                0..=2 => (1, 1575),
+                3 => (6, 1575),
+                _ => (3, 1602),
+            };
+        }
+        all
+    };
+    let (before, after) = (sky(AT), sky(moved));
+    let rated = tdcp::city_displacement_rated(&before, &after, 1.0, 1575, AT, &set).unwrap();
+    let certified = |all: &[tdcp::Carrier]| -> Vec<_> {
+        all.iter().copied().filter(|c| c.band == 1575).collect()
+    };
+    let (p, c) = (certified(&before), certified(&after));
+    assert_eq!(
+        rated,
+        tdcp::delta_position_rated(&p, &c, 1.0, AT, &set).unwrap()
+    );
+    assert_eq!(
+        rated.moved,
+        tdcp::city_displacement(&before, &after, 1.0, 1575, AT, &set).unwrap()
+    );
+    let why = tdcp::city_displacement_rated(&before, &after, 1.0, 1176, AT, &set);
+    assert_eq!(why.unwrap_err(), Refusal::TooFewPairs);
+    let gps = |all: &[tdcp::Carrier]| -> Vec<_> {
+        all.iter()
+            .copied()
+            .filter(|c| c.constellation == 1)
+            .collect()
+    };
+    let why = tdcp::city_displacement_rated(&gps(&before), &gps(&after), 1.0, 1575, AT, &set);
+    assert_eq!(why.unwrap_err(), Refusal::NotCertified);
+}
+
+#[test]
 fn times() {
     let at = |week, tow| GpsTime::new(week, tow).unwrap();
     let (before, now) = (at(1316, 604_799.5), at(1317, 0.5));
@@ -344,12 +441,13 @@ fn a_trip_refuses() {
     let bad = Err(Refusal::BadTrip);
     assert_eq!(Trip::start(0), Err(Refusal::BadTrip));
     let step = Vec3::new(1.0, 0.0, 0.0);
-    let mut full = Trip::from_words([1, 65_535, 65_535_000_000, 4_294_836_225, 9, 4_294_967_295]);
+    let mut full = Trip::from_words([1, 65_535, 65_535_000_000, 4_294_836_225, 9, u64::MAX]);
     let kept = full;
     assert_eq!(full.add(step, 1), bad);
     assert_eq!(full, kept);
     assert_eq!(full.report().unwrap().odometer, 4_294_836_225_000_000);
-    assert_eq!(full.report().unwrap().reached, 4_294_967_295);
+    // Nothing is asked of the fifth and sixth words.
+    assert_eq!(full.report().unwrap().reached, u64::MAX);
     let mut trip = Trip::start(65_535).unwrap();
     for x in [
         f64::NAN,
@@ -370,7 +468,6 @@ fn a_trip_refuses() {
         [1, 65_536, 0, 0, 0, 1],
         [1, 1, 1_000_001, 0, 0, 1],
         [1, 1, 0, 65_536, 0, 1],
-        [1, 1, 0, 0, 0, 1 << 32],
         [u64::MAX; 6],
     ] {
         let mut trip = Trip::from_words(words);
@@ -379,6 +476,118 @@ fn a_trip_refuses() {
         assert_eq!(trip.report(), Err(Refusal::BadTrip), "{words:?}");
         assert_eq!(trip.fuel(1), Err(Refusal::BadTrip), "{words:?}");
     }
+}
+
+#[test]
+fn a_mileage() {
+    let moved = |x: f64, pdop: f64| {
+        Ok(Moved {
+            displacement: Vec3::new(x, 0.0, 0.0),
+            chi: 1.0,
+            pdop,
+        })
+    };
+    let mut mileage = Mileage::start(0.2).unwrap();
+    let bits = 0.2f64.to_bits();
+    assert_eq!(mileage.words(), [bits, 0, 0, 0, 0, 0, 0, 0, 0, 0]);
+    assert_eq!(mileage.distance(), Err(Refusal::NoDistance));
+    // It stands, until the next epoch has a pulse.
+    let epoch = |moved, pulses| Epoch { moved, pulses };
+    mileage.add(&epoch(moved(0.005, 2.0), 0)).unwrap();
+    assert_eq!(mileage.words(), [bits, 1, 0, 0, 0, 0, 0, 0, 0, 5]);
+    assert_eq!(mileage.report().unwrap().standing, 5);
+    mileage.add(&epoch(moved(10.0, 2.0), 40)).unwrap();
+    assert_eq!(mileage.words(), [bits, 2, 0, 0, 10_005, 40, 0, 40, 1, 0]);
+    // A refused epoch keeps its pulses, and so does one at the limit of 0.2 m.
+    let rest = [
+        epoch(Err(Refusal::TooFewPairs), 30),
+        epoch(moved(99.0, 20.0), 10),
+        epoch(moved(0.001, 2.0), 0),
+        epoch(moved(0.001, 2.0), 0),
+        epoch(moved(0.001, 2.0), 0),
+    ];
+    assert_eq!(mileage.extend(rest), Ok(5));
+    let report = mileage.report().unwrap();
+    assert_eq!([report.epochs, report.refused, report.aside], [7, 1, 1]);
+    assert_eq!([report.counted, report.covered], [10_006, 40]);
+    assert_eq!([report.standing, report.pulses], [2, 80]);
+    assert_eq!(mileage.distance(), Ok(20_012));
+    assert_eq!(mileage.fuel(1), Ok(49));
+    assert_eq!(predicted_error(1.0, 20.0), 0.2);
+    assert_eq!(predicted_error(3.0, 2.0), 2.0 * 3.0 * 0.01);
+    assert!(predicted_error(-1.0, 2.0).is_nan() && predicted_error(1.0, f64::NAN).is_nan());
+}
+
+#[test]
+fn a_mileage_refuses() {
+    for limit in [
+        f64::NAN,
+        f64::INFINITY,
+        1e9f64.next_up(),
+        (-1e9f64).next_down(),
+    ] {
+        assert_eq!(
+            Mileage::start(limit),
+            Err(Refusal::SettingOutOfRange),
+            "{limit}"
+        );
+    }
+    let bits = 1e9f64.to_bits();
+    let moved = Ok(Moved {
+        displacement: Vec3::new(1000f64.next_up(), 0.0, 0.0),
+        chi: 1.0,
+        pdop: 1.0,
+    });
+    let mut mileage = Mileage::start(1e9).unwrap();
+    assert_eq!(
+        mileage.add(&Epoch { moved, pulses: 1 }),
+        Err(Refusal::BadTrip)
+    );
+    assert_eq!(mileage.words(), [bits, 0, 0, 0, 0, 0, 0, 0, 0, 0]);
+    // One above each bound; 17 comes after 16.
+    let epoch = Epoch {
+        moved: Err(Refusal::FitFailed),
+        pulses: 1,
+    };
+    for words in [
+        [bits + 1, 1, 0, 0, 0, 0, 0, 0, 0, 0],
+        [bits, 65_536, 0, 0, 0, 0, 0, 0, 0, 0],
+        [bits, 65_535, 0, 0, 0, 0, 0, 0, 0, 0],
+        [bits, 2, 2, 1, 0, 0, 0, 0, 0, 0],
+        [bits, 2, u64::MAX, 2, 0, 0, 0, 0, 0, 0],
+        [bits, 2, 0, 0, 1_000_000, 0, 1_000_000, 0, 0, 1],
+        [bits, 2, 0, 0, 0, 0, 0, 131_071, 0, 0],
+        [bits, 2, 0, 0, 0, 5, 0, 4, 0, 0],
+        [bits, 2, 0, 0, 0, 0, 0, 0, 2, 0],
+        [u64::MAX; 10],
+    ] {
+        let mut mileage = Mileage::from_words(words);
+        assert_eq!(mileage.add(&epoch), Err(Refusal::BadTrip), "{words:?}");
+        assert_eq!(mileage.words(), words);
+        if words[1] != 65_535 {
+            assert_eq!(mileage.report(), Err(Refusal::BadTrip), "{words:?}");
+            assert_eq!(mileage.distance(), Err(Refusal::BadTrip), "{words:?}");
+            assert_eq!(mileage.fuel(1), Err(Refusal::BadTrip), "{words:?}");
+        }
+    }
+    // 65,535,000,000 mm with one pulse counted of 4,294,836,225, and the longest distance that 63 bits hold.
+    let far = Mileage::from_words([
+        bits,
+        65_535,
+        0,
+        0,
+        65_535_000_000,
+        1,
+        0,
+        4_294_836_225,
+        1,
+        0,
+    ]);
+    assert_eq!(far.distance(), Err(Refusal::BadTrip));
+    assert_eq!(far.fuel(1), Err(Refusal::BadTrip));
+    let none = Mileage::from_words([bits, 2, 0, 0, 0, 3, 0, 3, 1, 0]);
+    assert_eq!(none.distance(), Ok(0));
+    assert_eq!(none.fuel(1), Err(Refusal::NoDistance));
 }
 
 #[test]

@@ -3,21 +3,20 @@
 use std::fs::{self, File};
 use std::io::Write;
 use std::os::unix::fs::{symlink, FileTypeExt};
-use std::path::{Path, PathBuf};
-use std::process::{Command, Output, Stdio};
+use std::path::Path;
+use std::process::{Command, Stdio};
 use std::thread;
 
 use zaqnuti::line;
 
-const COMMAND: &str = env!("CARGO_BIN_EXE_zaqnuti");
+#[path = "common/command.rs"]
+mod command;
+
+use command::{answered, examples, fed, folder, said, text, COMMAND};
 
 /// The receiver of examples/geonet, as an option.
 const AT: &str = "--at=-3976219.5082,3382372.5671,3652512.9849";
 const BASE_AT: &str = "--base-at=-3978242.4348,3382841.1715,3649902.7667";
-
-fn examples() -> PathBuf {
-    Path::new(env!("CARGO_MANIFEST_DIR")).join("../../examples")
-}
 
 fn geonet(name: &str) -> String {
     examples().join("geonet").join(name).display().to_string()
@@ -25,59 +24,6 @@ fn geonet(name: &str) -> String {
 
 fn drive(name: &str) -> String {
     examples().join("drive").join(name).display().to_string()
-}
-
-/// An empty folder of a test's own.
-fn folder(name: &str) -> PathBuf {
-    let at = Path::new(env!("CARGO_TARGET_TMPDIR")).join(name);
-    let _ = fs::remove_dir_all(&at);
-    fs::create_dir_all(&at).unwrap();
-    at
-}
-
-/// Runs the command on bytes at standard input.
-fn fed(words: &[&str], input: &[u8]) -> Output {
-    let mut child = Command::new(COMMAND)
-        .args(words)
-        .stdin(Stdio::piped())
-        .stdout(Stdio::piped())
-        .stderr(Stdio::piped())
-        .spawn()
-        .unwrap();
-    let (mut stdin, input) = (child.stdin.take().unwrap(), input.to_vec());
-    // A command that ends early closes its end.
-    let feeder = thread::spawn(move || drop(stdin.write_all(&input)));
-    let out = child.wait_with_output().unwrap();
-    feeder.join().unwrap();
-    out
-}
-
-fn run(words: &[&str]) -> Output {
-    fed(words, b"")
-}
-
-fn text(bytes: &[u8]) -> String {
-    String::from_utf8(bytes.to_vec()).unwrap()
-}
-
-/// What the command writes where it ends with a status and says nothing.
-fn answered(words: &[&str], status: i32) -> String {
-    let out = run(words);
-    assert_eq!(text(&out.stderr), "", "{words:?}");
-    assert_eq!(out.status.code(), Some(status), "{words:?}");
-    text(&out.stdout)
-}
-
-/// What the command says where the input or the words are bad.
-fn said(words: &[&str], input: &[u8]) -> String {
-    let out = fed(words, input);
-    assert_eq!(out.status.code(), Some(2), "{words:?}");
-    let said = text(&out.stderr);
-    assert!(
-        said.starts_with("zaqnuti: ") && said.lines().count() == 1,
-        "{said}"
-    );
-    said.trim_end()["zaqnuti: ".len()..].to_string()
 }
 
 /// The lines of rover.csv up to so many, header included.
@@ -93,12 +39,17 @@ fn rover(lines: usize) -> String {
 #[test]
 fn help() {
     assert!(answered(&["--help"], 0).contains("Exit status"));
-    assert_eq!(answered(&["--version"], 0), "zaqnuti 0.5.0\n");
+    assert_eq!(
+        answered(&["--version"], 0),
+        concat!("zaqnuti ", env!("CARGO_PKG_VERSION"), "\n")
+    );
     for name in [
         "fix",
         "displacement",
         "corrections",
         "track",
+        "trip",
+        "rank",
         "encode",
         "decode",
         "plot",
@@ -279,6 +230,13 @@ fn corrections() {
     let header = csv.lines().next().unwrap();
     assert!(header.ends_with(",rate,correction,refusal"));
     assert_eq!(csv.lines().count(), 949);
+    // A line without a satellite keeps its place.
+    let tunnel = format!("{}1316,518415{}\n", self::rover(9), ",".repeat(15));
+    let tunnel = fed(&correction(&base, &["--csv"]), tunnel.as_bytes());
+    let last = format!("1316,518415{},,0", ",".repeat(15));
+    assert_eq!(text(&tunnel.stdout).lines().last(), Some(last.as_str()));
+    let fixed = fed(&["fix", "--csv"], &tunnel.stdout);
+    assert!(text(&fixed.stdout).ends_with("1316,518415.0,,,,,,,8\n"));
     let twice = said(&correction(&base, &[&corrected]), b"");
     assert!(twice.ends_with("corrected.csv:1: has a column correction already"));
     let back = format!(
@@ -327,7 +285,30 @@ fn bad_tracks() {
     let long: String = (0..5000).map(|k| format!("{k},1,2,3\n")).collect();
     let long = fed(&["track"], format!("tow,x,y,z\n{long}").as_bytes());
     assert_eq!(long.status.code(), Some(1));
-    assert!(text(&long.stdout).starts_with("refused by 2: "));
+    let limit = "5000 epochs; a track has at most 1024";
+    assert_eq!(text(&long.stdout), format!("refused by 2: {limit}\n"));
+    let said = format!("zaqnuti: {limit}\nzaqnuti: 1 of 1 refused: 2 ×1\n");
+    assert_eq!(text(&long.stderr), said);
+}
+
+/// A recording has the receiver at rx, ry, rz, once for each epoch, and the satellites at x, y, z.
+#[test]
+fn a_track_of_a_recording() {
+    let head = "tow,constellation,svid,x,y,z,rx,ry,rz\n";
+    let rows = "1,1,2,2e7,0,0,5,6,7\n1,1,3,0,2e7,0,,,\n2,,,,,,,,\n3,1,2,2e7,9,9,5,6,7\n";
+    let out = fed(&["track", "--csv"], format!("{head}{rows}").as_bytes());
+    // Nothing is known of the epoch in the tunnel.
+    assert_eq!(out.status.code(), Some(1));
+    let rows = rows.replace("2,,,,,,,,\n", "");
+    let out = fed(&["track", "--csv"], format!("{head}{rows}").as_bytes());
+    let expected = "week,tow,x,y,z,refusal\n,1.0,5.0,6.0,7.0,0\n,3.0,5.0,6.0,7.0,0\n";
+    assert_eq!(text(&out.stdout), expected);
+    let why = "x, y, z are the satellites'; the columns rx, ry, rz of a fix are missing";
+    let bare = rover(9);
+    assert_eq!(
+        said(&["track"], bare.as_bytes()),
+        format!("standard input:1: {why}")
+    );
 }
 
 #[test]
@@ -769,7 +750,7 @@ fn the_page_shows_what_is_written() {
     symlink(examples().canonicalize().unwrap(), at.join("examples")).unwrap();
     let page = examples().join("../docs/SHELL.md");
     let shown = shown(&fs::read_to_string(page).unwrap());
-    assert_eq!(shown.len(), 9);
+    assert_eq!(shown.len(), 14);
     let programs = Path::new(COMMAND).parent().unwrap().display();
     let path = format!("{programs}:{}", std::env::var("PATH").unwrap());
     for (command, written) in shown {

@@ -155,13 +155,14 @@ fn epochs() -> (Vec<Carrier>, Vec<Carrier>) {
     (carriers(64, AT), after)
 }
 
-/// A displacement over a second, or between two times.
 /// Which of the displacement's entry points is called.
 #[derive(Clone, Copy)]
 enum Way {
     Plain,
     Between([u64; 2]),
     City(u32),
+    Rated,
+    CityRated(u32),
 }
 
 fn displacement(count: usize, rounds: usize, screen: f64, way: Way) -> usize {
@@ -182,16 +183,16 @@ fn displacement(count: usize, rounds: usize, screen: f64, way: Way) -> usize {
     let (before, after) = epochs();
     let (pf, cf) = (floats(&before), floats(&after));
     let mut constellation: Vec<u8> = before.iter().map(|c| c.constellation).collect();
-    if let Way::City(_) = way {
+    if let Way::City(_) | Way::CityRated(_) = way {
         let both = constellation.iter_mut().enumerate();
         both.for_each(|(k, c)| *c = if k % 2 == 0 { 1 } else { 6 });
     }
     let svid: Vec<u16> = before.iter().map(|c| c.svid).collect();
     let (band, state) = (vec![1575u32; 64], vec![1i32; 64]);
-    let (mut delta, mut counts) = ([0.0; 3], [0; 2]);
+    let (mut delta, mut quality, mut counts) = ([0.0; 3], [0.0; 2], [0; 2]);
     measured(move || {
         macro_rules! call {
-            ($entry:ident, $($apart:expr),+) => {
+            ($entry:ident, $($apart:expr),+; $($quality:expr)?) => {
                 sys::$entry(
                     constellation.as_ptr(),
                     64,
@@ -220,17 +221,22 @@ fn displacement(count: usize, rounds: usize, screen: f64, way: Way) -> usize {
                     &[screen, 0.008, 0.002, 1e-3, 10.0],
                     rounds,
                     &mut delta,
+                    $($quality,)?
                     &mut counts,
                 )
             };
         }
         let frame = top();
-        // SAFETY: each column has its length beside it, and the last two are ours alone.
+        // SAFETY: each column has its length beside it, and what is written is ours alone.
         unsafe {
             match way {
-                Way::Plain => call!(zaqnuti_displacement, 1.0),
-                Way::Between([before, now]) => call!(zaqnuti_displacement_between, before, now),
-                Way::City(chosen) => call!(zaqnuti_city_displacement, 1.0, chosen),
+                Way::Plain => call!(zaqnuti_displacement, 1.0;),
+                Way::Between([before, now]) => call!(zaqnuti_displacement_between, before, now;),
+                Way::City(chosen) => call!(zaqnuti_city_displacement, 1.0, chosen;),
+                Way::Rated => call!(zaqnuti_displacement_rated, 1.0; &mut quality),
+                Way::CityRated(chosen) => {
+                    call!(zaqnuti_city_displacement_rated, 1.0, chosen; &mut quality)
+                }
             }
         };
         frame
@@ -402,6 +408,25 @@ fn times(week: u32, tow: f64, earlier: u64) -> usize {
             sys::zaqnuti_time(week, tow, &mut nanos);
             sys::zaqnuti_nanos_since(nanos, earlier, &mut since);
             sys::zaqnuti_seconds_since(nanos, earlier, &mut seconds);
+        }
+        frame
+    })
+}
+
+/// A mileage as it is handed in, one epoch more for it, and its figures.
+fn mileage(words: [u64; 10], refused_by: u8, x: f64) -> usize {
+    let (mut lent, mut report, mut figure) = (words, [0; 7], 0);
+    let limit = f64::from_bits(words[0]);
+    measured(move || {
+        let frame = top();
+        // SAFETY: the words, the report and the figure are ours alone, and the rest is read.
+        unsafe {
+            sys::zaqnuti_mileage_start(limit, &mut lent);
+            lent = words;
+            sys::zaqnuti_mileage_add(&mut lent, refused_by, &[x, 0.0, 0.0], &[1.0, 2.0], 7);
+            sys::zaqnuti_mileage_report(&lent, &mut report);
+            sys::zaqnuti_mileage_distance(&lent, &mut figure);
+            sys::zaqnuti_mileage_fuel(&lent, 850, &mut figure);
         }
         frame
     })
@@ -947,6 +972,21 @@ fn no_more_than_the_header_says() {
             ]),
         ),
         (
+            "rated",
+            most([
+                displacement(64, 50, 1e9, Way::Rated),
+                displacement(64, 50, 4.0, Way::Rated),
+                displacement(64, 0, 1e9, Way::Rated),
+                displacement(65, 4, 1.0, Way::Rated),
+                displacement(5, 4, 1.0, Way::Rated),
+                displacement(64, 50, 1e9, Way::CityRated(1575)),
+                displacement(64, 50, 4.0, Way::CityRated(1575)),
+                displacement(64, 0, 1e9, Way::CityRated(1575)),
+                displacement(65, 4, 1.0, Way::CityRated(1575)),
+                displacement(64, 4, 1.0, Way::CityRated(1)),
+            ]),
+        ),
+        (
             "line",
             most([
                 line(50, b"\n", LINE),
@@ -1070,6 +1110,21 @@ fn no_more_than_the_header_says() {
                 trip([1000, 65_535, 0, 8, 2000, 2], 3.0),
                 trip([0; 6], f64::NAN),
                 trip([u64::MAX; 6], 1e300),
+            ]),
+        ),
+        (
+            "mileage",
+            most([
+                mileage([0.2f64.to_bits(), 9, 2, 1, 60_000, 40, 7, 90, 0, 3], 0, 3.0),
+                mileage([0.2f64.to_bits(), 9, 2, 1, 60_000, 40, 7, 90, 0, 3], 7, 3.0),
+                mileage(
+                    [0.2f64.to_bits(), 9, 2, 1, 60_000, 0, 7, 90, 1, 0],
+                    0,
+                    0.001,
+                ),
+                mileage([0.2f64.to_bits(), 65_535, 0, 0, 0, 1, 0, 1, 0, 0], 0, 3.0),
+                mileage([0; 10], 0, f64::NAN),
+                mileage([u64::MAX; 10], 0, 1e300),
             ]),
         ),
         (

@@ -1,6 +1,7 @@
 -- The tests before samples are added, way by way, and what a call leaves. Assumes nothing.
 use mathlib.Core.Path.{_≡_, refl, sym, _∙_}
 use mathlib.Core.Bool.{Bool, true, false, cond, not, _&&_, _||_}
+use mathlib.Core.List.{List}
 use Prim.Native.Nat.{ℕ, _+_, _≤_, _<_, min}
 use native.Mathlib.Omega.{arith}
 use lib.Dec.{ltb}
@@ -18,9 +19,9 @@ use Rattle.table.specs.declared.add.Test.the-variants as Test
 use Rattle.table.proofs.TableLaws.{and-left, and-right}
 use Rattle.table.proofs.UnitLaws.{never}
 use Rattle.table.proofs.InsertLaws.{insertAll-length}
-use Rattle.directory.specs.Directory.{Directory, Blocks, blockCapacity, blocksWith, directoryIn, directoryOf, entriesIn, flat, readingOf, readingsIn, soundDirectory}
+use Rattle.directory.specs.Directory.{Directory, Blocks, PatternsWith, blockCapacity, blocksWith, directoryIn, directoryOf, entriesIn, flat, readingOf, readingsIn, soundDirectory}
 use Rattle.directory.proofs.ColumnLaws.{flat-length}
-use Rattle.addition.specs.Add.{Fitting, Places, addIn, additionNumber, additionOf, directoryWith, testIn}
+use Rattle.addition.specs.Add.{Fitting, PatternsAfter, Places, addIn, additionNumber, additionOf, directoryWith, testIn}
 use Rattle.addition.specs.declared.add.Addition.{Addition}
 use Rattle.addition.specs.declared.add.Addition.the-variants as Addition
 
@@ -106,16 +107,20 @@ passed-fits m n l new p = parts (length (entriesIn l)) (length (readingsIn l)) r
         }
 
 -- ---- what is left
-module _ (m n room : ℕ) (d : Directory) (new : Samples) (l : Blocks) where
-  pub add-refused : (r : Refusal) → Test.Refused r ≡ testIn m n room d new → (Addition.Refused r ≡ additionOf (addIn m n room d new)) × Places (addIn m n room d new) (additionNumber (Addition.Refused r)) m m n n l l
+module _ (m n room : ℕ) (d : Directory) (new : Samples) (l : Blocks) (ts xs : List ℕ) where
+  pub add-refused : (r : Refusal) → Test.Refused r ≡ testIn m n room d new
+      → (let o = addIn m n room d new in (Addition.Refused r ≡ additionOf o) × (Places o (additionNumber (Addition.Refused r)) m m n n l l × PatternsAfter o ts xs ts xs))
   unfolding addIn
-  add-refused r e = rw (← e) (refl, record { number-is = refl; entries-are = refl; samples-are = refl; columns = refl })
+  add-refused r e = rw (← e) (refl, (record { number-is = refl; entries-are = refl; samples-are = refl; columns = refl }, (refl, refl)))
 
-  pub add-passed : (k : ℕ) (l′ : Blocks) → Test.Passed ≡ testIn m n room d new → k ≡ length ((directoryWith d (counted new)) .entries) → n + new .count ≡ length ((directoryWith d (counted new)) .readings) → l′ ≡ blocksWith (directoryWith d (counted new)) l
+  pub add-passed : (k : ℕ) (l′ : Blocks) {ts′ xs′ : List ℕ} → Test.Passed ≡ testIn m n room d new
+      → (let d′ = directoryWith d (counted new) in
+      k ≡ length (d′ .entries) → n + new .count ≡ length (d′ .readings) → l′ ≡ blocksWith d′ l → PatternsWith d′ ts xs ts′ xs′
       → (let a = Addition.Added record { entries = k; samples = n + new .count } in
-      (a ≡ additionOf (addIn m n room d new)) × Places (addIn m n room d new) 0 m k n (n + new .count) l l′)
+      let o = addIn m n room d new in
+      (a ≡ additionOf o) × (Places o 0 m k n (n + new .count) l l′ × PatternsAfter o ts xs ts′ xs′)))
   unfolding addIn
-  add-passed k l′ e qk qn ql = rw (← e) (rw (qk, qn), record { number-is = refl; entries-are = qk; samples-are = qn; columns = ql })
+  add-passed k l′ e qk qn ql qp = rw (← e) (rw (qk, qn), (record { number-is = refl; entries-are = qk; samples-are = qn; columns = ql }, qp))
 
 pub samples-left : (m n : ℕ) (l : Blocks) (new : Samples) → Fitting m n (new .count) l → new .count ≤ 64 → length (new .samples) ≡ 64 → n + new .count ≡ length ((directoryWith (directoryIn m n l) (counted new)) .readings)
 unfolding directoryOf

@@ -2,13 +2,15 @@
 use mathlib.Core.Path.{_≡_, refl, sym, ap, _∙_}
 use mathlib.Core.List.{List, [], _∷_, _++_, map, map-append}
 use mathlib.Core.Bool.{Bool, true, false, _&&_, _||_}
-use Prim.Native.Nat.{ℕ, zero, suc, _+_, _-_, _≤_, _<_}
+use Prim.Native.Nat.{ℕ, zero, suc, _+_, _-_, _^_, _≤_, _<_}
 use native.Mathlib.Nat.{not-suc-le-zero, le-of-suc-le-suc}
 use native.Mathlib.Omega.{arith}
-use lib.Dec.{eqb, ltb}
+use lib.Dec.{T, eqb, ltb}
 use lib.ListN.{length, getD, take, drop, set, length-map}
 use lib.Seq.{getD-take, length-take-le, take-all, take-take}
-use lib.Ieee.{Float, nan}
+use lib.Ieee.{Float, nan, binary64, fits}
+use Rattle.exact.specs.Float.{bits}
+use Rattle.numeric.specs.Order.{patternOf}
 use borrow.Author.Tests.{eqb-true, eqb-false}
 use Rattle.walk.specs.Walk.{collect, every}
 use Rattle.table.specs.Table.{blank, lent, rows, ranged, signalOf, sorted, soundTable, standsBefore, tableOf, timeBefore}
@@ -17,25 +19,26 @@ use Rattle.table.specs.declared.sample.Sample.{Sample}
 use Rattle.table.proofs.TableLaws.{and-right}
 use Rattle.table.proofs.Places.{placeOf, rises, sorted-rises}
 use Rattle.table.proofs.ColumnLaws.{rows-at, rows-length}
-use Rattle.directory.specs.Directory.{Entry, Reading, block, columnOf, directoryIn, entryRows, flat, lentBlocks, noEntry, noReading, readingOf, readingRows, sampleOf, signalIn, soundDirectory, tiles}
+use Rattle.directory.specs.Directory.{Entry, Reading, block, columnOf, directoryIn, entryRows, flat, floats, lentBlocks, noEntry, noReading, readingOf, readingRows, sampleOf, signalIn, soundDirectory, tiles}
 use Rattle.directory.proofs.DirectoryLaws.{sound-parts, sound-flat, flat-readings}
 use Rattle.directory.proofs.ColumnLaws.{entries-length, entry-at, flat-length, readings-length}
+use Rattle.directory.proofs.PatternLaws.{T-true, every-of, floats-at, floats-column, floats-fit-all, floats-length, map-of, numbers-in, numbers-of, patterns-back}
 use Rattle.directory.proofs.EntryLaws.{flat-at, getD-map-in}
 use Rattle.addition.specs.Merge.{ReadingsMerged, Stays, mixed, shifted}
-use Rattle.addition.proofs.SortLaws.{before-le}
+use Rattle.addition.proofs.SortLaws.{before-le, every-all, every-insertAll}
 use Rattle.addition.proofs.FillLaws.{Filling, filling-start, filling-turn, filling-end}
 use Rattle.addition.proofs.MixLaws.{mixed-old, mixed-new, mixed-length, mixed-none}
 use Rattle.addition.proofs.CursorLaws.{Cursor, cursor-some, cursor-start, cursor-stay, cursor-leave}
 
--- the two fields that are moved
-abbrev timeOf : Sample → Float
-timeOf s = s .time
+-- the patterns of the two fields that are moved
+abbrev timeOf : Sample → ℕ
+timeOf s = patternOf (s .time)
 
-abbrev correctionOf : Sample → Float
-correctionOf s = s .correction
+abbrev correctionOf : Sample → ℕ
+correctionOf s = patternOf (s .correction)
 
 -- es and rs are a sound directory's entries and readings, t its samples, u the new ones; the columns ts₀ and xs₀ hold the readings
-pub record Given (es : List Entry) (rs : List Reading) (t u : List Sample) (ts₀ xs₀ : List Float) (n k : ℕ) : Type 0 where
+pub record Given (es : List Entry) (rs : List Reading) (t u : List Sample) (ts₀ xs₀ : List ℕ) (n k : ℕ) : Type 0 where
   pub tiled : tiles 0 (length rs) es ≡ true
   pub blocks : t ≡ collect (block rs) es
   pub sizes : length rs ≡ n
@@ -45,11 +48,14 @@ pub record Given (es : List Entry) (rs : List Reading) (t u : List Sample) (ts�
   pub new-count : length u ≡ k
   pub times-are : map timeOf t ≡ take n ts₀
   pub corrections-are : map correctionOf t ≡ take n xs₀
+  pub read : (y : ℕ) → y < n → bits (getD ts₀ y 0) ≡ getD t y blank .time
+  pub times-fit : every (λ (s : Sample). fits binary64 (s .time)) (insertAll t u) ≡ true
+  pub corrections-fit : every (λ (s : Sample). fits binary64 (s .correction)) (insertAll t u) ≡ true
   pub room-t : n + k ≤ length ts₀
   pub room-x : n + k ≤ length xs₀
 
 -- i old and j new samples are left, the last old one in the block of the entry e - 1
-pub record Merging (es : List Entry) (t u : List Sample) (ts₀ xs₀ : List Float) (n k : ℕ) (ts xs : List Float) (e i j : ℕ) : Type 0 where
+pub record Merging (es : List Entry) (t u : List Sample) (ts₀ xs₀ : List ℕ) (n k : ℕ) (ts xs : List ℕ) (e i j : ℕ) : Type 0 where
   pub old : i ≤ n
   pub new : j ≤ k
   pub cursor : Cursor es e i
@@ -78,7 +84,7 @@ map-take f zero l = refl
 map-take f (suc i) [] = refl
 map-take f (suc i) (s ∷ l) = rw (map-take f i l)
 
-module _ {es : List Entry} {rs : List Reading} {t u : List Sample} {ts₀ xs₀ : List Float} {n k : ℕ} (g : Given es rs t u ts₀ xs₀ n k) where
+module _ {es : List Entry} {rs : List Reading} {t u : List Sample} {ts₀ xs₀ : List ℕ} {n k : ℕ} (g : Given es rs t u ts₀ xs₀ n k) where
   pub merging-start : (e : ℕ) → length es ≡ e → Merging es t u ts₀ xs₀ n k ts₀ xs₀ e n k
   merging-start e q =
       let l = mixed-length t u n k (omega (arith, g .old-count)) (omega (arith, g .new-count)) in
@@ -91,13 +97,13 @@ module _ {es : List Entry} {rs : List Reading} {t u : List Sample} {ts₀ xs₀ 
       }
 
   -- the columns hold the fields of the old samples
-  held : (f : Sample → Float) (d : List Float) → map f t ≡ take n d → (i : ℕ) → i < n → getD d i nan ≡ f (getD t i blank)
-  held f d e i h = sym (getD-take n d i nan h) ∙ ap (λ (l : List Float). getD l i nan) (sym e) ∙ getD-map-in f t i blank nan (omega (arith, g .old-count))
+  held : (f : Sample → ℕ) (d : List ℕ) → map f t ≡ take n d → (i : ℕ) → i < n → getD d i 0 ≡ f (getD t i blank)
+  held f d e i h = sym (getD-take n d i 0 h) ∙ ap (λ (l : List ℕ). getD l i 0) (sym e) ∙ getD-map-in f t i blank 0 (omega (arith, g .old-count))
 
   -- old samples that all come after the last new one go up together
-  fills-old : (f : Sample → Float) {d₀ d w : List Float} (j r : ℕ) → 0 < j → j ≤ k → map f t ≡ take n d₀ → (m y : ℕ) → y ≡ r + m → y ≤ n
+  fills-old : (f : Sample → ℕ) {d₀ d w : List ℕ} (j r : ℕ) → 0 < j → j ≤ k → map f t ≡ take n d₀ → (m y : ℕ) → y ≡ r + m → y ≤ n
       → ((x : ℕ) → r ≤ x → x < y → standsBefore (getD u (j - 1) blank) (getD t x blank) ≡ true) → y + j ≤ length d₀
-      → Filling d₀ d w (map f (mixed t u y j)) y (y + j) → Filling d₀ (shifted r j m nan d) w (map f (mixed t u r j)) r (r + j)
+      → Filling d₀ d w (map f (mixed t u y j)) y (y + j) → Filling d₀ (shifted r j m 0 d) w (map f (mixed t u r j)) r (r + j)
   unfolding shifted
   fills-old f {d₀} {d} {w} j r hj kj q zero y z o b l v = let s : r ≡ y = omega arith in rw s v
   fills-old f {d₀} {d} {w} j r hj kj q (suc m) y z o b l v =
@@ -106,13 +112,13 @@ module _ {es : List Entry} {rs : List Reading} {t u : List Sample} {ts₀ xs₀ 
       let to : y - 1 + j ≡ y + j - 1 = omega arith in
       let e : mixed t u y j ≡ mixed t u (y - 1) j ++ (getD t (y - 1) blank ∷ []) =
       ap (λ (x : ℕ). mixed t u x j) (sym s) ∙ mixed-old t u (g .old-rise) (g .new-rise) (y - 1) j (omega (arith, g .old-count)) (omega (arith, g .new-count)) hj (b (y - 1) (omega arith) (omega arith)) in
-      let x : getD d (y - 1) nan ≡ f (getD t (y - 1) blank) =
-      sym (getD-take y d (y - 1) nan (omega arith)) ∙ ap (λ (l : List Float). getD l (y - 1) nan) (v .front) ∙ getD-take y d₀ (y - 1) nan (omega arith) ∙ held f d₀ q (y - 1) (omega arith) in
+      let x : getD d (y - 1) 0 ≡ f (getD t (y - 1) blank) =
+      sym (getD-take y d (y - 1) 0 (omega arith)) ∙ ap (λ (l : List ℕ). getD l (y - 1) 0) (v .front) ∙ getD-take y d₀ (y - 1) 0 (omega arith) ∙ held f d₀ q (y - 1) (omega arith) in
       let turn : Filling d₀ (set d (y - 1 + j) (f (getD t (y - 1) blank))) w (map f (mixed t u (y - 1) j)) (y - 1) (y - 1 + j) =
-      rw to (filling-turn nan v (f (getD t (y - 1) blank)) (map f (mixed t u (y - 1) j)) (y - 1) (map-end f (mixed t u y j) (mixed t u (y - 1) j) (getD t (y - 1) blank) e) (omega arith) (omega arith) l) in
+      rw to (filling-turn 0 v (f (getD t (y - 1) blank)) (map f (mixed t u (y - 1) j)) (y - 1) (map-end f (mixed t u y j) (mixed t u (y - 1) j) (getD t (y - 1) blank) e) (omega arith) (omega arith) l) in
       rw (at, x) (fills-old f j r hj kj q m (y - 1) (omega arith) (omega arith) (λ x h k. b x h (omega arith)) (omega arith) turn)
 
-  whole : (f : Sample → Float) (d : List Float) → map f (mixed t u n k) ++ drop (n + k) d ≡ columnOf f (insertAll t u) d
+  whole : (f : Sample → ℕ) (d : List ℕ) → map f (mixed t u n k) ++ drop (n + k) d ≡ columnOf f (insertAll t u) d
   whole f d =
       let a : take n t ≡ t = take-all n t (omega (arith, g .old-count)) in
       let b : take k u ≡ u = take-all k u (omega (arith, g .new-count)) in
@@ -120,37 +126,41 @@ module _ {es : List Entry} {rs : List Reading} {t u : List Sample} {ts₀ xs₀ 
       let q : mixed t u n k ≡ insertAll t u = rw (a, b) in
       ap (λ (m : ℕ). map f (mixed t u n k) ++ drop m d) (sym l) ∙ ap (λ (m : List Sample). columnOf f m d) q
 
-  module _ {ts xs : List Float} {e i j : ℕ} (inv : Merging es t u ts₀ xs₀ n k ts xs e i j) where
+  module _ {ts xs : List ℕ} {e i j : ℕ} (inv : Merging es t u ts₀ xs₀ n k ts xs e i j) where
     pub merging-end : j ≤ 0 → ReadingsMerged (insertAll t u) ts₀ xs₀ ts xs
     merging-end h =
         let z : j ≡ 0 = omega arith in
+        let et = filling-end 0 (inv .times) (left timeOf ts₀ z (g .times-are)) (omega arith) ∙ whole timeOf ts₀ in
+        let ec = filling-end 0 (inv .corrections) (left correctionOf xs₀ z (g .corrections-are)) (omega arith) ∙ whole correctionOf xs₀ in
         record {
-          times = filling-end nan (inv .times) (left timeOf ts₀ z (g .times-are)) (omega arith) ∙ whole timeOf ts₀;
-          corrections = filling-end nan (inv .corrections) (left correctionOf xs₀ z (g .corrections-are)) (omega arith) ∙ whole correctionOf xs₀;
+          times = et;
+          corrections = ec;
+          times-read = ap floats et ∙ floats-column (λ (s : Sample). s .time) (insertAll t u) ts₀ (g .times-fit);
+          corrections-read = ap floats ec ∙ floats-column (λ (s : Sample). s .correction) (insertAll t u) xs₀ (g .corrections-fit);
         }
       where
-        left : (f : Sample → Float) (d : List Float) → j ≡ 0 → map f t ≡ take n d → map f (mixed t u i j) ≡ take i d
+        left : (f : Sample → ℕ) (d : List ℕ) → j ≡ 0 → map f t ≡ take n d → map f (mixed t u i j) ≡ take i d
         left f d z r = ap (λ (m : ℕ). map f (mixed t u i m)) z ∙ ap (map f) (mixed-none t u i) ∙ map-take f i t ∙ ap (take i) r ∙ take-take i n d (inv .old)
 
     -- a column's place that is not yet reached is as it was
-    same-at : (d₀ d w left : List Float) (m : ℕ) → Filling d₀ d w left i m → (y : ℕ) → y < i → getD d y nan ≡ getD d₀ y nan
-    same-at d₀ d w left m f y h = sym (getD-take i d y nan h) ∙ ap (λ (l : List Float). getD l y nan) (f .front) ∙ getD-take i d₀ y nan h
+    same-at : (d₀ d w left : List ℕ) (m : ℕ) → Filling d₀ d w left i m → (y : ℕ) → y < i → getD d y 0 ≡ getD d₀ y 0
+    same-at d₀ d w left m f y h = sym (getD-take i d y 0 h) ∙ ap (λ (l : List ℕ). getD l y 0) (f .front) ∙ getD-take i d₀ y 0 h
 
     module _ (hj : 0 < j) {a b start : ℕ} {x : Float} (ea : a ≡ signalOf (getD u (j - 1) blank)) (eb : 0 < e → b ≡ signalIn (getD es (e - 1) noEntry)) (es-start : 0 < e → start ≡ getD es (e - 1) noEntry .start) (ex : x ≡ getD u (j - 1) blank .time) where
       -- what the code compares is the order of the two samples, within the last block
-      stands : (y : ℕ) → y < i → start ≤ y → (ltb a b || (eqb a b && timeBefore x (getD ts y nan))) ≡ standsBefore (getD u (j - 1) blank) (getD t y blank)
+      stands : (y : ℕ) → y < i → start ≤ y → (ltb a b || (eqb a b && timeBefore x (bits (getD ts y 0)))) ≡ standsBefore (getD u (j - 1) blank) (getD t y blank)
       unfolding standsBefore
       stands y h l =
           let p = cursor-some es e i (inv .cursor) (omega arith) in
           let o : getD t y blank ≡ sampleOf (getD es (e - 1) noEntry) (getD rs y noReading) =
           rw (g .blocks) (flat-at rs es (e - 1) y (g .tiled) (omega (arith, p, inv .cursor .few)) (omega (arith, es-start p)) (omega (arith, inv .cursor .to p))) in
           let s : signalOf (getD t y blank) ≡ signalIn (getD es (e - 1) noEntry) = ap signalOf o in
-          let v : getD ts y nan ≡ getD t y blank .time = same-at ts₀ ts _ _ _ (inv .times) y h ∙ held timeOf ts₀ (g .times-are) y (omega (arith, inv .old)) in
+          let v : bits (getD ts y 0) ≡ getD t y blank .time = ap bits (same-at ts₀ ts _ _ _ (inv .times) y h) ∙ g .read y (omega (arith, inv .old)) in
           rw (ea, eb p, ex, s, v)
 
       module _ {r : ℕ} (c : Stays ts start i a x b r) where
         -- the old samples of the last block that come after the new one go up together
-        pub merging-old : r < i → {ts′ xs′ : List Float} → ts′ ≡ shifted r j (i - r) nan ts → xs′ ≡ shifted r j (i - r) nan xs → {e′ : ℕ} → (start ≡ r → e′ ≡ e - 1) → ((start ≡ r → ⊥) → e′ ≡ e)
+        pub merging-old : r < i → {ts′ xs′ : List ℕ} → ts′ ≡ shifted r j (i - r) 0 ts → xs′ ≡ shifted r j (i - r) 0 xs → {e′ : ℕ} → (start ≡ r → e′ ≡ e - 1) → ((start ≡ r → ⊥) → e′ ≡ e)
             → Merging es t u ts₀ xs₀ n k ts′ xs′ e′ r j
         merging-old h {ts′} {xs′} et ex′ {e′} leave stay =
             let p = cursor-some es e i (inv .cursor) (omega arith) in
@@ -170,8 +180,8 @@ module _ {es : List Entry} {rs : List Reading} {t u : List Sample} {ts₀ xs₀ 
             next false w p l = let v = eqb-false _ _ w in rw (stay v) (cursor-stay n es (rw (g .sizes) at (g .tiled)) e i (inv .cursor) (omega arith) r (c .few) (omega (arith, v, es-start p)))
 
         -- the new sample comes after every old one that is left
-        pub merging-new : i ≤ r → {y : Float} → y ≡ getD u (j - 1) blank .correction → Merging es t u ts₀ xs₀ n k (set ts (i + (j - 1)) x) (set xs (i + (j - 1)) y) e i (j - 1)
-        merging-new q {y} ey =
+        pub merging-new : i ≤ r → {y : Float} → y ≡ getD u (j - 1) blank .correction → {pt px : ℕ} → pt ≡ patternOf x → px ≡ patternOf y → Merging es t u ts₀ xs₀ n k (set ts (i + (j - 1)) pt) (set xs (i + (j - 1)) px) e i (j - 1)
+        merging-new q {y} ey ep eq =
             let z : suc (j - 1) ≡ j = omega arith in
             let w′ : i + (j - 1) ≡ i + j - 1 = omega arith in
             let m : mixed t u i j ≡ mixed t u i (j - 1) ++ (getD u (j - 1) blank ∷ []) =
@@ -180,8 +190,8 @@ module _ {es : List Entry} {rs : List Reading} {t u : List Sample} {ts₀ xs₀ 
               old = inv .old;
               new = omega (arith, inv .new);
               cursor = inv .cursor;
-              times = rw (ex, w′) (filling-turn nan (inv .times) (timeOf (getD u (j - 1) blank)) (map timeOf (mixed t u i (j - 1))) i (map-end timeOf (mixed t u i j) (mixed t u i (j - 1)) (getD u (j - 1) blank) m) (omega arith) (omega arith) (omega (arith, inv .old, inv .new, g .room-t)));
-              corrections = rw (ey, w′) (filling-turn nan (inv .corrections) (correctionOf (getD u (j - 1) blank)) (map correctionOf (mixed t u i (j - 1))) i (map-end correctionOf (mixed t u i j) (mixed t u i (j - 1)) (getD u (j - 1) blank) m) (omega arith) (omega arith) (omega (arith, inv .old, inv .new, g .room-x)));
+              times = rw (ep, ex, w′) (filling-turn 0 (inv .times) (timeOf (getD u (j - 1) blank)) (map timeOf (mixed t u i (j - 1))) i (map-end timeOf (mixed t u i j) (mixed t u i (j - 1)) (getD u (j - 1) blank) m) (omega arith) (omega arith) (omega (arith, inv .old, inv .new, g .room-t)));
+              corrections = rw (eq, ey, w′) (filling-turn 0 (inv .corrections) (correctionOf (getD u (j - 1) blank)) (map correctionOf (mixed t u i (j - 1))) i (map-end correctionOf (mixed t u i j) (mixed t u i (j - 1)) (getD u (j - 1) blank) m) (omega arith) (omega arith) (omega (arith, inv .old, inv .new, g .room-x)));
             }
           where
             last : 0 < i → placeOf (getD t (i - 1) blank) ≤ placeOf (getD u (j - 1) blank)
@@ -189,40 +199,62 @@ module _ {es : List Entry} {rs : List Reading} {t u : List Sample} {ts₀ xs₀ 
                 let p = cursor-some es e i (inv .cursor) h in
                 let v : r ≡ i = omega (arith, c .few) in
                 let l : start < i = omega (arith, inv .cursor .from p, es-start p) in
-                let f : (ltb a b || (eqb a b && timeBefore x (getD ts (i - 1) nan))) ≡ false = ap (λ (m : ℕ). ltb a b || (eqb a b && timeBefore x (getD ts (m - 1) nan))) (sym v) ∙ c .earlier (omega arith) in
+                let f : (ltb a b || (eqb a b && timeBefore x (bits (getD ts (i - 1) 0)))) ≡ false = ap (λ (m : ℕ). ltb a b || (eqb a b && timeBefore x (bits (getD ts (m - 1) 0)))) (sym v) ∙ c .earlier (omega arith) in
                 before-le (getD u (j - 1) blank) (getD t (i - 1) blank) (sym (stands (i - 1) (omega arith) (omega arith)) ∙ f)
 
 -- ---- from the columns
-module _ (dc dv db df dn : List ℕ) (m : ℕ) (ts xs : List Float) (n : ℕ) (cs vs bs : List ℕ) (us ys : List Float) (k : ℕ) where
-  pub given-by : n + k ≤ length (readingRows ts xs) → soundDirectory (directoryIn m n (lentBlocks dc dv db df dn ts xs)) ≡ true → k ≤ length (rows (lent cs vs bs us ys)) → sorted (tableOf k (lent cs vs bs us ys)) ≡ true
-      → Given (take m (entryRows dc dv db df dn)) (take n (readingRows ts xs)) (flat (directoryIn m n (lentBlocks dc dv db df dn ts xs))) (tableOf k (lent cs vs bs us ys)) ts xs n k
-  given-by h s f o =
-      let d = directoryIn m n (lentBlocks dc dv db df dn ts xs) in
+module _ (dc dv db df dn : List ℕ) (m : ℕ) (ts xs : List ℕ) (n : ℕ) (cs vs bs : List ℕ) (us ys : List Float) (k : ℕ) where
+  pub given-by : n + k ≤ length (readingRows (floats ts) (floats xs)) → soundDirectory (directoryIn m n (lentBlocks dc dv db df dn (floats ts) (floats xs))) ≡ true
+      → k ≤ length (rows (lent cs vs bs us ys)) → sorted (tableOf k (lent cs vs bs us ys)) ≡ true
+      → ((x : ℕ) → getD ts x 0 < 2 ^ 64) → ((x : ℕ) → getD xs x 0 < 2 ^ 64) → ((x : ℕ) → T (fits binary64 (getD us x nan))) → ((x : ℕ) → T (fits binary64 (getD ys x nan)))
+      → Given (take m (entryRows dc dv db df dn)) (take n (readingRows (floats ts) (floats xs))) (flat (directoryIn m n (lentBlocks dc dv db df dn (floats ts) (floats xs)))) (tableOf k (lent cs vs bs us ys)) ts xs n k
+  given-by h s f o bt bx fu fy =
+      let d = directoryIn m n (lentBlocks dc dv db df dn (floats ts) (floats xs)) in
       let p = sound-parts d s in
-      let z : length (take n (readingRows ts xs)) ≡ n = length-take-le n (readingRows ts xs) (omega arith) in
+      let z : length (take n (readingRows (floats ts) (floats xs))) ≡ n = length-take-le n (readingRows (floats ts) (floats xs)) (omega arith) in
       let r = flat-readings d s in
+      let lt = floats-length ts in
+      let lx = floats-length xs in
+      let lr = readings-length (floats ts) (floats xs) in
+      let nr : n ≤ length (readingRows (floats ts) (floats xs)) = omega arith in
+      let nt : n ≤ length ts = omega arith in
+      let nx : n ≤ length xs = omega arith in
+      let et : map (λ (s : Sample). s .time) (flat d) ≡ take n (floats ts) = field-times (flat d) ∙ ap (map (λ (r : Reading). r .time)) r ∙ times-in n (floats ts) (floats xs) nr in
+      let ec : map (λ (s : Sample). s .correction) (flat d) ≡ take n (floats xs) = field-corrections (flat d) ∙ ap (map (λ (r : Reading). r .correction)) r ∙ corrections-in n (floats ts) (floats xs) nr in
+      let c = flat-length d s ∙ z in
+      let ku = length-take-le k (rows (lent cs vs bs us ys)) f in
       record {
         tiled = p .tiled;
         blocks = unfold flat in refl;
         sizes = z;
         old-rise = sym (sorted-rises (flat d)) ∙ sorted-of (flat d) (sound-flat d s);
-        old-count = flat-length d s ∙ z;
+        old-count = c;
         new-rise = sym (sorted-rises (tableOf k (lent cs vs bs us ys))) ∙ o;
-        new-count = length-take-le k (rows (lent cs vs bs us ys)) f;
-        times-are = field-times (flat d) ∙ ap (map (λ (r : Reading). r .time)) r ∙ times-in n ts xs (omega arith);
-        corrections-are = field-corrections (flat d) ∙ ap (map (λ (r : Reading). r .correction)) r ∙ corrections-in n ts xs (omega arith);
-        room-t = omega (arith, readings-length ts xs);
-        room-x = omega (arith, readings-length ts xs);
+        new-count = ku;
+        times-are = map-of patternOf (λ (s : Sample). s .time) (flat d) ∙ ap (map patternOf) et ∙ patterns-back ts n nt bt (numbers-in ts xs n nr (p .in-reach));
+        corrections-are = map-of patternOf (λ (s : Sample). s .correction) (flat d) ∙ ap (map patternOf) ec ∙ patterns-back xs n nx bx (numbers-of ts xs n nr (p .in-reach));
+        read = λ y q.
+            sym (floats-at ts y (omega arith)) ∙ sym (getD-take n (floats ts) y nan q) ∙ ap (λ (l : List Float). getD l y nan) (sym et) ∙ getD-map-in (λ (s : Sample). s .time) (flat d) y blank nan (omega (arith, c));
+        times-fit = every-insertAll _ (flat d) _ (sym (every-of (fits binary64) (λ (s : Sample). s .time) (flat d)) ∙ ap (every (fits binary64)) et ∙ floats-fit-all ts n) (new-fit (λ (s : Sample). s .time) (λ x q. rw (← new-at x q) (fu x)));
+        corrections-fit = every-insertAll _ (flat d) _ (sym (every-of (fits binary64) (λ (s : Sample). s .correction) (flat d)) ∙ ap (every (fits binary64)) ec ∙ floats-fit-all xs n) (new-fit (λ (s : Sample). s .correction) (λ x q. rw (← new-at x q) (fy x)));
+        room-t = omega arith;
+        room-x = omega arith;
       }
     where
       sorted-of : (l : List Sample) → soundTable l ≡ true → sorted l ≡ true
       sorted-of l e = and-right (every ranged l) (sorted l) (unfold soundTable in e)
 
-      field-times : (l : List Sample) → map timeOf l ≡ map (λ (r : Reading). r .time) (map readingOf l)
+      new-at : (x : ℕ) → x < k → _≡_ {A = Sample} (record { constellation = getD cs x 0; svid = getD vs x 0; band = getD bs x 0; time = getD us x nan; correction = getD ys x nan }) (getD (tableOf k (lent cs vs bs us ys)) x blank)
+      new-at x q = rows-at (lent cs vs bs us ys) x (omega arith) ∙ sym (getD-take k (rows (lent cs vs bs us ys)) x blank q)
+
+      new-fit : (g : Sample → Float) → ((x : ℕ) → x < k → T (fits binary64 (g (getD (tableOf k (lent cs vs bs us ys)) x blank)))) → every (λ (s : Sample). fits binary64 (g s)) (tableOf k (lent cs vs bs us ys)) ≡ true
+      new-fit g e = every-all _ _ (λ x q. T-true _ (e x (omega (arith, length-take-le k (rows (lent cs vs bs us ys)) f))))
+
+      field-times : (l : List Sample) → map (λ (s : Sample). s .time) l ≡ map (λ (r : Reading). r .time) (map readingOf l)
       field-times [] = refl
       field-times (a ∷ l) = ap (λ (m : List Float). a .time ∷ m) (field-times l)
 
-      field-corrections : (l : List Sample) → map correctionOf l ≡ map (λ (r : Reading). r .correction) (map readingOf l)
+      field-corrections : (l : List Sample) → map (λ (s : Sample). s .correction) l ≡ map (λ (r : Reading). r .correction) (map readingOf l)
       field-corrections [] = refl
       field-corrections (a ∷ l) = ap (λ (m : List Float). a .correction ∷ m) (field-corrections l)
 

@@ -7,7 +7,8 @@ use native.Mathlib.Omega.{arith}
 use lib.Dec.{eqb, ltb}
 use lib.ListN.{length, getD, take, length-append}
 use borrow.Author.Tests.{eqb-true, eqb-false, ltb-true, ltb-false}
-use Rattle.table.specs.Table.{blank, signal, signalOf}
+use Rattle.signal.specs.Signal.{signal}
+use Rattle.table.specs.Table.{blank, signalOf}
 use Rattle.table.specs.declared.sample.Sample.{Sample}
 use Rattle.table.proofs.Places.{rises, sorted-rises}
 use Rattle.directory.specs.Directory.{Entry, Reading, ascends, entriesFrom, entryRows, isMine, noEntry, signalIn}

@@ -1,5 +1,5 @@
 -- From the merged columns to the directory of the table with the new samples. Assumes nothing.
-use mathlib.Core.Path.{_≡_, refl, sym, ap, _∙_}
+use mathlib.Core.Path.{_≡_, refl, sym, ap, subst, _∙_}
 use mathlib.Core.List.{List, [], _∷_, _++_, map}
 use mathlib.Core.Bool.{Bool, true, false, cond}
 use Prim.Native.Nat.{ℕ, suc, _+_, _≤_}
@@ -7,6 +7,7 @@ use native.Mathlib.Omega.{arith}
 use lib.ListN.{length, take, drop, length-map}
 use lib.Seq.{length-take-le, take-take}
 use lib.Ieee.{Float}
+use Rattle.numeric.specs.Order.{patternOf}
 use Rattle.walk.specs.Walk.{every}
 use Rattle.table.specs.Table.{Columns, lent, rows, sorted, soundTable, tableOf}
 use Rattle.table.specs.Add.{InsertedAll, insertAll}
@@ -15,9 +16,10 @@ use Rattle.table.proofs.ColumnLaws.{rows-length}
 use Rattle.table.proofs.InsertLaws.{insertAll-length}
 use Rattle.table.proofs.SeriesLaws.{insertAll-rises}
 use Rattle.table.proofs.Places.{rises, sorted-rises}
-use Rattle.directory.specs.Directory.{Directory, Entry, Reading, blocksWith, columnOf, directoryIn, directoryOf, entriesFrom, entryOf, entryRows, flat, isMine, joined, lentBlocks, readingOf, readingRows}
+use Rattle.directory.specs.Directory.{Directory, Entry, PatternsWith, Reading, blocksWith, columnOf, directoryIn, directoryOf, entriesFrom, entryOf, entryRows, flat, isMine, joined, lentBlocks, readingOf, readingRows}
 use Rattle.directory.proofs.DirectoryLaws.{sound-parts}
 use Rattle.directory.proofs.ColumnLaws.{flat-length}
+use Rattle.directory.proofs.PatternLaws.{map-of}
 use Rattle.addition.specs.Merge.{EntriesMerged, OfSignals, ReadingsMerged, Tiled, entriesUpTo}
 use Rattle.addition.specs.Add.{Fitting, directoryWith}
 use Rattle.addition.proofs.SortLaws.{sorted-first}
@@ -37,6 +39,9 @@ pub entries-fewer : (place : ℕ) (t : List Sample) → length (entriesFrom plac
 unfolding entriesFrom
 entries-fewer place [] = omega arith
 entries-fewer place (s ∷ t) = omega (arith, fewer-joined s place (entriesFrom (suc place) t), entries-fewer (suc place) t)
+
+by-reading : {A : Type 0} (g : Reading → A) (t : List Sample) (d : List A) → map (λ (s : Sample). g (readingOf s)) t ++ drop (length t) d ≡ columnOf g (map readingOf t) d
+by-reading g t d = rw (length-map t readingOf, map-of g readingOf t)
 
 -- ---- the columns of a directory and of sorted new samples
 module _ {dc dv db df dn : List ℕ} {ts xs : List Float} {m n k : ℕ} (f : Fitting m n k (lentBlocks dc dv db df dn ts xs)) where
@@ -73,21 +78,27 @@ module _ {dc dv db df dn : List ℕ} {ts xs : List Float} {m n k : ℕ} (f : Fit
 
     pub columns-all : {dc′ dv′ db′ df′ dn′ : List ℕ} {ts′ xs′ : List Float}
         → EntriesMerged (entriesUpTo (take n (readingRows ts xs)) (take m (entryRows dc dv db df dn)) (tableOf k (lent cs vs bs us ys)) m k) dc dv db df dn dc′ dv′ db′ df′ dn′
-        → ReadingsMerged (insertAll (flat (directoryIn m n (lentBlocks dc dv db df dn ts xs))) (tableOf k (lent cs vs bs us ys))) ts xs ts′ xs′
-        → lentBlocks dc′ dv′ db′ df′ dn′ ts′ xs′ ≡ blocksWith (directoryWith (directoryIn m n (lentBlocks dc dv db df dn ts xs)) (tableOf k (lent cs vs bs us ys))) (lentBlocks dc dv db df dn ts xs)
+        → (let t = insertAll (flat (directoryIn m n (lentBlocks dc dv db df dn ts xs))) (tableOf k (lent cs vs bs us ys)) in
+        ts′ ≡ columnOf (λ (s : Sample). s .time) t ts → xs′ ≡ columnOf (λ (s : Sample). s .correction) t xs
+        → lentBlocks dc′ dv′ db′ df′ dn′ ts′ xs′ ≡ blocksWith (directoryWith (directoryIn m n (lentBlocks dc dv db df dn ts xs)) (tableOf k (lent cs vs bs us ys))) (lentBlocks dc dv db df dn ts xs))
     unfolding directoryOf
-    columns-all {ts′ = ts′} {xs′ = xs′} e r =
+    columns-all {ts′ = ts′} {xs′ = xs′} e rt rx =
         let t = insertAll (flat (directoryIn m n (lentBlocks dc dv db df dn ts xs))) (tableOf k (lent cs vs bs us ys)) in
-        let a : ts′ ≡ columnOf (λ (r : Reading). r .time) (map readingOf t) ts = r .times ∙ by-reading (λ (r : Reading). r .time) t ts in
-        let b : xs′ ≡ columnOf (λ (r : Reading). r .correction) (map readingOf t) xs = r .corrections ∙ by-reading (λ (r : Reading). r .correction) t xs in
+        let a : ts′ ≡ columnOf (λ (r : Reading). r .time) (map readingOf t) ts = rt ∙ by-reading (λ (r : Reading). r .time) t ts in
+        let b : xs′ ≡ columnOf (λ (r : Reading). r .correction) (map readingOf t) xs = rx ∙ by-reading (λ (r : Reading). r .correction) t xs in
         rw (e .constellations, e .svids, e .bands, e .firsts, e .counts, a, b, entries-all)
-      where
-        by-reading : (g : Reading → Float) (t : List Sample) (d : List Float) → map (λ (s : Sample). g (readingOf s)) t ++ drop (length t) d ≡ columnOf g (map readingOf t) d
-        by-reading g t d = rw (length-map t readingOf) (ap (λ (l : List Float). l ++ drop (length t) d) (twice t))
-          where
-            twice : (t : List Sample) → map (λ (s : Sample). g (readingOf s)) t ≡ map g (map readingOf t)
-            twice [] = refl
-            twice (s ∷ t) = ap (λ (l : List Float). g (readingOf s) ∷ l) (twice t)
+
+-- the patterns of the samples are those of the directory's readings
+pub patterns-all : (d : Directory) (u : List Sample) {ts xs ts′ xs′ : List ℕ} → ReadingsMerged (insertAll (flat d) u) ts xs ts′ xs′ → PatternsWith (directoryWith d u) ts xs ts′ xs′
+unfolding directoryOf
+patterns-all d u {ts} {xs} r =
+    record {
+      times = r .times ∙ by-reading (λ (r : Reading). patternOf (r .time)) (insertAll (flat d) u) ts;
+      corrections = r .corrections ∙ by-reading (λ (r : Reading). patternOf (r .correction)) (insertAll (flat d) u) xs;
+    }
+
+pub patterns-same : {d d′ : Directory} {ts xs ts′ xs′ : List ℕ} → d ≡ d′ → PatternsWith d ts xs ts′ xs′ → PatternsWith d′ ts xs ts′ xs′
+patterns-same {ts = ts} {xs = xs} {ts′ = ts′} {xs′ = xs′} e p = subst (λ (d : Directory). PatternsWith d ts xs ts′ xs′) e p
 
 -- new samples may be sorted first
 pub with-sorted : (d : Directory) (ss : List Sample) → directoryWith d (insertAll [] ss) ≡ directoryWith d ss

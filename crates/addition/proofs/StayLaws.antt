@@ -5,27 +5,28 @@ use mathlib.Core.List.{List}
 use Prim.Native.Nat.{ℕ, _-_, _≤_, _<_}
 use native.Mathlib.Omega.{arith}
 use lib.Dec.{ltb}
-use lib.Ieee.{Float, nan}
+use lib.Ieee.{Float}
+use Rattle.exact.specs.Float.{bits}
 use lib.ListN.{getD}
 use borrow.Author.Tests.{ltb-true, ltb-false, lt-ltb, le-ltb, eq-eqb, ne-eqb}
 use Rattle.table.specs.Table.{timeBefore}
 use Rattle.addition.specs.Merge.{Stays, TimesStay}
 
 -- of the first i times those from p on come after the time t
-pub record Staying (ts : List Float) (first i : ℕ) (t : Float) (p : ℕ) : Type 0 where
+pub record Staying (ts : List ℕ) (first i : ℕ) (t : Float) (p : ℕ) : Type 0 where
   pub from : first ≤ p
   pub few : p ≤ i
-  pub later : (x : ℕ) → p ≤ x → x < i → timeBefore t (getD ts x nan) ≡ true
+  pub later : (x : ℕ) → p ≤ x → x < i → timeBefore t (bits (getD ts x 0)) ≡ true
 
-module _ {ts : List Float} {first i p : ℕ} {t : Float} (inv : Staying ts first i t p) where
-  pub staying-turn : first < p → timeBefore t (getD ts (p - 1) nan) ≡ true → Staying ts first i t (p - 1)
+module _ {ts : List ℕ} {first i p : ℕ} {t : Float} (inv : Staying ts first i t p) where
+  pub staying-turn : first < p → timeBefore t (bits (getD ts (p - 1) 0)) ≡ true → Staying ts first i t (p - 1)
   staying-turn h e = record { from = omega arith; few = omega (arith, inv .few); later = λ x l m. go x l m (ltb x p) refl }
     where
-      go : (x : ℕ) → p - 1 ≤ x → x < i → (b : Bool) → ltb x p ≡ b → timeBefore t (getD ts x nan) ≡ true
+      go : (x : ℕ) → p - 1 ≤ x → x < i → (b : Bool) → ltb x p ≡ b → timeBefore t (bits (getD ts x 0)) ≡ true
       go x l m true w = let z : x ≡ p - 1 = omega (arith, ltb-true x p w) in rw z e
       go x l m false w = inv .later x (ltb-false x p w) m
 
-module _ (ts : List Float) (first i g : ℕ) (t : Float) (h : ℕ) where
+module _ (ts : List ℕ) (first i g : ℕ) (t : Float) (h : ℕ) where
   pub stays-none : i ≡ 0 → Stays ts first i g t h i
   stays-none z = record { few = omega arith; from = λ l. absurd (omega arith); later = λ x l m. absurd (omega arith); earlier = λ l. absurd (omega arith) }
 

@@ -15,7 +15,7 @@ use Rattle.table.specs.declared.sample.Sample.{Sample}
 use Rattle.table.specs.declared.add.Samples.{Samples}
 use Rattle.table.specs.declared.add.Test.{Test}
 use Rattle.table.specs.declared.add.Test.the-variants as Test
-use Rattle.directory.specs.Directory.{Directory, Blocks, blocksWith, directoryIn, directoryOf, entriesIn, flat, readingsIn, soundDirectory}
+use Rattle.directory.specs.Directory.{Directory, Blocks, PatternsWith, blocksWith, directoryIn, directoryOf, entriesIn, flat, readingsIn, soundDirectory}
 use Rattle.addition.specs.declared.add.Addition.{Addition}
 use Rattle.addition.specs.declared.add.Addition.the-variants as Addition
 
@@ -78,6 +78,11 @@ pub record Places (o : Placed) (number m m′ n n′ : ℕ) (l l′ : Blocks) : 
   pub entries-are : m′ ≡ entriesNow (additionOf o) m
   pub samples-are : n′ ≡ samplesNow (additionOf o) n
   pub columns : l′ ≡ blocksAfter o l
+
+-- the patterns of times and corrections afterwards, to the last bit: as they were where adding is refused, else with those of the directory's readings
+abbrev pub PatternsAfter : Placed → List ℕ → List ℕ → List ℕ → List ℕ → Type 0
+PatternsAfter (refusedIn r) ts xs ts′ xs′ = (ts′ ≡ ts) × (xs′ ≡ xs)
+PatternsAfter (addedIn d) ts xs ts′ xs′ = PatternsWith d ts xs ts′ xs′
 
 -- ---- the same of the table that the directory stands for
 abbrev pub flatOutcome : Placed → Outcome

@@ -4,13 +4,16 @@ use mathlib.Core.List.{List, [], _∷_, _++_}
 use mathlib.Core.Path.{_≡_}
 use mathlib.Core.Bool.{true, false, _&&_, _||_}
 use lib.Dec.{eqb, ltb}
-use lib.Ieee.{Float, nan}
+use lib.Ieee.{Float}
+use Rattle.exact.specs.Float.{bits}
 use lib.ListN.{length, getD, take, set}
 use Rattle.walk.specs.Walk.{collect}
-use Rattle.table.specs.Table.{blank, signal, sorted, timeBefore}
+use Rattle.numeric.specs.Order.{patternOf}
+use Rattle.signal.specs.Signal.{signal}
+use Rattle.table.specs.Table.{blank, sorted, timeBefore}
 use Rattle.table.specs.Add.{insertAll}
 use Rattle.table.specs.declared.sample.Sample.{Sample}
-use Rattle.directory.specs.Directory.{Entry, Reading, ascends, block, columnOf, entriesFrom, entryRows, noEntry, tiles}
+use Rattle.directory.specs.Directory.{Entry, Reading, ascends, block, columnOf, entriesFrom, entryRows, floats, noEntry, tiles}
 use Rattle.addition.specs.declared.entries.Last.{Last}
 
 -- the first i samples of a table with the first j of new ones
@@ -27,29 +30,31 @@ entriesUpTo rs es u i j = entriesFrom 0 (insertAll (blocksUpTo rs es i) (take j 
 
 -- ---- times and corrections
 
--- the first r of i times stay before the time t, of those from the place `first` on
-pub record TimesStay (ts : List Float) (first i : ℕ) (t : Float) (r : ℕ) : Type 0 where
+-- the first r of i times, lent as patterns, stay before the time t, of those from the place `first` on
+pub record TimesStay (ts : List ℕ) (first i : ℕ) (t : Float) (r : ℕ) : Type 0 where
   pub from : first ≤ r
   pub few : r ≤ i
-  pub later : (x : ℕ) → r ≤ x → x < i → timeBefore t (getD ts x nan) ≡ true
-  pub earlier : first < r → timeBefore t (getD ts (r - 1) nan) ≡ false
+  pub later : (x : ℕ) → r ≤ x → x < i → timeBefore t (bits (getD ts x 0)) ≡ true
+  pub earlier : first < r → timeBefore t (bits (getD ts (r - 1) 0)) ≡ false
 
 -- The first r of i old samples stay before a new one of the signal g at the time t, of those of the last block, which begins at the place `first` and is of the signal h.
-pub record Stays (ts : List Float) (first i g : ℕ) (t : Float) (h r : ℕ) : Type 0 where
+pub record Stays (ts : List ℕ) (first i g : ℕ) (t : Float) (h r : ℕ) : Type 0 where
   pub few : r ≤ i
   pub from : 0 < i → first ≤ r
-  pub later : (x : ℕ) → r ≤ x → x < i → (ltb g h || (eqb g h && timeBefore t (getD ts x nan))) ≡ true
-  pub earlier : first < r → (ltb g h || (eqb g h && timeBefore t (getD ts (r - 1) nan))) ≡ false
+  pub later : (x : ℕ) → r ≤ x → x < i → (ltb g h || (eqb g h && timeBefore t (bits (getD ts x 0)))) ≡ true
+  pub earlier : first < r → (ltb g h || (eqb g h && timeBefore t (bits (getD ts (r - 1) 0)))) ≡ false
 
 -- the first c values from the place `first` on go up by so many places, the last of them first
 unfoldable pub shifted : {A : Type 0} → ℕ → ℕ → ℕ → A → List A → List A
 shifted first by zero z d = d
 shifted first by (suc c) z d = shifted first by c z (set d (first + c + by) (getD d (first + c) z))
 
--- the columns have the times and corrections of the table t, and past it what was there
-pub record ReadingsMerged (t : List Sample) (ts xs ts′ xs′ : List Float) : Type 0 where
-  pub times : ts′ ≡ columnOf (λ (s : Sample). s .time) t ts
-  pub corrections : xs′ ≡ columnOf (λ (s : Sample). s .correction) t xs
+-- the columns have the patterns of the times and corrections of the table t, and past it the bits that were there; read as floats, they have the times and corrections
+pub record ReadingsMerged (t : List Sample) (ts xs ts′ xs′ : List ℕ) : Type 0 where
+  pub times : ts′ ≡ columnOf (λ (s : Sample). patternOf (s .time)) t ts
+  pub corrections : xs′ ≡ columnOf (λ (s : Sample). patternOf (s .correction)) t xs
+  pub times-read : floats ts′ ≡ columnOf (λ (s : Sample). s .time) t (floats ts)
+  pub corrections-read : floats xs′ ≡ columnOf (λ (s : Sample). s .correction) t (floats xs)
 
 -- ---- entries
 

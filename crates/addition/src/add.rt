@@ -5,13 +5,13 @@ ghost use Prim.Native.Nat.{_≤_};
 ghost use lib.ListN.{length, take};
 ghost use Rattle.walk.specs.Walk.{every};
 ghost use Rattle.table.specs.Table.{lent, ranged, rows, sorted, tableOf};
-ghost use Rattle.directory.specs.Directory.{lentBlocks, blockCapacity, directoryIn, blocksWith};
-ghost use Rattle.addition.specs.Add.{directoryWith, testIn, addIn, additionOf, additionNumber, entriesNow, samplesNow, Places, Fitting};
+ghost use Rattle.directory.specs.Directory.{PatternsWith, lentBlocks, floats, blockCapacity, directoryIn, blocksWith};
+ghost use Rattle.addition.specs.Add.{directoryWith, testIn, addIn, additionOf, additionNumber, entriesNow, samplesNow, Places, PatternsAfter, Fitting};
 use crate::entries::entries_after;
 use crate::entries::merge_entries;
 use crate::readings::merge_readings;
-use directory::entry::block_capacity;
-use directory::sound::is_sound_directory;
+use directory::patterns::capacity_of;
+use directory::patterns::is_sound;
 use numeric::refusal::Refusal;
 use table::add::Samples;
 use table::add::Test;
@@ -33,123 +33,251 @@ pub enum Addition {
 
 // Numbers 2, 4 and 11, in this order.
 fn tested(
-    dc: &[u8],
-    dv: &[u16],
-    db: &[u32],
-    df: &[usize],
-    dn: &[usize],
-    m: usize,
-    ts: &[f64],
-    xs: &[f64],
-    n: usize,
+    block_constellation: &[u8],
+    block_svid: &[u16],
+    block_band: &[u32],
+    block_first: &[usize],
+    block_samples: &[usize],
+    blocks: usize,
+    table_time: &[u64],
+    table_metres: &[u64],
+    table_count: usize,
     new: Samples,
 ) -> Test
-    ensures { λ r. ⌜ (let l = lentBlocks (now (dc .entry)) (now (dv .entry)) (now (db .entry)) (now (df .entry)) (now (dn .entry)) (now (ts .entry)) (now (xs .entry)) in
-        r ≡ testIn m n (blockCapacity l) (directoryIn m n l) new) ⌝ }
+    ensures { λ r. ⌜ (let l = lentBlocks
+        (now («block_constellation» .entry)) (now («block_svid» .entry)) (now («block_band» .entry))
+        (now («block_first» .entry)) (now («block_samples» .entry)) (floats (now («table_time» .entry))) (floats (now («table_metres» .entry))) in
+        r ≡ testIn blocks «table_count» (blockCapacity l) (directoryIn blocks «table_count» l) new) ⌝ }
 {
-    let k = new.count;
-    let room = block_capacity(dc, dv, db, df, dn, ts, xs);
-    if (room < m) | (room < n) | (64 < k) {
+    let new_count = new.count;
+    let room = capacity_of(
+        block_constellation,
+        block_svid,
+        block_band,
+        block_first,
+        block_samples,
+        table_time,
+        table_metres,
+    );
+    if (room < blocks) | (room < table_count) | (64 < new_count) {
         return Test::Refused(Refusal::TooMany);
     }
-    if !is_sound_directory(dc, dv, db, df, dn, m, ts, xs, n) {
+    if !is_sound(
+        block_constellation,
+        block_svid,
+        block_band,
+        block_first,
+        block_samples,
+        blocks,
+        table_time,
+        table_metres,
+        table_count,
+    ) {
         return Test::Refused(Refusal::RecordOutOfRange);
     }
     if !all_ranged(new) {
         return Test::Refused(Refusal::RecordOutOfRange);
     }
-    if room < n + k {
+    if room < table_count + new_count {
         return Test::Refused(Refusal::TableFull);
     }
     Test::Passed
 }
 
-// The k sorted samples of five columns into a sound directory that has room for them all; the answer is how many entries there are now.
+// The sorted samples of five columns into a sound directory that has room for them all; the answer is how many entries there are now.
 fn merge(
-    dc: &mut [u8],
-    dv: &mut [u16],
-    db: &mut [u32],
-    df: &mut [usize],
-    dn: &mut [usize],
-    m: usize,
-    ts: &mut [f64],
-    xs: &mut [f64],
-    n: usize,
-    cs: &[u8],
-    vs: &[u16],
-    bs: &[u32],
-    us: &[f64],
-    ys: &[f64],
-    k: usize,
+    block_constellation: &mut [u8],
+    block_svid: &mut [u16],
+    block_band: &mut [u32],
+    block_first: &mut [usize],
+    block_samples: &mut [usize],
+    blocks: usize,
+    table_time: &mut [u64],
+    table_metres: &mut [u64],
+    table_count: usize,
+    new_constellation: &[u8],
+    new_svid: &[u16],
+    new_band: &[u32],
+    new_time: &[f64],
+    new_metres: &[f64],
+    new_count: usize,
 ) -> usize
-    requires { ⌜ Fitting m n k (lentBlocks (now dc) (now dv) (now db) (now df) (now dn) (now ts) (now xs)) ⌝ }
-    requires { ⌜ (k ≤ length (rows (lent (now cs) (now vs) (now bs) (now us) (now ys)))) × (sorted (tableOf k (lent (now cs) (now vs) (now bs) (now us) (now ys))) ≡ true) ⌝ }
-    ensures { λ r. ⌜ (let l = lentBlocks (now (dc .entry)) (now (dv .entry)) (now (db .entry)) (now (df .entry)) (now (dn .entry)) (now (ts .entry)) (now (xs .entry)) in
-        let d = directoryWith (directoryIn m n l) (tableOf k (lent (now (cs .entry)) (now (vs .entry)) (now (bs .entry)) (now (us .entry)) (now (ys .entry)))) in
-        (r ≡ length (d .entries)) × (lentBlocks (now (dc .exit)) (now (dv .exit)) (now (db .exit)) (now (df .exit)) (now (dn .exit)) (now (ts .exit)) (now (xs .exit)) ≡ blocksWith d l)) ⌝ }
+    requires { ⌜ Fitting blocks «table_count» «new_count» (lentBlocks
+        (now «block_constellation») (now «block_svid») (now «block_band»)
+        (now «block_first») (now «block_samples») (floats (now «table_time»)) (floats (now «table_metres»))) ⌝ }
+    requires { ⌜ («new_count» ≤ length (rows (lent (now «new_constellation») (now «new_svid») (now «new_band») (now «new_time») (now «new_metres»)))) × (sorted (tableOf «new_count» (lent (now «new_constellation») (now «new_svid») (now «new_band») (now «new_time») (now «new_metres»))) ≡ true) ⌝ }
+    ensures { λ r. ⌜ (let l = lentBlocks
+        (now («block_constellation» .entry)) (now («block_svid» .entry)) (now («block_band» .entry))
+        (now («block_first» .entry)) (now («block_samples» .entry)) (floats (now («table_time» .entry))) (floats (now («table_metres» .entry))) in
+        let d = directoryWith (directoryIn blocks «table_count» l) (tableOf «new_count» (lent (now («new_constellation» .entry)) (now («new_svid» .entry)) (now («new_band» .entry)) (now («new_time» .entry)) (now («new_metres» .entry)))) in
+        (r ≡ length (d .entries)) × ((lentBlocks
+        (now («block_constellation» .exit)) (now («block_svid» .exit)) (now («block_band» .exit))
+        (now («block_first» .exit)) (now («block_samples» .exit)) (floats (now («table_time» .exit))) (floats (now («table_metres» .exit))) ≡ blocksWith d l)
+        × PatternsWith d (now («table_time» .entry)) (now («table_metres» .entry)) (now («table_time» .exit)) (now («table_metres» .exit)))) ⌝ }
 {
-    let count = entries_after(dc, dv, db, df, dn, m, n, cs, vs, bs, k);
-    merge_readings(dc, dv, db, df, dn, m, ts, xs, n, cs, vs, bs, us, ys, k);
-    merge_entries(dc, dv, db, df, dn, m, n, cs, vs, bs, k, count);
+    let count = entries_after(
+        block_constellation,
+        block_svid,
+        block_band,
+        block_first,
+        block_samples,
+        blocks,
+        table_count,
+        new_constellation,
+        new_svid,
+        new_band,
+        new_count,
+    );
+    merge_readings(
+        block_constellation,
+        block_svid,
+        block_band,
+        block_first,
+        block_samples,
+        blocks,
+        table_time,
+        table_metres,
+        table_count,
+        new_constellation,
+        new_svid,
+        new_band,
+        new_time,
+        new_metres,
+        new_count,
+    );
+    merge_entries(
+        block_constellation,
+        block_svid,
+        block_band,
+        block_first,
+        block_samples,
+        blocks,
+        table_count,
+        new_constellation,
+        new_svid,
+        new_band,
+        new_count,
+        count,
+    );
     count
 }
 
-// The first k samples of new, sorted, into a sound directory that has room for them all; the answer is how many entries there are now.
+// The first new_count samples of new, sorted, into a sound directory that has room for them all; the answer is how many entries there are now.
 fn place(
-    dc: &mut [u8],
-    dv: &mut [u16],
-    db: &mut [u32],
-    df: &mut [usize],
-    dn: &mut [usize],
-    m: usize,
-    ts: &mut [f64],
-    xs: &mut [f64],
-    n: usize,
+    block_constellation: &mut [u8],
+    block_svid: &mut [u16],
+    block_band: &mut [u32],
+    block_first: &mut [usize],
+    block_samples: &mut [usize],
+    blocks: usize,
+    table_time: &mut [u64],
+    table_metres: &mut [u64],
+    table_count: usize,
     new: [Sample; 64],
-    k: usize,
+    new_count: usize,
 ) -> usize
-    requires { ⌜ (k ≤ 64) × (every ranged (take k new) ≡ true) ⌝ }
-    requires { ⌜ Fitting m n k (lentBlocks (now dc) (now dv) (now db) (now df) (now dn) (now ts) (now xs)) ⌝ }
-    ensures { λ r. ⌜ (let l = lentBlocks (now (dc .entry)) (now (dv .entry)) (now (db .entry)) (now (df .entry)) (now (dn .entry)) (now (ts .entry)) (now (xs .entry)) in
-        let d = directoryWith (directoryIn m n l) (take k new) in
-        (r ≡ length (d .entries)) × (lentBlocks (now (dc .exit)) (now (dv .exit)) (now (db .exit)) (now (df .exit)) (now (dn .exit)) (now (ts .exit)) (now (xs .exit)) ≡ blocksWith d l)) ⌝ }
+    requires { ⌜ («new_count» ≤ 64) × (every ranged (take «new_count» new) ≡ true) ⌝ }
+    requires { ⌜ Fitting blocks «table_count» «new_count» (lentBlocks
+        (now «block_constellation») (now «block_svid») (now «block_band»)
+        (now «block_first») (now «block_samples») (floats (now «table_time»)) (floats (now «table_metres»))) ⌝ }
+    ensures { λ r. ⌜ (let l = lentBlocks
+        (now («block_constellation» .entry)) (now («block_svid» .entry)) (now («block_band» .entry))
+        (now («block_first» .entry)) (now («block_samples» .entry)) (floats (now («table_time» .entry))) (floats (now («table_metres» .entry))) in
+        let d = directoryWith (directoryIn blocks «table_count» l) (take «new_count» new) in
+        (r ≡ length (d .entries)) × ((lentBlocks
+        (now («block_constellation» .exit)) (now («block_svid» .exit)) (now («block_band» .exit))
+        (now («block_first» .exit)) (now («block_samples» .exit)) (floats (now («table_time» .exit))) (floats (now («table_metres» .exit))) ≡ blocksWith d l)
+        × PatternsWith d (now («table_time» .entry)) (now («table_metres» .entry)) (now («table_time» .exit)) (now («table_metres» .exit)))) ⌝ }
 {
-    let mut cs = [0u8; 64];
-    let mut vs = [0u16; 64];
-    let mut bs = [0u32; 64];
-    let mut us = [0.0f64; 64];
-    let mut ys = [0.0f64; 64];
-    insert_all(&mut cs, &mut vs, &mut bs, &mut us, &mut ys, 0, new, k);
-    merge(dc, dv, db, df, dn, m, ts, xs, n, &cs, &vs, &bs, &us, &ys, k)
+    let mut new_constellation = [0u8; 64];
+    let mut new_svid = [0u16; 64];
+    let mut new_band = [0u32; 64];
+    let mut new_time = [0.0f64; 64];
+    let mut new_metres = [0.0f64; 64];
+    insert_all(
+        &mut new_constellation,
+        &mut new_svid,
+        &mut new_band,
+        &mut new_time,
+        &mut new_metres,
+        0,
+        new,
+        new_count,
+    );
+    merge(
+        block_constellation,
+        block_svid,
+        block_band,
+        block_first,
+        block_samples,
+        blocks,
+        table_time,
+        table_metres,
+        table_count,
+        &new_constellation,
+        &new_svid,
+        &new_band,
+        &new_time,
+        &new_metres,
+        new_count,
+    )
 }
 
-// The counted samples of new to the directory of m entries and n samples, or the refusal, which leaves every column as it was.
+// The counted samples of new to the directory of `blocks` entries and `table_count` samples, or the refusal, which leaves every column as it was.
 pub fn add(
-    dc: &mut [u8],
-    dv: &mut [u16],
-    db: &mut [u32],
-    df: &mut [usize],
-    dn: &mut [usize],
-    m: usize,
-    ts: &mut [f64],
-    xs: &mut [f64],
-    n: usize,
+    block_constellation: &mut [u8],
+    block_svid: &mut [u16],
+    block_band: &mut [u32],
+    block_first: &mut [usize],
+    block_samples: &mut [usize],
+    blocks: usize,
+    table_time: &mut [u64],
+    table_metres: &mut [u64],
+    table_count: usize,
     new: Samples,
 ) -> Addition
-    ensures { λ r. ⌜ (let l = lentBlocks (now (dc .entry)) (now (dv .entry)) (now (db .entry)) (now (df .entry)) (now (dn .entry)) (now (ts .entry)) (now (xs .entry)) in
-        let o = addIn m n (blockCapacity l) (directoryIn m n l) new in
-        (r ≡ additionOf o) × Places o (additionNumber r) m (entriesNow r m) n (samplesNow r n) l (lentBlocks (now (dc .exit)) (now (dv .exit)) (now (db .exit)) (now (df .exit)) (now (dn .exit)) (now (ts .exit)) (now (xs .exit)))) ⌝ }
+    ensures { λ r. ⌜ (let l = lentBlocks
+        (now («block_constellation» .entry)) (now («block_svid» .entry)) (now («block_band» .entry))
+        (now («block_first» .entry)) (now («block_samples» .entry)) (floats (now («table_time» .entry))) (floats (now («table_metres» .entry))) in
+        let o = addIn blocks «table_count» (blockCapacity l) (directoryIn blocks «table_count» l) new in
+        (r ≡ additionOf o) × (Places o (additionNumber r) blocks (entriesNow r blocks) «table_count» (samplesNow r «table_count») l (lentBlocks
+        (now («block_constellation» .exit)) (now («block_svid» .exit)) (now («block_band» .exit))
+        (now («block_first» .exit)) (now («block_samples» .exit)) (floats (now («table_time» .exit))) (floats (now («table_metres» .exit))))
+        × PatternsAfter o (now («table_time» .entry)) (now («table_metres» .entry)) (now («table_time» .exit)) (now («table_metres» .exit)))) ⌝ }
 {
-    let test = tested(dc, dv, db, df, dn, m, ts, xs, n, new);
+    let test = tested(
+        block_constellation,
+        block_svid,
+        block_band,
+        block_first,
+        block_samples,
+        blocks,
+        table_time,
+        table_metres,
+        table_count,
+        new,
+    );
     match test {
         Test::Refused(r) => Addition::Refused(r),
         Test::Passed => {
-            let k = new.count;
+            let new_count = new.count;
             let samples = new.samples;
-            let entries = place(dc, dv, db, df, dn, m, ts, xs, n, samples, k);
+            let entries = place(
+                block_constellation,
+                block_svid,
+                block_band,
+                block_first,
+                block_samples,
+                blocks,
+                table_time,
+                table_metres,
+                table_count,
+                samples,
+                new_count,
+            );
             Addition::Added(Counts {
                 entries: entries,
-                samples: n + k,
+                samples: table_count + new_count,
             })
         }
     }

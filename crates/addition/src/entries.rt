@@ -21,13 +21,19 @@ pub struct Last {
 }
 
 // Where those of the first j new samples begin that are of the signal g, from the last down.
-fn own_start(cs: &[u8], vs: &[u16], bs: &[u32], j: usize, g: u64) -> usize
-    requires { ⌜ (j ≤ length (now cs)) × ((j ≤ length (now vs)) × (j ≤ length (now bs))) ⌝ }
-    ensures { λ r. ⌜ OwnFrom (now (cs .entry)) (now (vs .entry)) (now (bs .entry)) g r j ⌝ }
+fn own_start(
+    new_constellation: &[u8],
+    new_svid: &[u16],
+    new_band: &[u32],
+    j: usize,
+    g: u64,
+) -> usize
+    requires { ⌜ (j ≤ length (now «new_constellation»)) × ((j ≤ length (now «new_svid»)) × (j ≤ length (now «new_band»))) ⌝ }
+    ensures { λ r. ⌜ OwnFrom (now («new_constellation» .entry)) (now («new_svid» .entry)) (now («new_band» .entry)) g r j ⌝ }
 {
     let mut a = j;
     while 0 < a {
-        let h = signal_at(cs, vs, bs, a - 1);
+        let h = signal_at(new_constellation, new_svid, new_band, a - 1);
         if h != g {
             return a;
         }
@@ -37,18 +43,25 @@ fn own_start(cs: &[u8], vs: &[u16], bs: &[u32], j: usize, g: u64) -> usize
 }
 
 // The block of the last new samples alone, after i blocks; together they end at `end`.
-fn new_last(i: usize, cs: &[u8], vs: &[u16], bs: &[u32], j: usize, end: usize) -> Last
-    requires { ⌜ (0 < j) × ((j ≤ end) × ((j ≤ length (now cs)) × ((j ≤ length (now vs)) × (j ≤ length (now bs))))) ⌝ }
-    ensures { λ r. ⌜ NewLast (now (cs .entry)) (now (vs .entry)) (now (bs .entry)) i j end r ⌝ }
+fn new_last(
+    i: usize,
+    new_constellation: &[u8],
+    new_svid: &[u16],
+    new_band: &[u32],
+    j: usize,
+    end: usize,
+) -> Last
+    requires { ⌜ (0 < j) × ((j ≤ end) × ((j ≤ length (now «new_constellation»)) × ((j ≤ length (now «new_svid»)) × (j ≤ length (now «new_band»))))) ⌝ }
+    ensures { λ r. ⌜ NewLast (now («new_constellation» .entry)) (now («new_svid» .entry)) (now («new_band» .entry)) i j end r ⌝ }
 {
-    let g = signal_at(cs, vs, bs, j - 1);
-    let a = own_start(cs, vs, bs, j, g);
+    let g = signal_at(new_constellation, new_svid, new_band, j - 1);
+    let a = own_start(new_constellation, new_svid, new_band, j, g);
     Last {
         entries: i,
         samples: a,
-        constellation: cs[j - 1],
-        svid: vs[j - 1],
-        band: bs[j - 1],
+        constellation: new_constellation[j - 1],
+        svid: new_svid[j - 1],
+        band: new_band[j - 1],
         first: end - (j - a),
         count: j - a,
     }
@@ -56,68 +69,90 @@ fn new_last(i: usize, cs: &[u8], vs: &[u16], bs: &[u32], j: usize, end: usize) -
 
 // The last entry of the first i blocks with the first j new samples, which together end at `end`: an old block with the new samples of its satellite, or a block of new ones.
 fn last_of(
-    dc: &[u8],
-    dv: &[u16],
-    db: &[u32],
-    df: &[usize],
-    dn: &[usize],
+    block_constellation: &[u8],
+    block_svid: &[u16],
+    block_band: &[u32],
+    block_first: &[usize],
+    block_samples: &[usize],
     i: usize,
-    cs: &[u8],
-    vs: &[u16],
-    bs: &[u32],
+    new_constellation: &[u8],
+    new_svid: &[u16],
+    new_band: &[u32],
     j: usize,
     end: usize,
 ) -> Last
-    requires { ⌜ (i ≤ length (entryRows (now dc) (now dv) (now db) (now df) (now dn))) × (ascends 0 (take i (entryRows (now dc) (now dv) (now db) (now df) (now dn))) ≡ true) ⌝ }
-    requires { ⌜ (0 < j) × ((j ≤ end) × ((j ≤ length (now cs)) × ((j ≤ length (now vs)) × (j ≤ length (now bs))))) ⌝ }
-    requires { ⌜ (0 < i → (getD (now df) (i - 1) 0 + j < 2 ^ 64) × (getD (now dn) (i - 1) 0 + j < 2 ^ 64)) ⌝ }
-    ensures { λ r. ⌜ LastOf (take i (entryRows (now (dc .entry)) (now (dv .entry)) (now (db .entry)) (now (df .entry)) (now (dn .entry)))) (now (cs .entry)) (now (vs .entry)) (now (bs .entry)) i j end r ⌝ }
+    requires { ⌜ (i ≤ length (entryRows
+        (now «block_constellation») (now «block_svid») (now «block_band»)
+        (now «block_first») (now «block_samples»))) × (ascends 0 (take i (entryRows
+        (now «block_constellation») (now «block_svid») (now «block_band»)
+        (now «block_first») (now «block_samples»))) ≡ true) ⌝ }
+    requires { ⌜ (0 < j) × ((j ≤ end) × ((j ≤ length (now «new_constellation»)) × ((j ≤ length (now «new_svid»)) × (j ≤ length (now «new_band»))))) ⌝ }
+    requires { ⌜ (0 < i → (getD (now «block_first») (i - 1) 0 + j < 2 ^ 64) × (getD (now «block_samples») (i - 1) 0 + j < 2 ^ 64)) ⌝ }
+    ensures { λ r. ⌜ LastOf (take i (entryRows
+        (now («block_constellation» .entry)) (now («block_svid» .entry)) (now («block_band» .entry))
+        (now («block_first» .entry)) (now («block_samples» .entry)))) (now («new_constellation» .entry)) (now («new_svid» .entry)) (now («new_band» .entry)) i j end r ⌝ }
 {
     if i == 0 {
-        return new_last(i, cs, vs, bs, j, end);
+        return new_last(i, new_constellation, new_svid, new_band, j, end);
     }
-    let g = signal_at(cs, vs, bs, j - 1);
-    let h = signal_at(dc, dv, db, i - 1);
+    let g = signal_at(new_constellation, new_svid, new_band, j - 1);
+    let h = signal_at(block_constellation, block_svid, block_band, i - 1);
     if h < g {
-        return new_last(i, cs, vs, bs, j, end);
+        return new_last(i, new_constellation, new_svid, new_band, j, end);
     }
-    let a = own_start(cs, vs, bs, j, h);
+    let a = own_start(new_constellation, new_svid, new_band, j, h);
     Last {
         entries: i - 1,
         samples: a,
-        constellation: dc[i - 1],
-        svid: dv[i - 1],
-        band: db[i - 1],
-        first: df[i - 1] + a,
-        count: dn[i - 1] + (j - a),
+        constellation: block_constellation[i - 1],
+        svid: block_svid[i - 1],
+        band: block_band[i - 1],
+        first: block_first[i - 1] + a,
+        count: block_samples[i - 1] + (j - a),
     }
 }
 
-// How many entries the directory of m entries and n samples has with the k new samples.
+// How many entries the directory of `blocks` entries and `table_count` samples has with the new samples.
 pub(crate) fn entries_after(
-    dc: &[u8],
-    dv: &[u16],
-    db: &[u32],
-    df: &[usize],
-    dn: &[usize],
-    m: usize,
-    n: usize,
-    cs: &[u8],
-    vs: &[u16],
-    bs: &[u32],
-    k: usize,
+    block_constellation: &[u8],
+    block_svid: &[u16],
+    block_band: &[u32],
+    block_first: &[usize],
+    block_samples: &[usize],
+    blocks: usize,
+    table_count: usize,
+    new_constellation: &[u8],
+    new_svid: &[u16],
+    new_band: &[u32],
+    new_count: usize,
 ) -> usize
-    requires { ⌜ Tiled (now dc) (now dv) (now db) (now df) (now dn) m n ⌝ }
-    requires { ⌜ (m + (n + k) < 2 ^ 64) × ((k ≤ length (now cs)) × ((k ≤ length (now vs)) × (k ≤ length (now bs)))) ⌝ }
-    ensures { λ r. ⌜ ((rs : List Reading) (u : List Sample) → length rs ≡ n → OfSignals (now (cs .entry)) (now (vs .entry)) (now (bs .entry)) k u
-        → r ≡ length (entriesUpTo rs (take m (entryRows (now (dc .entry)) (now (dv .entry)) (now (db .entry)) (now (df .entry)) (now (dn .entry)))) u m k)) ⌝ }
+    requires { ⌜ Tiled
+        (now «block_constellation») (now «block_svid») (now «block_band»)
+        (now «block_first») (now «block_samples») blocks «table_count» ⌝ }
+    requires { ⌜ (blocks + («table_count» + «new_count») < 2 ^ 64) × ((«new_count» ≤ length (now «new_constellation»)) × ((«new_count» ≤ length (now «new_svid»)) × («new_count» ≤ length (now «new_band»)))) ⌝ }
+    ensures { λ r. ⌜ ((rs : List Reading) (u : List Sample) → length rs ≡ «table_count» → OfSignals (now («new_constellation» .entry)) (now («new_svid» .entry)) (now («new_band» .entry)) «new_count» u
+        → r ≡ length (entriesUpTo rs (take blocks (entryRows
+        (now («block_constellation» .entry)) (now («block_svid» .entry)) (now («block_band» .entry))
+        (now («block_first» .entry)) (now («block_samples» .entry)))) u blocks «new_count»)) ⌝ }
 {
-    let mut i = m;
-    let mut j = k;
-    let mut end = n + k;
+    let mut i = blocks;
+    let mut j = new_count;
+    let mut end = table_count + new_count;
     let mut count: usize = 0;
     while 0 < j {
-        let last = last_of(dc, dv, db, df, dn, i, cs, vs, bs, j, end);
+        let last = last_of(
+            block_constellation,
+            block_svid,
+            block_band,
+            block_first,
+            block_samples,
+            i,
+            new_constellation,
+            new_svid,
+            new_band,
+            j,
+            end,
+        );
         i = last.entries;
         j = last.samples;
         end = last.first;
@@ -126,42 +161,65 @@ pub(crate) fn entries_after(
     count + i
 }
 
-// The entries of the directory of m entries and n samples with the k new samples, `count` of them; each old one is moved at most once.
+// The entries of the directory of `blocks` entries and `table_count` samples with the new samples, `count` of them; each old one is moved at most once.
 pub(crate) fn merge_entries(
-    dc: &mut [u8],
-    dv: &mut [u16],
-    db: &mut [u32],
-    df: &mut [usize],
-    dn: &mut [usize],
-    m: usize,
-    n: usize,
-    cs: &[u8],
-    vs: &[u16],
-    bs: &[u32],
-    k: usize,
+    block_constellation: &mut [u8],
+    block_svid: &mut [u16],
+    block_band: &mut [u32],
+    block_first: &mut [usize],
+    block_samples: &mut [usize],
+    blocks: usize,
+    table_count: usize,
+    new_constellation: &[u8],
+    new_svid: &[u16],
+    new_band: &[u32],
+    new_count: usize,
     count: usize,
 )
-    requires { ⌜ Tiled (now dc) (now dv) (now db) (now df) (now dn) m n ⌝ }
-    requires { ⌜ (n + k < 2 ^ 64) × ((k ≤ length (now cs)) × ((k ≤ length (now vs)) × (k ≤ length (now bs)))) ⌝ }
-    requires { ⌜ SomeSignals (now cs) (now vs) (now bs) k ⌝ }
-    requires { ⌜ count ≤ length (entryRows (now dc) (now dv) (now db) (now df) (now dn)) ⌝ }
-    requires { ⌜ ((rs : List Reading) (u : List Sample) → length rs ≡ n → OfSignals (now cs) (now vs) (now bs) k u → count ≡ length (entriesUpTo rs (take m (entryRows (now dc) (now dv) (now db) (now df) (now dn))) u m k)) ⌝ }
-    ensures { λ _. ⌜ ((rs : List Reading) (u : List Sample) → length rs ≡ n → OfSignals (now (cs .entry)) (now (vs .entry)) (now (bs .entry)) k u
-        → EntriesMerged (entriesUpTo rs (take m (entryRows (now (dc .entry)) (now (dv .entry)) (now (db .entry)) (now (df .entry)) (now (dn .entry)))) u m k)
-        (now (dc .entry)) (now (dv .entry)) (now (db .entry)) (now (df .entry)) (now (dn .entry)) (now (dc .exit)) (now (dv .exit)) (now (db .exit)) (now (df .exit)) (now (dn .exit))) ⌝ }
+    requires { ⌜ Tiled
+        (now «block_constellation») (now «block_svid») (now «block_band»)
+        (now «block_first») (now «block_samples») blocks «table_count» ⌝ }
+    requires { ⌜ («table_count» + «new_count» < 2 ^ 64) × ((«new_count» ≤ length (now «new_constellation»)) × ((«new_count» ≤ length (now «new_svid»)) × («new_count» ≤ length (now «new_band»)))) ⌝ }
+    requires { ⌜ SomeSignals (now «new_constellation») (now «new_svid») (now «new_band») «new_count» ⌝ }
+    requires { ⌜ count ≤ length (entryRows
+        (now «block_constellation») (now «block_svid») (now «block_band»)
+        (now «block_first») (now «block_samples»)) ⌝ }
+    requires { ⌜ ((rs : List Reading) (u : List Sample) → length rs ≡ «table_count» → OfSignals (now «new_constellation») (now «new_svid») (now «new_band») «new_count» u → count ≡ length (entriesUpTo rs (take blocks (entryRows
+        (now «block_constellation») (now «block_svid») (now «block_band»)
+        (now «block_first») (now «block_samples»))) u blocks «new_count»)) ⌝ }
+    ensures { λ _. ⌜ ((rs : List Reading) (u : List Sample) → length rs ≡ «table_count» → OfSignals (now («new_constellation» .entry)) (now («new_svid» .entry)) (now («new_band» .entry)) «new_count» u
+        → EntriesMerged (entriesUpTo rs (take blocks (entryRows
+        (now («block_constellation» .entry)) (now («block_svid» .entry)) (now («block_band» .entry))
+        (now («block_first» .entry)) (now («block_samples» .entry)))) u blocks «new_count»)
+        (now («block_constellation» .entry)) (now («block_svid» .entry)) (now («block_band» .entry))
+        (now («block_first» .entry)) (now («block_samples» .entry))
+        (now («block_constellation» .exit)) (now («block_svid» .exit)) (now («block_band» .exit))
+        (now («block_first» .exit)) (now («block_samples» .exit))) ⌝ }
 {
-    let mut i = m;
-    let mut j = k;
-    let mut end = n + k;
+    let mut i = blocks;
+    let mut j = new_count;
+    let mut end = table_count + new_count;
     let mut w = count;
     while 0 < j {
-        let last = last_of(dc, dv, db, df, dn, i, cs, vs, bs, j, end);
+        let last = last_of(
+            block_constellation,
+            block_svid,
+            block_band,
+            block_first,
+            block_samples,
+            i,
+            new_constellation,
+            new_svid,
+            new_band,
+            j,
+            end,
+        );
         w -= 1;
-        dc[w] = last.constellation;
-        dv[w] = last.svid;
-        db[w] = last.band;
-        df[w] = last.first;
-        dn[w] = last.count;
+        block_constellation[w] = last.constellation;
+        block_svid[w] = last.svid;
+        block_band[w] = last.band;
+        block_first[w] = last.first;
+        block_samples[w] = last.count;
         i = last.entries;
         j = last.samples;
         end = last.first;

@@ -1,7 +1,7 @@
 // New samples put into a directory and the columns beside it, which are moved once for them all.
-// In every call dc, dv, db, df and dn are the directory's columns of constellations, svids, bands, first samples and counts, of which m entries count;
-// ts and xs are the columns of times and corrections, of which n samples count;
-// cs, vs, bs, us and ys are the columns of the new samples, sorted, of which k count.
+// In every call block_constellation to block_samples are the directory's columns, of which `blocks` entries count;
+// table_time and table_metres are the columns of times and corrections, of which `table_count` samples count;
+// new_constellation to new_metres are the columns of the new samples, sorted, of which `new_count` count.
 pub mod add;
 mod entries;
 mod readings;

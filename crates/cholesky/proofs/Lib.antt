@@ -10,3 +10,4 @@ pub mod ColumnLaws
 pub mod SolveUsed
 pub mod Answers
 pub mod SoundSystem
+pub mod LowerLaws

@@ -24,7 +24,7 @@ use Rattle.table.specs.declared.add.Test.the-variants.{Refused, Passed}
 use Rattle.table.proofs.TableLaws.{and-left, and-right}
 use Rattle.table.proofs.SmallLaws.{Small, range-small}
 use Rattle.directory.specs.Directory.{Blocks, Directory, soundDirectory}
-use Rattle.addition.specs.Add.{Placed, Places, addIn, addedIn, additionNumber, additionOf, directoryWith, entriesNow, placedOf, refusedIn, samplesNow, testIn}
+use Rattle.addition.specs.Add.{PatternsAfter, Placed, Places, addIn, addedIn, additionNumber, additionOf, directoryWith, entriesNow, placedOf, refusedIn, samplesNow, testIn}
 use Rattle.addition.specs.declared.add.Addition.{Addition}
 use Rattle.addition.specs.declared.add.Addition.the-variants as Addition
 use Rattle.differential.specs.Record.{rangesOf, statesCount, placeInRange, rangeInRange}
@@ -125,11 +125,14 @@ counted-ranged m n room e s base rover set p new h =
     rw (h .all) (samples-ranged (e .time) (set .«max_correction») (time-in-range e s base rover (p .records)) (and-right (inRange (set .«max_gap»)) _ (p .settings)) _)
 
 -- what a call leaves is said by the outcome
-pub told-same : {o o′ : Placed} {r : Addition} {m n : ℕ} {l l′ : Blocks} → o ≡ o′ → (r ≡ additionOf o) × Places o (additionNumber r) m (entriesNow r m) n (samplesNow r n) l l′ → (r ≡ additionOf o′) × Places o′ (additionNumber r) m (entriesNow r m) n (samplesNow r n) l l′
-told-same e a = rw (← e) a
+pub told-same : {o o′ : Placed} {r : Addition} {m n : ℕ} {l l′ : Blocks} (ts xs ts′ xs′ : List ℕ) → o ≡ o′
+    → (r ≡ additionOf o) × (Places o (additionNumber r) m (entriesNow r m) n (samplesNow r n) l l′ × PatternsAfter o ts xs ts′ xs′)
+    → (r ≡ additionOf o′) × (Places o′ (additionNumber r) m (entriesNow r m) n (samplesNow r n) l l′ × PatternsAfter o′ ts xs ts′ xs′)
+told-same ts xs ts′ xs′ e a = rw (← e) a
 
-pub told-nothing : {o : Placed} (r : Refusal) (m n : ℕ) (l : Blocks) → refusedIn r ≡ o → (Addition.Refused r ≡ additionOf o) × Places o (additionNumber (Addition.Refused r)) m m n n l l
-told-nothing r m n l e = rw (← e) (refl, record { number-is = refl; entries-are = refl; samples-are = refl; columns = refl })
+pub told-nothing : {o : Placed} (r : Refusal) (m n : ℕ) (l : Blocks) (ts xs : List ℕ) → refusedIn r ≡ o
+    → (Addition.Refused r ≡ additionOf o) × (Places o (additionNumber (Addition.Refused r)) m m n n l l × PatternsAfter o ts xs ts xs)
+told-nothing r m n l ts xs e = rw (← e) (refl, (record { number-is = refl; entries-are = refl; samples-are = refl; columns = refl }, (refl, refl)))
 
 module _ (m n room : ℕ) (d : Directory) (e : BaseEpoch) (s : States) (base rover : Vec3) (set : Settings) where
   pub placed-refused : (r : Refusal) → Refused r ≡ recordsTest m n room e s base rover set → refusedIn r ≡ epochIn m n room d e s base rover set

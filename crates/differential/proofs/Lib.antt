@@ -5,5 +5,4 @@ pub mod TestLaws
 pub mod EpochLaws
 pub mod SampleValues
 pub mod WidenedLaws
-pub mod BuildLaws
 pub mod SameLaws

@@ -1,7 +1,7 @@
 // One base epoch added to the table, which is a directory beside the columns of times and corrections.
 ghost use mathlib.Core.Path.{_≡_};
-ghost use Rattle.directory.specs.Directory.{lentBlocks, blockCapacity, directoryIn};
-ghost use Rattle.addition.specs.Add.{additionOf, additionNumber, entriesNow, samplesNow, Places};
+ghost use Rattle.directory.specs.Directory.{lentBlocks, floats, blockCapacity, directoryIn};
+ghost use Rattle.addition.specs.Add.{additionOf, additionNumber, entriesNow, samplesNow, Places, PatternsAfter};
 ghost use Rattle.differential.specs.AddEpoch.{recordsTest, epochIn};
 use crate::raw::raws_of;
 use crate::record::BaseEpoch;
@@ -14,7 +14,7 @@ use crate::record::states_in_range;
 use crate::sample::samples_of;
 use addition::add::Addition;
 use addition::add::add;
-use directory::entry::block_capacity;
+use directory::patterns::capacity_of;
 use numeric::real::in_range;
 use numeric::refusal::Refusal;
 use numeric::vec3::Vec3;
@@ -22,8 +22,8 @@ use table::add::Test;
 
 // Numbers 2, 3 and 4 of all but the table's records, in this order; room is the capacity of the table's columns, m its entries and n its samples.
 fn records_tested(
-    m: usize,
-    n: usize,
+    blocks: usize,
+    table_count: usize,
     room: usize,
     epoch: BaseEpoch,
     states: States,
@@ -31,11 +31,11 @@ fn records_tested(
     rover: Vec3,
     settings: Settings,
 ) -> Test
-    ensures { λ r. ⌜ r ≡ recordsTest m n room epoch states base rover settings ⌝ }
+    ensures { λ r. ⌜ r ≡ recordsTest blocks «table_count» room epoch states base rover settings ⌝ }
 {
     let k = epoch.count;
     let j = states_count(states);
-    if (room < m) | ((room < n) | (64 < k) | (64 < j)) {
+    if (room < blocks) | ((room < table_count) | (64 < k) | (64 < j)) {
         return Test::Refused(Refusal::TooMany);
     }
     if !(in_range(settings.max_gap) & in_range(settings.max_correction)) {
@@ -53,29 +53,51 @@ fn records_tested(
     Test::Passed
 }
 
-// The corrections of the epoch to the directory of m entries and n samples, or the refusal, which leaves every column as it was.
+// The corrections of the epoch to the directory of `blocks` entries and `table_count` samples, or the refusal, which leaves every column as it was.
 pub fn add_epoch(
-    dc: &mut [u8],
-    dv: &mut [u16],
-    db: &mut [u32],
-    df: &mut [usize],
-    dn: &mut [usize],
-    m: usize,
-    ts: &mut [f64],
-    xs: &mut [f64],
-    n: usize,
+    block_constellation: &mut [u8],
+    block_svid: &mut [u16],
+    block_band: &mut [u32],
+    block_first: &mut [usize],
+    block_samples: &mut [usize],
+    blocks: usize,
+    table_time: &mut [u64],
+    table_metres: &mut [u64],
+    table_count: usize,
     epoch: BaseEpoch,
     states: States,
     base: Vec3,
     rover: Vec3,
     settings: Settings,
 ) -> Addition
-    ensures { λ r. ⌜ (let l = lentBlocks (now (dc .entry)) (now (dv .entry)) (now (db .entry)) (now (df .entry)) (now (dn .entry)) (now (ts .entry)) (now (xs .entry)) in
-        let o = epochIn m n (blockCapacity l) (directoryIn m n l) epoch states base rover settings in
-        (r ≡ additionOf o) × Places o (additionNumber r) m (entriesNow r m) n (samplesNow r n) l (lentBlocks (now (dc .exit)) (now (dv .exit)) (now (db .exit)) (now (df .exit)) (now (dn .exit)) (now (ts .exit)) (now (xs .exit)))) ⌝ }
+    ensures { λ r. ⌜ (let l = lentBlocks
+        (now («block_constellation» .entry)) (now («block_svid» .entry)) (now («block_band» .entry))
+        (now («block_first» .entry)) (now («block_samples» .entry)) (floats (now («table_time» .entry))) (floats (now («table_metres» .entry))) in
+        let o = epochIn blocks «table_count» (blockCapacity l) (directoryIn blocks «table_count» l) epoch states base rover settings in
+        (r ≡ additionOf o) × (Places o (additionNumber r) blocks (entriesNow r blocks) «table_count» (samplesNow r «table_count») l (lentBlocks
+        (now («block_constellation» .exit)) (now («block_svid» .exit)) (now («block_band» .exit))
+        (now («block_first» .exit)) (now («block_samples» .exit)) (floats (now («table_time» .exit))) (floats (now («table_metres» .exit))))
+        × PatternsAfter o (now («table_time» .entry)) (now («table_metres» .entry)) (now («table_time» .exit)) (now («table_metres» .exit)))) ⌝ }
 {
-    let room = block_capacity(dc, dv, db, df, dn, ts, xs);
-    let test = records_tested(m, n, room, epoch, states, base, rover, settings);
+    let room = capacity_of(
+        block_constellation,
+        block_svid,
+        block_band,
+        block_first,
+        block_samples,
+        table_time,
+        table_metres,
+    );
+    let test = records_tested(
+        blocks,
+        table_count,
+        room,
+        epoch,
+        states,
+        base,
+        rover,
+        settings,
+    );
     match test {
         Test::Refused(r) => Addition::Refused(r),
         Test::Passed => {
@@ -83,7 +105,18 @@ pub fn add_epoch(
             let j = states_count(states);
             let raws = raws_of(epoch, k, states, j, base, rover, settings);
             let samples = samples_of(raws, epoch.time, settings.max_correction);
-            add(dc, dv, db, df, dn, m, ts, xs, n, samples)
+            add(
+                block_constellation,
+                block_svid,
+                block_band,
+                block_first,
+                block_samples,
+                blocks,
+                table_time,
+                table_metres,
+                table_count,
+                samples,
+            )
         }
     }
 }

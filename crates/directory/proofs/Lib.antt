@@ -5,3 +5,4 @@ pub mod ColumnLaws
 pub mod BlockLaws
 pub mod SoundLaws
 pub mod EntryLaws
+pub mod PatternLaws

@@ -15,7 +15,8 @@ use lib.Ieee.{Float, nan, lt, binary64}
 use Rattle.walk.specs.Walk.{every}
 use Rattle.walk.proofs.Walk.{left-at, left-end}
 use Rattle.numeric.specs.Real.{inRange}
-use Rattle.table.specs.Table.{signal, timeBefore}
+use Rattle.signal.specs.Signal.{signal}
+use Rattle.table.specs.Table.{timeBefore}
 use Rattle.table.proofs.TableLaws.{and-left, and-right}
 use Rattle.table.proofs.UnitLaws.{never}
 use Rattle.table.proofs.Places.{numbers-after}

@@ -1,13 +1,17 @@
 -- The table as one block per satellite (request (ix)): a directory of satellites beside the columns of times and corrections. Definitions only.
 use Prim.Native.Nat.{ℕ, suc, _+_, min}
+use mathlib.Core.Path.{_≡_}
 use mathlib.Core.Bool.{Bool, true, cond, not, _&&_}
 use mathlib.Core.List.{List, [], _∷_, _++_, map}
 use lib.Dec.{eqb, leb, ltb}
 use lib.ListN.{length, take, drop}
 use lib.Ieee.{Float, nan}
+use Rattle.exact.specs.Float.{bits}
 use Rattle.walk.specs.Walk.{every, first, collect}
+use Rattle.numeric.specs.Order.{patternOf}
 use Rattle.numeric.specs.Real.{inRange}
-use Rattle.table.specs.Table.{signal, timeBefore}
+use Rattle.signal.specs.Signal.{signal}
+use Rattle.table.specs.Table.{timeBefore}
 use Rattle.table.specs.declared.sample.Sample.{Sample}
 
 -- a satellite of the directory, with the place of its first sample and its count of samples
@@ -44,6 +48,10 @@ pub record Blocks : Type 0 where
 abbrev pub lentBlocks : List ℕ → List ℕ → List ℕ → List ℕ → List ℕ → List Float → List Float → Blocks
 lentBlocks dc dv db df dn ts xs =
     record { constellations = dc; svids = dv; bands = db; firsts = df; counts = dn; times = ts; corrections = xs }
+
+-- the floats of a column that is lent as 64-bit patterns: each pattern read by `bits`
+abbrev pub floats : List ℕ → List Float
+floats column = map bits column
 
 -- the entries that lie side by side in five columns: as many as the shortest has
 unfoldable pub entryRows : List ℕ → List ℕ → List ℕ → List ℕ → List ℕ → List Entry
@@ -100,6 +108,11 @@ blocksWith d l =
       times = columnOf (λ (r : Reading). r .time) (d .readings) (l .times);
       corrections = columnOf (λ (r : Reading). r .correction) (d .readings) (l .corrections);
     }
+
+-- the two columns of patterns with the readings of a directory, and past them the bits that were there
+pub record PatternsWith (d : Directory) (ts xs ts′ xs′ : List ℕ) : Type 0 where
+  pub times : ts′ ≡ columnOf (λ (r : Reading). patternOf (r .time)) (d .readings) ts
+  pub corrections : xs′ ≡ columnOf (λ (r : Reading). patternOf (r .correction)) (d .readings) xs
 
 -- ---- its reading as a list of samples
 

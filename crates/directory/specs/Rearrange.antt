@@ -61,9 +61,10 @@ pub data Listed : Type 0 where
   samplesAre : List Sample → Listed
 
 -- The m entries and n samples of a directory in lent columns, whose signals go to columns of that length: numbers 2 and 4, or the samples that it stands for.
+-- Both counts are held to the capacity, and the columns of signals to the samples alone, one place for each.
 unfoldable pub listedOf : ℕ → ℕ → ℕ → Blocks → Listed
 listedOf m n long l =
-    cond (ltb (min long (blockCapacity l)) m || ltb (min long (blockCapacity l)) n) (unlisted TooMany)
+    cond ((ltb (blockCapacity l) m || ltb (blockCapacity l) n) || ltb long n) (unlisted TooMany)
     (cond (not (soundDirectory (directoryIn m n l))) (unlisted RecordOutOfRange)
     (samplesAre (flat (directoryIn m n l))))
 

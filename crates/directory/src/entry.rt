@@ -2,9 +2,9 @@
 ghost use mathlib.Core.Path.{_≡_};
 ghost use Prim.Native.Nat.{_^_, _<_, min};
 ghost use lib.ListN.{length, getD};
-ghost use Rattle.table.specs.Table.{signal};
+ghost use Rattle.signal.specs.Signal.{signal};
 ghost use Rattle.directory.specs.Directory.{lentBlocks, blockCapacity};
-use table::sample::signal_of;
+use signal::signal::signal_of;
 
 // The lesser of a and b.
 fn lesser(a: usize, b: usize) -> usize

@@ -24,7 +24,7 @@ fn all_in_reach(ts: &[f64], xs: &[f64], n: usize) -> bool
 }
 
 // Whether the first m entries ascend, none is empty, and their blocks lie one after the other from place 0 to n.
-fn is_tiled(
+pub(crate) fn is_tiled(
     dc: &[u8],
     dv: &[u16],
     db: &[u32],

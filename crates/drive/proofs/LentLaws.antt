@@ -1,19 +1,16 @@
 -- What the calls on lent memory answer and leave, by the answer of the call behind them; and rounds above 50, which are refused alike. Assumes nothing.
-use mathlib.Core.Path.{_≡_, sym, ap, _∙_}
+use mathlib.Core.Path.{_≡_, sym, ap, subst, _∙_}
 use mathlib.Core.List.{List}
 use Prim.Native.Nat.{ℕ, min}
 use lib.Ieee.{Float}
-use Rattle.tdcp.specs.Displacement.{displacementOf, Accepted}
-use Rattle.tdcp.specs.declared.displacement.Delta.{Delta}
-use Rattle.tdcp.specs.declared.displacement.Displacement.the-variants as Displacement
-use Rattle.tdcp.proofs.DisplacementSound.{displacement-accepted}
+use Rattle.tdcp.specs.declared.displacement.Displacement.{Displacement}
 use Rattle.tdcp.proofs.CountedLaws.{many-rounds}
 use Rattle.trip.specs.declared.trip.Step.{Step}
 use Rattle.drive.specs.Drive.{underNew}
-use Rattle.tdcp_columns.specs.Displacement.{displacementSettings}
+use Rattle.tdcp_columns.specs.Displacement.{displacementSettings, Lent, columnsDisplaced, ColumnsPromised}
 use Rattle.estimator.proofs.RoundsLaws.{capped}
-use Rattle.tdcp_columns.proofs.FitLaws.{moved-fit}
-use Rattle.drive.specs.Lent.{drivingNumber, inForceAfter, roundsAfter, startedAfter, DrivingAnswers, BegunAnswers, Lent, inputOf, movedOf, travelledIn, travelNumber, tripAfter, deltaAfter, countsAfter, TravelAnswers}
+use Rattle.tdcp_columns.proofs.AnswerLaws.{columns-accepted}
+use Rattle.drive.specs.Lent.{drivingNumber, inForceAfter, roundsAfter, startedAfter, DrivingAnswers, BegunAnswers, travelledBy, travelNumber, tripAfter, deltaAfter, countsAfter, TravelLeaves, TravelAnswers}
 use Rattle.drive.specs.declared.drive.Driving.{Driving}
 use Rattle.drive.specs.declared.drive.Driving.the-variants as Driving
 use Rattle.drive.specs.declared.drive.Travel.{Travel}
@@ -24,9 +21,6 @@ use Rattle.drive.proofs.DriveLaws.{by-moved, new-refused}
 pub new-capped : (s : List Float) (rounds : ℕ) (t : Step) → underNew (displacementSettings s (min rounds 51)) t ≡ underNew (displacementSettings s rounds) t
 new-capped s rounds t =
     capped (λ (k : ℕ). underNew (displacementSettings s k) t) (λ k h. sym (new-refused (displacementSettings s k) t (many-rounds (displacementSettings s k) h))) rounds
-
-moved-accepted : (l : Lent) (d : Delta) → movedOf l ≡ Displacement.Moved d → Accepted (inputOf l) d
-moved-accepted l d e = displacement-accepted (inputOf l) d (moved-fit (l .previous) (l .previous-count) (l .current) (l .current-count) (displacementOf (inputOf l)) d e)
 
 -- ---- the contracts' parts, from the answer that was given
 
@@ -43,13 +37,21 @@ pub begun-answers : {d q : Driving} {number : ℕ} {trip₀ trip force₀ force 
     → BegunAnswers d number trip₀ trip force₀ force rounds₀ rounds
 begun-answers {trip₀ = trip₀} e a h = record { trip-is = a ∙ ap (λ (z : Driving). startedAfter z trip₀) e; others = h }
 
-pub travel-answers : (l : Lent) {q : Travel} {pulses number : ℕ} {trip₀ trip delta₀ delta counts₀ counts : List ℕ} → q ≡ travelledIn l pulses trip₀
-    → number ≡ travelNumber q → trip ≡ tripAfter q trip₀ → delta ≡ deltaAfter q delta₀ → counts ≡ countsAfter q counts₀ → TravelAnswers l pulses number trip₀ trip delta₀ delta counts₀ counts
-travel-answers l {pulses = pulses} {trip₀ = trip₀} {delta₀ = delta₀} {counts₀ = counts₀} e a b c d =
+pub travel-leaves : {t q : Travel} {number : ℕ} {trip₀ trip delta₀ delta counts₀ counts : List ℕ} → q ≡ t
+    → number ≡ travelNumber q → trip ≡ tripAfter q trip₀ → delta ≡ deltaAfter q delta₀ → counts ≡ countsAfter q counts₀ → TravelLeaves t number trip₀ trip delta₀ delta counts₀ counts
+travel-leaves {trip₀ = trip₀} {delta₀ = delta₀} {counts₀ = counts₀} e a b c d =
     record {
       number-is = a ∙ ap travelNumber e;
       trip-is = b ∙ ap (λ (z : Travel). tripAfter z trip₀) e;
       delta-is = c ∙ ap (λ (z : Travel). deltaAfter z delta₀) e;
       counts-are = d ∙ ap (λ (z : Travel). countsAfter z counts₀) e;
-      accepted = λ w h. moved-accepted l (w .moved) (by-moved _ pulses (movedOf l) w h);
+    }
+
+-- what is left of the displacement q of what is lent
+pub travel-answers : (l : Lent) {q : Displacement} {pulses number : ℕ} {trip₀ trip delta₀ delta counts₀ counts : List ℕ} → ColumnsPromised l q
+    → TravelLeaves (travelledBy q pulses trip₀) number trip₀ trip delta₀ delta counts₀ counts → TravelAnswers l pulses number trip₀ trip delta₀ delta counts₀ counts
+travel-answers l {pulses = pulses} {number = number} {trip₀ = trip₀} {trip = trip} {delta₀ = delta₀} {delta = delta} {counts₀ = counts₀} {counts = counts} p h =
+    record {
+      leaves = subst (λ (d : Displacement). TravelLeaves (travelledBy d pulses trip₀) number trip₀ trip delta₀ delta counts₀ counts) (p .answer) h;
+      accepted = λ w e. columns-accepted l (w .moved) (by-moved _ pulses (columnsDisplaced l) w e);
     }

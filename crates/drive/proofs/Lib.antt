@@ -2,3 +2,4 @@
 pub mod DriveLaws
 pub mod EventLaws
 pub mod LentLaws
+pub mod SixteenLaws

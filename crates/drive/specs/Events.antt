@@ -8,7 +8,7 @@ use lib.Ieee.{Float}
 use Rattle.numeric.specs.declared.vec3.Vec3.{Vec3}
 use Rattle.records.specs.declared.record.Epoch.{Epoch}
 use Rattle.tdcp.specs.Valid.{settingsPass}
-use Rattle.tdcp.specs.Displacement.{Input, input, displacementOf, Accepted}
+use Rattle.tdcp.specs.Displacement.{Input, general, displacementOf, Accepted}
 use Rattle.tdcp.specs.declared.displacement.Delta.{Delta}
 use Rattle.tdcp.specs.declared.displacement.Settings.{Settings}
 use Rattle.tdcp.specs.declared.displacement.Displacement.{Displacement}
@@ -25,7 +25,7 @@ pub record Move : Type 0 where
   pub receiver : Vec3
 
 abbrev pub inputOf : Settings → Move → Input
-inputOf s m = input (m .previous) (m .current) (m .dt) (m .receiver) s
+inputOf s m = general (m .previous) (m .current) (m .dt) (m .receiver) s
 
 -- a pair of epochs with its pulses, or new settings
 pub data Event : Type 0 where

@@ -5,10 +5,8 @@ use mathlib.Core.List.{List, [], _∷_, map}
 use lib.Ieee.{Float}
 use Rattle.numeric.specs.Order.{patternOf}
 use Rattle.numeric.specs.Refusal.{numberOf}
-use Rattle.numeric.specs.declared.vec3.Vec3.{Vec3}
-use Rattle.records.specs.Carriers.{CarrierColumns}
-use Rattle.tdcp.specs.Displacement.{Input, displacementFloats, displacementCounts, Accepted}
-use Rattle.tdcp_columns.specs.Displacement.{displacementInput, columnDisplacementOf}
+use Rattle.tdcp.specs.Displacement.{displacementFloats, displacementCounts, Accepted}
+use Rattle.tdcp_columns.specs.Displacement.{Lent, inputOf, columnsDisplaced}
 use Rattle.tdcp.specs.declared.displacement.Settings.{Settings}
 use Rattle.tdcp.specs.declared.displacement.Displacement.{Displacement}
 use Rattle.tdcp.specs.declared.displacement.Displacement.the-variants as Displacement
@@ -56,29 +54,9 @@ pub record BegunAnswers (d : Driving) (number : ℕ) (trip₀ trip force₀ forc
 
 -- ---- a displacement
 
--- what is lent for one
-pub record Lent : Type 0 where
-  pub previous : CarrierColumns
-  pub previous-count : ℕ
-  pub current : CarrierColumns
-  pub current-count : ℕ
-  pub dt : Float
-  pub receiver : Vec3
-  pub settings : Settings
-
-abbrev pub lent : CarrierColumns → ℕ → CarrierColumns → ℕ → Float → Vec3 → Settings → Lent
-lent p m c n dt receiver settings =
-    record { previous = p; previous-count = m; current = c; current-count = n; dt = dt; receiver = receiver; settings = settings }
-
-abbrev pub inputOf : Lent → Input
-inputOf l = displacementInput (l .previous) (l .previous-count) (l .current) (l .current-count) (l .dt) (l .receiver) (l .settings)
-
-abbrev pub movedOf : Lent → Displacement
-movedOf l = columnDisplacementOf (l .previous) (l .previous-count) (l .current) (l .current-count) (l .dt) (l .receiver) (l .settings)
-
--- the trip that the words hold, with that displacement
-abbrev pub travelledIn : Lent → ℕ → List ℕ → Travel
-travelledIn l pulses words = travelBy (heldOf words) pulses (movedOf l)
+-- the trip that the words hold, with the displacement `moved`
+abbrev pub travelledBy : Displacement → ℕ → List ℕ → Travel
+travelledBy moved pulses words = travelBy (heldOf words) pulses moved
 
 abbrev pub travelNumber : Travel → ℕ
 travelNumber (Travel.Refused r) = numberOf r
@@ -97,10 +75,15 @@ abbrev pub countsAfter : Travel → List ℕ → List ℕ
 countsAfter (Travel.Refused r) before = before
 countsAfter (Travel.Goes w) before = displacementCounts (Displacement.Moved (w .moved))
 
--- The number and what is lent are those of the call. An accepted displacement has what every accepted one has with its own settings, demand 3 of every round included.
+-- the number and what is lent afterwards are those of t
+pub record TravelLeaves (t : Travel) (number : ℕ) (trip₀ trip delta₀ delta counts₀ counts : List ℕ) : Type 0 where
+  pub number-is : number ≡ travelNumber t
+  pub trip-is : trip ≡ tripAfter t trip₀
+  pub delta-is : delta ≡ deltaAfter t delta₀
+  pub counts-are : counts ≡ countsAfter t counts₀
+
+-- They are those of the trip with the displacement of what is lent. An accepted one has what every accepted displacement has with its own settings, demand 3 of every
+-- round included.
 pub record TravelAnswers (l : Lent) (pulses number : ℕ) (trip₀ trip delta₀ delta counts₀ counts : List ℕ) : Type 0 where
-  pub number-is : number ≡ travelNumber (travelledIn l pulses trip₀)
-  pub trip-is : trip ≡ tripAfter (travelledIn l pulses trip₀) trip₀
-  pub delta-is : delta ≡ deltaAfter (travelledIn l pulses trip₀) delta₀
-  pub counts-are : counts ≡ countsAfter (travelledIn l pulses trip₀) counts₀
-  pub accepted : (w : Travelled) → travelledIn l pulses trip₀ ≡ Travel.Goes w → Accepted (inputOf l) (w .moved)
+  pub leaves : TravelLeaves (travelledBy (columnsDisplaced l) pulses trip₀) number trip₀ trip delta₀ delta counts₀ counts
+  pub accepted : (w : Travelled) → travelledBy (columnsDisplaced l) pulses trip₀ ≡ Travel.Goes w → Accepted (inputOf l) (w .moved)

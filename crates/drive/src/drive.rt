@@ -1,6 +1,6 @@
 // A trip, and the displacement settings in force.
 ghost use mathlib.Core.Path.{_≡_};
-ghost use Rattle.tdcp.specs.Displacement.{input};
+ghost use Rattle.tdcp.specs.Displacement.{general};
 ghost use Rattle.trip.specs.Trip.{Reports, fuelled};
 ghost use Rattle.drive.specs.Drive as spec;
 use numeric::refusal::Refusal;
@@ -112,7 +112,7 @@ impl Drive {
         receiver: Vec3,
         pulses: u16,
     ) -> Travel
-        ensures { λ r. ⌜ spec.Travels (self .trip) (input previous current dt receiver (self .settings)) pulses r ⌝ }
+        ensures { λ r. ⌜ spec.Travels (self .trip) (general previous current dt receiver (self .settings)) pulses r ⌝ }
     {
         let trip = self.trip;
         let settings = self.settings;

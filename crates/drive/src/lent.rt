@@ -1,9 +1,7 @@
-// The calls of a trip with settings on lent memory: the trip as six words, the settings as five floats and the rounds, the epochs as columns.
+// The calls of a trip with settings on lent memory: the trip as six words, the settings as five floats and the rounds.
 ghost use mathlib.Core.Path.{_≡_};
 ghost use mathlib.Core.List.{map};
 ghost use Rattle.numeric.specs.Order.{patternOf};
-ghost use Rattle.records.specs.Carriers.{carrierColumns};
-ghost use Rattle.numeric.specs.Vec3.{vectorAt};
 ghost use Rattle.tdcp_columns.specs.Displacement.{displacementSettings};
 ghost use Rattle.trip.specs.Words.{heldOf};
 ghost use Rattle.drive.specs.Drive.{begunOf, underNew, tested};
@@ -15,8 +13,8 @@ use crate::drive::tested;
 use crate::drive::travel_by;
 use crate::drive::under_new;
 use numeric::order::pattern;
+use tdcp::displacement::Displacement;
 use tdcp::displacement::Settings;
-use tdcp_columns::displacement::displacement_of;
 use tdcp_columns::settings::displacement_settings;
 use trip::words::held;
 use trip::words::words;
@@ -34,7 +32,7 @@ fn patterns_of(s: Settings) -> [u64; 5]
 }
 
 // A trip just started in the lent words, its settings in force in the lent floats and rounds, and 0; or 3 or 16, which leave all of them as they were.
-pub fn begin_in(
+pub fn begin_into(
     settings: &[f64; 5],
     rounds: usize,
     per_km: u16,
@@ -43,7 +41,8 @@ pub fn begin_in(
     in_force_rounds: &mut usize,
 ) -> u8
     ensures { λ r. ⌜ spec.BegunAnswers (begunOf (displacementSettings (now (settings .entry)) rounds) «per_km») r
-        (now (trip .entry)) (now (trip .exit)) (now («in_force» .entry)) (now («in_force» .exit)) (now («in_force_rounds» .entry)) (now («in_force_rounds» .exit)) ⌝ }
+        (now (trip .entry)) (now (trip .exit)) (now («in_force» .entry)) (now («in_force» .exit))
+        (now («in_force_rounds» .entry)) (now («in_force_rounds» .exit)) ⌝ }
 {
     let s = displacement_settings(settings, rounds);
     let answer = Drive::begin(s, per_km);
@@ -61,7 +60,7 @@ pub fn begin_in(
 }
 
 // New settings in force in the lent floats and rounds, and 0; or 3 or 16, which leave them as they were.
-pub fn change_in(
+pub fn change_into(
     trip: &[u64; 6],
     settings: &[f64; 5],
     rounds: usize,
@@ -85,51 +84,18 @@ pub fn change_in(
     }
 }
 
-// The displacement under the settings in force, added to the lent words with its pulses: 0, the displacement in metres in delta and how many pairs were used and screened out in
-// counts; or the refusal's number, which leaves all of them as they were.
-pub fn travel_in(
+// The displacement `moved`, added to the lent words with its pulses: 0, the displacement in metres in delta and how many pairs were used and screened out in counts; or
+// the refusal's number, which leaves all of them as they were.
+pub fn travel_into(
     trip: &mut [u64; 6],
-    in_force: &[f64; 5],
-    in_force_rounds: usize,
-    previous_constellation: &[u8],
-    previous_svid: &[u16],
-    previous_band: &[u32],
-    previous_state: &[i32],
-    previous_floats: &[f64],
-    previous_count: usize,
-    current_constellation: &[u8],
-    current_svid: &[u16],
-    current_band: &[u32],
-    current_state: &[i32],
-    current_floats: &[f64],
-    current_count: usize,
-    dt: f64,
-    receiver: &[f64; 3],
+    moved: Displacement,
     pulses: u16,
     delta: &mut [u64; 3],
     counts: &mut [usize; 2],
 ) -> u8
-    ensures { λ r. ⌜ spec.TravelAnswers (spec.lent (carrierColumns (now («previous_constellation» .entry)) (now («previous_svid» .entry)) (now («previous_band» .entry)) (now («previous_state» .entry)) (now («previous_floats» .entry))) «previous_count» (carrierColumns (now («current_constellation» .entry)) (now («current_svid» .entry)) (now («current_band» .entry)) (now («current_state» .entry)) (now («current_floats» .entry))) «current_count» dt (vectorAt (now (receiver .entry)) 0) (displacementSettings (now («in_force» .entry)) «in_force_rounds»)) pulses
-        r (now (trip .entry)) (now (trip .exit)) (now (delta .entry)) (now (delta .exit)) (now (counts .entry)) (now (counts .exit)) ⌝ }
+    ensures { λ r. ⌜ spec.TravelLeaves (spec.travelledBy moved pulses (now (trip .entry))) r
+        (now (trip .entry)) (now (trip .exit)) (now (delta .entry)) (now (delta .exit)) (now (counts .entry)) (now (counts .exit)) ⌝ }
 {
-    let moved = displacement_of(
-        previous_constellation,
-        previous_svid,
-        previous_band,
-        previous_state,
-        previous_floats,
-        previous_count,
-        current_constellation,
-        current_svid,
-        current_band,
-        current_state,
-        current_floats,
-        current_count,
-        dt,
-        receiver,
-        in_force,
-        in_force_rounds,
-    );
     let w = *trip;
     let answer = travel_by(held(w), moved, pulses);
     match answer {

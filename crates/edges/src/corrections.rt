@@ -74,8 +74,8 @@ fn five_metres(name: &[u8], maximum: f64) {
     let mut db = [0u32; 4];
     let mut df = [0usize; 4];
     let mut dn = [0usize; 4];
-    let mut ts = [0.0; 4];
-    let mut xs = [0.0; 4];
+    let mut ts = [0u64; 4];
+    let mut xs = [0u64; 4];
     let a = add_epoch(
         &mut dc,
         &mut dv,

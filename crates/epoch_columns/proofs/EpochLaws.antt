@@ -14,12 +14,11 @@ use Rattle.numeric.specs.Refusal.{numberOf}
 use Rattle.numeric.specs.declared.vec3.Vec3.{Vec3}
 use Rattle.numeric.specs.declared.refusal.Refusal.the-variants.{TooMany, SettingOutOfRange, RecordOutOfRange, TableFull}
 use Rattle.directory.specs.Directory.{Blocks, Directory, blockCapacity, directoryIn, soundDirectory}
-use Rattle.addition.specs.Add.{Placed, Places, addedIn, additionNumber, additionOf, directoryWith, entriesNow, refusedIn, samplesNow}
+use Rattle.addition.specs.Add.{PatternsAfter, Placed, Places, addedIn, additionNumber, additionOf, directoryWith, entriesNow, refusedIn, samplesNow}
 use Rattle.addition.specs.declared.add.Addition.{Addition}
 use Rattle.differential.specs.Record.{placeInRange, rangeInRange, rangesOf, stateInRange, statesCount, statesOf}
 use Rattle.differential.specs.Raw.{rawsOf}
 use Rattle.differential.specs.Sample.{epochSamples, samplesOf}
-use Rattle.differential.specs.Build.{Owned, callOf}
 use Rattle.differential.specs.AddEpoch.{tooMany, settingsInRange, recordsInRange, epochIn}
 use Rattle.differential.proofs.EpochLaws.{told-nothing}
 use Rattle.differential.specs.declared.record.Range.{Range}
@@ -101,7 +100,7 @@ module _ (m n room : ℕ) (d : Directory) (base rover : Vec3) (set : Settings) w
       go k x l j y k′ x′ l′ j′ y′ a b c f g = rw (a, b, c, f, g)
 
 -- ---- the outcome, way by way
-module _ (m n : ℕ) (l : Blocks) (time : Float) (k : ℕ) (rc rv rb : List ℕ) (rp : List Float) (present : Bool) (j : ℕ) (sc sv sb : List ℕ) (sf : List Float) (base rover : Vec3) (set : Settings) where
+module _ (m n : ℕ) (l : Blocks) (ts xs : List ℕ) (time : Float) (k : ℕ) (rc rv rb : List ℕ) (rp : List Float) (present : Bool) (j : ℕ) (sc sv sb : List ℕ) (sf : List Float) (base rover : Vec3) (set : Settings) where
   entry-unreadable : unreadable k rc rv rb rp (cond present j 0) sc sv sb sf ≡ true
       → refusedIn TooMany ≡ entryIn m n (blockCapacity l) (directoryIn m n l) time k rc rv rb rp present j sc sv sb sf base rover set
   unfolding entryIn epochIn tooMany unreadable
@@ -118,8 +117,8 @@ module _ (m n : ℕ) (l : Blocks) (time : Float) (k : ℕ) (rc rv rb : List ℕ)
       go false e = rw (either (ltb (blockCapacity l) m) (ltb (blockCapacity l) n) (ltb 64 k) (ltb 64 (cond present j 0)) (rw or-false at e))
 
   pub adds-nothing : {b : Bool} {number : ℕ} → b ≡ unreadable k rc rv rb rp (cond present j 0) sc sv sb sf → b ≡ true → number ≡ numberOf TooMany
-      → Places (entryIn m n (blockCapacity l) (directoryIn m n l) time k rc rv rb rp present j sc sv sb sf base rover set) number m m n n l l
-  adds-nothing e h r = rw r (told-nothing TooMany m n l (entry-unreadable (sym e ∙ h)) .1)
+      → (let o = entryIn m n (blockCapacity l) (directoryIn m n l) time k rc rv rb rp present j sc sv sb sf base rover set in Places o number m m n n l l × PatternsAfter o ts xs ts xs)
+  adds-nothing e h r = rw r (told-nothing TooMany m n l ts xs (entry-unreadable (sym e ∙ h)) .1)
 
   entry-added : (e : BaseEpoch) (s : States) → unreadable k rc rv rb rp (cond present j 0) sc sv sb sf ≡ false → EpochRead time k (places (rangeAt rc rv rb rp) k) e
       → StatesRead present (cond present j 0) (places (stateAt sc sv sb sf) (cond present j 0)) s
@@ -144,18 +143,10 @@ module _ (m n : ℕ) (l : Blocks) (time : Float) (k : ℕ) (rc rv rb : List ℕ)
       states false = unfold places in refl
 
   -- x being the answer of the call inside
-  pub adds-number : {b : Bool} {e : BaseEpoch} {s : States} {from to : Vec3} {given : Settings} {x : Addition} {m′ n′ number : ℕ} {l′ : Blocks}
+  pub adds-number : (ts′ xs′ : List ℕ) {b : Bool} {e : BaseEpoch} {s : States} {from to : Vec3} {given : Settings} {x : Addition} {m′ n′ number : ℕ} {l′ : Blocks}
       → b ≡ unreadable k rc rv rb rp (cond present j 0) sc sv sb sf → b ≡ false → EpochRead time k (places (rangeAt rc rv rb rp) k) e
       → StatesRead present (cond present j 0) (places (stateAt sc sv sb sf) (cond present j 0)) s → from ≡ base → to ≡ rover → given ≡ set
-      → (let o = epochIn m n (blockCapacity l) (directoryIn m n l) e s from to given in (x ≡ additionOf o) × Places o (additionNumber x) m (entriesNow x m) n (samplesNow x n) l l′)
+      → (let o = epochIn m n (blockCapacity l) (directoryIn m n l) e s from to given in (x ≡ additionOf o) × (Places o (additionNumber x) m (entriesNow x m) n (samplesNow x n) l l′ × PatternsAfter o ts xs ts′ xs′))
       → (number ≡ additionNumber x) × (m′ ≡ entriesNow x m) × (n′ ≡ samplesNow x n)
-      → Places (entryIn m n (blockCapacity l) (directoryIn m n l) time k rc rv rb rp present j sc sv sb sf base rover set) number m m′ n n′ l l′
-  adds-number {e = e} {s = s} eb h er sr f t g a (r, i, k) = rw (← entry-added e s (sym eb ∙ h) er sr, ← f, ← t, ← g, r, i, k) (a .1)
-
--- where the lent columns are long enough, an entry is the call of which `calls-build` says what a list of them leaves
-pub entry-call : (h : Owned) (time : Float) (k : ℕ) (rc rv rb : List ℕ) (rp : List Float) (present : Bool) (j : ℕ) (sc sv sb : List ℕ) (sf : List Float) (base rover : Vec3) (set : Settings)
-    → recordsShort k rc rv rb rp (cond present j 0) sc sv sb sf ≡ false
-    → entryIn (h .entries) (h .samples) (blockCapacity (h .columns)) (directoryIn (h .entries) (h .samples) (h .columns)) time k rc rv rb rp present j sc sv sb sf base rover set
-    ≡ callOf base rover set h (record { epoch = epochOf time k rc rv rb rp; states = statesIn present j sc sv sb sf })
-unfolding entryIn
-entry-call h time k rc rv rb rp present j sc sv sb sf base rover set e = rw e
+      → (let o = entryIn m n (blockCapacity l) (directoryIn m n l) time k rc rv rb rp present j sc sv sb sf base rover set in Places o number m m′ n n′ l l′ × PatternsAfter o ts xs ts′ xs′)
+  adds-number ts′ xs′ {e = e} {s = s} eb h er sr f t g a (r, i, k) = rw (← entry-added e s (sym eb ∙ h) er sr, ← f, ← t, ← g, r, i, k) (a .1)

@@ -18,15 +18,15 @@ use numeric::vec3::vector_at;
 pub(crate) fn epoch_from(
     time: f64,
     k: usize,
-    rc: &[u8],
-    rv: &[u16],
-    rb: &[u32],
-    rp: &[f64],
+    range_constellation: &[u8],
+    range_svid: &[u16],
+    range_band: &[u32],
+    range_pseudorange: &[f64],
 ) -> BaseEpoch
     requires { ⌜ k ≤ 64 ⌝ }
-    requires { ⌜ (k ≤ length (now rc)) × (k ≤ length (now rv)) ⌝ }
-    requires { ⌜ (k ≤ length (now rb)) × (k ≤ length (now rp)) ⌝ }
-    ensures { λ r. ⌜ EpochRead time k (places (rangeAt (now (rc .entry)) (now (rv .entry)) (now (rb .entry)) (now (rp .entry))) k) r ⌝ }
+    requires { ⌜ (k ≤ length (now «range_constellation»)) × (k ≤ length (now «range_svid»)) ⌝ }
+    requires { ⌜ (k ≤ length (now «range_band»)) × (k ≤ length (now «range_pseudorange»)) ⌝ }
+    ensures { λ r. ⌜ EpochRead time k (places (rangeAt (now («range_constellation» .entry)) (now («range_svid» .entry)) (now («range_band» .entry)) (now («range_pseudorange» .entry))) k) r ⌝ }
 {
     let nothing = Range {
         constellation: 0,
@@ -38,10 +38,10 @@ pub(crate) fn epoch_from(
     let mut i: usize = 0;
     while i < k {
         let q = Range {
-            constellation: rc[i],
-            svid: rv[i],
-            band: rb[i],
-            pseudorange: rp[i],
+            constellation: range_constellation[i],
+            svid: range_svid[i],
+            band: range_band[i],
+            pseudorange: range_pseudorange[i],
         };
         ranges[i] = q;
         i += 1;
@@ -54,22 +54,28 @@ pub(crate) fn epoch_from(
 }
 
 // State i of the columns.
-fn state_at(sc: &[u8], sv: &[u16], sb: &[u32], sf: &[f64], i: usize) -> State
-    requires { ⌜ (i < length (now sc)) × (i < length (now sv)) ⌝ }
-    requires { ⌜ (i < length (now sb)) × (i * 8 + 7 < length (now sf)) ⌝ }
-    ensures { λ r. ⌜ r ≡ stateAt (now (sc .entry)) (now (sv .entry)) (now (sb .entry)) (now (sf .entry)) i ⌝ }
+fn state_at(
+    state_constellation: &[u8],
+    state_svid: &[u16],
+    state_band: &[u32],
+    state_floats: &[f64],
+    i: usize,
+) -> State
+    requires { ⌜ (i < length (now «state_constellation»)) × (i < length (now «state_svid»)) ⌝ }
+    requires { ⌜ (i < length (now «state_band»)) × (i * 8 + 7 < length (now «state_floats»)) ⌝ }
+    ensures { λ r. ⌜ r ≡ stateAt (now («state_constellation» .entry)) (now («state_svid» .entry)) (now («state_band» .entry)) (now («state_floats» .entry)) i ⌝ }
 {
     let at = i * 8;
-    let position = vector_at(sf, at);
-    let velocity = vector_at(sf, at + 3);
+    let position = vector_at(state_floats, at);
+    let velocity = vector_at(state_floats, at + 3);
     State {
-        constellation: sc[i],
-        svid: sv[i],
-        band: sb[i],
+        constellation: state_constellation[i],
+        svid: state_svid[i],
+        band: state_band[i],
         position: position,
         velocity: velocity,
-        clock: sf[at + 6],
-        modelled: sf[at + 7],
+        clock: state_floats[at + 6],
+        modelled: state_floats[at + 7],
     }
 }
 
@@ -84,15 +90,15 @@ fn wanted(present: bool, j: usize) -> usize
 pub(crate) fn states_from(
     present: bool,
     j: usize,
-    sc: &[u8],
-    sv: &[u16],
-    sb: &[u32],
-    sf: &[f64],
+    state_constellation: &[u8],
+    state_svid: &[u16],
+    state_band: &[u32],
+    state_floats: &[f64],
 ) -> States
     requires { ⌜ cond present j 0 ≤ 64 ⌝ }
-    requires { ⌜ (cond present j 0 ≤ length (now sc)) × (cond present j 0 ≤ length (now sv)) ⌝ }
-    requires { ⌜ (cond present j 0 ≤ length (now sb)) × (cond present j 0 * 8 ≤ length (now sf)) ⌝ }
-    ensures { λ r. ⌜ StatesRead present (cond present j 0) (places (stateAt (now (sc .entry)) (now (sv .entry)) (now (sb .entry)) (now (sf .entry))) (cond present j 0)) r ⌝ }
+    requires { ⌜ (cond present j 0 ≤ length (now «state_constellation»)) × (cond present j 0 ≤ length (now «state_svid»)) ⌝ }
+    requires { ⌜ (cond present j 0 ≤ length (now «state_band»)) × (cond present j 0 * 8 ≤ length (now «state_floats»)) ⌝ }
+    ensures { λ r. ⌜ StatesRead present (cond present j 0) (places (stateAt (now («state_constellation» .entry)) (now («state_svid» .entry)) (now («state_band» .entry)) (now («state_floats» .entry))) (cond present j 0)) r ⌝ }
 {
     let m = wanted(present, j);
     let zero = Vec3 {
@@ -111,7 +117,7 @@ pub(crate) fn states_from(
     };
     let mut states = [nothing; 64];
     for i in 0..m {
-        states[i] = state_at(sc, sv, sb, sf, i);
+        states[i] = state_at(state_constellation, state_svid, state_band, state_floats, i);
     }
     States {
         present: present,
@@ -123,29 +129,29 @@ pub(crate) fn states_from(
 // Whether there are more than 64 ranges or wanted states, or a lent column is shorter than they need.
 pub(crate) fn is_unreadable(
     k: usize,
-    rc: &[u8],
-    rv: &[u16],
-    rb: &[u32],
-    rp: &[f64],
+    range_constellation: &[u8],
+    range_svid: &[u16],
+    range_band: &[u32],
+    range_pseudorange: &[f64],
     present: bool,
     j: usize,
-    sc: &[u8],
-    sv: &[u16],
-    sb: &[u32],
-    sf: &[f64],
+    state_constellation: &[u8],
+    state_svid: &[u16],
+    state_band: &[u32],
+    state_floats: &[f64],
 ) -> bool
-    ensures { λ r. ⌜ r ≡ unreadable k (now (rc .entry)) (now (rv .entry)) (now (rb .entry)) (now (rp .entry)) (cond present j 0) (now (sc .entry)) (now (sv .entry)) (now (sb .entry)) (now (sf .entry)) ⌝ }
+    ensures { λ r. ⌜ r ≡ unreadable k (now («range_constellation» .entry)) (now («range_svid» .entry)) (now («range_band» .entry)) (now («range_pseudorange» .entry)) (cond present j 0) (now («state_constellation» .entry)) (now («state_svid» .entry)) (now («state_band» .entry)) (now («state_floats» .entry)) ⌝ }
 {
     let m = wanted(present, j);
     if (64 < k) | (64 < m) {
         return true;
     }
-    (rc.len() < k)
-        | (rv.len() < k)
-        | (rb.len() < k)
-        | (rp.len() < k)
-        | (sc.len() < m)
-        | (sv.len() < m)
-        | (sb.len() < m)
-        | (sf.len() < m * 8)
+    (range_constellation.len() < k)
+        | (range_svid.len() < k)
+        | (range_band.len() < k)
+        | (range_pseudorange.len() < k)
+        | (state_constellation.len() < m)
+        | (state_svid.len() < m)
+        | (state_band.len() < m)
+        | (state_floats.len() < m * 8)
 }

@@ -1,28 +1,37 @@
 -- The call: its refusals, what it leaves, and the queries afterwards. Assumes nothing.
 use mathlib.Core.Path.{_≡_, refl, sym, ap, _∙_}
-use mathlib.Core.Bool.{Bool, true, false, not, _||_}
-use Prim.Native.Nat.{ℕ, _≤_}
+use mathlib.Core.Bool.{Bool, true, false, not, _&&_, _||_}
+use Prim.Native.Nat.{ℕ, _^_, _≤_, _<_}
 use native.Mathlib.Omega.{arith}
 use lib.Dec.{T, ltb}
-use lib.ListN.{length, getD, take}
+use mathlib.Core.List.{List, [], _∷_, map}
+use lib.ListN.{length, getD, take, drop}
 use lib.Seq.{length-take-le}
 use borrow.Author.Tests.{ltb-false, not-true, not-false}
-use lib.Ieee.{Float, nan, fits, binary64}
+use lib.Ieee.{Float, fits, binary64}
 use lib.Ieee.Scale.{finite}
+use Rattle.walk.specs.Walk.{every}
 use Rattle.walk.proofs.Walk.{or-no}
+use Rattle.numeric.specs.Real.{inRange}
 use Rattle.numeric.specs.Refusal.{numberOf}
 use Rattle.numeric.specs.declared.refusal.Refusal.{Refusal}
 use Rattle.numeric.specs.declared.refusal.Refusal.the-variants.{TooMany, RecordOutOfRange, BadDropTime}
+use Rattle.table.specs.Table.{ranged, soundTable}
+use Rattle.table.specs.declared.sample.Sample.{Sample}
+use Rattle.table.proofs.TableLaws.{and-left, and-right}
 use Rattle.table.proofs.UnitLaws.{never}
 use Rattle.table.specs.declared.add.Test.{Test}
 use Rattle.table.specs.declared.add.Test.the-variants as Test
-use Rattle.directory.specs.Directory.{Directory, Blocks, blockCapacity, blocksWith, directoryIn, directoryOf, entriesIn, flat, readingsIn, soundDirectory}
+use Rattle.directory.specs.Directory.{Directory, Blocks, Reading, blockCapacity, blocksWith, directoryIn, directoryOf, entriesIn, flat, floats, inReach, readingOf, readingsIn, soundDirectory}
+use Rattle.directory.proofs.DirectoryLaws.{sound-flat}
 use Rattle.query.proofs.PlaceLaws.{held-flat}
-use Rattle.forget.specs.Forget.{Forgets, Outcome, countAfter, forget, forgetIn, forgettingNumber, forgettingOf, leaves, testIn}
-use Rattle.forget.specs.Retain.{retained, trimmed}
+use Rattle.forget.specs.Forget.{Forgets, Outcome, PatternsAfter, countAfter, forget, forgetIn, forgettingNumber, forgettingOf, leaves, testIn}
+use Rattle.forget.specs.Retain.{Fit, retained, trimmed}
 use Rattle.forget.specs.declared.forget.Forgetting.{Forgetting}
 use Rattle.forget.specs.declared.forget.Forgetting.the-variants as Forgetting
 use Rattle.forget.proofs.LayoutLaws.{forget-trimmed}
+use Rattle.forget.proofs.ForgetLaws.{forget-sound}
+use Rattle.forget.proofs.PatternLaws.{floats-held, patterns-of}
 use Rattle.forget.proofs.TrimLaws.{laid-length}
 
 -- ---- the tests one after the other
@@ -46,11 +55,6 @@ module _ (m n room : ℕ) (d : Directory) (time : Float) {r : ℕ} (is : r ≡ r
       test-passed w = rw (← is, h, ← ey, not-false y u, ← ef, not-false f w)
 
 -- ---- what a passed test says
-pub record Fit (m n : ℕ) (l : Blocks) : Type 0 where
-  pub few-entries : m ≤ length (entriesIn l)
-  pub few-samples : n ≤ length (readingsIn l)
-  pub steady : soundDirectory (directoryIn m n l) ≡ true
-
 refused-not : {A : Type 0} (r : Refusal) → Test.Refused r ≡ Test.Passed → A
 refused-not r e = never (ap isPassed e)
   where
@@ -77,23 +81,53 @@ fit-of m n l time e = go (ltb (blockCapacity l) m || ltb (blockCapacity l) n) (s
         record { few-entries = omega arith; few-samples = omega arith; steady = q }
 
 -- ---- what is left
-module _ (m n : ℕ) (l : Blocks) (time : Float) where
-  pub forget-refused : (r : Refusal) → testIn m n (blockCapacity l) (directoryIn m n l) time ≡ Test.Refused r
-      → (let o = forgetIn m n (blockCapacity l) (directoryIn m n l) time in (Forgetting.Refused r ≡ forgettingOf o) × Forgets o (numberOf r) m n n l l)
-  unfolding forgetIn
-  forget-refused r e = rw e (refl, record { number-is = refl; entries-stay = refl; count = refl; columns = refl })
+ranged-readings : (t : List Sample) → every ranged t ≡ true → every inReach (map readingOf t) ≡ true
+unfolding every inReach ranged
+ranged-readings [] e = refl
+ranged-readings (s ∷ t) e = rw (and-left (ranged s) _ e) (ranged-readings t (and-right (ranged s) _ e))
 
-  pub forget-passed : testIn m n (blockCapacity l) (directoryIn m n l) time ≡ Test.Passed → ((j : ℕ) → T (fits binary64 (getD (l .times) j nan))) → T (fits binary64 time)
+ranged-of : (t : List Sample) → soundTable t ≡ true → every ranged t ≡ true
+unfolding soundTable
+ranged-of t e = and-left (every ranged t) _ e
+
+reach-of : (t : List Sample) → every ranged t ≡ true → every inReach ((directoryOf t) .readings) ≡ true
+unfolding directoryOf
+reach-of t e = ranged-readings t e
+
+-- both fields of readings in range
+fields-range : (rs : List Reading) → every inReach rs ≡ true → (every (λ (r : Reading). inRange (r .time)) rs ≡ true) × (every (λ (r : Reading). inRange (r .correction)) rs ≡ true)
+unfolding every inReach
+fields-range [] e = (refl, refl)
+fields-range (r ∷ rs) e =
+    let a = and-left (inRange (r .time) && inRange (r .correction)) _ e in
+    let k = fields-range rs (and-right (inRange (r .time) && inRange (r .correction)) _ e) in
+    (rw (and-left (inRange (r .time)) _ a) (k .0), rw (and-right (inRange (r .time)) _ a) (k .1))
+
+module _ (m n : ℕ) (l : Blocks) (time : Float) (ts xs : List ℕ) where
+  pub forget-refused : (r : Refusal) → testIn m n (blockCapacity l) (directoryIn m n l) time ≡ Test.Refused r
+      → (let o = forgetIn m n (blockCapacity l) (directoryIn m n l) time in (Forgetting.Refused r ≡ forgettingOf o) × (Forgets o (numberOf r) m n n l l × PatternsAfter o ts xs ts xs))
+  unfolding forgetIn
+  forget-refused r e = rw e (refl, (record { number-is = refl; entries-stay = refl; count = refl; columns = refl }, (refl, refl)))
+
+  pub forget-passed : testIn m n (blockCapacity l) (directoryIn m n l) time ≡ Test.Passed → l .times ≡ floats ts → l .corrections ≡ floats xs → T (fits binary64 time)
       → {k : ℕ} {l′ : Blocks} → k ≡ length (trimmed time (directoryIn m n l) .readings) → l′ ≡ blocksWith (trimmed time (directoryIn m n l)) l
-      → (let o = forgetIn m n (blockCapacity l) (directoryIn m n l) time in (Forgetting.Count k ≡ forgettingOf o) × Forgets o 0 m n k l l′)
-  forget-passed e held ft {k} {l′} ek el =
+      → (ts′ xs′ : List ℕ) → l′ .times ≡ floats ts′ → l′ .corrections ≡ floats xs′ → drop k ts′ ≡ drop k ts → drop k xs′ ≡ drop k xs → ((x : ℕ) → getD ts′ x 0 < 2 ^ 64) → ((x : ℕ) → getD xs′ x 0 < 2 ^ 64)
+      → (let o = forgetIn m n (blockCapacity l) (directoryIn m n l) time in (Forgetting.Count k ≡ forgettingOf o) × (Forgets o 0 m n k l l′ × PatternsAfter o ts xs ts′ xs′))
+  forget-passed e lt lx ft {k} {l′} ek el ts′ xs′ lt′ lx′ dt dx bt bx =
       let f = fit-of m n l time e in
       let d = directoryIn m n l in
-      let q : directoryOf (forget time (flat d)) ≡ trimmed time d = forget-trimmed time d ft (f .steady) (held-flat m n l (f .few-entries) (f .few-samples) (f .steady) held) in
+      let q : directoryOf (forget time (flat d)) ≡ trimmed time d = forget-trimmed time d ft (f .steady) (held-flat m n l (f .few-entries) (f .few-samples) (f .steady) (λ j. rw lt (floats-held ts j))) in
       let o : forgetIn m n (blockCapacity l) d time ≡ leaves (trimmed time d) = outcome q in
+      let r = fields-range (trimmed time d .readings) (reach (f .steady) q) in
       rw o (
         ap Forgetting.Count ek,
-        record { number-is = refl; entries-stay = entries (f .few-entries); count = ek; columns = el },
+        (
+          record { number-is = refl; entries-stay = entries (f .few-entries); count = ek; columns = el },
+          record {
+            times = patterns-of (λ (r : Reading). r .time) (trimmed time d .readings) ts ts′ (sym lt′ ∙ ap (λ (b : Blocks). b .times) el ∙ rw lt) (rw ek at dt) (r .0) bt;
+            corrections = patterns-of (λ (r : Reading). r .correction) (trimmed time d .readings) xs xs′ (sym lx′ ∙ ap (λ (b : Blocks). b .corrections) el ∙ rw lx) (rw ek at dx) (r .1) bx;
+          },
+        ),
       )
     where
       outcome : directoryOf (forget time (flat (directoryIn m n l))) ≡ trimmed time (directoryIn m n l) → forgetIn m n (blockCapacity l) (directoryIn m n l) time ≡ leaves (trimmed time (directoryIn m n l))
@@ -101,6 +135,14 @@ module _ (m n : ℕ) (l : Blocks) (time : Float) where
 
       entries : m ≤ length (entriesIn l) → m ≡ length (trimmed time (directoryIn m n l) .entries)
       entries h = unfold trimmed in sym (laid-length (retained time (take n (readingsIn l))) 0 (take m (entriesIn l)) ∙ length-take-le m (entriesIn l) h)
+
+      reach : soundDirectory (directoryIn m n l) ≡ true → directoryOf (forget time (flat (directoryIn m n l))) ≡ trimmed time (directoryIn m n l) → every inReach (trimmed time (directoryIn m n l) .readings) ≡ true
+      reach s q =
+          let t = forget time (flat (directoryIn m n l)) in
+          let z : soundTable t ≡ true = forget-sound time (flat (directoryIn m n l)) (sound-flat (directoryIn m n l) s) in
+          let y : every ranged t ≡ true = ranged-of t z in
+          let w : every inReach ((directoryOf t) .readings) ≡ true = reach-of t y in
+          ap (λ (d : Directory). every inReach (d .readings)) (sym q) ∙ w
 
 -- ---- the number and the count, by the answer
 module _ {o : Outcome} {m n : ℕ} {l l′ : Blocks} {a : Forgetting} (f : Forgets o (forgettingNumber a) m n (countAfter a n) l l′) where

@@ -11,7 +11,8 @@ use lib.Ieee.{Float, nan, inf, fin, isNan, lt, le, eq, add, sub, neg}
 use Rattle.walk.specs.Walk.{collect, every}
 use Rattle.numeric.specs.Real.{abs}
 use Rattle.numeric.specs.declared.refusal.Refusal.the-variants.{NoCorrection}
-use Rattle.table.specs.Table.{ranged, seriesOf, signal, signalOf, soundTable, standsBefore}
+use Rattle.signal.specs.Signal.{signal}
+use Rattle.table.specs.Table.{ranged, seriesOf, signalOf, soundTable, standsBefore}
 use Rattle.table.specs.Add.{insert, insertAll}
 use Rattle.table.specs.declared.sample.Sample.{Sample}
 use Rattle.table.proofs.Places.{before-place, placeOf, rises, sorted-rises}

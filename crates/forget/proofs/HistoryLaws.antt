@@ -3,11 +3,10 @@ use mathlib.Core.Path.{_≡_, refl, sym, ap, _∙_}
 use mathlib.Core.List.{List, [], _∷_}
 use mathlib.Core.Bool.{Bool, true, false, cond, not, _&&_, _||_}
 use Prim.Native.Nat.{ℕ, suc, _≤_}
-use native.Mathlib.Nat.{le-trans}
 use native.Mathlib.Omega.{arith}
-use lib.Dec.{eqb, ltb}
+use lib.Dec.{eqb}
 use lib.ListN.{length}
-use borrow.Author.Tests.{eqb-true, le-ltb, not-true}
+use borrow.Author.Tests.{eqb-true, not-true}
 use lib.Ieee.{Float, isNan, lt}
 use Rattle.walk.specs.Walk.{every, fold}
 use Rattle.table.specs.Table.{ranged, signalOf, sorted, soundTable}
@@ -16,14 +15,12 @@ use Rattle.table.specs.declared.sample.Sample.{Sample}
 use Rattle.table.proofs.Places.{rises, sorted-rises}
 use Rattle.table.proofs.TableLaws.{and-left, and-right}
 use Rattle.table.proofs.SeriesLaws.{insertAll-rises}
-use Rattle.table.proofs.InsertLaws.{insertAll-sound}
 use Rattle.table.proofs.UnitLaws.{never}
-use Rattle.query.specs.Query.{before, since, answerAt, guarded, queryOf}
-use Rattle.query.specs.declared.query.Correction.{Correction}
+use Rattle.query.specs.Query.{before, since, answerAt}
 use Rattle.forget.specs.Forget.{earlier, some, forget}
-use Rattle.forget.specs.History.{Event, add, drop, happen, history, notBefore, allowed, undropped, inRangeAll}
+use Rattle.forget.specs.History.{Event, add, drop, happen, history, notBefore, allowed, undropped}
 use Rattle.forget.proofs.TimeLaws.{lt-through, lt-asym, lt-self, not-before-nan}
-use Rattle.forget.proofs.ForgetLaws.{some-later, forget-rises, forget-sound, forget-insertAll, forget-answer}
+use Rattle.forget.proofs.ForgetLaws.{some-later, forget-rises, forget-insertAll, forget-answer}
 
 -- ---- two drops, u not after t
 module _ (u t : Float) (n : isNan t ≡ false) (h : lt t u ≡ false) where
@@ -109,12 +106,6 @@ forget-history time t (drop other ∷ es) r e =
     ap (λ (m : List Sample). history m es) (forget-swap other time t) ∙ forget-history time (forget other t) es (forget-rises other 0 t r) e
 
 -- ---- the table after events
-pub history-sound : (t : List Sample) (es : List Event) → soundTable t ≡ true → every inRangeAll es ≡ true → soundTable (history t es) ≡ true
-unfolding fold happen every inRangeAll
-history-sound t [] s r = s
-history-sound t (add ss ∷ es) s r = history-sound (insertAll t ss) es (insertAll-sound t ss (and-left (every ranged ss) _ r) s) (and-right (every ranged ss) _ r)
-history-sound t (drop time ∷ es) s r = history-sound (forget time t) es (forget-sound time t s) r
-
 pub sorted-of : (t : List Sample) → soundTable t ≡ true → rises 0 t ≡ true
 unfolding soundTable
 sorted-of t e = sym (sorted-rises t) ∙ and-right (every ranged t) _ e
@@ -137,7 +128,7 @@ history-law t (drop time ∷ es) gap c v b q r a =
     drop-law time t es gap c v b q r (and-left _ _ (and-right (not (lt q time)) _ a)) (not-true (lt q time) (and-left _ _ a))
     ∙ history-law t es gap c v b q r (and-right (every (notBefore time) es) _ (and-right (not (lt q time)) _ a))
 
--- ---- the whole query, numbers 2 to 4 with it
+-- ---- a drop leaves no more than there was
 pub forget-length : (time : Float) (l : List Sample) → length (forget time l) ≤ length l
 unfolding forget
 forget-length time [] = omega arith
@@ -146,37 +137,3 @@ forget-length time (s ∷ l) = go (before time s && some (earlier (signalOf s) t
     go : (x : Bool) → length (forget time l) ≤ length l → length (cond x (forget time l) (s ∷ forget time l)) ≤ suc (length l)
     go true ih = omega arith
     go false ih = omega arith
-
--- drops leave no more than there were without them
-history-length : (t : List Sample) (es : List Event) (q : Float) → rises 0 t ≡ true → allowed q es ≡ true → length (history t es) ≤ length (history t (undropped es))
-unfolding fold happen allowed undropped
-history-length t [] q r a = omega arith
-history-length t (add ss ∷ es) q r a = history-length (insertAll t ss) es q (insertAll-rises t ss r) a
-history-length t (drop time ∷ es) q r a =
-    let e = forget-history time t es r (and-left _ _ (and-right (not (lt q time)) _ a)) in
-    rw e (le-trans (forget-length time (history t es)) (history-length t es q r (and-right (every (notBefore time) es) _ (and-right (not (lt q time)) _ a))))
-
-pub undropped-ranged : (es : List Event) → every inRangeAll es ≡ true → every inRangeAll (undropped es) ≡ true
-unfolding every inRangeAll undropped
-undropped-ranged [] r = refl
-undropped-ranged (add ss ∷ es) r = rw (and-left (every ranged ss) _ r) (undropped-ranged es (and-right (every ranged ss) _ r))
-undropped-ranged (drop time ∷ es) r = undropped-ranged es r
-
-guard-same : (n m room : ℕ) (t u : List Sample) (gap q : Float) (a : Correction) → n ≤ room → m ≤ room → soundTable t ≡ true → soundTable u ≡ true → guarded (ltb room n) (soundTable t) gap q a ≡ guarded (ltb room m) (soundTable u) gap q a
-guard-same n m room t u gap q a h k e f = rw (le-ltb room n h, le-ltb room m k, e, f)
-
--- for every sound table, any drops and additions in range, with room for all that were added, and query not before a drop: the call answers as if no drop had been made
-pub history-query : (t : List Sample) (es : List Event) (room : ℕ) (gap : Float) (c v b : ℕ) (q : Float)
-    → soundTable t ≡ true → every inRangeAll es ≡ true → allowed q es ≡ true → length (history t (undropped es)) ≤ room
-    → queryOf (length (history t es)) room (history t es) gap c v b q ≡ queryOf (length (history t (undropped es))) room (history t (undropped es)) gap c v b q
-unfolding queryOf
-history-query t es room gap c v b q s r a l = guard-same (length (history t es)) (length (history t (undropped es))) room (history t es) (history t (undropped es)) gap q (answerAt (history t es) gap c v b q)
-    (le-trans (history-length t es q (sorted-of t s) a) l) l (history-sound t es s r) (history-sound t (undropped es) s (undropped-ranged es r))
-    ∙ ap (guarded (ltb room (length (history t (undropped es)))) (soundTable (history t (undropped es))) gap q) (history-law t es gap c v b q (sorted-rises t ∙ sorted-of t s) a)
-
--- for every sound table, drop time, additions in range and not earlier than it with room for all, and query not before it: the call answers as without the drop
-pub forget-query : (time : Float) (t ss : List Sample) (room : ℕ) (gap : Float) (c v b : ℕ) (q : Float)
-    → soundTable t ≡ true → every ranged ss ≡ true → every (since time) ss ≡ true → length (insertAll t ss) ≤ room → lt q time ≡ false
-    → queryOf (length (insertAll (forget time t) ss)) room (insertAll (forget time t) ss) gap c v b q ≡ queryOf (length (insertAll t ss)) room (insertAll t ss) gap c v b q
-forget-query time t ss room gap c v b q s r e l h =
-    unfold fold happen undropped in history-query t (drop time ∷ add ss ∷ []) room gap c v b q s (unfold every inRangeAll in rw r) (unfold allowed every notBefore in rw (h, e)) l

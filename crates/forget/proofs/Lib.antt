@@ -9,3 +9,4 @@ pub mod TrimLaws
 pub mod CallLaws
 pub mod FormLaws
 pub mod Values
+pub mod PatternLaws

@@ -14,7 +14,7 @@ use Rattle.table.specs.Table.{signalOf}
 use Rattle.table.specs.declared.sample.Sample.{Sample}
 use Rattle.table.specs.declared.add.Test.{Test}
 use Rattle.table.specs.declared.add.Test.the-variants as Test
-use Rattle.directory.specs.Directory.{Directory, Blocks, blocksWith, directoryOf, flat, soundDirectory}
+use Rattle.directory.specs.Directory.{Directory, Blocks, PatternsWith, blocksWith, directoryOf, flat, soundDirectory}
 use Rattle.query.specs.Query.{before}
 use Rattle.forget.specs.declared.forget.Forgetting.{Forgetting}
 use Rattle.forget.specs.declared.forget.Forgetting.the-variants as Forgetting
@@ -83,6 +83,11 @@ entriesAfter (leaves d) m = length (d .entries)
 abbrev pub blocksAfter : Outcome → Blocks → Blocks
 blocksAfter (refused r) l = l
 blocksAfter (leaves d) l = blocksWith d l
+
+-- the patterns of times and corrections afterwards, to the last bit: as they were where it is refused, else with those of the directory's readings
+abbrev pub PatternsAfter : Outcome → List ℕ → List ℕ → List ℕ → List ℕ → Type 0
+PatternsAfter (refused r) ts xs ts′ xs′ = (ts′ ≡ ts) × (xs′ ≡ xs)
+PatternsAfter (leaves d) ts xs ts′ xs′ = PatternsWith d ts xs ts′ xs′
 
 -- the number, the count and the columns afterwards are those of the outcome, and the directory keeps its m entries
 pub record Forgets (o : Outcome) (number m n n′ : ℕ) (l l′ : Blocks) : Type 0 where

@@ -3,10 +3,8 @@ use mathlib.Core.Bool.{Bool, true, not, _&&_}
 use mathlib.Core.List.{List, [], _∷_}
 use lib.Ieee.{Float, lt}
 use Rattle.walk.specs.Walk.{every, fold}
-use Rattle.table.specs.Table.{ranged}
 use Rattle.table.specs.Add.{insertAll}
 use Rattle.table.specs.declared.sample.Sample.{Sample}
-use Rattle.directory.specs.Directory.{Directory, directoryOf, flat}
 use Rattle.query.specs.Query.{since}
 use Rattle.forget.specs.Forget.{forget}
 
@@ -24,14 +22,6 @@ happen t (drop time) = forget time t
 abbrev pub history : List Sample → List Event → List Sample
 history t es = fold happen t es
 
--- the directory after one event: of the samples that it stands for, with those added or without those dropped
-unfoldable pub happenIn : Directory → Event → Directory
-happenIn d e = directoryOf (happen (flat d) e)
-
--- the directory after events, one after the other
-abbrev pub historyIn : Directory → List Event → Directory
-historyIn d es = fold happenIn d es
-
 -- what is added is not earlier than the time; a further drop may be of any time
 unfoldable pub notBefore : Float → Event → Bool
 notBefore time (add ss) = every (since time) ss
@@ -48,8 +38,3 @@ unfoldable pub undropped : List Event → List Event
 undropped [] = []
 undropped (add ss ∷ es) = add ss ∷ undropped es
 undropped (drop time ∷ es) = undropped es
-
--- what is added is in range, as number 4 asks
-unfoldable pub inRangeAll : Event → Bool
-inRangeAll (add ss) = every ranged ss
-inRangeAll (drop time) = true

@@ -7,7 +7,7 @@ use lib.ListN.{length, getD, take, drop}
 use lib.Seq.{paste}
 use lib.Ieee.{Float, nan, lt}
 use Rattle.walk.specs.Walk.{collect}
-use Rattle.directory.specs.Directory.{Entry, Reading, Directory, block}
+use Rattle.directory.specs.Directory.{Entry, Reading, Directory, Blocks, block, directoryIn, entriesIn, lentBlocks, readingsIn, soundDirectory}
 use Rattle.directory.specs.Series.{front}
 
 -- the first r of the count times from the place first on are before the time, and the next one is not
@@ -33,3 +33,19 @@ laid part place (e ∷ es) =
 -- a directory in which each block is what the drop leaves of it
 unfoldable pub trimmed : Float → Directory → Directory
 trimmed time d = record { entries = laid (retained time (d .readings)) 0 (d .entries); readings = collect (retained time (d .readings)) (d .entries) }
+
+-- ---- what the contract of the pass says
+
+-- m entries and n samples in columns that have them all, and number 4 finds nothing in them
+pub record Fit (m n : ℕ) (l : Blocks) : Type 0 where
+  pub few-entries : m ≤ length (entriesIn l)
+  pub few-samples : n ≤ length (readingsIn l)
+  pub steady : soundDirectory (directoryIn m n l) ≡ true
+
+-- the first samples and the counts of m entries are those of such a directory, whatever its satellites are
+pub record SomeDirectory (m : ℕ) (firsts counts : List ℕ) (ts xs : List Float) : Type 0 where
+  pub constellations : List ℕ
+  pub svids : List ℕ
+  pub bands : List ℕ
+  pub samples : ℕ
+  pub fit : Fit m samples (lentBlocks constellations svids bands firsts counts ts xs)

@@ -1,6 +1,6 @@
 // Forgetting the samples before a time: of each satellite's earlier samples only the last is retained, in place.
-// In every call dc, dv, db, df and dn are the directory's columns of constellations, svids, bands, first samples and counts, of which m entries count;
-// ts and xs are the columns of times and corrections, of which n samples count.
+// In every call block_constellation to block_samples are the directory's columns, of which `blocks` entries count;
+// table_time and table_metres are the columns of times and corrections, of which `table_count` samples count.
 pub mod calls;
 pub mod forget;
 mod retain;

@@ -1,46 +1,84 @@
--- The loop over the lines of a text. Assumes nothing.
+-- The lines of a text, and the loop over them. Assumes nothing.
 use mathlib.Core.Path.{_≡_, refl, sym, ap, _∙_}
-use mathlib.Core.Bool.{Bool, true, false, cond, not, _&&_}
+use mathlib.Core.Bool.{Bool, true, false, cond, not, _&&_, _||_}
 use mathlib.Core.List.{List, [], _∷_}
-use Prim.Native.Nat.{ℕ, _+_, _-_, _≤_, _<_}
+use Prim.Native.Nat.{ℕ, min, _+_, _-_, _≤_, _<_}
 use native.Mathlib.Omega.{arith}
-use lib.Dec.{T}
+use lib.Dec.{T, ltb}
 use borrow.Author.Tests.{lt-ltb, le-ltb}
 use lib.ListN.{length, getD, take, drop, set, length-set}
-use lib.Seq.{set-out}
+use lib.Seq.{set-out, getD-set-same, getD-set-other}
+use lib.IntN.{ℤ}
 use lib.Ieee.{Float, isNan, nan, inf, fin}
 use lib.Ieee.Scale.{finite}
 use Rattle.walk.specs.Walk.{fold}
-use Rattle.numeric.specs.declared.refusal.Refusal.the-variants.{BrokenForm}
-use Rattle.tdcp.specs.Displacement.{Input, input, displacementOf, Promised}
+use Rattle.walk.proofs.Walk.{places-all, places-take}
+use Rattle.numeric.specs.declared.vec3.Vec3.{Vec3}
+use Rattle.numeric.specs.declared.refusal.Refusal.the-variants.{TooMany, BrokenForm}
+use Rattle.records.specs.Record.{counted}
+use Rattle.records.specs.Signals.{epochIn, Fit, Put, Laid}
 use Rattle.records.specs.declared.record.Carrier.{Carrier}
 use Rattle.records.specs.declared.record.Epoch.{Epoch}
+use Rattle.records.specs.declared.pair.Profile.the-variants.{General}
+use Rattle.records.proofs.RecordLaws.{blank}
+use Rattle.records.proofs.PutLaws.{laid-next}
+use Rattle.records.proofs.EpochLaws.{cut-count, cut-fits, cut-is}
+use Rattle.tdcp.specs.Displacement.{Input, general, displacementOf, Promised}
+use Rattle.tdcp.specs.declared.displacement.Settings.{Settings}
+use Rattle.tdcp.specs.declared.displacement.Interval.the-variants.{Seconds}
 use Rattle.tdcp.specs.declared.displacement.Displacement.{Displacement}
 use Rattle.tdcp.specs.declared.displacement.Displacement.the-variants.{Refused, Moved}
+use Rattle.tdcp.proofs.CountedLaws.{displacement-counted}
+use Rattle.tdcp.proofs.DisplacementCall.{too-many}
 use Rattle.line_form.specs.Split.{split, countBefore}
 use Rattle.line_form.specs.Line.{isSettings, given, firstOf, lineOf}
-use Rattle.line_form.specs.Text.{whole, recordsForm, linesForm, isText, none, added, previousAfter, currentAfter, previousFrom, currentFrom, inputIn, inputOf, displacementIn}
+use Rattle.line_form.specs.Text.{whole, recordsForm, linesForm, isText, none, added, previousAfter, currentAfter, previousFrom, currentFrom, inputIn, inputOf, linesDisplacement, displacementIn}
 use Rattle.line_form.specs.Written.{Printable}
-use Rattle.line_form.specs.Reads.{Displaces}
+use Rattle.line_form.specs.Reads.{Holds, Keeps, ReadsNext, LinesDisplace, Displaces}
 use Rattle.line_form.specs.declared.line.Given.{Given}
 use Rattle.line_form.specs.declared.line.First.{First}
 use Rattle.line_form.specs.declared.line.First.the-variants.{Is, Broken as First·Broken}
 use Rattle.line_form.specs.declared.line.Line.{Line}
 use Rattle.line_form.specs.declared.line.Line.the-variants.{Previous, Current, Broken}
+use Rattle.line_form.specs.declared.text.Next.{Next}
 use Rattle.line_form.proofs.SplitLaws.{left-end, left-at, split-some, part-last, part-next}
 
 -- ---- one carrier more, with room and without
 
-abbrev pub epoch : ℕ → List Carrier → Epoch
-epoch n l = record { count = n; carriers = l }
+module _ (c : Carrier) (n : ℕ) {ss : List ℕ} {ts : List ℤ} {fs : List Float} where
+  -- what stood before the new carrier stands there still
+  before : (xs : List Carrier) → Laid xs n ss ts fs → Laid (set xs n c) n ss ts fs
+  before xs h =
+      record {
+        signals-long = h .signals-long;
+        states-long = h .states-long;
+        floats-long = h .floats-long;
+        small = h .small;
+        all = λ i l d. h .all i l d ∙ sym (getD-set-other xs n i c d (omega arith));
+      }
 
-pub added-room : (e o : Epoch) (c : Carrier) → o ≡ epoch (e .count) (set (e .carriers) (e .count) c) → epoch (e .count + 1) (o .carriers) ≡ added e c
-unfolding added
-added-room e o c q = ap (λ (x : Epoch). epoch (e .count + 1) (x .carriers)) q
+  pub keeps-room : {r : ℕ} {ss′ : List ℕ} {ts′ : List ℤ} {fs′ : List Float} → n < 64 → r ≡ n + 1 → Put c n ss ts fs ss′ ts′ fs′ → Keeps c n r ss ts fs ss′ ts′ fs′
+  unfolding added
+  keeps-room {r} {ss′} {ts′} {fs′} l e p = record { kept = go }
+    where
+      go : (x : Epoch) → length (x .carriers) ≡ 64 → Holds x n ss ts fs → Holds (record { count = x .count + 1; carriers = set (x .carriers) (x .count) c }) r ss′ ts′ fs′
+      go x long h =
+          let few : min n 64 ≡ n = omega arith in
+          let few′ : min r 64 ≡ n + 1 = omega arith in
+          let old : Laid (x .carriers) n ss ts fs = rw few at (h .laid) in
+          let new : Laid (set (x .carriers) n c) (n + 1) ss′ ts′ fs′ = laid-next (before (x .carriers) old) (λ d. sym (getD-set-same (x .carriers) n c d (omega (arith, long)))) p in
+          record { count-is = omega (arith, h .count-is); laid = rw (← h .count-is, few′) new }
 
-pub added-full : (e o : Epoch) (c : Carrier) → o ≡ e → length (e .carriers) ≡ 64 → 64 ≤ e .count → epoch (e .count + 1) (o .carriers) ≡ added e c
-unfolding added
-added-full e o c q l h = ap (λ (x : Epoch). epoch (e .count + 1) (x .carriers)) q ∙ ap (epoch (e .count + 1)) (sym (set-out (e .carriers) (e .count) c (omega arith)))
+  pub keeps-full : {r : ℕ} → 64 ≤ n → r ≡ n + 1 → Keeps c n r ss ts fs ss ts fs
+  unfolding added
+  keeps-full {r} l e = record { kept = go }
+    where
+      go : (x : Epoch) → length (x .carriers) ≡ 64 → Holds x n ss ts fs → Holds (record { count = x .count + 1; carriers = set (x .carriers) (x .count) c }) r ss ts fs
+      go x long h =
+          let full : min n 64 ≡ 64 = omega arith in
+          let full′ : min r 64 ≡ 64 = omega arith in
+          let old : Laid (x .carriers) 64 ss ts fs = rw full at (h .laid) in
+          record { count-is = omega (arith, h .count-is); laid = rw (full′, set-out (x .carriers) (x .count) c (omega (arith, long, h .count-is))) old }
 
 -- ---- a line before others
 
@@ -49,113 +87,152 @@ unfolding recordsForm
 records-cons l [] h = absurd (omega arith)
 records-cons l (m ∷ ls) h = refl
 
--- ---- the loop, from f on
+-- ---- the line at a place
+module _ (s : List ℕ) (at : ℕ) (within : at < length s) (r : ℕ) (is : r ≡ at + countBefore 10 (drop at s)) where
+  -- a last line without LF
+  pub next-cut : r ≡ length s → ReadsNext s at (record { line = Broken; at = length s })
+  unfolding recordsForm
+  next-cut e =
+      record {
+        onward = within;
+        within = omega arith;
+        form = ap recordsForm (part-last 10 s at r (omega (arith, within)) is e) ∙ ap (λ (t : List ℕ). recordsForm (t ∷ [])) (left-at s at within);
+        past = λ h. absurd (no h);
+        present = λ h. absurd (no h);
+      }
+    where
+      no : false ≡ true → ⊥
+      no h = let z : _≡_ {A = ℕ} 0 1 = cc in omega arith
 
-pub record Going (s : List ℕ) (f at : ℕ) (previous current : Epoch) : Type 0 where
+  module _ (l : r < length s) (x : Line) (e : x ≡ lineOf (take (r - at) (drop at s))) where
+    parts : split 10 (drop at s) ≡ take (r - at) (drop at s) ∷ split 10 (drop (r + 1) s)
+    parts = part-next 10 s at r (omega (arith, within)) is l
+
+    pub next-is : ReadsNext s at (record { line = x; at = r + 1 })
+    unfolding fold
+    next-is =
+        record {
+          onward = omega arith;
+          within = omega arith;
+          form =
+              ap recordsForm parts ∙ records-cons (take (r - at) (drop at s)) (split 10 (drop (r + 1) s)) (split-some 10 (drop (r + 1) s))
+              ∙ sym (ap (λ (y : Line). whole y && recordsForm (split 10 (drop (r + 1) s))) e);
+          past = λ h p. ap (previousFrom p) parts ∙ sym (ap (λ (y : Line). previousFrom (previousAfter p y) (split 10 (drop (r + 1) s))) e);
+          present = λ h p. ap (currentFrom p) parts ∙ sym (ap (λ (y : Line). currentFrom (currentAfter p y) (split 10 (drop (r + 1) s))) e);
+        }
+
+-- ---- the loop, from f on: what is left to do of the epochs so far, which stand in signals, states and floats
+
+pub record Going (s : List ℕ) (f at m n : ℕ) (ss : List ℕ) (ts : List ℤ) (fs : List Float) (ss′ : List ℕ) (ts′ : List ℤ) (fs′ : List Float) : Type 0 where
+  pub previous : Epoch
+  pub current : Epoch
   pub within : at ≤ length s
-  pub few : previous .count ≤ at
-  pub few′ : current .count ≤ at
+  pub few : m ≤ at
+  pub few′ : n ≤ at
   pub room : length (previous .carriers) ≡ 64
   pub room′ : length (current .carriers) ≡ 64
+  pub held : Holds previous m ss ts fs
+  pub held′ : Holds current n ss′ ts′ fs′
   pub form : recordsForm (split 10 (drop at s)) ≡ recordsForm (split 10 (drop f s))
   pub past : previousFrom previous (split 10 (drop at s)) ≡ previousFrom none (split 10 (drop f s))
   pub present : currentFrom current (split 10 (drop at s)) ≡ currentFrom none (split 10 (drop f s))
 
-pub going-start : (s : List ℕ) (f : ℕ) (p c : Epoch) → f ≤ length s → p ≡ none → c ≡ none → Going s f f p c
+nothing : {ss : List ℕ} {ts : List ℤ} {fs : List Float} → length ss ≡ 64 → length ts ≡ 64 → length fs ≡ 384 → Holds none 0 ss ts fs
 unfolding none
-going-start s f p c h e e′ =
+nothing a b c = record { count-is = refl; laid = record { signals-long = a; states-long = b; floats-long = c; small = λ i l. absurd (omega arith); all = λ i l d. absurd (omega arith) } }
+
+-- the first n signals with their states and floats count what the epoch counts
+cut-counted : (e : Epoch) {n : ℕ} {ss : List ℕ} {ts : List ℤ} {fs : List Float} → Laid (e .carriers) n ss ts fs → n ≤ 64 → n ≡ e .count → length (e .carriers) ≡ 64 → counted (epochIn (take n ss) ts fs) ≡ counted e
+cut-counted e {n} {ss} {ts} {fs} h few is long =
+    let g : ℕ → Carrier = λ k. getD (e .carriers) k blank in
+    ap counted (cut-is ss ts fs n (h .signals-long) few g (λ k l. h .all k l blank))
+    ∙ places-all g n
+    ∙ places-take (e .carriers) blank n (omega (arith, few, long))
+    ∙ ap (λ (k : ℕ). take k (e .carriers)) is
+
+room-none : length (none .carriers) ≡ 64
+unfolding none
+room-none = refl
+
+pub going-start : (s : List ℕ) (f : ℕ) {ss : List ℕ} {ts : List ℤ} {fs : List Float} {ss′ : List ℕ} {ts′ : List ℤ} {fs′ : List Float} → f ≤ length s
+    → length ss ≡ 64 → length ts ≡ 64 → length fs ≡ 384 → length ss′ ≡ 64 → length ts′ ≡ 64 → length fs′ ≡ 384 → Going s f f 0 0 ss ts fs ss′ ts′ fs′
+going-start s f h a b c a′ b′ c′ =
     record {
+      previous = none;
+      current = none;
       within = h;
-      few = omega (arith, ap (λ (x : Epoch). x .count) e);
-      few′ = omega (arith, ap (λ (x : Epoch). x .count) e′);
-      room = ap (λ (x : Epoch). length (x .carriers)) e;
-      room′ = ap (λ (x : Epoch). length (x .carriers)) e′;
+      few = omega arith;
+      few′ = omega arith;
+      room = room-none;
+      room′ = room-none;
+      held = nothing a b c;
+      held′ = nothing a′ b′ c′;
       form = refl;
-      past = ap (λ (x : Epoch). previousFrom x (split 10 (drop f s))) e;
-      present = ap (λ (x : Epoch). currentFrom x (split 10 (drop f s))) e′;
+      past = refl;
+      present = refl;
     }
 
-module _ (s : List ℕ) (f at : ℕ) (p c : Epoch) (inv : Going s f at p c) where
+module _ {s : List ℕ} {f at m n : ℕ} {ss : List ℕ} {ts : List ℤ} {fs : List Float} {ss′ : List ℕ} {ts′ : List ℤ} {fs′ : List Float} (inv : Going s f at m n ss ts fs ss′ ts′ fs′) where
   -- the end: nothing after the last LF
   module _ (l : length s ≤ at) where
     pub going-form : recordsForm (split 10 (drop f s)) ≡ true
     unfolding recordsForm split
     going-form = sym (inv .form) ∙ ap (λ (t : List ℕ). recordsForm (split 10 t)) (left-end s at l)
 
-    pub going-past : previousFrom none (split 10 (drop f s)) ≡ p
+    pub going-past : previousFrom none (split 10 (drop f s)) ≡ inv .previous
     unfolding fold split lineOf
-    going-past = sym (inv .past) ∙ ap (λ (t : List ℕ). previousFrom p (split 10 t)) (left-end s at l)
+    going-past = sym (inv .past) ∙ ap (λ (t : List ℕ). previousFrom (inv .previous) (split 10 t)) (left-end s at l)
 
-    pub going-present : currentFrom none (split 10 (drop f s)) ≡ c
+    pub going-present : currentFrom none (split 10 (drop f s)) ≡ inv .current
     unfolding fold split lineOf
-    going-present = sym (inv .present) ∙ ap (λ (t : List ℕ). currentFrom c (split 10 t)) (left-end s at l)
+    going-present = sym (inv .present) ∙ ap (λ (t : List ℕ). currentFrom (inv .current) (split 10 t)) (left-end s at l)
 
-  module _ (r : ℕ) (is : r ≡ at + countBefore 10 (drop at s)) where
-    -- a last line without LF
-    pub going-cut : at < length s → r ≡ length s → recordsForm (split 10 (drop f s)) ≡ false
-    unfolding recordsForm
-    going-cut l e =
-        sym (inv .form) ∙ ap recordsForm (part-last 10 s at r (inv .within) is e)
-        ∙ ap (λ (t : List ℕ). recordsForm (t ∷ [])) (left-at s at l)
+  module _ {x : Next} (read : ReadsNext s at x) where
+    pub going-broken : x .line ≡ Broken → recordsForm (split 10 (drop f s)) ≡ false
+    going-broken b = sym (inv .form) ∙ read .form ∙ ap (λ (y : Line). whole y && recordsForm (split 10 (drop (x .at) s))) b
 
-    module _ (l : r < length s) (x : Line) (e : x ≡ lineOf (take (r - at) (drop at s))) where
-      parts : split 10 (drop at s) ≡ take (r - at) (drop at s) ∷ split 10 (drop (r + 1) s)
-      parts = part-next 10 s at r (inv .within) is l
+    going-form-on : whole (x .line) ≡ true → recordsForm (split 10 (drop (x .at) s)) ≡ recordsForm (split 10 (drop f s))
+    going-form-on h = sym (ap (λ (b : Bool). b && recordsForm (split 10 (drop (x .at) s))) h) ∙ sym (read .form) ∙ inv .form
 
-      form : (whole x && recordsForm (split 10 (drop (r + 1) s))) ≡ recordsForm (split 10 (drop f s))
-      form =
-          ap (λ (y : Line). whole y && recordsForm (split 10 (drop (r + 1) s))) e
-          ∙ sym (records-cons (take (r - at) (drop at s)) (split 10 (drop (r + 1) s)) (split-some 10 (drop (r + 1) s)))
-          ∙ sym (ap recordsForm parts)
-          ∙ inv .form
+    pub going-previous : (c : Carrier) → x .line ≡ Previous c → {r : ℕ} {ss″ : List ℕ} {ts″ : List ℤ} {fs″ : List Float} → Keeps c m r ss ts fs ss″ ts″ fs″ → Going s f (x .at) r n ss″ ts″ fs″ ss′ ts′ fs′
+    unfolding added
+    going-previous c e k =
+        let h : whole (x .line) ≡ true = ap whole e in
+        let now = k .kept (inv .previous) (inv .room) (inv .held) in
+        record {
+          previous = added (inv .previous) c;
+          current = inv .current;
+          within = read .within;
+          few = omega (arith, inv .few, read .onward, inv .held .count-is, now .count-is);
+          few′ = omega (arith, inv .few′, read .onward);
+          room = length-set (inv .previous .carriers) (inv .previous .count) c ∙ inv .room;
+          room′ = inv .room′;
+          held = now;
+          held′ = inv .held′;
+          form = going-form-on h;
+          past = sym (ap (λ (y : Line). previousFrom (previousAfter (inv .previous) y) (split 10 (drop (x .at) s))) e) ∙ sym (read .past h (inv .previous)) ∙ inv .past;
+          present = sym (ap (λ (y : Line). currentFrom (currentAfter (inv .current) y) (split 10 (drop (x .at) s))) e) ∙ sym (read .present h (inv .current)) ∙ inv .present;
+        }
 
-      past : previousFrom (previousAfter p x) (split 10 (drop (r + 1) s)) ≡ previousFrom none (split 10 (drop f s))
-      unfolding fold
-      past =
-          ap (λ (y : Line). previousFrom (previousAfter p y) (split 10 (drop (r + 1) s))) e
-          ∙ sym (ap (previousFrom p) parts)
-          ∙ inv .past
-
-      present : currentFrom (currentAfter c x) (split 10 (drop (r + 1) s)) ≡ currentFrom none (split 10 (drop f s))
-      unfolding fold
-      present =
-          ap (λ (y : Line). currentFrom (currentAfter c y) (split 10 (drop (r + 1) s))) e
-          ∙ sym (ap (currentFrom c) parts)
-          ∙ inv .present
-
-      pub going-broken : x ≡ Broken → recordsForm (split 10 (drop f s)) ≡ false
-      going-broken b = sym form ∙ ap (λ (y : Line). whole y && recordsForm (split 10 (drop (r + 1) s))) b
-
-      at≤ : at ≤ r
-      at≤ = omega arith
-
-      pub going-previous : (k : Carrier) → x ≡ Previous k → (q : Epoch) → q ≡ added p k → Going s f (r + 1) q c
-      unfolding added
-      going-previous k b q a =
-          record {
-            within = omega arith;
-            few = omega (arith, inv .few, at≤, ap (λ (y : Epoch). y .count) a);
-            few′ = omega (arith, inv .few′, at≤);
-            room = ap (λ (y : Epoch). length (y .carriers)) a ∙ length-set (p .carriers) (p .count) k ∙ inv .room;
-            room′ = inv .room′;
-            form = sym (ap (λ (y : Line). whole y && recordsForm (split 10 (drop (r + 1) s))) b) ∙ form;
-            past = ap (λ (y : Epoch). previousFrom y (split 10 (drop (r + 1) s))) a ∙ sym (ap (λ (y : Line). previousFrom (previousAfter p y) (split 10 (drop (r + 1) s))) b) ∙ past;
-            present = sym (ap (λ (y : Line). currentFrom (currentAfter c y) (split 10 (drop (r + 1) s))) b) ∙ present;
-          }
-
-      pub going-current : (k : Carrier) → x ≡ Current k → (q : Epoch) → q ≡ added c k → Going s f (r + 1) p q
-      unfolding added
-      going-current k b q a =
-          record {
-            within = omega arith;
-            few = omega (arith, inv .few, at≤);
-            few′ = omega (arith, inv .few′, at≤, ap (λ (y : Epoch). y .count) a);
-            room = inv .room;
-            room′ = ap (λ (y : Epoch). length (y .carriers)) a ∙ length-set (c .carriers) (c .count) k ∙ inv .room′;
-            form = sym (ap (λ (y : Line). whole y && recordsForm (split 10 (drop (r + 1) s))) b) ∙ form;
-            past = sym (ap (λ (y : Line). previousFrom (previousAfter p y) (split 10 (drop (r + 1) s))) b) ∙ past;
-            present = ap (λ (y : Epoch). currentFrom y (split 10 (drop (r + 1) s))) a ∙ sym (ap (λ (y : Line). currentFrom (currentAfter c y) (split 10 (drop (r + 1) s))) b) ∙ present;
-          }
+    pub going-current : (c : Carrier) → x .line ≡ Current c → {r : ℕ} {ss″ : List ℕ} {ts″ : List ℤ} {fs″ : List Float} → Keeps c n r ss′ ts′ fs′ ss″ ts″ fs″ → Going s f (x .at) m r ss ts fs ss″ ts″ fs″
+    unfolding added
+    going-current c e k =
+        let h : whole (x .line) ≡ true = ap whole e in
+        let now = k .kept (inv .current) (inv .room′) (inv .held′) in
+        record {
+          previous = inv .previous;
+          current = added (inv .current) c;
+          within = read .within;
+          few = omega (arith, inv .few, read .onward);
+          few′ = omega (arith, inv .few′, read .onward, inv .held′ .count-is, now .count-is);
+          room = inv .room;
+          room′ = length-set (inv .current .carriers) (inv .current .count) c ∙ inv .room′;
+          held = inv .held;
+          held′ = now;
+          form = going-form-on h;
+          past = sym (ap (λ (y : Line). previousFrom (previousAfter (inv .previous) y) (split 10 (drop (x .at) s))) e) ∙ sym (read .past h (inv .previous)) ∙ inv .past;
+          present = sym (ap (λ (y : Line). currentFrom (currentAfter (inv .current) y) (split 10 (drop (x .at) s))) e) ∙ sym (read .present h (inv .current)) ∙ inv .present;
+        }
 
 -- ---- the whole text
 
@@ -183,6 +260,52 @@ printable i (Refused x) p = tt
 printable i (Moved d) p =
     let a = p .accepted d refl in
     (number (d .delta .x) (a .x-finite), number (d .delta .y) (a .y-finite), number (d .delta .z) (a .z-finite))
+
+-- ---- the lines from f on
+module _ (s : List ℕ) (f : ℕ) (dt : Float) (receiver : Vec3) (settings : Settings) where
+  pub lines-broken : recordsForm (split 10 (drop f s)) ≡ false → LinesDisplace (drop f s) dt receiver settings (Refused BrokenForm)
+  unfolding linesDisplacement
+  lines-broken e = record { answer = rw e; printable = tt }
+
+  module _ {at m n : ℕ} {ss : List ℕ} {ts : List ℤ} {fs : List Float} {ss′ : List ℕ} {ts′ : List ℤ} {fs′ : List Float} (inv : Going s f at m n ss ts fs ss′ ts′ fs′) (l : length s ≤ at) where
+    -- what is handed over
+    abbrev i : Input
+    i = general (inv .previous) (inv .current) dt receiver settings
+
+    answered : {d : Displacement} → d ≡ displacementOf i → Printable d → LinesDisplace (drop f s) dt receiver settings d
+    unfolding linesDisplacement
+    answered e p = record { answer = rw (going-form inv l, going-past inv l, going-present inv l) e; printable = p }
+
+    pub lines-many : (ltb 64 m || ltb 64 n) ≡ true → LinesDisplace (drop f s) dt receiver settings (Refused TooMany)
+    lines-many e = answered (too-many i (rw (← inv .held .count-is, ← inv .held′ .count-is) e)) tt
+
+    module _ (few : m ≤ 64) (few′ : n ≤ 64) where
+      laid : Laid (inv .previous .carriers) m ss ts fs
+      laid = let e : min m 64 ≡ m = omega arith in rw e at (inv .held .laid)
+
+      laid′ : Laid (inv .current .carriers) n ss′ ts′ fs′
+      laid′ = let e : min n 64 ≡ n = omega arith in rw e at (inv .held′ .laid)
+
+      pub cut-room : length (take m ss) ≡ m
+      cut-room = cut-count ss ts fs m (laid .signals-long) few
+
+      pub cut-room′ : length (take n ss′) ≡ n
+      cut-room′ = cut-count ss′ ts′ fs′ n (laid′ .signals-long) few′
+
+      pub fits : Fit (take m ss) ts fs
+      fits = cut-fits ss ts fs m (laid .signals-long) few (omega (arith, laid .states-long)) (omega (arith, laid .floats-long)) (laid .small)
+
+      pub fits′ : Fit (take n ss′) ts′ fs′
+      fits′ = cut-fits ss′ ts′ fs′ n (laid′ .signals-long) few′ (omega (arith, laid′ .states-long)) (omega (arith, laid′ .floats-long)) (laid′ .small)
+
+      pub lines-are : (d : Displacement) → Promised (general (epochIn (take m ss) ts fs) (epochIn (take n ss′) ts′ fs′) dt receiver settings) d → LinesDisplace (drop f s) dt receiver settings d
+      lines-are d p =
+          answered
+          (p .answer
+          ∙ displacement-counted _ (inv .previous) _ (inv .current) (Seconds dt) receiver settings General
+          (cut-room ∙ inv .held .count-is) (cut-room′ ∙ inv .held′ .count-is)
+          (cut-counted (inv .previous) laid few (inv .held .count-is) (inv .room)) (cut-counted (inv .current) laid′ few′ (inv .held′ .count-is) (inv .room′)))
+          (printable _ d p)
 
 module _ (s : List ℕ) (h : length s ≤ 32768) (r : ℕ) (is : r ≡ 0 + countBefore 10 (drop 0 s)) where
   inside : isText s ≡ linesForm (split 10 s)
@@ -231,18 +354,16 @@ module _ (s : List ℕ) (h : length s ≤ 32768) (r : ℕ) (is : r ≡ 0 + count
           go true q = (q, same (given (take r s)) (sym (ap (λ (t : Bool). cond t (Is (given (take r s))) First·Broken) q) ∙ sym e ∙ b))
           go false q = absurd (never (sym (ap (λ (t : Bool). cond t (Is (given (take r s))) First·Broken) q) ∙ sym e ∙ b))
 
-      -- the displacement of what the loop left
-      pub text-is : (at : ℕ) (p c : Epoch) → Going s (r + 1) at p c → length s ≤ at → (d : Displacement) → Promised (input p c (g .dt) (g .receiver) (g .settings)) d → Displaces s d
-      unfolding displacementIn inputOf
-      text-is at p c inv q d y =
+      -- the displacement of the lines after the first
+      pub text-is : (d : Displacement) → LinesDisplace (drop (r + 1) s) (g .dt) (g .receiver) (g .settings) d → Displaces s d
+      unfolding displacementIn inputOf linesDisplacement
+      text-is d y =
           let ls = split 10 (drop (r + 1) s) in
-          let f : isText s ≡ true = text-form ∙ ap (λ (t : Bool). t && recordsForm ls) (first .0) ∙ going-form s (r + 1) at p c inv q in
-          let i : input p c (g .dt) (g .receiver) (g .settings) ≡ inputOf s =
+          let f : isText s ≡ recordsForm ls = text-form ∙ ap (λ (t : Bool). t && recordsForm ls) (first .0) in
+          let i : general (previousFrom none ls) (currentFrom none ls) (g .dt) (g .receiver) (g .settings) ≡ inputOf s =
           sym (ap (λ (v : List (List ℕ)). inputIn (getD v 0 []) (drop 1 v)) lines
-          ∙ ap (λ (a : Given). input (previousFrom none ls) (currentFrom none ls) (a .dt) (a .receiver) (a .settings)) (first .1)
-          ∙ ap (λ (a : Epoch). input a (currentFrom none ls) (g .dt) (g .receiver) (g .settings)) (going-past s (r + 1) at p c inv q)
-          ∙ ap (λ (a : Epoch). input p a (g .dt) (g .receiver) (g .settings)) (going-present s (r + 1) at p c inv q)) in
+          ∙ ap (λ (a : Given). general (previousFrom none ls) (currentFrom none ls) (a .dt) (a .receiver) (a .settings)) (first .1)) in
           record {
-            answer = y .answer ∙ ap displacementOf i ∙ sym (ap (λ (t : Bool). cond t (displacementOf (inputOf s)) (Refused BrokenForm)) f);
-            printable = printable _ d y;
+            answer = y .answer ∙ ap (λ (v : Input). cond (recordsForm ls) (displacementOf v) (Refused BrokenForm)) i ∙ sym (ap (λ (t : Bool). cond t (displacementOf (inputOf s)) (Refused BrokenForm)) f);
+            printable = y .printable;
           }

@@ -14,7 +14,7 @@ use Rattle.records.specs.Record.{placeable}
 use Rattle.records.specs.Pair.{pairsOf}
 use Rattle.tdcp.specs.Valid.{settingsPass, badInterval, epochRules, intervalRules, fewRules}
 use Rattle.tdcp.specs.Front.{sightRules, countRules, pairRules}
-use Rattle.tdcp.specs.Displacement.{movedBy, movedIn, displacementOf}
+use Rattle.tdcp.specs.Displacement.{movedBy, displacementOf}
 use Rattle.numeric.specs.declared.refusal.Refusal.the-variants.{BrokenForm, TooFewPairs, NoCorrection}
 use Rattle.records.specs.declared.record.Carrier.{Carrier}
 use Rattle.tdcp.specs.declared.displacement.Displacement.the-variants.{Refused, Moved}
@@ -183,7 +183,7 @@ the-carrier = refl
 
 -- the example alone gives R,7
 the-answer : answerOf example ≡ 82 ∷ 44 ∷ 55 ∷ 10 ∷ []
-unfolding answerOf displacementIn inputOf given none fold isText recordsForm split isSettings settingsForm lineOf isPlace place number isNumber plain every decimalValue patternIn isFloat hex example displacementOf movedIn movedBy ruled epochRules intervalRules pairRules sightRules countRules fewRules rowRules settingsPass badInterval placeable abs inRange pairsOf collect digitsText digitCount ofInt ofBits neg le lt isNan
+unfolding answerOf displacementIn inputOf given none fold isText recordsForm split isSettings settingsForm lineOf isPlace place number isNumber plain every decimalValue patternIn isFloat hex example displacementOf movedBy ruled epochRules intervalRules pairRules sightRules countRules fewRules rowRules settingsPass badInterval placeable abs inRange pairsOf collect digitsText digitCount ofInt ofBits neg le lt isNan
 the-answer = refl
 
 -- ---- answers

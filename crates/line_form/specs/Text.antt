@@ -5,12 +5,15 @@ use mathlib.Core.List.{List, [], _∷_}
 use lib.Dec.{ltb}
 use lib.ListN.{length, getD, drop, set, replicate}
 use lib.IntN.{pos}
+use lib.Ieee.{Float}
 use Rattle.exact.specs.Float.{+0}
 use Rattle.walk.specs.Walk.{fold}
 use Rattle.numeric.specs.declared.refusal.Refusal.the-variants.{BrokenForm}
-use Rattle.tdcp.specs.Displacement.{Input, input, displacementOf}
+use Rattle.tdcp.specs.Displacement.{Input, general, displacementOf}
 use Rattle.records.specs.declared.record.Carrier.{Carrier}
 use Rattle.records.specs.declared.record.Epoch.{Epoch}
+use Rattle.numeric.specs.declared.vec3.Vec3.{Vec3}
+use Rattle.tdcp.specs.declared.displacement.Settings.{Settings}
 use Rattle.tdcp.specs.declared.displacement.Displacement.{Displacement}
 use Rattle.tdcp.specs.declared.displacement.Displacement.the-variants.{Refused}
 use Rattle.line_form.specs.Split.{split}
@@ -82,11 +85,15 @@ abbrev pub currentFrom : Epoch → List (List ℕ) → Epoch
 currentFrom e ls = fold (λ e l. currentAfter e (lineOf l)) e ls
 
 abbrev pub inputIn : List ℕ → List (List ℕ) → Input
-inputIn l ls = input (previousFrom none ls) (currentFrom none ls) (given l .dt) (given l .receiver) (given l .settings)
+inputIn l ls = general (previousFrom none ls) (currentFrom none ls) (given l .dt) (given l .receiver) (given l .settings)
 
 unfoldable pub inputOf : List ℕ → Input
 inputOf s = inputIn (getD (split 10 s) 0 []) (drop 1 (split 10 s))
 
--- 1 comes before every other number
+-- the displacement of the epochs that lines make; 1 comes before every other number
+unfoldable pub linesDisplacement : List (List ℕ) → Float → Vec3 → Settings → Displacement
+linesDisplacement ls dt receiver settings = cond (recordsForm ls) (displacementOf (general (previousFrom none ls) (currentFrom none ls) dt receiver settings)) (Refused BrokenForm)
+
+-- the displacement that the text asks for, likewise
 unfoldable pub displacementIn : List ℕ → Displacement
 displacementIn s = cond (isText s) (displacementOf (inputOf s)) (Refused BrokenForm)

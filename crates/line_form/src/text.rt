@@ -1,7 +1,8 @@
 // A whole text of the form.
 ghost use mathlib.Core.Path.{_≡_};
-ghost use Rattle.line_form.specs.Text.{none};
-ghost use Rattle.line_form.specs.Reads.{Displaces};
+ghost use Prim.Native.Nat.{_<_, _≤_};
+ghost use lib.ListN.{length, drop};
+ghost use Rattle.line_form.specs.Reads.{Displaces, LinesDisplace, Keeps, ReadsNext};
 use crate::line::First;
 use crate::line::Line;
 use crate::line::first_of;
@@ -9,37 +10,112 @@ use crate::line::line_of;
 use crate::split::find;
 use numeric::refusal::Refusal;
 use numeric::vec3::Vec3;
+use records::carriers::put_carrier;
+use records::pair::Profile;
 use records::record::Carrier;
-use records::record::Epoch;
 use tdcp::displacement::Displacement;
-use tdcp::displacement::delta_position;
+use tdcp::displacement::Interval;
+use tdcp::displacement::Settings;
+use tdcp::displacement::displaced;
 
-fn no_carriers() -> Epoch
-    ensures { λ r. ⌜ r ≡ none ⌝ }
+// A line, and the place after its LF; a last line without one is broken.
+struct Next {
+    line: Line,
+    at: usize,
+}
+
+// The line that begins at this place.
+fn next_line(text: &[u8], at: usize) -> Next
+    requires { ⌜ (at < length (now text)) × (length (now text) ≤ 32768) ⌝ }
+    ensures { λ r. ⌜ ReadsNext (now (text .entry)) at r ⌝ }
 {
-    let origin = Vec3 {
-        x: 0.0,
-        y: 0.0,
-        z: 0.0,
-    };
-    let blank = Carrier {
-        constellation: 0,
-        svid: 0,
-        band: 0,
-        adr: 0.0,
-        state: 0,
-        satellite: origin,
-        elevation: 0.0,
-        rate: 0.0,
-    };
-    let carriers = [blank; 64];
-    Epoch {
-        count: 0,
-        carriers: carriers,
+    let n = text.len();
+    let e = find(text, at, 10);
+    if e == n {
+        return Next {
+            line: Line::Broken,
+            at: n,
+        };
+    }
+    let line = line_of(&text[at..e]);
+    Next {
+        line: line,
+        at: e + 1,
     }
 }
 
-// The displacement that the text asks for. The epochs are filled in place, line by line.
+// One carrier more than the n of an epoch, written where there is room: those past the 64th are only counted.
+fn keep(
+    c: Carrier,
+    n: usize,
+    signals: &mut [u64; 64],
+    states: &mut [i32; 64],
+    floats: &mut [f64; 384],
+) -> usize
+    requires { ⌜ (n ≤ 32768) × (length (now signals) ≡ 64) × (length (now states) ≡ 64) × (length (now floats) ≡ 384) ⌝ }
+    ensures { λ r. ⌜ Keeps c n r (now (signals .entry)) (now (states .entry)) (now (floats .entry))
+        (now (signals .exit)) (now (states .exit)) (now (floats .exit)) ⌝ }
+{
+    if n < 64 {
+        put_carrier(c, n, signals, states, floats);
+    }
+    n + 1
+}
+
+// The displacement of the epochs that the lines from place `from` on make. They are filled in place, line by line.
+fn displacement_after(
+    text: &[u8],
+    from: usize,
+    dt: f64,
+    receiver: Vec3,
+    settings: Settings,
+) -> Displacement
+    requires { ⌜ (from ≤ length (now text)) × (length (now text) ≤ 32768) ⌝ }
+    ensures { λ r. ⌜ LinesDisplace (drop from (now (text .entry))) dt receiver settings r ⌝ }
+{
+    let mut then_signals = [0u64; 64];
+    let mut then_states = [0i32; 64];
+    let mut then_floats = [0.0; 384];
+    let mut now_signals = [0u64; 64];
+    let mut now_states = [0i32; 64];
+    let mut now_floats = [0.0; 384];
+    let mut m: usize = 0;
+    let mut n: usize = 0;
+    let mut at = from;
+    while at < text.len() {
+        let next = next_line(text, at);
+        let line = next.line;
+        at = next.at;
+        match line {
+            Line::Previous(c) => {
+                m = keep(c, m, &mut then_signals, &mut then_states, &mut then_floats);
+            }
+            Line::Current(c) => {
+                n = keep(c, n, &mut now_signals, &mut now_states, &mut now_floats);
+            }
+            Line::Broken => {
+                return Displacement::Refused(Refusal::BrokenForm);
+            }
+        }
+    }
+    if (64 < m) | (64 < n) {
+        return Displacement::Refused(Refusal::TooMany);
+    }
+    displaced(
+        &then_signals[..m],
+        &then_states,
+        &then_floats,
+        &now_signals[..n],
+        &now_states,
+        &now_floats,
+        Interval::Seconds(dt),
+        receiver,
+        settings,
+        Profile::General,
+    )
+}
+
+// The displacement that the text asks for.
 pub(crate) fn displacement_in(text: &[u8]) -> Displacement
     ensures { λ r. ⌜ Displaces (now (text .entry)) r ⌝ }
 {
@@ -54,37 +130,7 @@ pub(crate) fn displacement_in(text: &[u8]) -> Displacement
     let First::Is(given) = first_of(&text[..end]) else {
         return Displacement::Refused(Refusal::BrokenForm);
     };
-    let mut previous = no_carriers();
-    let mut current = no_carriers();
-    let mut at = end + 1;
-    while at < n {
-        let e = find(text, at, 10);
-        if e == n {
-            return Displacement::Refused(Refusal::BrokenForm);
-        }
-        let line = line_of(&text[at..e]);
-        at = e + 1;
-        match line {
-            Line::Previous(c) => {
-                let k = previous.count;
-                if k < 64 {
-                    previous.carriers[k] = c;
-                }
-                previous.count = k + 1;
-            }
-            Line::Current(c) => {
-                let k = current.count;
-                if k < 64 {
-                    current.carriers[k] = c;
-                }
-                current.count = k + 1;
-            }
-            Line::Broken => {
-                return Displacement::Refused(Refusal::BrokenForm);
-            }
-        }
-    }
     let receiver = given.receiver;
     let settings = given.settings;
-    delta_position(previous, current, given.dt, receiver, settings)
+    displacement_after(text, end + 1, given.dt, receiver, settings)
 }

@@ -2,16 +2,20 @@
 use Prim.Native.Nat.{ℕ, _≤_, _<_}
 use native.Mathlib.Nat.{not-suc-le-zero}
 use native.Mathlib.Omega.{arith}
-use mathlib.Core.Path.{_≡_, refl}
+use mathlib.Core.Path.{_≡_, refl, ap}
+use mathlib.Core.Bool.{Bool, true, false, cond}
 use mathlib.Core.List.{List, [], _∷_}
+use lib.Dec.{ltb}
 use lib.ListN.{length}
 use lib.Ieee.{Float, div, ofInt, ofBits}
 use borrow.Author.Tests.{lt-ltb, le-ltb}
 use Rattle.exact.specs.Float.{_⊕_, _⊗_, +0, 1·0, bits}
 use Rattle.numeric.specs.declared.refusal.Refusal.the-variants.{TooMany}
-use Rattle.median.specs.Sorted.{medianOf}
+use Rattle.median.specs.Sorted.{medianOf, count}
 use Rattle.median.specs.Centre.{centreOf, deviationsOf, madFactor, leastScale, scaleOf, centreAndScaleOf, centreScaleOf}
 use Rattle.median.specs.declared.centre.Centre.the-variants.{Refused, Of}
+use Rattle.median.specs.declared.centre.CentreScale.{CentreScale}
+use Rattle.median.proofs.SortedLaws.{median-element}
 
 -- more than 64 residuals
 pub centre-refused : (xs : List ℕ) → 64 < length xs → Refused TooMany ≡ centreScaleOf xs
@@ -39,3 +43,13 @@ pub centre-some : (xs : List ℕ) (c d : Float) → 0 < length xs → length xs 
 unfolding centreScaleOf centreAndScaleOf scaleOf centreOf
 centre-some [] c d p h e f = absurd (not-suc-le-zero p)
 centre-some (x ∷ xs) c d p h e f = rw (le-ltb 64 (length (x ∷ xs)) h, f, e, ← mad-factor, ← least-scale)
+
+-- The centre that the call gives of residuals is one of them.
+pub centre-element : (xs : List ℕ) (c : CentreScale) → 0 < length xs → Of c ≡ centreScaleOf xs → (0 < count (medianOf xs) xs) × (c .centre ≡ bits (medianOf xs))
+unfolding centreScaleOf centreAndScaleOf centreOf
+centre-element [] c p e = absurd (not-suc-le-zero p)
+centre-element (x ∷ xs) c p e = (median-element (x ∷ xs) p, go (ltb 64 (length (x ∷ xs))) e)
+  where
+    go : (b : Bool) → Of c ≡ cond b (Refused TooMany) (Of (record { centre = bits (medianOf (x ∷ xs)); scale = scaleOf (x ∷ xs) })) → c .centre ≡ bits (medianOf (x ∷ xs))
+    go true f = absurd (let z : _≡_ {A = ℕ} 0 1 = cc in omega arith)
+    go false f = let q : c ≡ record { centre = bits (medianOf (x ∷ xs)); scale = scaleOf (x ∷ xs) } = cc in ap (λ (y : CentreScale). y .centre) q

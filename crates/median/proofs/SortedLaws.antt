@@ -7,7 +7,7 @@ use mathlib.Core.Bool.{Bool, true, false, cond}
 use mathlib.Core.List.{List, [], _∷_, map}
 use lib.ListN.{getD, length, List·getD-map, length-map}
 use lib.Dec.{leb, eqb}
-use borrow.Author.Tests.{le-leb, leb-true, leb-false}
+use borrow.Author.Tests.{le-leb, leb-true, leb-false, eq-eqb}
 use Rattle.numeric.specs.Order.{totalOrder}
 use Rattle.numeric.proofs.OrderLaws.{keyOf, key-positive, sign-plus, leb-same, totalOrder-key}
 use Rattle.median.specs.Sorted.{insertBy, sortedBy, sorted, medianOf, Each, Patterns, Unsigned, count}
@@ -185,3 +185,19 @@ unfolding medianOf
 median-pattern xs h p =
     let m : length (sorted xs) ≡ length xs = sorted-length totalOrder xs in
     each-at (λ (x : ℕ). x < 2 ^ 64) (sorted xs) (sorted-each totalOrder (λ (x : ℕ). x < 2 ^ 64) xs h) (length xs / 2) (omega arith)
+
+-- ---- the median is no mean
+
+-- what stands at a place of a list stands in it
+place-counts : (ys : List ℕ) (i : ℕ) → i < length ys → 0 < count (getD ys i 0) ys
+unfolding count
+place-counts [] i h = absurd (not-suc-le-zero h)
+place-counts (y ∷ ys) zero h = rw (eq-eqb y y refl) (omega arith)
+place-counts (y ∷ ys) (suc i) h = omega (arith, place-counts ys i (le-of-suc-le-suc h))
+
+-- The median of a list that is not empty is one of its elements.
+pub median-element : (xs : List ℕ) → 0 < length xs → 0 < count (medianOf xs) xs
+unfolding medianOf
+median-element xs h =
+    let n : length (sorted xs) ≡ length xs = sorted-length totalOrder xs in
+    rw (← sorted-count totalOrder (getD (sorted xs) (length xs / 2) 0) xs) (place-counts (sorted xs) (length xs / 2) (omega arith))

@@ -53,8 +53,3 @@ centreScaleOf xs = cond (ltb 64 (length xs)) (Refused TooMany) (Of (centreAndSca
 abbrev pub centreNumber : Centre → ℕ
 centreNumber (Refused r) = numberOf r
 centreNumber (Of c) = 0
-
--- its values, where they are lent: centre and scale, or what was held before
-abbrev pub centreAfter : Centre → List Float → List Float
-centreAfter (Refused r) before = before
-centreAfter (Of c) before = c .centre ∷ c .scale ∷ []

@@ -101,17 +101,21 @@ module _ (c : CentreScale) (huber : Float) (rows : ℕ → Row) where
     formed-last n k a b e h g = formed n a b (h ∙ ap (λ (z : ℕ). triangleOf n (cells z)) e) (g ∙ ap (λ (z : ℕ). nine (inSides n (sides z))) e)
 
 -- ---- the unknowns from n on are unused, and so are those from m on, where m is at least n
+pub triangle-unused : (cells : ℕ → ℕ → Float) (n m : ℕ) → n ≤ m → Unused m (triangleOf n cells)
+unfolding triangleOf
+triangle-unused cells n m h =
+    record {
+      diagonal-is = λ i l b. let k : n ≤ i = omega arith in cell-at all i i b b ∙ rw (le-ltb i n k, le-leb n i k, eq-eqb i i refl);
+      below-is = λ i j l b d. let k : n ≤ i = omega arith in let e : j < 9 = omega arith in cell-at all i j b e ∙ rw (le-ltb i n k, le-leb n i k, ne-eqb i j (λ q. omega arith));
+    }
+  where
+    all : ℕ → ℕ → Float
+    all i j = cond (ltb i n && leb j i) (cells i j) (cond (leb n i && eqb i j) 1·0 +0)
+
 module _ (w : Row → Float) (rows : List Row) (n m : ℕ) (h : n ≤ m) where
   pub matrix-unused : Unused m (matrixOf w rows n)
-  unfolding matrixOf triangleOf
-  matrix-unused =
-      record {
-        diagonal-is = λ i l b. let k : n ≤ i = omega arith in cell-at cells i i b b ∙ rw (le-ltb i n k, le-leb n i k, eq-eqb i i refl);
-        below-is = λ i j l b d. let k : n ≤ i = omega arith in let e : j < 9 = omega arith in cell-at cells i j b e ∙ rw (le-ltb i n k, le-leb n i k, ne-eqb i j (λ q. omega arith));
-      }
-    where
-      cells : ℕ → ℕ → Float
-      cells i j = cond (ltb i n && leb j i) (cellOf w rows i j) (cond (leb n i && eqb i j) 1·0 +0)
+  unfolding matrixOf
+  matrix-unused = triangle-unused (cellOf w rows) n m h
 
   pub right-unused : UnusedPlaces m (rightOf w rows n)
   unfolding rightOf

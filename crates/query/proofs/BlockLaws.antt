@@ -12,7 +12,8 @@ use lib.Ieee.{Float, nan, lt}
 use Rattle.exact.specs.Float.{_⊖_}
 use Rattle.walk.proofs.Walk.{and-both}
 use Rattle.numeric.specs.declared.refusal.Refusal.the-variants.{NoCorrection}
-use Rattle.table.specs.Table.{blank, signal}
+use Rattle.signal.specs.Signal.{signal}
+use Rattle.table.specs.Table.{blank}
 use Rattle.table.specs.declared.sample.Sample.{Sample}
 use Rattle.table.proofs.UnitLaws.{never}
 use Rattle.directory.specs.Directory.{Directory, blockOf, flat, soundDirectory}

@@ -19,7 +19,8 @@ use lib.Ieee.Scale.{finite}
 use Rattle.exact.specs.Float.{_⊖_, _⊗_, _⊘_}
 use Rattle.numeric.specs.Real.{inRange}
 use Rattle.numeric.specs.declared.refusal.Refusal.the-variants.{NoCorrection}
-use Rattle.table.specs.Table.{blank, signal, signalOf, soundTable}
+use Rattle.signal.specs.Signal.{signal}
+use Rattle.table.specs.Table.{blank, signalOf, soundTable}
 use Rattle.query.specs.Query.{GivesFinite, Found, answerAt, answerIn, firstOf, lastOf, line, missing, near, nearOr, ruled, spanned, the, through}
 use Rattle.table.specs.declared.sample.Sample.{Sample}
 use Rattle.query.specs.declared.query.Correction.{Correction}

@@ -1,25 +1,32 @@
 -- Just which answers request (vi) changed: those past a signal's last sample by less than 1e-6 s in the rounded difference. Assumes nothing.
 use mathlib.Core.Path.{_≡_, refl, sym, ap, _∙_}
 use mathlib.Core.List.{List, [], _∷_}
-use mathlib.Core.Bool.{Bool, true, false, cond, not, _&&_}
+use mathlib.Core.Bool.{Bool, true, false, cond, not, and-false, or-true, _&&_, _||_}
 use mathlib.Core.Logic.{_⊎_, inl, inr, ⊎-elim}
 use Prim.Native.Nat.{ℕ, zero, suc, _+_, _*_, _^_, _≤_, _<_}
 use native.Mathlib.Omega.{arith}
 use lib.Dec.{T, eqb, ltb}
 use lib.ListN.{length, getD}
-use borrow.Author.Tests.{eqb-true, ltb-true, ltb-false}
-use lib.Ieee.{Float, lt, fits, binary64}
-use Rattle.numeric.specs.declared.refusal.Refusal.the-variants.{NoCorrection}
-use Rattle.table.specs.Table.{blank, seriesOf, signal, signalOf, soundTable}
+use borrow.Author.Tests.{eqb-true, ltb-true, ltb-false, le-ltb}
+use lib.Ieee.{Float, nan, inf, fin, lt, add, sub, neg, fits, binary64, ofBits}
+use lib.Ieee.Scale.{finite}
+use Rattle.walk.proofs.Walk.{or-no}
+use Rattle.numeric.specs.Real.{abs, inRange}
+use Rattle.numeric.proofs.RealLaws.{in-range-finite}
+use Rattle.numeric.specs.declared.refusal.Refusal.the-variants.{TooMany, SettingOutOfRange, RecordOutOfRange, NoCorrection}
+use Rattle.signal.specs.Signal.{signal}
+use Rattle.table.specs.Table.{blank, seriesOf, signalOf, soundTable}
 use Rattle.table.specs.declared.sample.Sample.{Sample}
 use Rattle.table.proofs.Places.{placeOf, timeKey}
 use Rattle.table.proofs.TableLaws.{SoundTable, sound-at, and-right}
 use Rattle.table.proofs.UnitLaws.{earlier-of, never}
-use Rattle.query.specs.Query.{Found, missing, the, near, firstOf, lastOf, lastBefore, firstSince, nearOr, spanned, ruled, answerIn, answerAt, guarded, queryOf}
+use Rattle.directory.specs.Directory.{Directory, flat, soundDirectory}
+use Rattle.directory.proofs.DirectoryLaws.{sound-flat}
+use Rattle.query.specs.Query.{Found, missing, the, near, firstOf, lastOf, lastBefore, firstSince, nearOr, spanned, ruled, answerIn, answerAt, guarded, queryIn, PassedQuery, Passes}
 use Rattle.query.specs.Past.{bridged, between, answerBefore, queryBefore, isOf, JustPast}
 use Rattle.query.specs.declared.query.Correction.{Correction}
 use Rattle.query.specs.declared.query.Correction.the-variants.{Refused, Metres}
-use Rattle.query.proofs.FoundLaws.{earlier, later, earlier-series, later-series, first-none}
+use Rattle.query.proofs.FoundLaws.{earlier, later, earlier-series, later-series, first-none, last-none}
 use Rattle.query.proofs.QueryLaws.{TimesHeld}
 
 -- ---- the two rules, by what was found before the time and from it on
@@ -192,23 +199,128 @@ module _ (ss : List Sample) (gap : Float) (c v b : ℕ) (t : Float) where
       let p = last-passed ss (signal c v b) t a ft (sound-at ss s) w j in
       (rw (p .none-since) (alone gap t (lastBefore t (seriesOf (signal c v b) ss))), rw (p .none-since, p .last-before) (close-by gap t a (p .close)))
 
-  -- the call: where the time is not just past the signal's last sample, it answers as before
-  pub query-kept : (n room : ℕ) → ((a : Sample) → JustPast ss (signal c v b) t a → ⊥) → queryOf n room ss gap c v b t ≡ queryBefore n room ss gap c v b t
-  unfolding queryOf queryBefore
-  query-kept n room nay = ap (guarded (ltb room n) (soundTable ss) gap t) (answer-kept nay)
+-- ---- the call, for every directory, sound or not
+module _ (m n room : ℕ) (d : Directory) (gap : Float) (c v b : ℕ) (t : Float) where
+  -- what is asked of a query that 2 to 4 let pass
+  passes-through : Passes m n room d gap t → (a : Correction) → guarded (ltb room m || ltb room n) (soundDirectory d) gap t a ≡ a
+  unfolding guarded
+  passes-through p a = rw (le-ltb room m (p .table .few-entries), le-ltb room n (p .table .few-samples), p .table .in-range, p .table .steady, p .time)
 
-  -- where it is, 12 became that sample's value; what 2 to 4 turn away is turned away as before
-  pub query-changed : (n room : ℕ) → T (fits binary64 t) → TimesHeld ss → (a : Sample) → JustPast ss (signal c v b) t a
-      → (queryBefore n room ss gap c v b t ≡ guarded (ltb room n) (soundTable ss) gap t (Refused NoCorrection)) × (queryOf n room ss gap c v b t ≡ guarded (ltb room n) (soundTable ss) gap t (Metres (a .correction)))
-  unfolding queryOf queryBefore
-  query-changed n room ft w a j = go (soundTable ss) refl
+  -- of one that they turn away nothing is asked
+  turned-away : (Passes m n room d gap t → ⊥) → (x y : Correction) → guarded (ltb room m || ltb room n) (soundDirectory d) gap t x ≡ guarded (ltb room m || ltb room n) (soundDirectory d) gap t y
+  unfolding guarded
+  turned-away nay x y = go (ltb room m || ltb room n) (inRange gap) (soundDirectory d) (inRange t || not (finite t)) refl refl refl refl
     where
-      -- of a table that is not sound no answer is asked
-      unasked : (x y : Correction) → soundTable ss ≡ false → guarded (ltb room n) (soundTable ss) gap t x ≡ guarded (ltb room n) (soundTable ss) gap t y
-      unasked x y e = unfold guarded in rw e
+      go : (e f g h : Bool) → (ltb room m || ltb room n) ≡ e → inRange gap ≡ f → soundDirectory d ≡ g → (inRange t || not (finite t)) ≡ h
+          → cond e (Refused TooMany) (cond (not f) (Refused SettingOutOfRange) (cond (not (g && h)) (Refused RecordOutOfRange) x))
+          ≡ cond e (Refused TooMany) (cond (not f) (Refused SettingOutOfRange) (cond (not (g && h)) (Refused RecordOutOfRange) y))
+      go true f g h p q r s = refl
+      go false false g h p q r s = refl
+      go false true false h p q r s = refl
+      go false true true false p q r s = refl
+      go false true true true p q r s =
+          let k = or-no (ltb room m) (ltb room n) p in
+          absurd
+          (nay
+          (record {
+            table = record { few-entries = ltb-false room m (k .0); few-samples = ltb-false room n (k .1); in-range = q; steady = r };
+            time = s;
+          }))
 
-      go : (z : Bool) → soundTable ss ≡ z
-          → (guarded (ltb room n) (soundTable ss) gap t (answerBefore ss gap c v b t) ≡ guarded (ltb room n) (soundTable ss) gap t (Refused NoCorrection))
-          × (guarded (ltb room n) (soundTable ss) gap t (answerAt ss gap c v b t) ≡ guarded (ltb room n) (soundTable ss) gap t (Metres (a .correction)))
-      go true e = let k = answer-changed ft e w a j in (ap (guarded (ltb room n) (soundTable ss) gap t) (k .0), ap (guarded (ltb room n) (soundTable ss) gap t) (k .1))
-      go false e = (unasked (answerBefore ss gap c v b t) (Refused NoCorrection) e, unasked (answerAt ss gap c v b t) (Metres (a .correction)) e)
+  -- a query that 2 to 4 let pass gives the answer of the samples
+  pub query-passed : Passes m n room d gap t → queryIn m n room d gap c v b t ≡ answerAt (flat d) gap c v b t
+  unfolding queryIn
+  query-passed p = passes-through p (answerAt (flat d) gap c v b t)
+
+  -- what 2 to 4 turn away keeps its number
+  pub query-refused : (Passes m n room d gap t → ⊥) → queryIn m n room d gap c v b t ≡ queryBefore m n room d gap c v b t
+  unfolding queryIn queryBefore
+  query-refused nay = turned-away nay (answerAt (flat d) gap c v b t) (answerBefore (flat d) gap c v b t)
+
+  -- where the time is not just past the signal's last sample, the answer is the old one
+  pub query-kept : ((a : Sample) → JustPast (flat d) (signal c v b) t a → ⊥) → queryIn m n room d gap c v b t ≡ queryBefore m n room d gap c v b t
+  unfolding queryIn queryBefore
+  query-kept nay = ap (guarded (ltb room m || ltb room n) (soundDirectory d) gap t) (answer-kept (flat d) gap c v b t nay)
+
+  -- where it is and 2 to 4 pass, 12 became that sample's value
+  pub query-changed : Passes m n room d gap t → T (fits binary64 t) → TimesHeld (flat d) → (a : Sample) → JustPast (flat d) (signal c v b) t a
+      → (queryBefore m n room d gap c v b t ≡ Refused NoCorrection) × (queryIn m n room d gap c v b t ≡ Metres (a .correction))
+  unfolding queryIn queryBefore
+  query-changed p ft w a j =
+      let k = answer-changed (flat d) gap c v b t ft (sound-flat d (p .table .steady)) w a j in
+      (passes-through p (answerBefore (flat d) gap c v b t) ∙ k .0, passes-through p (answerAt (flat d) gap c v b t) ∙ k .1)
+
+-- ---- a time that is not finite
+near-never : (x t : Float) → finite t ≡ false → near x t ≡ false
+unfolding near abs sub add neg lt ofBits
+near-never x (fin u n d) h = never (sym h)
+near-never nan nan h = refl
+near-never nan (inf u) h = refl
+near-never (inf s) nan h = refl
+near-never (inf true) (inf true) h = refl
+near-never (inf true) (inf false) h = refl
+near-never (inf false) (inf true) h = refl
+near-never (inf false) (inf false) h = refl
+near-never (fin s m e) nan h = refl
+near-never (fin s m e) (inf u) h = refl
+
+-- so it is the ends that decide
+ends-decide : (gap t : Float) (f h : Found) → finite t ≡ false → ruled gap t f h ≡ spanned gap t f h
+unfolding ruled nearOr
+ends-decide gap t missing missing n = refl
+ends-decide gap t missing (the b) n = rw (near-never (b .time) t n)
+ends-decide gap t (the a) missing n = rw (near-never (a .time) t n)
+ends-decide gap t (the a) (the b) n = rw (near-never (b .time) t n, near-never (a .time) t n)
+
+no-first : (gap t : Float) (f h : Found) → f ≡ missing → spanned gap t f h ≡ Refused NoCorrection
+unfolding spanned
+no-first gap t f h e = rw e
+
+no-last : (gap t : Float) (f h : Found) → h ≡ missing → spanned gap t f h ≡ Refused NoCorrection
+unfolding spanned
+no-last gap t missing h e = refl
+no-last gap t (the a) h e = rw e
+
+-- nothing is before a NaN or before all numbers, and every number is before the infinity above all
+before-nan : (x : Float) → lt x nan ≡ false
+unfolding lt
+before-nan nan = refl
+before-nan (inf s) = refl
+before-nan (fin s m e) = refl
+
+before-all : (x : Float) → lt x (inf true) ≡ false
+unfolding lt
+before-all nan = refl
+before-all (inf true) = refl
+before-all (inf false) = refl
+before-all (fin s m e) = refl
+
+before-above : (x : Float) → finite x ≡ true → lt x (inf false) ≡ true
+unfolding lt
+before-above nan h = never h
+before-above (inf s) h = never h
+before-above (fin s m e) h = refl
+
+-- of a sound table none is found on one of the two sides
+pub answer-timeless : (ss : List Sample) (gap : Float) (c v b : ℕ) (t : Float) → soundTable ss ≡ true → finite t ≡ false → answerAt ss gap c v b t ≡ Refused NoCorrection
+unfolding answerAt answerIn
+answer-timeless ss gap c v b t s n =
+    let g = signal c v b in
+    rw (earlier-series g t ss, later-series g t ss) (ends-decide gap t (lastOf (earlier g t) missing ss) (firstOf (later g t) ss) n ∙ side t n)
+  where
+    none-before : (u : Float) → ((x : Float) → lt x u ≡ false) → lastOf (earlier (signal c v b) u) missing ss ≡ missing
+    none-before u k = last-none (earlier (signal c v b) u) missing ss (λ j h. rw (k (getD ss j blank .time)) (and-false (isOf (signal c v b) (getD ss j blank))))
+
+    side : (u : Float) → finite u ≡ false → spanned gap u (lastOf (earlier (signal c v b) u) missing ss) (firstOf (later (signal c v b) u) ss) ≡ Refused NoCorrection
+    side (fin r m e) k = never (sym k)
+    side nan k = no-first gap nan _ (firstOf (later (signal c v b) nan) ss) (none-before nan before-nan)
+    side (inf true) k = no-first gap (inf true) _ (firstOf (later (signal c v b) (inf true)) ss) (none-before (inf true) before-all)
+    side (inf false) k =
+        no-last gap (inf false) (lastOf (earlier (signal c v b) (inf false)) missing ss) _
+        (first-none (later (signal c v b) (inf false)) ss
+        (λ j h. rw (before-above (getD ss j blank .time) (in-range-finite (getD ss j blank .time) (sound-at ss s .times j h))) (and-false (isOf (signal c v b) (getD ss j blank)))))
+
+-- the call: 12 once 2 to 4 pass
+pub query-timeless : (m n room : ℕ) (d : Directory) (gap : Float) (c v b : ℕ) (t : Float) → PassedQuery m n room d gap → finite t ≡ false → queryIn m n room d gap c v b t ≡ Refused NoCorrection
+query-timeless m n room d gap c v b t p e =
+    query-passed m n room d gap c v b t (record { table = p; time = rw e (or-true (inRange t)) }) ∙ answer-timeless (flat d) gap c v b t (sound-flat d (p .steady)) e

@@ -12,7 +12,8 @@ use borrow.Author.Tests.{ltb-true, ltb-false, leb-true, leb-false, le-leb, eq-eq
 use lib.Ieee.{Float, nan, fits, binary64}
 use Rattle.walk.specs.Walk.{every, first}
 use Rattle.numeric.specs.Real.{inRange}
-use Rattle.table.specs.Table.{blank, signal}
+use Rattle.signal.specs.Signal.{signal}
+use Rattle.table.specs.Table.{blank}
 use Rattle.table.specs.declared.sample.Sample.{Sample}
 use Rattle.table.proofs.Places.{timeKey}
 use Rattle.table.proofs.TableLaws.{and-left, and-right}

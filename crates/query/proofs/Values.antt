@@ -57,10 +57,6 @@ pub just-past : asked (whole 90) (bits 0x4034_0000_0800_0000) ≡ Metres (whole 
 unfolding queryOf guarded answerAt answerIn collect ruled nearOr spanned through near firstOf lastOf inRange abs soundTable ranged sorted sortedFrom standsBefore timeBefore totalOrder sign patternOf every lt le eq add sub mul div ofBits ofInt toBits isNan
 just-past = refl
 
-pub just-past-before : queryBefore 2 2048 two (whole 90) 1 5 1 (bits 0x4034_0000_0800_0000) ≡ Refused NoCorrection
-unfolding queryBefore guarded answerBefore collect between bridged through near firstOf lastOf inRange abs soundTable ranged sorted sortedFrom standsBefore timeBefore totalOrder sign patternOf every lt le eq add sub mul div ofBits ofInt toBits isNan
-just-past-before = refl
-
 pub further-past : asked (whole 90) (bits 0x4034_0000_2000_0000) ≡ Refused NoCorrection
 unfolding queryOf guarded answerAt answerIn collect ruled nearOr spanned through near firstOf lastOf inRange abs soundTable ranged sorted sortedFrom standsBefore timeBefore totalOrder sign patternOf every lt le eq add sub mul div ofBits ofInt toBits isNan
 further-past = refl
@@ -95,6 +91,11 @@ one-block =
 pub of-block : queryIn 1 2 2048 one-block (whole 90) 1 5 1 (whole 15) ≡ Metres (whole 2)
 unfolding queryIn guarded soundDirectory inReach ascends tiles timely timelyFrom blockTimes flat block answerAt answerIn collect ruled nearOr spanned through near firstOf lastOf inRange abs timeBefore totalOrder sign patternOf every lt le eq add sub mul div ofBits ofInt toBits isNan
 of-block = refl
+
+-- 2^-21 s past the last sample the rule of before gave 12
+pub just-past-before : queryBefore 1 2 2048 one-block (whole 90) 1 5 1 (bits 0x4034_0000_0800_0000) ≡ Refused NoCorrection
+unfolding queryBefore guarded soundDirectory inReach ascends tiles timely timelyFrom blockTimes flat block answerBefore collect between bridged through near firstOf lastOf inRange abs timeBefore totalOrder sign patternOf every lt le eq add sub mul div ofBits ofInt toBits isNan
+just-past-before = refl
 
 -- a directory of more entries than there is room for is 2, and one whose block ends before the samples do is 4
 pub crowded : queryIn 3 2 2 one-block (whole 90) 1 5 1 (whole 15) ≡ Refused TooMany

@@ -1,14 +1,16 @@
 -- Which answers request (vi) changed: the rule of before it, and where a time lies just past a signal's last sample. Definitions only.
 use Prim.Native.Nat.{ℕ}
 use mathlib.Core.Path.{_≡_}
-use mathlib.Core.Bool.{Bool, true, cond}
+use mathlib.Core.Bool.{Bool, true, cond, _||_}
 use mathlib.Core.List.{List}
 use lib.Dec.{eqb, ltb}
 use lib.Ieee.{Float, lt}
 use Rattle.exact.specs.Float.{_⊖_}
 use Rattle.numeric.specs.declared.refusal.Refusal.the-variants.{NoCorrection}
-use Rattle.table.specs.Table.{signal, signalOf, seriesOf, soundTable}
+use Rattle.signal.specs.Signal.{signal}
+use Rattle.table.specs.Table.{signalOf, seriesOf}
 use Rattle.table.specs.declared.sample.Sample.{Sample}
+use Rattle.directory.specs.Directory.{Directory, flat, soundDirectory}
 use Rattle.query.specs.Query.{Found, missing, the, near, line, lastOf, lastBefore, firstSince, guarded}
 use Rattle.query.specs.declared.query.Correction.{Correction}
 use Rattle.query.specs.declared.query.Correction.the-variants.{Refused, Metres}
@@ -27,12 +29,13 @@ unfoldable pub between : Float → Float → Found → Found → Correction
 between gap t f missing = Refused NoCorrection
 between gap t f (the b) = cond (near (b .time) t) (Metres (b .correction)) (bridged gap t f b)
 
--- the answer of before, and the query
+-- the answer of before
 unfoldable pub answerBefore : List Sample → Float → ℕ → ℕ → ℕ → Float → Correction
 answerBefore ss gap c v b t = let l = seriesOf (signal c v b) ss in between gap t (lastBefore t l) (firstSince t l)
 
-unfoldable pub queryBefore : ℕ → ℕ → List Sample → Float → ℕ → ℕ → ℕ → Float → Correction
-queryBefore n room ss gap c v b t = guarded (ltb room n) (soundTable ss) gap t (answerBefore ss gap c v b t)
+-- a query by the rule of before, of a directory of m entries and n samples in columns with that capacity: the same numbers 2 to 4
+unfoldable pub queryBefore : ℕ → ℕ → ℕ → Directory → Float → ℕ → ℕ → ℕ → Float → Correction
+queryBefore m n room d gap c v b t = guarded (ltb room m || ltb room n) (soundDirectory d) gap t (answerBefore (flat d) gap c v b t)
 
 -- ---- where the answers differ
 

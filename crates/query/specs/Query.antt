@@ -11,7 +11,8 @@ use Rattle.numeric.specs.Order.{patternOf}
 use Rattle.numeric.specs.Real.{abs, inRange}
 use Rattle.numeric.specs.Refusal.{numberOf}
 use Rattle.numeric.specs.declared.refusal.Refusal.the-variants.{TooMany, SettingOutOfRange, RecordOutOfRange, NoCorrection}
-use Rattle.table.specs.Table.{signal, seriesOf, soundTable}
+use Rattle.signal.specs.Signal.{signal}
+use Rattle.table.specs.Table.{seriesOf, soundTable}
 use Rattle.table.specs.declared.sample.Sample.{Sample}
 use Rattle.directory.specs.Directory.{Directory, flat, soundDirectory}
 use Rattle.query.specs.declared.query.Correction.{Correction}
@@ -107,12 +108,7 @@ abbrev pub queryNumber : Correction → ℕ
 queryNumber (Refused r) = numberOf r
 queryNumber (Metres x) = 0
 
--- a lent float afterwards: the correction, and as it was where the query is refused
-abbrev pub metresAfter : Correction → Float → Float
-metresAfter (Refused r) old = old
-metresAfter (Metres x) old = x
-
--- the same of its pattern, to the last bit
+-- the pattern of a lent float afterwards, to the last bit: that of the correction, and as it was where the query is refused
 abbrev pub patternAfter : Correction → ℕ → ℕ
 patternAfter (Refused r) old = old
 patternAfter (Metres x) old = patternOf x
@@ -122,6 +118,12 @@ abbrev pub GivesFinite : Correction → Type 0
 GivesFinite (Refused n) = Unit {0}
 GivesFinite (Metres x) = finite x ≡ true
 
+-- the number and the lent pattern afterwards are those of the answer, and the correction given is finite
+pub record Answers (q : Correction) (number metres metres′ : ℕ) : Type 0 where
+  pub number-is : number ≡ queryNumber q
+  pub metres-are : metres′ ≡ patternAfter q metres
+  pub given-finite : GivesFinite q
+
 -- ---- what the contract of the answer says
 
 -- rules 2 to 4 let the directory and the gap pass
@@ -130,3 +132,8 @@ pub record PassedQuery (m n room : ℕ) (d : Directory) (gap : Float) : Type 0 w
   pub few-samples : n ≤ room
   pub in-range : inRange gap ≡ true
   pub steady : soundDirectory d ≡ true
+
+-- rules 2 to 4 let the query pass: its time too is in range, or not finite
+pub record Passes (m n room : ℕ) (d : Directory) (gap t : Float) : Type 0 where
+  pub table : PassedQuery m n room d gap
+  pub time : (inRange t || not (finite t)) ≡ true

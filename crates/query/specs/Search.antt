@@ -6,7 +6,7 @@ use mathlib.Core.List.{List}
 use lib.ListN.{getD}
 use lib.Dec.{leb}
 use lib.Ieee.{Float, nan, lt}
-use Rattle.table.specs.Table.{signal}
+use Rattle.signal.specs.Signal.{signal}
 
 -- of the places from `from` up to `to` those below lo pass the test, and those from hi on do not
 pub record Halving (test : ℕ → Bool) (from to lo hi : ℕ) : Type 0 where

@@ -16,7 +16,7 @@ use numeric::real::abs;
 use numeric::real::in_range;
 use numeric::real::is_finite;
 use numeric::refusal::Refusal;
-use table::sample::signal_of;
+use signal::signal::signal_of;
 
 // The answer to a query: why there is none, or the correction in metres.
 pub enum Correction {

@@ -8,7 +8,7 @@ use native.Mathlib.Omega.{arith}
 use lib.ListN.{length, getD, set}
 use lib.Dec.{ltb}
 use borrow.Author.Tests.{ltb-false, not-true, not-false}
-use lib.Ieee.{Float, nan}
+use lib.Ieee.{Float}
 use lib.Ieee.Scale.{finite}
 use Rattle.walk.specs.Walk.{places}
 use Rattle.walk.proofs.Walk.{places-length, places-at, or-no}
@@ -16,7 +16,7 @@ use Rattle.numeric.specs.Real.{inRange}
 use Rattle.numeric.specs.declared.refusal.Refusal.{Refusal}
 use Rattle.numeric.specs.declared.refusal.Refusal.the-variants.{TooMany, SettingOutOfRange, RecordOutOfRange}
 use Rattle.directory.specs.Directory.{Directory, flat, soundDirectory}
-use Rattle.query.specs.Query.{answerAt, guarded, queryIn, queryNumber, metresAfter, GivesFinite, PassedQuery}
+use Rattle.query.specs.Query.{answerAt, guarded, queryIn, queryNumber, patternAfter, GivesFinite, PassedQuery}
 use Rattle.query.specs.declared.query.Correction.{Correction}
 use Rattle.query.specs.declared.query.Correction.the-variants as Correction
 use Rattle.query_calls.specs.declared.queries.Asking.the-variants.{Refused, Answered}
@@ -65,32 +65,32 @@ finite-at (a ∷ l) zero d k h = h .0
 finite-at (a ∷ l) (suc i) d k h = finite-at l i d (omega arith) (h .1)
 
 -- ---- the loop: a is the answer at each place, of which i are written
-pub record Filling (a : ℕ → Correction) (count : ℕ) (numbers₀ : List ℕ) (metres₀ : List Float) (numbers : List ℕ) (metres : List Float) (i : ℕ) : Type 0 where
+pub record Filling (a : ℕ → Correction) (count : ℕ) (numbers₀ : List ℕ) (metres₀ : List ℕ) (numbers : List ℕ) (metres : List ℕ) (i : ℕ) : Type 0 where
   pub within : i ≤ count
   pub numbers-so-far : numbers ≡ written numberAfter (places a i) numbers₀
-  pub metres-so-far : metres ≡ written metresAfter (places a i) metres₀
+  pub metres-so-far : metres ≡ written patternAfter (places a i) metres₀
   pub finite-so-far : EachFinite (places a i)
 
-module _ (a : ℕ → Correction) (count : ℕ) (numbers₀ : List ℕ) (metres₀ : List Float) where
+module _ (a : ℕ → Correction) (count : ℕ) (numbers₀ : List ℕ) (metres₀ : List ℕ) where
   pub filling-start : Filling a count numbers₀ metres₀ numbers₀ metres₀ 0
   unfolding places written EachFinite
   filling-start = record { within = omega arith; numbers-so-far = refl; metres-so-far = refl; finite-so-far = tt }
 
-  module _ (numbers : List ℕ) (metres : List Float) (i : ℕ) (s : Filling a count numbers₀ metres₀ numbers metres i) where
+  module _ (numbers : List ℕ) (metres : List ℕ) (i : ℕ) (s : Filling a count numbers₀ metres₀ numbers metres i) where
     pub filling-numbers : length numbers ≡ length numbers₀
     filling-numbers = ap length (s .numbers-so-far) ∙ written-length numberAfter (places a i) numbers₀
 
     pub filling-metres : length metres ≡ length metres₀
-    filling-metres = ap length (s .metres-so-far) ∙ written-length metresAfter (places a i) metres₀
+    filling-metres = ap length (s .metres-so-far) ∙ written-length patternAfter (places a i) metres₀
 
-    pub filling-next : i < count → (r : Correction) (x : ℕ) (y : Float) → r ≡ a i → GivesFinite r → x ≡ queryNumber r → y ≡ metresAfter r (getD metres i nan)
+    pub filling-next : i < count → (r : Correction) (x y : ℕ) → r ≡ a i → GivesFinite r → x ≡ queryNumber r → y ≡ patternAfter r (getD metres i 0)
         → Filling a count numbers₀ metres₀ (set numbers i x) (set metres i y) (i + 1)
     unfolding places
     filling-next h r x y e g p q =
         record {
           within = omega arith;
           numbers-so-far = written-next numberAfter a i numbers₀ numbers 0 r x (s .numbers-so-far) e p;
-          metres-so-far = written-next metresAfter a i metres₀ metres nan r y (s .metres-so-far) e q;
+          metres-so-far = written-next patternAfter a i metres₀ metres 0 r y (s .metres-so-far) e q;
           finite-so-far = rw (add-one i) (finite-more (places a i) (a i) (s .finite-so-far) (rw e at g));
         }
 
@@ -100,7 +100,7 @@ module _ (a : ℕ → Correction) (count : ℕ) (numbers₀ : List ℕ) (metres�
         rw (← z) (record { number-is = refl; numbers-after = s .numbers-so-far; metres-after = s .metres-so-far; all-finite = s .finite-so-far })
 
 -- ---- columns that are long enough
-pub record Long (count : ℕ) (c v b : List ℕ) (t : List Float) (numbers : List ℕ) (metres : List Float) : Type 0 where
+pub record Long (count : ℕ) (c v b : List ℕ) (t : List Float) (numbers : List ℕ) (metres : List ℕ) : Type 0 where
   pub in-c : count ≤ length c
   pub in-v : count ≤ length v
   pub in-b : count ≤ length b
@@ -108,7 +108,7 @@ pub record Long (count : ℕ) (c v b : List ℕ) (t : List Float) (numbers : Lis
   pub in-numbers : count ≤ length numbers
   pub in-metres : count ≤ length metres
 
-pub not-short : (count : ℕ) (c v b : List ℕ) (t : List Float) (numbers : List ℕ) (metres : List Float) → placesShort count c v b t numbers metres ≡ false → Long count c v b t numbers metres
+pub not-short : (count : ℕ) (c v b : List ℕ) (t : List Float) (numbers : List ℕ) (metres : List ℕ) → placesShort count c v b t numbers metres ≡ false → Long count c v b t numbers metres
 unfolding placesShort
 not-short count c v b t numbers metres e =
     let h = or-no _ (ltb (length metres) count) e in
@@ -126,17 +126,17 @@ not-short count c v b t numbers metres e =
     }
 
 -- ---- the reply, way by way
-pub refused-reply : {o : Reply} (r : Refusal) (numbers : List ℕ) (metres : List Float) → o ≡ refusal r → (Refused r ≡ askingOf o) × Replies o (askingNumber (Refused r)) numbers metres numbers metres
+pub refused-reply : {o : Reply} (r : Refusal) (numbers : List ℕ) (metres : List ℕ) → o ≡ refusal r → (Refused r ≡ askingOf o) × Replies o (askingNumber (Refused r)) numbers metres numbers metres
 refused-reply r numbers metres e = rw e (refl, record { number-is = refl; numbers-after = refl; metres-after = refl; all-finite = tt })
 
-pub same-reply : {o p : Reply} {number : ℕ} {numbers : List ℕ} {metres : List Float} {numbers′ : List ℕ} {metres′ : List Float} → o ≡ p → Replies p number numbers metres numbers′ metres′ → Replies o number numbers metres numbers′ metres′
+pub same-reply : {o p : Reply} {number : ℕ} {numbers : List ℕ} {metres : List ℕ} {numbers′ : List ℕ} {metres′ : List ℕ} → o ≡ p → Replies p number numbers metres numbers′ metres′ → Replies o number numbers metres numbers′ metres′
 same-reply e h = rw e h
 
-pub answered-reply : {o : Reply} {l : List Correction} {numbers : List ℕ} {metres : List Float} {numbers′ : List ℕ} {metres′ : List Float} → o ≡ answers l → Replies (answers l) 0 numbers metres numbers′ metres′
+pub answered-reply : {o : Reply} {l : List Correction} {numbers : List ℕ} {metres : List ℕ} {numbers′ : List ℕ} {metres′ : List ℕ} → o ≡ answers l → Replies (answers l) 0 numbers metres numbers′ metres′
     → (Answered ≡ askingOf o) × Replies o (askingNumber Answered) numbers metres numbers′ metres′
 answered-reply e h = rw e (refl, h)
 
-module _ (m n room : ℕ) (d : Directory) (gap : Float) (c v b : List ℕ) (t : List Float) (count : ℕ) (numbers : List ℕ) (metres : List Float) where
+module _ (m n room : ℕ) (d : Directory) (gap : Float) (c v b : List ℕ) (t : List Float) (count : ℕ) (numbers : List ℕ) (metres : List ℕ) where
   pub many : (ltb room m || ltb room n) ≡ true → queriesIn m n room d gap c v b t count numbers metres ≡ refusal TooMany
   unfolding queriesIn
   many h = rw h
@@ -172,7 +172,7 @@ module _ (m n room : ℕ) (d : Directory) (gap : Float) (c v b : List ℕ) (t : 
           all-answered = rw (h, sym es ∙ w, sym eq ∙ not-false q u, sym ey ∙ not-false y z)
 
 -- ---- one call gives what as many single queries give
-module _ (m n room : ℕ) (d : Directory) (gap : Float) (c v b : List ℕ) (t : List Float) (count : ℕ) (numbers : List ℕ) (metres : List Float) where
+module _ (m n room : ℕ) (d : Directory) (gap : Float) (c v b : List ℕ) (t : List Float) (count : ℕ) (numbers : List ℕ) (metres : List ℕ) where
   -- where the call answers, its columns are long enough and its reply has the query at each place
   answering : askingOf (queriesIn m n room d gap c v b t count numbers metres) ≡ Answered
       → (placesShort count c v b t numbers metres ≡ false) × (queriesIn m n room d gap c v b t count numbers metres ≡ answers (places (queryAt m n room d gap c v b t) count))
@@ -190,7 +190,7 @@ module _ (m n room : ℕ) (d : Directory) (gap : Float) (c v b : List ℕ) (t : 
       go false false false true e = absurd (let q : _≡_ {A = ℕ} 0 1 = cc in omega arith)
       go false false false false e = (refl, refl)
 
-  module _ (numbers′ : List ℕ) (metres′ : List Float) (e : Answered ≡ askingOf (queriesIn m n room d gap c v b t count numbers metres)) (h : Replies (queriesIn m n room d gap c v b t count numbers metres) 0 numbers metres numbers′ metres′) (i : ℕ) (k : i < count) where
+  module _ (numbers′ : List ℕ) (metres′ : List ℕ) (e : Answered ≡ askingOf (queriesIn m n room d gap c v b t count numbers metres)) (h : Replies (queriesIn m n room d gap c v b t count numbers metres) 0 numbers metres numbers′ metres′) (i : ℕ) (k : i < count) where
     is : Replies (answers (places (queryAt m n room d gap c v b t) count)) 0 numbers metres numbers′ metres′
     is = same-reply (sym (answering (sym e) .1)) h
 
@@ -211,11 +211,11 @@ module _ (m n room : ℕ) (d : Directory) (gap : Float) (c v b : List ℕ) (t : 
     number-at =
         ap (λ (x : List ℕ). getD x i 0) (is .numbers-after) ∙ written-at numberAfter (places (queryAt m n room d gap c v b t) count) numbers i nothing 0 inside (omega (arith, long .in-numbers)) ∙ ap queryNumber (answer nothing)
 
-    -- its metres are those of the query there, and as they were where that is refused
-    pub metres-at : getD metres′ i nan ≡ metresAfter (queryAt m n room d gap c v b t i) (getD metres i nan)
+    -- the pattern of its metres is that of the query there, and as they were where that is refused
+    pub metres-at : getD metres′ i 0 ≡ patternAfter (queryAt m n room d gap c v b t i) (getD metres i 0)
     metres-at =
-        ap (λ (x : List Float). getD x i nan) (is .metres-after) ∙ written-at metresAfter (places (queryAt m n room d gap c v b t) count) metres i nothing nan inside (omega (arith, long .in-metres))
-        ∙ ap (λ (a : Correction). metresAfter a (getD metres i nan)) (answer nothing)
+        ap (λ (x : List ℕ). getD x i 0) (is .metres-after) ∙ written-at patternAfter (places (queryAt m n room d gap c v b t) count) metres i nothing 0 inside (omega (arith, long .in-metres))
+        ∙ ap (λ (a : Correction). patternAfter a (getD metres i 0)) (answer nothing)
 
     -- and every correction given is finite
     pub finite-there : GivesFinite (queryAt m n room d gap c v b t i)

@@ -10,7 +10,7 @@ use Rattle.numeric.specs.Real.{abs, inRange}
 use Rattle.numeric.specs.declared.refusal.Refusal.the-variants.{TooMany}
 use Rattle.table.specs.Table.{timeBefore}
 use Rattle.directory.specs.Directory.{Directory, ascends, tiles, timely, timelyFrom, blockTimes, inReach, soundDirectory, block, flat}
-use Rattle.query.specs.Query.{near, firstOf, lastOf, through, nearOr, spanned, ruled, answerIn, answerAt, guarded, queryIn, metresAfter}
+use Rattle.query.specs.Query.{near, firstOf, lastOf, through, nearOr, spanned, ruled, answerIn, answerAt, guarded, queryIn, patternAfter}
 use Rattle.query_calls.specs.Queries.{Reply, refusal, placesShort, queriesIn, written, placesAfter, numberAfter}
 
 -- samples (10 s, 1 m) and (20 s, 3 m) of one satellite
@@ -23,17 +23,17 @@ one-block =
 
 -- three queries in one call, at 15 s, past the end and above 1e9: each place has its number, and metres only where there are some
 abbrev three : Reply
-three = queriesIn 1 2 2048 one-block (whole 90) (1 ∷ 1 ∷ 1 ∷ []) (5 ∷ 5 ∷ 5 ∷ []) (1 ∷ 1 ∷ 1 ∷ []) (whole 15 ∷ whole 21 ∷ whole 2000000000 ∷ []) 3 (7 ∷ 7 ∷ 7 ∷ 7 ∷ []) (whole 8 ∷ whole 8 ∷ whole 8 ∷ [])
+three = queriesIn 1 2 2048 one-block (whole 90) (1 ∷ 1 ∷ 1 ∷ []) (5 ∷ 5 ∷ 5 ∷ []) (1 ∷ 1 ∷ 1 ∷ []) (whole 15 ∷ whole 21 ∷ whole 2000000000 ∷ []) 3 (7 ∷ 7 ∷ 7 ∷ 7 ∷ []) (8 ∷ 8 ∷ 8 ∷ [])
 
 pub three-numbers : placesAfter numberAfter three (7 ∷ 7 ∷ 7 ∷ 7 ∷ []) ≡ 0 ∷ 12 ∷ 4 ∷ 7 ∷ []
 unfolding queriesIn placesShort places written queryIn guarded soundDirectory inReach ascends tiles timely timelyFrom blockTimes flat block answerAt answerIn collect ruled nearOr spanned through near firstOf lastOf inRange abs timeBefore totalOrder sign patternOf every lt le eq add sub mul div ofBits ofInt toBits isNan
 three-numbers = refl
 
-pub three-metres : placesAfter metresAfter three (whole 8 ∷ whole 8 ∷ whole 8 ∷ []) ≡ whole 2 ∷ whole 8 ∷ whole 8 ∷ []
+pub three-metres : placesAfter patternAfter three (8 ∷ 8 ∷ 8 ∷ []) ≡ 0x4000_0000_0000_0000 ∷ 8 ∷ 8 ∷ []
 unfolding queriesIn placesShort places written queryIn guarded soundDirectory inReach ascends tiles timely timelyFrom blockTimes flat block answerAt answerIn collect ruled nearOr spanned through near firstOf lastOf inRange abs timeBefore totalOrder sign patternOf every lt le eq add sub mul div ofBits ofInt toBits isNan
 three-metres = refl
 
 -- a lent column that is too short is 2
-pub short-column : queriesIn 1 2 2048 one-block (whole 90) (1 ∷ []) (5 ∷ []) (1 ∷ []) (whole 15 ∷ []) 1 [] (whole 8 ∷ []) ≡ refusal TooMany
+pub short-column : queriesIn 1 2 2048 one-block (whole 90) (1 ∷ []) (5 ∷ []) (1 ∷ []) (whole 15 ∷ []) 1 [] (8 ∷ []) ≡ refusal TooMany
 unfolding queriesIn placesShort
 short-column = refl

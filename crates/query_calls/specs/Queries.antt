@@ -12,7 +12,7 @@ use Rattle.numeric.specs.Refusal.{numberOf}
 use Rattle.numeric.specs.declared.refusal.Refusal.{Refusal}
 use Rattle.numeric.specs.declared.refusal.Refusal.the-variants.{TooMany, SettingOutOfRange, RecordOutOfRange}
 use Rattle.directory.specs.Directory.{Directory, soundDirectory}
-use Rattle.query.specs.Query.{queryIn, queryNumber, metresAfter, GivesFinite}
+use Rattle.query.specs.Query.{queryIn, queryNumber, patternAfter, GivesFinite}
 use Rattle.query.specs.declared.query.Correction.{Correction}
 use Rattle.query_calls.specs.declared.queries.Asking.{Asking}
 use Rattle.query_calls.specs.declared.queries.Asking.the-variants.{Refused, Answered}
@@ -25,7 +25,7 @@ pub data Reply : Type 0 where
   answers : List Correction → Reply
 
 -- number 2: a lent column is shorter than the count of places
-unfoldable pub placesShort : ℕ → List ℕ → List ℕ → List ℕ → List Float → List ℕ → List Float → Bool
+unfoldable pub placesShort : ℕ → List ℕ → List ℕ → List ℕ → List Float → List ℕ → List ℕ → Bool
 placesShort count c v b t numbers metres =
     ltb (length c) count || ltb (length v) count || ltb (length b) count || ltb (length t) count || ltb (length numbers) count || ltb (length metres) count
 
@@ -34,7 +34,7 @@ abbrev pub queryAt : ℕ → ℕ → ℕ → Directory → Float → List ℕ �
 queryAt m n room d gap c v b t i = queryIn m n room d gap (getD c i 0) (getD v i 0) (getD b i 0) (getD t i nan)
 
 -- queries of m entries and n samples in columns with that capacity: numbers 2, 3 and 4 for the whole call, and then the query at each of the first count places
-unfoldable pub queriesIn : ℕ → ℕ → ℕ → Directory → Float → List ℕ → List ℕ → List ℕ → List Float → ℕ → List ℕ → List Float → Reply
+unfoldable pub queriesIn : ℕ → ℕ → ℕ → Directory → Float → List ℕ → List ℕ → List ℕ → List Float → ℕ → List ℕ → List ℕ → Reply
 queriesIn m n room d gap c v b t count numbers metres =
     cond ((ltb room m || ltb room n) || placesShort count c v b t numbers metres) (refusal TooMany)
     (cond (not (inRange gap)) (refusal SettingOutOfRange)
@@ -77,9 +77,9 @@ abbrev pub AllFinite : Reply → Type 0
 AllFinite (refusal r) = Unit {0}
 AllFinite (answers l) = EachFinite l
 
--- the number and the columns of numbers and metres afterwards are those of the reply, and every correction given is finite
-pub record Replies (o : Reply) (number : ℕ) (numbers : List ℕ) (metres : List Float) (numbers′ : List ℕ) (metres′ : List Float) : Type 0 where
+-- the number and the columns of numbers and of the patterns of metres afterwards are those of the reply, to the last bit, and every correction given is finite
+pub record Replies (o : Reply) (number : ℕ) (numbers metres numbers′ metres′ : List ℕ) : Type 0 where
   pub number-is : number ≡ askingNumber (askingOf o)
   pub numbers-after : numbers′ ≡ placesAfter numberAfter o numbers
-  pub metres-after : metres′ ≡ placesAfter metresAfter o metres
+  pub metres-after : metres′ ≡ placesAfter patternAfter o metres
   pub all-finite : AllFinite o

@@ -45,31 +45,37 @@ or-right : (a b : Bool) → (a || b) ≡ false → b ≡ false
 or-right true b e = never (sym e)
 or-right false b e = e
 
-module _ (m n long : ℕ) (d : Blocks) (t : Columns) (r : ℕ) (e : r ≡ min long (blockCapacity d)) where
-  pub list-many : (ltb r m || ltb r n) ≡ true → (Listing.Refused TooMany ≡ listingOf (listedOf m n long d)) × (t ≡ listedColumns (listedOf m n long d) t)
+module _ (m n long : ℕ) (d : Blocks) (t : Columns) (r k : ℕ) (e : r ≡ blockCapacity d) (el : k ≡ long) where
+  pub list-many : ((ltb r m || ltb r n) || ltb k n) ≡ true → (Listing.Refused TooMany ≡ listingOf (listedOf m n long d)) × (t ≡ listedColumns (listedOf m n long d) t)
   unfolding listedOf
-  list-many h = rw (← e, h) (refl, refl)
+  list-many h = rw (← e, ← el, h) (refl, refl)
 
-  module _ (h : (ltb r m || ltb r n) ≡ false) where
+  module _ (h : ((ltb r m || ltb r n) || ltb k n) ≡ false) where
     pub list-fits : (m ≤ length (entriesIn d)) × ((n ≤ length (readingsIn d)) × (n ≤ long))
     list-fits = go (length (entriesIn d)) (length (readingsIn d)) refl refl
       where
+        counts : (ltb r m || ltb r n) ≡ false
+        counts = or-left (ltb r m || ltb r n) (ltb k n) h
+
         a : m ≤ r
-        a = ltb-false r m (or-left (ltb r m) (ltb r n) h)
+        a = ltb-false r m (or-left (ltb r m) (ltb r n) counts)
 
         b : n ≤ r
-        b = ltb-false r n (or-right (ltb r m) (ltb r n) h)
+        b = ltb-false r n (or-right (ltb r m) (ltb r n) counts)
+
+        f : n ≤ k
+        f = ltb-false k n (or-right (ltb r m || ltb r n) (ltb k n) h)
 
         go : (x y : ℕ) → length (entriesIn d) ≡ x → length (readingsIn d) ≡ y → (m ≤ length (entriesIn d)) × ((n ≤ length (readingsIn d)) × (n ≤ long))
         go x y qx qy =
-            let z : r ≡ min long (min 2048 (min x y)) = e ∙ rw (qx, qy) in
-            (rw qx (omega (arith, a)), (rw qy (omega (arith, b)), omega (arith, b)))
+            let z : r ≡ min 2048 (min x y) = e ∙ rw (qx, qy) in
+            (rw qx (omega (arith, a)), (rw qy (omega (arith, b)), omega (arith, f)))
 
     module _ {x : Bool} (ex : x ≡ soundDirectory (directoryIn m n d)) where
       pub list-unsound : not x ≡ true → (Listing.Refused RecordOutOfRange ≡ listingOf (listedOf m n long d)) × (t ≡ listedColumns (listedOf m n long d) t)
       unfolding listedOf
-      list-unsound k = rw (← e, h, sym ex ∙ not-true x k) (refl, refl)
+      list-unsound z = rw (← e, ← el, h, sym ex ∙ not-true x z) (refl, refl)
 
       pub list-done : not x ≡ false → (t′ : Columns) → t′ ≡ signalsWith (flat (directoryIn m n d)) t → (Listing.Listed ≡ listingOf (listedOf m n long d)) × (t′ ≡ listedColumns (listedOf m n long d) t)
       unfolding listedOf
-      list-done k t′ q = rw (← e, h, sym ex ∙ not-false x k) (refl, q)
+      list-done z t′ q = rw (← e, ← el, h, sym ex ∙ not-false x z) (refl, q)

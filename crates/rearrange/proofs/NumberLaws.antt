@@ -4,13 +4,14 @@ use Prim.Native.Nat.{ℕ}
 use Rattle.table.specs.Table.{Columns}
 use Rattle.directory.specs.Directory.{Blocks}
 use Rattle.directory.specs.Rearrange.{Filed, unfiled, entriesAre, filedNumber, entriesAfter, filedColumns, Listed, unlisted, samplesAre, listedNumber, listedColumns}
+use Rattle.rearrange.specs.Lent.{Files, Lists}
 use Rattle.rearrange.specs.Run.{filingOf, listingOf, filingNumber, filingCount, listingNumber}
 use Rattle.rearrange.specs.declared.«directory_of».Filing.{Filing}
 use Rattle.rearrange.specs.declared.«signals_of».Listing.{Listing}
 
 module _ (o : Filed) {r : Filing} (l : Blocks) {l′ : Blocks} (a : (r ≡ filingOf o) × (l′ ≡ filedColumns o l)) (m : ℕ) {m′ number : ℕ} where
-  pub files-number : (number ≡ filingNumber r) × (m′ ≡ filingCount r m) → (number ≡ filedNumber o) × ((m′ ≡ entriesAfter o m) × (l′ ≡ filedColumns o l))
-  files-number (k, q) = (k ∙ ap filingNumber (a .0) ∙ same o, (q ∙ ap (λ (z : Filing). filingCount z m) (a .0) ∙ count o, a .1))
+  pub files-number : (number ≡ filingNumber r) × (m′ ≡ filingCount r m) → Files o number m m′ l l′
+  files-number (k, q) = record { number-is = k ∙ ap filingNumber (a .0) ∙ same o; entries-are = q ∙ ap (λ (z : Filing). filingCount z m) (a .0) ∙ count o; columns = a .1 }
     where
       same : (p : Filed) → filingNumber (filingOf p) ≡ filedNumber p
       same (unfiled r) = refl
@@ -21,8 +22,8 @@ module _ (o : Filed) {r : Filing} (l : Blocks) {l′ : Blocks} (a : (r ≡ filin
       count (entriesAre es) = refl
 
 module _ (o : Listed) {r : Listing} (t : Columns) {t′ : Columns} (a : (r ≡ listingOf o) × (t′ ≡ listedColumns o t)) {number : ℕ} where
-  pub lists-number : number ≡ listingNumber r → (number ≡ listedNumber o) × (t′ ≡ listedColumns o t)
-  lists-number k = (k ∙ ap listingNumber (a .0) ∙ same o, a .1)
+  pub lists-number : number ≡ listingNumber r → Lists o number t t′
+  lists-number k = record { number-is = k ∙ ap listingNumber (a .0) ∙ same o; columns = a .1 }
     where
       same : (p : Listed) → listingNumber (listingOf p) ≡ listedNumber p
       same (unlisted r) = refl

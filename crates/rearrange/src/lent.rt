@@ -4,7 +4,8 @@ ghost use Prim.Native.Nat.{min};
 ghost use lib.ListN.{length};
 ghost use Rattle.table.specs.Table.{lent};
 ghost use Rattle.directory.specs.Directory.{lentBlocks, entryRows};
-ghost use Rattle.directory.specs.Rearrange.{filedOf, filedNumber, entriesAfter, filedColumns, listedOf, listedNumber, listedColumns};
+ghost use Rattle.directory.specs.Rearrange.{filedOf, listedOf};
+ghost use Rattle.rearrange.specs.Lent.{Files, Lists};
 ghost use Rattle.rearrange.specs.Run.{filingNumber, filingCount, listingNumber};
 use crate::directory_of::Filing;
 use crate::directory_of::directory_of;
@@ -52,8 +53,8 @@ pub fn directory_into(
 ) -> u8
     ensures { λ r. ⌜ (let l = lentBlocks (now (dc .entry)) (now (dv .entry)) (now (db .entry)) (now (df .entry)) (now (dn .entry)) (now (ts .entry)) (now (xs .entry)) in
         let o = filedOf n (length (entryRows (now (dc .entry)) (now (dv .entry)) (now (db .entry)) (now (df .entry)) (now (dn .entry)))) (lent (now (cs .entry)) (now (vs .entry)) (now (bs .entry)) (now (ts .entry)) (now (xs .entry))) in
-        (r ≡ filedNumber o) × ((now (m .exit) ≡ entriesAfter o (now (m .entry)))
-        × (lentBlocks (now (dc .exit)) (now (dv .exit)) (now (db .exit)) (now (df .exit)) (now (dn .exit)) (now (ts .entry)) (now (xs .entry)) ≡ filedColumns o l))) ⌝ }
+        Files o r (now (m .entry)) (now (m .exit)) l
+        (lentBlocks (now (dc .exit)) (now (dv .exit)) (now (db .exit)) (now (df .exit)) (now (dn .exit)) (now (ts .entry)) (now (xs .entry)))) ⌝ }
 {
     let answer = directory_of(cs, vs, bs, ts, xs, n, dc, dv, db, df, dn);
     filing_in(answer, m)
@@ -78,7 +79,7 @@ pub fn signals_into(
     ensures { λ r. ⌜ (let l = lent (now (cs .entry)) (now (vs .entry)) (now (bs .entry)) (now (ts .entry)) (now (xs .entry)) in
         let o = listedOf m n (min (length (now (cs .entry))) (min (length (now (vs .entry))) (length (now (bs .entry)))))
         (lentBlocks (now (dc .entry)) (now (dv .entry)) (now (db .entry)) (now (df .entry)) (now (dn .entry)) (now (ts .entry)) (now (xs .entry))) in
-        (r ≡ listedNumber o) × (lent (now (cs .exit)) (now (vs .exit)) (now (bs .exit)) (now (ts .entry)) (now (xs .entry)) ≡ listedColumns o l)) ⌝ }
+        Lists o r l (lent (now (cs .exit)) (now (vs .exit)) (now (bs .exit)) (now (ts .entry)) (now (xs .entry)))) ⌝ }
 {
     let answer = signals_of(dc, dv, db, df, dn, m, ts, xs, n, cs, vs, bs);
     listing_number(answer)

@@ -88,8 +88,8 @@ pub fn signals_of(
         (r ≡ listingOf o) × (lent (now (cs .exit)) (now (vs .exit)) (now (bs .exit)) (now (ts .entry)) (now (xs .entry)) ≡ listedColumns o l)) ⌝ }
 {
     let long = lesser(cs.len(), lesser(vs.len(), bs.len()));
-    let room = lesser(long, block_capacity(dc, dv, db, df, dn, ts, xs));
-    if (room < m) | (room < n) {
+    let room = block_capacity(dc, dv, db, df, dn, ts, xs);
+    if (room < m) | (room < n) | (long < n) {
         return Listing::Refused(Refusal::TooMany);
     }
     if !is_sound_directory(dc, dv, db, df, dn, m, ts, xs, n) {

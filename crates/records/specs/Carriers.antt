@@ -1,10 +1,9 @@
 -- The carriers of an epoch as columns of numbers, place by place. Definitions only.
-use mathlib.Core.Path.{_≡_}
 use Prim.Native.Nat.{ℕ, _+_, _*_}
 use mathlib.Core.Bool.{Bool, _&&_}
 use mathlib.Core.List.{List}
 use lib.Dec.{leb}
-use lib.ListN.{getD, length, take}
+use lib.ListN.{getD, length}
 use lib.IntN.{ℤ, pos}
 use lib.Ieee.{Float, nan}
 use Rattle.walk.specs.Walk.{places}
@@ -49,12 +48,3 @@ unfoldable pub epochFits : CarrierColumns → ℕ → Bool
 epochFits c n =
     leb n 64 && leb n (length (c .constellation)) && leb n (length (c .svid)) && leb n (length (c .band)) && leb n (length (c .state))
     && leb (6 * n) (length (c .floats))
-
--- columns of 64 carriers, of which the first n are those of xs
-pub record Laid (xs : List Carrier) (n : ℕ) (c : CarrierColumns) : Type 0 where
-  pub constellation-long : length (c .constellation) ≡ 64
-  pub svid-long : length (c .svid) ≡ 64
-  pub band-long : length (c .band) ≡ 64
-  pub state-long : length (c .state) ≡ 64
-  pub floats-long : length (c .floats) ≡ 384
-  pub all : carriersOf c n ≡ take n xs

@@ -6,6 +6,8 @@ use lib.Dec.{eqb}
 use Rattle.walk.specs.Walk.{collect}
 use Rattle.records.specs.Record.{keep}
 use Rattle.records.specs.declared.record.Carrier.{Carrier}
+use Rattle.records.specs.declared.pair.Profile.{Profile}
+use Rattle.records.specs.declared.pair.Profile.the-variants.{General, City}
 
 -- GPS (1) and Galileo (6) on the chosen band
 unfoldable pub certified : ℕ → Carrier → Bool
@@ -15,7 +17,17 @@ certified band c = (eqb (c .constellation) 1 || eqb (c .constellation) 6) && eqb
 unfoldable pub certifiedOf : ℕ → List Carrier → List Carrier
 certifiedOf band cs = collect (keep (certified band)) cs
 
+-- whether it is the city profile
+abbrev pub isCity : Profile → Bool
+isCity General = false
+isCity (City band) = true
+
+-- whether the profile has the carrier looked at
+abbrev pub lookedAt : Profile → Carrier → Bool
+lookedAt General c = true
+lookedAt (City band) c = certified band c
+
 -- the carriers that a displacement looks at: all, or in the city profile those
-abbrev pub looked : Bool → ℕ → List Carrier → List Carrier
-looked false band cs = cs
-looked true band cs = certifiedOf band cs
+abbrev pub looked : Profile → List Carrier → List Carrier
+looked General cs = cs
+looked (City band) cs = certifiedOf band cs

@@ -5,3 +5,4 @@ pub mod Screen
 pub mod Mask
 pub mod Kept
 pub mod Carriers
+pub mod Signals

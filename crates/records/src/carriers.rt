@@ -1,59 +1,70 @@
-// The carriers of an epoch as columns of numbers.
+// The carriers of an epoch as signals, states and floats: one signal and one state for each carrier, and six floats.
 ghost use mathlib.Core.Path.{_≡_};
-ghost use mathlib.Core.Bool.{true};
-ghost use Prim.Native.Nat.{_+_, _*_, _<_, _≤_};
-ghost use lib.ListN.{length};
+ghost use Prim.Native.Nat.{_+_, _*_, _^_, _<_, _≤_};
+ghost use lib.ListN.{getD, length};
 ghost use Rattle.walk.specs.Walk.{every};
-ghost use Rattle.records.specs.Record.{soundCarrier, counted};
-ghost use Rattle.records.specs.Carriers as spec;
+ghost use Rattle.records.specs.Record.{soundCarrier};
+ghost use Rattle.records.specs.Signals as spec;
 use crate::record::Carrier;
 use crate::record::Epoch;
 use crate::record::is_sound;
 use numeric::vec3::vector_at;
+use signal::signal::band_in;
+use signal::signal::constellation_in;
+use signal::signal::signal_of;
+use signal::signal::svid_in;
 
-// Carrier i of the columns.
-pub(crate) fn carrier_at(
+// Writes the signals of the first n carriers of the columns.
+pub fn signals_into(
     constellation: &[u8],
     svid: &[u16],
     band: &[u32],
-    state: &[i32],
-    floats: &[f64],
-    i: usize,
-) -> Carrier
-    requires { ⌜ (i < length (now constellation)) × (i < length (now svid)) × (i < length (now band)) × (i < length (now state)) ⌝ }
-    requires { ⌜ 6 * i + 5 < length (now floats) ⌝ }
-    ensures { λ r. ⌜ r ≡ spec.carrierAt (spec.carrierColumns (now (constellation .entry)) (now (svid .entry)) (now (band .entry)) (now (state .entry)) (now (floats .entry))) i ⌝ }
+    n: usize,
+    signals: &mut [u64; 64],
+)
+    requires { ⌜ (n ≤ 64) × (n ≤ length (now constellation)) × (n ≤ length (now svid)) × (n ≤ length (now band)) × (length (now signals) ≡ 64) ⌝ }
+    ensures { λ _. ⌜ spec.Signalled (now (constellation .entry)) (now (svid .entry)) (now (band .entry)) n (now (signals .exit)) ⌝ }
 {
+    let mut i: usize = 0;
+    while i < n {
+        signals[i] = signal_of(constellation[i], svid[i], band[i]);
+        i += 1;
+    }
+}
+
+// Carrier i.
+pub(crate) fn carrier_in(signals: &[u64], states: &[i32], floats: &[f64], i: usize) -> Carrier
+    requires { ⌜ (i < length (now signals)) × (getD (now signals) i 0 < 2 ^ 56) × (i < length (now states)) × (6 * i + 5 < length (now floats)) ⌝ }
+    ensures { λ r. ⌜ r ≡ spec.carrierIn (now (signals .entry)) (now (states .entry)) (now (floats .entry)) i ⌝ }
+{
+    let s = signals[i];
+    let constellation = constellation_in(s);
+    let svid = svid_in(s);
+    let band = band_in(s);
+    let state = states[i];
     let at = 6 * i;
     let satellite = vector_at(floats, at + 1);
-    let bits = state[i];
     Carrier {
-        constellation: constellation[i],
-        svid: svid[i],
-        band: band[i],
+        constellation: constellation,
+        svid: svid,
+        band: band,
         adr: floats[at],
-        state: bits,
+        state: state,
         satellite: satellite,
         elevation: floats[at + 4],
         rate: floats[at + 5],
     }
 }
 
-// Whether rule 4 lets each of the first n carriers pass.
-pub fn sound_in(
-    constellation: &[u8],
-    svid: &[u16],
-    band: &[u32],
-    state: &[i32],
-    floats: &[f64],
-    n: usize,
-) -> bool
-    requires { ⌜ spec.epochFits (spec.carrierColumns (now constellation) (now svid) (now band) (now state) (now floats)) n ≡ true ⌝ }
-    ensures { λ r. ⌜ r ≡ every soundCarrier (counted (spec.epochOf (spec.carrierColumns (now (constellation .entry)) (now (svid .entry)) (now (band .entry)) (now (state .entry)) (now (floats .entry))) n)) ⌝ }
+// Whether rule 4 lets each of the carriers pass.
+pub fn sound_in(signals: &[u64], states: &[i32], floats: &[f64]) -> bool
+    requires { ⌜ spec.Fit (now signals) (now states) (now floats) ⌝ }
+    ensures { λ r. ⌜ r ≡ every soundCarrier (spec.carriersIn (now (signals .entry)) (now (states .entry)) (now (floats .entry))) ⌝ }
 {
+    let n = signals.len();
     let mut i: usize = 0;
     while i < n {
-        let c = carrier_at(constellation, svid, band, state, floats, i);
+        let c = carrier_in(signals, states, floats, i);
         if !is_sound(c) {
             return false;
         }
@@ -62,40 +73,46 @@ pub fn sound_in(
     true
 }
 
-// Writes the counted carriers of an epoch as columns.
-pub fn columns_into(
-    e: Epoch,
-    constellation: &mut [u8; 64],
-    svid: &mut [u16; 64],
-    band: &mut [u32; 64],
-    state: &mut [i32; 64],
+// Writes a carrier to place i.
+pub fn put_carrier(
+    c: Carrier,
+    i: usize,
+    signals: &mut [u64; 64],
+    states: &mut [i32; 64],
     floats: &mut [f64; 384],
 )
-    requires { ⌜ e .count ≤ 64 ⌝ }
-    ensures { λ r. ⌜ spec.Laid (e .carriers) (e .count) (spec.carrierColumns (now (constellation .exit)) (now (svid .exit)) (now (band .exit)) (now (state .exit)) (now (floats .exit))) ⌝ }
+    requires { ⌜ (i < 64) × (length (now signals) ≡ 64) × (length (now states) ≡ 64) × (length (now floats) ≡ 384) ⌝ }
+    ensures { λ _. ⌜ spec.Put c i (now (signals .entry)) (now (states .entry)) (now (floats .entry))
+        (now (signals .exit)) (now (states .exit)) (now (floats .exit)) ⌝ }
 {
-    *constellation = [0; 64];
-    *svid = [0; 64];
-    *band = [0; 64];
-    *state = [0; 64];
-    *floats = [0.0; 384];
+    let v = c.satellite;
+    let bits = c.state;
+    let at = 6 * i;
+    signals[i] = signal_of(c.constellation, c.svid, c.band);
+    states[i] = bits;
+    floats[at] = c.adr;
+    floats[at + 1] = v.x;
+    floats[at + 2] = v.y;
+    floats[at + 3] = v.z;
+    floats[at + 4] = c.elevation;
+    floats[at + 5] = c.rate;
+}
+
+// Writes the counted carriers of an epoch.
+pub fn epoch_into(
+    e: Epoch,
+    signals: &mut [u64; 64],
+    states: &mut [i32; 64],
+    floats: &mut [f64; 384],
+)
+    requires { ⌜ (e .count ≤ 64) × (length (now signals) ≡ 64) × (length (now states) ≡ 64) × (length (now floats) ≡ 384) ⌝ }
+    ensures { λ _. ⌜ spec.Laid (e .carriers) (e .count) (now (signals .exit)) (now (states .exit)) (now (floats .exit)) ⌝ }
+{
     let n = e.count;
     let mut i: usize = 0;
     while i < n {
         let c = e.carriers[i];
-        let v = c.satellite;
-        let bits = c.state;
-        let at = 6 * i;
-        constellation[i] = c.constellation;
-        svid[i] = c.svid;
-        band[i] = c.band;
-        state[i] = bits;
-        floats[at] = c.adr;
-        floats[at + 1] = v.x;
-        floats[at + 2] = v.y;
-        floats[at + 3] = v.z;
-        floats[at + 4] = c.elevation;
-        floats[at + 5] = c.rate;
+        put_carrier(c, i, signals, states, floats);
         i += 1;
     }
 }

@@ -1,14 +1,16 @@
 // The carrier pairs of two epochs.
 ghost use mathlib.Core.Path.{_≡_};
-ghost use mathlib.Core.Bool.{true, not, _&&_, _||_};
+ghost use mathlib.Core.Bool.{true, _&&_};
+ghost use Prim.Native.Nat.{_+_, _*_, _^_, _<_};
+ghost use lib.Dec.{eqb};
+ghost use lib.ListN.{getD, length};
 ghost use lib.Ieee.{le};
-ghost use Rattle.records.specs.Record.{counted, same, usable};
-ghost use Rattle.records.specs.Carriers.{carrierColumns, epochOf, epochFits};
-ghost use Rattle.records.specs.City.{certified, looked};
+ghost use Rattle.records.specs.Record.{usable};
+ghost use Rattle.records.specs.Signals.{carrierIn, carriersIn, Fit};
+ghost use Rattle.records.specs.City.{lookedAt, looked};
 ghost use Rattle.records.specs.Pair as spec;
-use crate::carriers::carrier_at;
+use crate::carriers::carrier_in;
 use crate::record::Carrier;
-use crate::record::is_same;
 use crate::record::is_usable;
 use numeric::sight::is_on_receiver;
 use numeric::sight::sights_of;
@@ -60,23 +62,58 @@ pub fn no_pairs() -> Pairs
     }
 }
 
-// Whether the previous carrier p is c's: usable, and of one satellite and signal with it. Most carriers are of another satellite, so that is asked first.
-pub fn is_partner(p: Carrier, c: Carrier) -> bool
-    ensures { λ r. ⌜ r ≡ (same p c && usable p) ⌝ }
+// Which carriers a displacement looks at: all, or GPS (1) and Galileo (6) on one band.
+pub enum Profile {
+    General,
+    City(u32),
+}
+
+// Whether the profile has the carrier looked at.
+pub fn is_looked_at(c: Carrier, profile: Profile) -> bool
+    ensures { λ r. ⌜ r ≡ lookedAt profile c ⌝ }
 {
-    if !is_same(p, c) {
+    match profile {
+        Profile::General => true,
+        Profile::City(band) => {
+            ((c.constellation == 1) | (c.constellation == 6)) & (c.band == band)
+        }
+    }
+}
+
+// Whether the current carrier c is looked at: usable, at or above the mask, and of the profile.
+pub fn is_wanted(c: Carrier, mask: f64, profile: Profile) -> bool
+    ensures { λ r. ⌜ r ≡ ((usable c && le mask (c .elevation)) && lookedAt profile c) ⌝ }
+{
+    is_usable(c) & (mask <= c.elevation) & is_looked_at(c, profile)
+}
+
+// Whether previous carrier j has this signal and is usable. Most have another signal, so that is asked first.
+fn is_partner(signal: u64, signals: &[u64], states: &[i32], floats: &[f64], j: usize) -> bool
+    requires { ⌜ (j < length (now signals)) × (getD (now signals) j 0 < 2 ^ 56) × (j < length (now states)) × (6 * j + 5 < length (now floats)) ⌝ }
+    ensures { λ r. ⌜ r ≡ (eqb (getD (now (signals .entry)) j 0) signal
+        && usable (carrierIn (now (signals .entry)) (now (states .entry)) (now (floats .entry)) j)) ⌝ }
+{
+    if signals[j] != signal {
         return false;
     }
+    let p = carrier_in(signals, states, floats, j);
     is_usable(p)
 }
 
-// Whether the current carrier c is looked at: usable, at or above the mask, and in the city profile GPS (1) or Galileo (6) on the chosen band.
-pub fn is_wanted(c: Carrier, mask: f64, city: bool, band: u32) -> bool
-    ensures { λ r. ⌜ r ≡ ((usable c && le mask (c .elevation)) && (not city || certified band c)) ⌝ }
+// Where the first of them stands, or past the last.
+fn partner_in(signal: u64, signals: &[u64], states: &[i32], floats: &[f64]) -> usize
+    requires { ⌜ Fit (now signals) (now states) (now floats) ⌝ }
+    ensures { λ r. ⌜ spec.Finds signal (now (signals .entry)) (now (states .entry)) (now (floats .entry)) r ⌝ }
 {
-    is_usable(c)
-        & (mask <= c.elevation)
-        & (!city | (((c.constellation == 1) | (c.constellation == 6)) & (c.band == band)))
+    let n = signals.len();
+    let mut j: usize = 0;
+    while j < n {
+        if is_partner(signal, signals, states, floats, j) {
+            return j;
+        }
+        j += 1;
+    }
+    n
 }
 
 // The pair of the current carrier c and the previous carrier p.
@@ -110,62 +147,45 @@ pub fn is_seen(q: Pair) -> bool
     !is_on_receiver(q.range) & !is_on_receiver(q.previous_range)
 }
 
-// The pairs of two epochs' columns, in the city profile those of the carriers that it certifies.
+// The pairs of two epochs, of the carriers that the profile has looked at.
 pub fn pairs_in(
-    previous_constellation: &[u8],
-    previous_svid: &[u16],
-    previous_band: &[u32],
-    previous_state: &[i32],
+    previous_signals: &[u64],
+    previous_states: &[i32],
     previous_floats: &[f64],
-    previous_count: usize,
-    current_constellation: &[u8],
-    current_svid: &[u16],
-    current_band: &[u32],
-    current_state: &[i32],
+    current_signals: &[u64],
+    current_states: &[i32],
     current_floats: &[f64],
-    current_count: usize,
     receiver: Vec3,
     mask: f64,
     dt: f64,
-    city: bool,
-    band: u32,
+    profile: Profile,
 ) -> Pairs
-    requires { ⌜ epochFits (carrierColumns (now «previous_constellation») (now «previous_svid») (now «previous_band») (now «previous_state») (now «previous_floats»)) «previous_count» ≡ true ⌝ }
-    requires { ⌜ epochFits (carrierColumns (now «current_constellation») (now «current_svid») (now «current_band») (now «current_state») (now «current_floats»)) «current_count» ≡ true ⌝ }
-    ensures { λ r. ⌜ spec.Paired r (spec.pairsOf receiver mask dt (counted (epochOf (carrierColumns (now («previous_constellation» .entry)) (now («previous_svid» .entry)) (now («previous_band» .entry)) (now («previous_state» .entry)) (now («previous_floats» .entry))) «previous_count»)) (looked city band (counted (epochOf (carrierColumns (now («current_constellation» .entry)) (now («current_svid» .entry)) (now («current_band» .entry)) (now («current_state» .entry)) (now («current_floats» .entry))) «current_count»)))) ⌝ }
+    requires { ⌜ Fit (now «previous_signals») (now «previous_states») (now «previous_floats») ⌝ }
+    requires { ⌜ Fit (now «current_signals») (now «current_states») (now «current_floats») ⌝ }
+    ensures { λ r. ⌜ spec.Paired r (spec.pairsOf receiver mask dt
+        (carriersIn (now («previous_signals» .entry)) (now («previous_states» .entry)) (now («previous_floats» .entry)))
+        (looked profile (carriersIn (now («current_signals» .entry)) (now («current_states» .entry)) (now («current_floats» .entry))))) ⌝ }
 {
+    let n = current_signals.len();
     let mut out = no_pairs();
     let mut i: usize = 0;
-    while i < current_count {
-        let c = carrier_at(
-            current_constellation,
-            current_svid,
-            current_band,
-            current_state,
-            current_floats,
-            i,
-        );
-        if is_wanted(c, mask, city, band) {
-            let mut j: usize = 0;
-            while j < previous_count {
-                let p = carrier_at(
-                    previous_constellation,
-                    previous_svid,
-                    previous_band,
-                    previous_state,
-                    previous_floats,
-                    j,
-                );
-                if is_partner(p, c) {
-                    let k = out.count;
-                    let q = pair_of(receiver, dt, c, p);
-                    let seen = out.seen & is_seen(q);
-                    out.pair[k] = q;
-                    out.count = k + 1;
-                    out.seen = seen;
-                    break;
-                }
-                j += 1;
+    while i < n {
+        let c = carrier_in(current_signals, current_states, current_floats, i);
+        if is_wanted(c, mask, profile) {
+            let j = partner_in(
+                current_signals[i],
+                previous_signals,
+                previous_states,
+                previous_floats,
+            );
+            if j < previous_signals.len() {
+                let p = carrier_in(previous_signals, previous_states, previous_floats, j);
+                let q = pair_of(receiver, dt, c, p);
+                let k = out.count;
+                let seen = out.seen & is_seen(q);
+                out.pair[k] = q;
+                out.count = k + 1;
+                out.seen = seen;
             }
         }
         i += 1;

@@ -77,10 +77,3 @@ pub fn is_usable(c: Carrier) -> bool
 {
     (c.state & 7 == 1) & is_finite(c.adr)
 }
-
-// Whether a and b are of one satellite and signal.
-pub fn is_same(a: Carrier, b: Carrier) -> bool
-    ensures { λ r. ⌜ r ≡ spec.same a b ⌝ }
-{
-    (a.constellation == b.constellation) & (a.svid == b.svid) & (a.band == b.band)
-}

@@ -24,7 +24,8 @@ pub fn keep_into(
     observed: &mut [f64; 64],
 ) -> usize
     requires { ⌜ p .count ≤ 64 ⌝ }
-    ensures { λ r. ⌜ Kept (spec.keptOf screen (take (p .count) (p .pair))) r (now (x .exit)) (now (y .exit)) (now (z .exit)) (now (constellation .exit)) (now (elevation .exit)) (now (observed .exit)) ⌝ }
+    ensures { λ r. ⌜ Kept (spec.keptOf screen (take (p .count) (p .pair))) r
+        (now (x .exit)) (now (y .exit)) (now (z .exit)) (now (constellation .exit)) (now (elevation .exit)) (now (observed .exit)) ⌝ }
 {
     let n = p.count;
     let mut d = [0u64; 64];

@@ -8,11 +8,10 @@ use lib.Dec.{leb}
 use lib.ListN.{length, getD}
 use lib.Ieee.{Float, nan}
 use lib.Ieee.Scale.{finite}
-use Rattle.exact.specs.Float.{+0}
 use Rattle.numeric.specs.Refusal.{numberOf}
 use Rattle.numeric.specs.declared.refusal.Refusal.{Refusal}
 use Rattle.numeric.specs.declared.refusal.Refusal.the-variants.{TooMany, SettingOutOfRange, RecordOutOfRange, BadTrack, FitFailed}
-use Rattle.tridiagonal.specs.Columns.{Filled}
+use Rattle.tridiagonal.specs.Rows.{Filled}
 use Rattle.tridiagonal.proofs.Cells.{fill-list}
 use Rattle.trajectory.specs.Input.{Trajectory, workNeed}
 use Rattle.trajectory.specs.Pass.{passes, fitOf}
@@ -20,7 +19,7 @@ use Rattle.smooth.specs.declared.Settings.{Settings}
 use Rattle.smooth.specs.declared.Track.{Track}
 use Rattle.smooth.specs.declared.Track.the-variants as Track
 use Rattle.smooth.specs.Track.{ones, smoothed, points, goodPasses, lastPass}
-use Rattle.smooth.specs.Answer.{countsOk, settingsOk, recordsOk, trackOk, Tracked, Refused, Points, unless, trackOf, cleared, Called}
+use Rattle.smooth.specs.Answer.{countsOk, settingsOk, measuredOk, recordsOk, trackOk, Tracked, Refused, Points, unless, trackOf, cleared, Called}
 use Rattle.smooth.specs.Steps.{FitDone}
 use Rattle.smooth.proofs.Refusals.{counted, valid}
 use Rattle.smooth.proofs.Finite.{smoothed-finite, origin-small}
@@ -61,7 +60,7 @@ known p s r w ps e =
 
 -- ---- the call's ends
 
-module _ (p : Trajectory) (s : Settings) (r w : List Float) where
+module _ (p : Trajectory) (s : Settings) (r w : List ℕ) where
   -- a refusal under 2 to 6 leaves all as it was
   turned : (x : Refusal) → trackOf p s (length r) (length w) ≡ Refused x → leb (numberOf x) 6 ≡ true → Called p s r w (Track.Refused x) r w
   turned x e l = record {
@@ -93,10 +92,10 @@ module _ (p : Trajectory) (s : Settings) (r w : List Float) where
           unfolding trackOf
           bad-track f = turned BadTrack (rw (sym e2 ∙ y2, sym e3 ∙ y3, sym e4 ∙ y4, sym e6 ∙ f)) refl
 
-          module _ (y6 : b6 ≡ true) (ok : Bool) (w1 r1 w2 : List Float) (d : FitDone p (s .huber) (s .iterations) w w1 r ok r1) (c : Filled 0 (workNeed p) +0 w1 w2) (lw : length w2 ≡ length w) (lr : length r1 ≡ length r) where
+          module _ (y6 : b6 ≡ true) (ok : Bool) (w1 r1 w2 : List ℕ) (d : FitDone p (s .huber) (s .iterations) w w1 r ok r1) (c : Filled 0 (workNeed p) 0 w1 w2) (lw : length w2 ≡ length w) (lr : length r1 ≡ length r) where
             clear : w2 ≡ cleared (workNeed p) w
             clear =
-                fill-list (workNeed p) +0 w w2 lw (counted p (length r) (length w) (sym e2 ∙ y2) .work)
+                fill-list (workNeed p) 0 w w2 lw (counted p (length r) (length w) (sym e2 ∙ y2) .work)
                 (λ k h. c .filled k (omega arith) h) (λ k h. c .kept .high k h ∙ d .work-kept .high k h)
 
             pub fit-failed : ok ≡ false → Called p s r w (Track.Refused FitFailed) r1 w2
@@ -125,3 +124,12 @@ module _ (p : Trajectory) (s : Settings) (r w : List Float) where
                   last-given = λ ps f. known p s (length r) (length w) ps f .last;
                   accurate = all-accurate p (goodPasses p (s .huber) (s .iterations));
                 }
+
+-- the tests of the anchors' floats and of the links' together
+pub records-first : (p : Trajectory) (a : Bool) → a ≡ measuredOk (p .anchors) → a ≡ false → false ≡ recordsOk p
+unfolding recordsOk
+records-first p a e f = sym (rw (sym e ∙ f))
+
+pub records-second : (p : Trajectory) (a b : Bool) → a ≡ measuredOk (p .anchors) → a ≡ true → b ≡ measuredOk (p .links) → b ≡ recordsOk p
+unfolding recordsOk
+records-second p a b e f g = g ∙ sym (rw (sym e ∙ f))

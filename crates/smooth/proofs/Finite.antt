@@ -9,12 +9,11 @@ use lib.Ieee.{Float, nan, binary64, fits}
 use lib.Ieee.Scale.{finite}
 use lib.Ieee.Fits.{div-fits}
 use Rattle.numeric.specs.Real.{inRange}
-use Rattle.tridiagonal.specs.Columns.{eachBelow}
-use Rattle.tridiagonal.specs.Tridiagonal.{Equations, eliminated, solvable, back, solution}
+use Rattle.tridiagonal.specs.Tridiagonal.{Equations, eachBelow, eliminated, solvable, back, solution, held, finiteSolution, axisSolved}
 use Rattle.tridiagonal.proofs.EachBelow.{left-true, right-true, each-at}
 use Rattle.trajectory.specs.Input.{Trajectory, origin}
 use Rattle.trajectory.specs.Equations.{Scales, equationsOf}
-use Rattle.trajectory.specs.Pass.{held, finiteSolution, axisSolved, passes, fitOf}
+use Rattle.trajectory.specs.Pass.{passes, fitOf}
 use Rattle.smooth.specs.Track.{scalesOf, ones, refined, smoothed}
 use Rattle.smooth.specs.Answer.{measuredOk, recordsOk}
 use Rattle.smooth.proofs.FiniteSum.{add-finite}
@@ -36,32 +35,35 @@ pick : (b : Bool) (x y : ℕ → ℕ → Float) (t k : ℕ) → (b ≡ true → 
 pick true x y t k f g = f refl
 pick false x y t k f g = g
 
+-- each axis of a good pass is solved
+pub axis-of : (p : Trajectory) (s : Scales) → passes p s ≡ true → (t : ℕ) → t < 3 → axisSolved (equationsOf p s t) (p .n) ≡ true
+unfolding passes
+axis-of p s h t l =
+    let A = axisSolved (equationsOf p s 0) (p .n) in
+    let B = axisSolved (equationsOf p s 1) (p .n) in
+    let C = axisSolved (equationsOf p s 2) (p .n) in
+    go t l (left-true A (B && C) h) (left-true B C (right-true A (B && C) h)) (right-true B C (right-true A (B && C) h))
+  where
+    go : (t : ℕ) → t < 3 → axisSolved (equationsOf p s 0) (p .n) ≡ true → axisSolved (equationsOf p s 1) (p .n) ≡ true → axisSolved (equationsOf p s 2) (p .n) ≡ true → axisSolved (equationsOf p s t) (p .n) ≡ true
+    go zero l x y z = x
+    go (suc zero) l x y z = y
+    go (suc (suc zero)) l x y z = z
+    go (suc (suc (suc t))) l x y z = absurd (omega arith)
+
+-- and its unknowns are finite
+pub solution-finite : (p : Trajectory) (s : Scales) → passes p s ≡ true → (t : ℕ) → t < 3 → (k : ℕ) → k < p .n → finite (solution (equationsOf p s t) (p .n) k) ≡ true
+solution-finite p s h t l k g =
+    let e = equationsOf p s t in
+    let A = held e (p .n) in
+    let B = solvable e (p .n) in
+    let C = finiteSolution e (p .n) in
+    each-at (λ k. finite (solution e (p .n) k)) (p .n) (right-true B C (right-true A (B && C) (axis-of p s h t l))) k g
+
 module _ (p : Trajectory) (small-origin : (t : ℕ) → t < 3 → inRange (origin (p .anchors) t) ≡ true) where
-  axis-finite : (s : Scales) (t : ℕ) → t < 3 → axisSolved (equationsOf p s t) (p .n) ≡ true → (k : ℕ) → k < p .n → finite (fitOf p s t k) ≡ true
+  pub pass-finite : (s : Scales) → passes p s ≡ true → (t : ℕ) → t < 3 → (k : ℕ) → k < p .n → finite (fitOf p s t k) ≡ true
   unfolding fitOf
-  axis-finite s t l h k g =
-      let e = equationsOf p s t in
-      let A = held e (p .n) in
-      let B = solvable e (p .n) in
-      let C = finiteSolution e (p .n) in
-      add-finite (solution e (p .n) k) (origin (p .anchors) t) (solution-fits e (p .n) k) (each-at (λ k. finite (solution e (p .n) k)) (p .n) (right-true B C (right-true A (B && C) h)) k g) (small-origin t l)
-
-  axis-of : (s : Scales) → passes p s ≡ true → (t : ℕ) → t < 3 → axisSolved (equationsOf p s t) (p .n) ≡ true
-  unfolding passes
-  axis-of s h t l =
-      let A = axisSolved (equationsOf p s 0) (p .n) in
-      let B = axisSolved (equationsOf p s 1) (p .n) in
-      let C = axisSolved (equationsOf p s 2) (p .n) in
-      go t l (left-true A (B && C) h) (left-true B C (right-true A (B && C) h)) (right-true B C (right-true A (B && C) h))
-    where
-      go : (t : ℕ) → t < 3 → axisSolved (equationsOf p s 0) (p .n) ≡ true → axisSolved (equationsOf p s 1) (p .n) ≡ true → axisSolved (equationsOf p s 2) (p .n) ≡ true → axisSolved (equationsOf p s t) (p .n) ≡ true
-      go zero l x y z = x
-      go (suc zero) l x y z = y
-      go (suc (suc zero)) l x y z = z
-      go (suc (suc (suc t))) l x y z = absurd (omega arith)
-
-  pass-finite : (s : Scales) → passes p s ≡ true → (t : ℕ) → t < 3 → (k : ℕ) → k < p .n → finite (fitOf p s t k) ≡ true
-  pass-finite s h t l = axis-finite s t l (axis-of s h t l)
+  pass-finite s h t l k g =
+      add-finite (solution (equationsOf p s t) (p .n) k) (origin (p .anchors) t) (solution-fits (equationsOf p s t) (p .n) k) (solution-finite p s h t l k g) (small-origin t l)
 
   refined-finite : (h : Float) (r : ℕ) (f : ℕ → ℕ → Float) → ((t : ℕ) → t < 3 → (k : ℕ) → k < p .n → finite (f t k) ≡ true) → (t : ℕ) → t < 3 → (k : ℕ) → k < p .n → finite (refined p h r f t k) ≡ true
   unfolding refined

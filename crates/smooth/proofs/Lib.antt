@@ -1,10 +1,11 @@
 pub mod RootOrder
 pub mod Weights
-pub mod Rounds
 pub mod Refusals
 pub mod FiniteSum
 pub mod Finite
 pub mod Points
-pub mod Answers
 pub mod Passes
 pub mod Trials
+pub mod Rounds
+pub mod Answers
+pub mod LaterPasses

@@ -2,7 +2,7 @@
 use mathlib.Core.Path.{_≡_, refl, sym, _∙_, ap}
 use mathlib.Core.Bool.{true}
 use mathlib.Core.Logic.{⊎-elim}
-use mathlib.Core.List.{List, [], _∷_, _++_}
+use mathlib.Core.List.{List, [], _∷_, _++_, map}
 use Prim.Native.Nat.{ℕ, zero, suc, _+_, _-_, _*_, _/_, _%_, _≤_, _<_}
 use native.Mathlib.Nat.{eq-or-lt-of-le}
 use native.Mathlib.Decide.{decLt}
@@ -11,10 +11,23 @@ use lib.ListN.{length, getD, drop, length-append, length-drop, List·getD-append
 use lib.Seq.{getD-append-add, getD-drop, ext-getD}
 use lib.Ieee.{Float, nan}
 use lib.Ieee.Scale.{finite}
-use Rattle.tridiagonal.specs.Columns.{SameOutside}
+use Rattle.numeric.specs.Order.{patternOf}
+use Rattle.tridiagonal.specs.Rows.{SameOutside}
 use Rattle.tridiagonal.proofs.Cells.{place}
 use Rattle.smooth.specs.Track.{points}
 use Rattle.smooth.specs.Steps.{Tabulated}
+
+float-at : (xs : List Float) (i k : ℕ) → i ≡ k → getD xs i nan ≡ getD xs k nan
+float-at xs i k e = ap (λ (j : ℕ). getD xs j nan) e
+
+map-length : (xs : List Float) → length (map patternOf xs) ≡ length xs
+map-length [] = refl
+map-length (x ∷ xs) = ap suc (map-length xs)
+
+map-at : (xs : List Float) (k : ℕ) → k < length xs → getD (map patternOf xs) k 0 ≡ patternOf (getD xs k nan)
+map-at [] k h = absurd (omega arith)
+map-at (x ∷ xs) zero h = refl
+map-at (x ∷ xs) (suc k) h = map-at xs k (omega arith)
 
 pub points-length : (f : ℕ → ℕ → Float) (n : ℕ) → length (points f n) ≡ n * 3
 unfolding points
@@ -28,7 +41,7 @@ module _ (f : ℕ → ℕ → Float) (t : ℕ) (low : t < 3) where
   points-at zero k h = absurd (omega arith)
   points-at (suc n) k h = ⊎-elim
       (λ e. let g : k ≡ n = omega arith in
-      place (points f n ++ last n) (k * 3 + t) (length (points f n) + t) (omega (arith, points-length f n))
+      float-at (points f n ++ last n) (k * 3 + t) (length (points f n) + t) (omega (arith, points-length f n))
       ∙ getD-append-add (points f n) (last n) t nan ∙ third t n low ∙ ap (f t) (sym g))
       (λ l. List·getD-append (points f n) (last n) nan (k * 3 + t) (omega (arith, points-length f n)) ∙ points-at n k (omega arith))
       (eq-or-lt-of-le h)
@@ -47,38 +60,41 @@ pub points-finite : (f : ℕ → ℕ → Float) (n : ℕ) → ((t : ℕ) → t <
 points-finite f n h j l = go (j % 3) (j / 3) (omega arith) (omega arith)
   where
     go : (t q : ℕ) → t < 3 → j ≡ q * 3 + t → finite (getD (points f n) j nan) ≡ true
-    go t q g e = ap finite (place (points f n) j (q * 3 + t) e ∙ points-at f t g n q (omega (arith, points-length f n))) ∙ h t g q (omega (arith, points-length f n))
+    go t q g e = ap finite (float-at (points f n) j (q * 3 + t) e ∙ points-at f t g n q (omega (arith, points-length f n))) ∙ h t g q (omega (arith, points-length f n))
 
-module _ (r r' : List Float) (n : ℕ) (f : ℕ → ℕ → Float) (long : length r' ≡ length r) (room : n * 3 ≤ length r) (s : Tabulated r' n f) (kept : SameOutside 0 (n * 3) r r') where
-  in-list : (j : ℕ) → j < n * 3 → getD r' j nan ≡ getD (points f n) j nan
+module _ (r r' : List ℕ) (n : ℕ) (f : ℕ → ℕ → Float) (long : length r' ≡ length r) (room : n * 3 ≤ length r) (s : Tabulated r' n f) (kept : SameOutside 0 (n * 3) r r') where
+  in-list : (j : ℕ) → j < n * 3 → getD r' j 0 ≡ patternOf (getD (points f n) j nan)
   in-list j l = go (j % 3) (j / 3) (omega arith) (omega arith)
     where
-      held : (t q : ℕ) → t < 3 → q < n → getD r' (q * 3 + t) nan ≡ f t q
+      held : (t q : ℕ) → t < 3 → q < n → getD r' (q * 3 + t) 0 ≡ patternOf (f t q)
       held zero q g h = place r' (q * 3 + 0) (q * 3) (omega arith) ∙ s .xs q h
       held (suc zero) q g h = s .ys q h
       held (suc (suc zero)) q g h = s .zs q h
       held (suc (suc (suc t))) q g h = absurd (omega arith)
 
-      go : (t q : ℕ) → t < 3 → j ≡ q * 3 + t → getD r' j nan ≡ getD (points f n) j nan
-      go t q g e = place r' j (q * 3 + t) e ∙ held t q g (omega arith) ∙ sym (place (points f n) j (q * 3 + t) e ∙ points-at f t g n q (omega arith))
+      go : (t q : ℕ) → t < 3 → j ≡ q * 3 + t → getD r' j 0 ≡ patternOf (getD (points f n) j nan)
+      go t q g e = place r' j (q * 3 + t) e ∙ held t q g (omega arith) ∙ ap patternOf (sym (float-at (points f n) j (q * 3 + t) e ∙ points-at f t g n q (omega arith)))
 
-  pub points-list : r' ≡ points f n ++ drop (length (points f n)) r
-  points-list = ext-getD nan r' (points f n ++ drop (length (points f n)) r) same at
+  pub points-list : r' ≡ map patternOf (points f n) ++ drop (length (points f n)) r
+  points-list =
+      let ps = map patternOf (points f n) in
+      let rest = drop (length (points f n)) r in
+      ext-getD 0 r' (ps ++ rest) same at
     where
-      ps : List Float
-      ps = points f n
+      whole-length : length (map patternOf (points f n)) ≡ n * 3
+      whole-length = map-length (points f n) ∙ points-length f n
 
-      same : length r' ≡ length (points f n ++ drop (length (points f n)) r)
-      same = long ∙ sym (length-append (points f n) (drop (length (points f n)) r) ∙ omega (arith, points-length f n, length-drop (length (points f n)) r))
+      same : length r' ≡ length (map patternOf (points f n) ++ drop (length (points f n)) r)
+      same = long ∙ sym (length-append (map patternOf (points f n)) (drop (length (points f n)) r) ∙ omega (arith, whole-length, points-length f n, length-drop (length (points f n)) r))
 
-      at : (k : ℕ) → k < length r' → getD r' k nan ≡ getD (points f n ++ drop (length (points f n)) r) k nan
+      at : (k : ℕ) → k < length r' → getD r' k 0 ≡ getD (map patternOf (points f n) ++ drop (length (points f n)) r) k 0
       at k l = go (decLt k (n * 3))
         where
-          go : Dec (k < n * 3) → getD r' k nan ≡ getD (points f n ++ drop (length (points f n)) r) k nan
-          go (yes h) = in-list k h ∙ sym (List·getD-append (points f n) (drop (length (points f n)) r) nan k (omega (arith, points-length f n)))
+          go : Dec (k < n * 3) → getD r' k 0 ≡ getD (map patternOf (points f n) ++ drop (length (points f n)) r) k 0
+          go (yes h) = in-list k h ∙ sym (List·getD-append (map patternOf (points f n)) (drop (length (points f n)) r) 0 k (omega (arith, whole-length)) ∙ map-at (points f n) k (omega (arith, points-length f n)))
           go (no m) =
               let h : n * 3 ≤ k = omega arith in
               kept .high k h
-              ∙ sym (place (points f n ++ drop (length (points f n)) r) k (length (points f n) + (k - n * 3)) (omega (arith, points-length f n))
-              ∙ getD-append-add (points f n) (drop (length (points f n)) r) (k - n * 3) nan ∙ getD-drop (length (points f n)) r (k - n * 3) nan
+              ∙ sym (place (map patternOf (points f n) ++ drop (length (points f n)) r) k (length (map patternOf (points f n)) + (k - n * 3)) (omega (arith, whole-length))
+              ∙ getD-append-add (map patternOf (points f n)) (drop (length (points f n)) r) (k - n * 3) 0 ∙ getD-drop (length (points f n)) r (k - n * 3) 0
               ∙ place r (length (points f n) + (k - n * 3)) k (omega (arith, points-length f n)))

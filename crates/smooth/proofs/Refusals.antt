@@ -11,12 +11,13 @@ use lib.Ieee.{Float, nan, lt}
 use borrow.Author.Tests.{lt-ltb, le-ltb, leb-true, ltb-true}
 use Rattle.exact.specs.Float.{+0}
 use Rattle.numeric.specs.Real.{inRange}
-use Rattle.tridiagonal.specs.Columns.{eachBelow}
+use Rattle.tridiagonal.specs.Tridiagonal.{eachBelow}
 use Rattle.tridiagonal.proofs.EachBelow.{each-next, each-stop, each-all, each-same, each-at, left-true, right-true}
 use Rattle.trajectory.specs.Input.{Measured, Trajectory, indexAt, workNeed}
 use Rattle.trajectory.specs.Equations.{nextAt}
 use Rattle.trajectory.specs.Steps.{Valid}
-use Rattle.smooth.specs.Answer.{columnsLong, countsOk, sigmasAbove, trackOk}
+use Rattle.smooth.specs.declared.Settings.{Settings}
+use Rattle.smooth.specs.Answer.{settingsOk, columnsLong, countsOk, sigmasAbove, placesOk, trackOk}
 
 -- ---- a test of each element, one at a time
 
@@ -95,6 +96,10 @@ pub record Counted (p : Trajectory) (r w : ℕ) : Type 0 where
   pub result : p .n * 3 ≤ r
   pub work : workNeed p ≤ w
 
+pub few-passes : (s : Settings) → settingsOk s ≡ true → s .iterations ≤ 50
+unfolding settingsOk
+few-passes s h = leb-true _ _ (right-true (inRange (s .huber)) (leb (s .iterations) 50) h)
+
 pub counted : (p : Trajectory) (r w : ℕ) → countsOk p r w ≡ true → Counted p r w
 unfolding countsOk
 counted p r w h =
@@ -126,12 +131,12 @@ counted p r w h =
     }
 
 pub valid : (p : Trajectory) (r w : ℕ) → Counted p r w → trackOk p ≡ true → Valid p
-unfolding trackOk
+unfolding placesOk
 valid p r w c h =
     let b0 = ltb 0 (p .n) in
     let b1 = ltb 0 (p .anchors .count) in
-    let b2 = sigmasAbove (p .anchors) in
-    let b3 = sigmasAbove (p .links) in
+    let b2 = sigmasAbove (p .anchors .count) (p .anchors .sigma) in
+    let b3 = sigmasAbove (p .links .count) (p .links .sigma) in
     let b4 = eachBelow (λ j. ltb (indexAt (p .anchors) j) (p .n)) (p .anchors .count) in
     let b5 = eachBelow (λ j. ltb (nextAt (p .links) j) (p .n)) (p .links .count) in
     let t4 = b4 && b5 in

@@ -1,118 +1,151 @@
--- The result, a pass by the fit before, and the passes in turn. Assumes nothing.
+-- The result, and the passes in turn. Assumes nothing.
 use mathlib.Core.Path.{_≡_, refl, sym, _∙_, ap}
 use mathlib.Core.Bool.{Bool, true, false, cond}
 use mathlib.Core.Logic.{⊎-elim}
 use mathlib.Core.List.{List}
-use Prim.Native.Nat.{ℕ, suc, _+_, _-_, _*_, _≤_, _<_}
+use Prim.Native.Nat.{ℕ, zero, suc, _+_, _-_, _*_, _/_, _%_, _≤_, _<_}
 use native.Mathlib.Nat.{eq-or-lt-of-le}
 use native.Mathlib.Omega.{arith}
-use lib.ListN.{length, getD, set, length-set}
-use lib.Ieee.{Float, nan}
-use Rattle.exact.specs.Float.{_⊕_, 1·0}
-use Rattle.tridiagonal.specs.Columns.{col, SameOutside, Filled}
+use lib.Dec.{T}
+use lib.ListN.{length, getD, set, take, length-set, length-take}
+use lib.Seq.{getD-take}
+use lib.Ieee.{Float, nan, isNan, binary64, fits}
+use lib.Ieee.Scale.{finite}
+use lib.Ieee.Fits.{add-fits}
+use Rattle.exact.specs.Float.{_⊕_, bits}
+use Rattle.numeric.specs.Order.{patternOf}
+use Rattle.numeric.specs.Real.{inRange}
+use Rattle.numeric.proofs.OrderLaws.{pattern-back}
+use Rattle.tridiagonal.specs.Rows.{floatAt, cell, SameOutside, Filled}
 use Rattle.tridiagonal.specs.Tridiagonal.{solution}
-use Rattle.tridiagonal.proofs.Cells.{place, hit, miss, miss2, miss3, kept-none, kept-then}
-use Rattle.trajectory.specs.Input.{Trajectory, origin, workNeed}
+use Rattle.tridiagonal.proofs.Cells.{place, same-float, hit, miss, miss2, miss3, kept-none, kept-then}
+use Rattle.tridiagonal.proofs.Nan.{finite-number}
+use Rattle.trajectory.specs.Input.{Measured, Trajectory, origin, workNeed}
 use Rattle.trajectory.specs.Equations.{Scales, equationsOf}
 use Rattle.trajectory.specs.Pass.{passes, fitOf}
-use Rattle.trajectory.specs.Steps.{Valid, scalesIn, PassDone}
+use Rattle.trajectory.specs.Steps.{Lent, Valid, scalesIn, PassDone}
 use Rattle.trajectory.proofs.Passing.{passes-same, fit-same}
 use Rattle.smooth.specs.Track.{anchorScale, linkScale, scalesOf, ones, refined, smoothed}
-use Rattle.smooth.specs.Steps.{fitIn, Weighed, Tabulated, Published, RoundDone, RefineDone, FitDone}
+use Rattle.smooth.specs.Steps.{fitIn, Numbers, Weighed, Reweighed, FiniteCells, Tabulated, Published, FitDone}
 use Rattle.smooth.proofs.Weights.{held-anchor, held-link}
+use Rattle.smooth.proofs.Finite.{solution-finite, pass-finite}
 
 -- ---- the copy
 
-module _ (w : List Float) (n : ℕ) (ox oy oz : Float) (r₀ : List Float) where
-  pub published-none : Published w n 0 ox oy oz r₀ r₀
+module _ (w : List ℕ) (x y z : Float) (r₀ : List ℕ) where
+  pub published-none : Published w 0 x y z r₀ r₀
   published-none = record { kept = kept-none 0 (0 * 3) r₀; xs = λ k h. absurd (omega arith); ys = λ k h. absurd (omega arith); zs = λ k h. absurd (omega arith) }
 
   last-of : (j k : ℕ) {A : Type 0} → j < k + 1 → (j ≡ k → A) → (j < k → A) → A
   last-of j k h f g = ⊎-elim (λ e. f (omega arith)) (λ l. g (omega arith)) (eq-or-lt-of-le h)
 
-  pub published-more : (k : ℕ) (r : List Float) → k * 3 + 2 < length r → Published w n k ox oy oz r₀ r
-      → Published w n (k + 1) ox oy oz r₀ (set (set (set r (k * 3) (getD w (n * 2 + k) nan ⊕ ox)) (k * 3 + 1) (getD w (n * 5 + k) nan ⊕ oy)) (k * 3 + 2) (getD w (n * 8 + k) nan ⊕ oz))
-  published-more k r room s =
-      let x = getD w (n * 2 + k) nan ⊕ ox in
-      let y = getD w (n * 5 + k) nan ⊕ oy in
-      let z = getD w (n * 8 + k) nan ⊕ oz in
-      let r1 = set r (k * 3) x in
-      let r2 = set r1 (k * 3 + 1) y in
-      let moved : (a j : ℕ) (o : Float) → j ≡ k → getD w (a + k) nan ⊕ o ≡ getD w (a + j) nan ⊕ o = λ a j o e. ap (λ (i : ℕ). getD w (a + i) nan ⊕ o) (sym e) in
-      record {
-        kept = record {
-          low = λ q h. absurd (omega arith);
-          high = λ q h. miss3 r (k * 3) (k * 3 + 1) (k * 3 + 2) q x y z (omega arith) (omega arith) (omega arith) ∙ s .kept .high q (omega arith);
-        };
-        xs = λ j h. last-of j k h
-            (λ e. miss2 r1 (k * 3 + 1) (k * 3 + 2) (j * 3) y z (omega arith) (omega arith) ∙ hit r (k * 3) (j * 3) x (omega arith) (omega arith) ∙ moved (n * 2) j ox e)
-            (λ l. miss3 r (k * 3) (k * 3 + 1) (k * 3 + 2) (j * 3) x y z (omega arith) (omega arith) (omega arith) ∙ s .xs j l);
-        ys = λ j h. last-of j k h
-            (λ e. miss r2 (k * 3 + 2) (j * 3 + 1) z (omega arith) ∙ hit r1 (k * 3 + 1) (j * 3 + 1) y (simp length-set (omega arith)) (omega arith) ∙ moved (n * 5) j oy e)
-            (λ l. miss3 r (k * 3) (k * 3 + 1) (k * 3 + 2) (j * 3 + 1) x y z (omega arith) (omega arith) (omega arith) ∙ s .ys j l);
-        zs = λ j h. last-of j k h
-            (λ e. hit r2 (k * 3 + 2) (j * 3 + 2) z (simp length-set (omega arith)) (omega arith) ∙ moved (n * 8) j oz e)
-            (λ l. miss3 r (k * 3) (k * 3 + 1) (k * 3 + 2) (j * 3 + 2) x y z (omega arith) (omega arith) (omega arith) ∙ s .zs j l);
-      }
+  module _ (k : ℕ) (r : List ℕ) (room : k * 3 + 2 < length r) (a b c : ℕ) (ea : a ≡ patternOf (cell w 6 k ⊕ x)) (eb : b ≡ patternOf (cell w 7 k ⊕ y)) (ec : c ≡ patternOf (cell w 8 k ⊕ z)) where
+    moved : (s j : ℕ) (o : Float) → j ≡ k → patternOf (cell w s k ⊕ o) ≡ patternOf (cell w s j ⊕ o)
+    moved s j o e = ap (λ (i : ℕ). patternOf (cell w s i ⊕ o)) (sym e)
 
-  pub published-all : (k : ℕ) (r : List Float) → k ≡ n → Published w n k ox oy oz r₀ r → Published w n n ox oy oz r₀ r
-  published-all k r e s = rw e at s
+    pub published-more : Published w k x y z r₀ r → Published w (k + 1) x y z r₀ (set (set (set r (k * 3) a) (k * 3 + 1) b) (k * 3 + 2) c)
+    published-more s =
+        let r1 = set r (k * 3) a in
+        let r2 = set r1 (k * 3 + 1) b in
+        record {
+          kept = record {
+            low = λ q h. absurd (omega arith);
+            high = λ q h. miss3 r (k * 3) (k * 3 + 1) (k * 3 + 2) q a b c (omega arith) (omega arith) (omega arith) ∙ s .kept .high q (omega arith);
+          };
+          xs = λ j h. last-of j k h
+              (λ e. miss2 r1 (k * 3 + 1) (k * 3 + 2) (j * 3) b c (omega arith) (omega arith) ∙ hit r (k * 3) (j * 3) a (omega arith) (omega arith) ∙ ea ∙ moved 6 j x e)
+              (λ l. miss3 r (k * 3) (k * 3 + 1) (k * 3 + 2) (j * 3) a b c (omega arith) (omega arith) (omega arith) ∙ s .xs j l);
+          ys = λ j h. last-of j k h
+              (λ e. miss r2 (k * 3 + 2) (j * 3 + 1) c (omega arith) ∙ hit r1 (k * 3 + 1) (j * 3 + 1) b (simp length-set (omega arith)) (omega arith) ∙ eb ∙ moved 7 j y e)
+              (λ l. miss3 r (k * 3) (k * 3 + 1) (k * 3 + 2) (j * 3 + 1) a b c (omega arith) (omega arith) (omega arith) ∙ s .ys j l);
+          zs = λ j h. last-of j k h
+              (λ e. hit r2 (k * 3 + 2) (j * 3 + 2) c (simp length-set (omega arith)) (omega arith) ∙ ec ∙ moved 8 j z e)
+              (λ l. miss3 r (k * 3) (k * 3 + 1) (k * 3 + 2) (j * 3 + 2) a b c (omega arith) (omega arith) (omega arith) ∙ s .zs j l);
+        }
+
+  pub published-all : (k n : ℕ) (r : List ℕ) → k ≡ n → Published w k x y z r₀ r → Published w n x y z r₀ r
+  published-all k n r e s = rw e at s
+
+-- ---- a list that holds a fit, as floats
+
+module _ (r : List ℕ) (n : ℕ) (f : ℕ → ℕ → Float) (fits-all : (t k : ℕ) → T (fits binary64 (f t k))) (s : Tabulated r n f) where
+  pub tabulated-fit : (t k : ℕ) → t < 3 → k < n → fitIn r t k ≡ f t k
+  tabulated-fit t k l h = ap bits (at t l) ∙ pattern-back (f t k) (fits-all t k)
+    where
+      at : (t : ℕ) → t < 3 → getD r (k * 3 + t) 0 ≡ patternOf (f t k)
+      at zero l = place r (k * 3 + 0) (k * 3) (omega arith) ∙ s .xs k h
+      at (suc zero) l = s .ys k h
+      at (suc (suc zero)) l = s .zs k h
+      at (suc (suc (suc t))) l = absurd (omega arith)
+
+fit-fits : (p : Trajectory) (s : Scales) (t k : ℕ) → T (fits binary64 (fitOf p s t k))
+unfolding fitOf
+fit-fits p s t k = add-fits binary64 _ _
+
+-- ---- the scales by a fit
+
+-- a list of n points
+pub lent-third : (m : Measured) (n r : ℕ) → r ≡ n * 3 → Lent m n → Lent m (r / 3)
+lent-third m n r e s = record { indices = s .indices; values = s .values; sigmas = s .sigmas; below = λ j l. let h = s .below j l in omega arith }
+
+pub lent-next : (m : Measured) (n r : ℕ) → r ≡ n * 3 → Lent m (n - 1) → Lent m (r / 3 - 1)
+lent-next m n r e s = record { indices = s .indices; values = s .values; sigmas = s .sigmas; below = λ j l. let h = s .below j l in omega arith }
+
+pub reweighed : (p : Trajectory) (h : Float) (r w w1 w2 : List ℕ) → Weighed (anchorScale (p .anchors) h (fitIn r)) (p .n * 9) (p .anchors .count) w w1
+    → Weighed (linkScale (p .links) h (fitIn r)) (p .n * 9 + p .anchors .count) (p .links .count) w1 w2 → Reweighed p h r w w2
+reweighed p h r w w1 w2 a l = record {
+  kept = record { low = λ k g. absurd (omega arith); high = λ k g. l .kept .high k (omega arith) ∙ a .kept .high k (omega arith) };
+  anchors = λ j g. same-float w1 w2 (p .n * 9 + j) (l .kept .low (p .n * 9 + j) (omega arith)) ∙ a .scales j g;
+  links = l .scales;
+}
 
 -- ---- the fit of a pass, in the result
 
-module _ (p : Trajectory) (s : Scales) (w w' : List Float) (ok : Bool) (d : PassDone p w ok w') (t : ok ≡ true)
-    (ea : (j : ℕ) → j < p .anchors .count → scalesIn p w .anchors j ≡ s .anchors j) (el : (j : ℕ) → j < p .links .count → scalesIn p w .links j ≡ s .links j)
-    (r r' : List Float) (q : Published w' (p .n) (p .n) (getD (p .anchors .value) 0 nan) (getD (p .anchors .value) 1 nan) (getD (p .anchors .value) 2 nan) r r') where
-  shifted : (axis k : ℕ) (x : Float) → x ≡ solution (equationsOf p (scalesIn p w) axis) (p .n) k → x ⊕ origin (p .anchors) axis ≡ fitOf p s axis k
-  unfolding fitOf
-  shifted axis k x e = ap (λ (y : Float). y ⊕ origin (p .anchors) axis) e ∙ fit-same p (scalesIn p w) s ea el axis k
+-- the scales s stand after the rows of w
+pub record Stand (p : Trajectory) (s : Scales) (w : List ℕ) : Type 0 where
+  pub anchors : (j : ℕ) → j < p .anchors .count → scalesIn p w .anchors j ≡ s .anchors j
+  pub links : (j : ℕ) → j < p .links .count → scalesIn p w .links j ≡ s .links j
 
-  pub published-fit : Tabulated r' (p .n) (fitOf p s)
-  published-fit =
-      let n = p .n in
-      let u = d .solutions t in
+module _ (p : Trajectory) (s : Scales) (w w' : List ℕ) (ok : Bool) (d : PassDone p w ok w') (e : Stand p s w) where
+  pub pass-answer : ok ≡ passes p s
+  pass-answer = d .answer ∙ passes-same p (scalesIn p w) s (e .anchors) (e .links)
+
+  pub pass-cells : ok ≡ true → FiniteCells w' (p .n)
+  pass-cells y =
+      let g : passes p (scalesIn p w) ≡ true = sym (d .answer) ∙ y in
+      let u = d .solutions y in
       record {
-        xs = λ k g. q .xs k g ∙ shifted 0 k _ (place w' (n * 2 + k) (0 + n * 2 + k) (omega arith) ∙ u .x k g);
-        ys = λ k g. q .ys k g ∙ shifted 1 k _ (place w' (n * 5 + k) (n * 3 + n * 2 + k) (omega arith) ∙ u .y k g);
-        zs = λ k g. q .zs k g ∙ shifted 2 k _ (place w' (n * 8 + k) (n * 6 + n * 2 + k) (omega arith) ∙ u .z k g);
+        xs = λ k h. ap finite (u .x k h) ∙ solution-finite p (scalesIn p w) g 0 (omega arith) k h;
+        ys = λ k h. ap finite (u .y k h) ∙ solution-finite p (scalesIn p w) g 1 (omega arith) k h;
+        zs = λ k h. ap finite (u .z k h) ∙ solution-finite p (scalesIn p w) g 2 (omega arith) k h;
       }
 
--- ---- a pass by the fit before
+  module _ (y : ok ≡ true) (r r' : List ℕ) (q : Published w' (p .n) (getD (p .anchors .value) 0 nan) (getD (p .anchors .value) 1 nan) (getD (p .anchors .value) 2 nan) r r') where
+    shifted : (t k : ℕ) (x : Float) → x ≡ solution (equationsOf p (scalesIn p w) t) (p .n) k → patternOf (x ⊕ origin (p .anchors) t) ≡ patternOf (fitOf p s t k)
+    unfolding fitOf
+    shifted t k x g = ap patternOf (ap (λ (y : Float). y ⊕ origin (p .anchors) t) g ∙ fit-same p (scalesIn p w) s (e .anchors) (e .links) t k)
 
-module _ (p : Trajectory) (h : Float) (w r w1 w2 w3 : List Float) (ok : Bool)
-    (a : Weighed (anchorScale (p .anchors) h (fitIn r)) (p .n * 9) (p .anchors .count) w w1) (l : Weighed (linkScale (p .links) h (fitIn r)) (p .n * 9 + p .anchors .count) (p .links .count) w1 w2)
-    (d : PassDone p w2 ok w3) where
-  anchor-scales : (j : ℕ) → j < p .anchors .count → col w2 (p .n * 9) j ≡ anchorScale (p .anchors) h (fitIn r) j
-  anchor-scales j g = l .kept .low (p .n * 9 + j) (omega arith) ∙ a .scales j g
+    pub published-fit : Tabulated r' (p .n) (fitOf p s)
+    published-fit =
+        let u = d .solutions y in
+        record {
+          xs = λ k g. q .xs k g ∙ shifted 0 k _ (u .x k g);
+          ys = λ k g. q .ys k g ∙ shifted 1 k _ (u .y k g);
+          zs = λ k g. q .zs k g ∙ shifted 2 k _ (u .z k g);
+        }
 
-  work-round : SameOutside 0 (workNeed p) w w3
-  work-round = record {
-    low = λ k g. absurd (omega arith);
-    high = λ k g. d .kept .high k (omega arith) ∙ l .kept .high k (omega arith) ∙ a .kept .high k (omega arith);
-  }
+-- ---- the first part of a list
 
-  answer-round : ok ≡ passes p (scalesOf p h (fitIn r))
-  answer-round = d .answer ∙ passes-same p (scalesIn p w2) (scalesOf p h (fitIn r)) anchor-scales (l .scales)
+pub take-long : (r : List ℕ) (m : ℕ) → m ≤ length r → length (take m r) ≡ m
+take-long r m h = simp length-take (omega arith)
 
-  pub round-no : ok ≡ false → RoundDone p h w w3 r false r
-  round-no f = record {
-    work-kept = work-round;
-    kept = kept-none 0 (p .n * 3) r;
-    answer = sym f ∙ answer-round;
-    yes-holds = λ t. let z : _≡_ {A = ℕ} 0 1 = cc in absurd (omega arith);
-    no-same = λ t. refl;
-  }
+pub take-same : (r : List ℕ) (m k : ℕ) → k < m → getD (take m r) k 0 ≡ getD r k 0
+take-same r m k h = rw getD-take
 
-  pub round-yes : ok ≡ true → (r' : List Float) → Published w3 (p .n) (p .n) (getD (p .anchors .value) 0 nan) (getD (p .anchors .value) 1 nan) (getD (p .anchors .value) 2 nan) r r' → RoundDone p h w w3 r true r'
-  round-yes t r' q = record {
-    work-kept = work-round;
-    kept = q .kept;
-    answer = sym t ∙ answer-round;
-    yes-holds = λ _. published-fit p (scalesOf p h (fitIn r)) w2 w3 ok d t anchor-scales (l .scales) r r' q;
-    no-same = λ f. let z : _≡_ {A = ℕ} 0 1 = cc in absurd (omega arith);
-  }
+pub none-done : (n : ℕ) → n ≤ 0 → n ≡ 0
+none-done n h = omega arith
 
--- ---- the rounds
+-- ---- the passes in turn
 
 refined-yes : (p : Trajectory) (h : Float) (m : ℕ) (f : ℕ → ℕ → Float) → passes p (scalesOf p h f) ≡ true → 0 < m
     → refined p h m f ≡ refined p h (m - 1) (fitOf p (scalesOf p h f))
@@ -131,123 +164,137 @@ refined-none : (p : Trajectory) (h : Float) (m : ℕ) (f : ℕ → ℕ → Float
 unfolding refined
 refined-none p h m f e = rw e
 
-holds-same : (r : List Float) (n : ℕ) (f g : ℕ → ℕ → Float) → ((t k : ℕ) → f t k ≡ g t k) → Tabulated r n f → Tabulated r n g
-holds-same r n f g e s = record { xs = λ k l. s .xs k l ∙ e 0 k; ys = λ k l. s .ys k l ∙ e 1 k; zs = λ k l. s .zs k l ∙ e 2 k }
+tabulated-is : (r : List ℕ) (n : ℕ) (f g : ℕ → ℕ → Float) → f ≡ g → Tabulated r n f → Tabulated r n g
+tabulated-is r n f g e s = rw e at s
 
-holds-is : (r : List Float) (n : ℕ) (f g : ℕ → ℕ → Float) → f ≡ g → Tabulated r n f → Tabulated r n g
-holds-is r n f g e s = rw e at s
+-- what a pass by the scales s leads to, after so many good ones: where it is good, the track is what the passes left make of its fit, and where it fails the track stands in r
+pub record Ahead (p : Trajectory) (h : Float) (its : ℕ) (r₀ r : List ℕ) (done : ℕ) (s : Scales) : Type 0 where
+  pub if-good : passes p s ≡ true → (passes p ones ≡ true) × (smoothed p h its ≡ refined p h (its - (done + 1)) (fitOf p s))
+  pub if-first : passes p s ≡ false → done ≡ 0 → (passes p ones ≡ false) × (r ≡ r₀)
+  pub if-later : passes p s ≡ false → 0 < done → (passes p ones ≡ true) × Tabulated r (p .n) (smoothed p h its)
 
--- what is left to do from the fit in r is what there was to do from the fit in r₀
-pub record Going (p : Trajectory) (h : Float) (rounds : ℕ) (w₀ w r₀ r : List Float) (left : ℕ) : Type 0 where
+pub record Fitting (p : Trajectory) (h : Float) (its : ℕ) (w₀ r₀ w r : List ℕ) (done : ℕ) : Type 0 where
   pub work-kept : SameOutside 0 (workNeed p) w₀ w
   pub kept : SameOutside 0 (p .n * 3) r₀ r
   pub work-long : length w ≡ length w₀
   pub long : length r ≡ length r₀
-  pub goes : (f : ℕ → ℕ → Float) → Tabulated r₀ (p .n) f → (g : ℕ → ℕ → Float) × Tabulated r (p .n) g × (refined p h rounds f ≡ refined p h left g)
+  pub few : done ≤ its
+  pub scales : Scales
+  pub stand : Stand p scales w
+  pub ahead : Ahead p h its r₀ r done scales
 
-pub going-none : (p : Trajectory) (h : Float) (rounds : ℕ) (w r : List Float) → Going p h rounds w w r r rounds
-going-none p h rounds w r = record {
+pub fitting-none : (p : Trajectory) (h : Float) (its : ℕ) (w₀ r₀ w : List ℕ) → Filled (p .n * 9) (p .n * 9 + p .anchors .count + p .links .count) 0x3FF0_0000_0000_0000 w₀ w → Fitting p h its w r₀ w r₀ 0
+unfolding smoothed
+fitting-none p h its w₀ r₀ w f = record {
   work-kept = kept-none 0 (workNeed p) w;
-  kept = kept-none 0 (p .n * 3) r;
+  kept = kept-none 0 (p .n * 3) r₀;
   work-long = refl;
   long = refl;
-  goes = λ f s. (f, s, refl);
+  few = omega arith;
+  scales = ones;
+  stand = record {
+    anchors = λ j g. ap bits (f .filled (p .n * 9 + j) (omega arith) (omega arith));
+    links = λ j g. ap bits (f .filled (p .n * 9 + p .anchors .count + j) (omega arith) (omega arith));
+  };
+  ahead = record {
+    if-good = λ e. (e, refl);
+    if-first = λ e z. (e, refl);
+    if-later = λ e z. absurd (omega arith);
+  };
 }
 
-module _ (p : Trajectory) (v : Valid p) (h : Float) (rounds : ℕ) (w₀ w r₀ r : List Float) (left : ℕ) (s : Going p h rounds w₀ w r₀ r left) where
-  pub going-end : left ≤ 0 → RefineDone p h rounds w₀ w r₀ r
-  going-end e = record {
-    work-kept = s .work-kept;
-    kept = s .kept;
-    holds = λ f q. let u = s .goes f q in holds-is r (p .n) (u .0) (refined p h rounds f) (sym (u .2 ∙ refined-none p h left (u .0) (omega arith))) (u .1);
-  }
+-- the passes begin once the scales are set
+pub fit-from : (p : Trajectory) (h : Float) (its : ℕ) (w₀ w w' r : List ℕ) (ok : Bool) (r' : List ℕ) → Filled (p .n * 9) (p .n * 9 + p .anchors .count + p .links .count) 0x3FF0_0000_0000_0000 w₀ w
+    → FitDone p h its w w' r ok r' → FitDone p h its w₀ w' r ok r'
+fit-from p h its w₀ w w' r ok r' f d = record {
+  work-kept = record { low = λ k g. absurd (omega arith); high = λ k g. d .work-kept .high k g ∙ f .kept .high k (omega arith) };
+  kept = d .kept;
+  answer = d .answer;
+  yes-holds = d .yes-holds;
+  no-same = d .no-same;
+}
 
-  module _ (more : 0 < left) (w' : List Float) (ok : Bool) (r' : List Float) (d : RoundDone p h w w' r ok r') where
-    work-both : SameOutside 0 (workNeed p) w₀ w'
-    work-both = kept-then 0 (workNeed p) 0 (workNeed p) w₀ w w' (omega arith) (omega arith) (s .work-kept) (d .work-kept)
+module _ (p : Trajectory) (v : Valid p) (small : (t : ℕ) → t < 3 → inRange (origin (p .anchors) t) ≡ true) (h : Float) (its : ℕ) (w₀ r₀ w r : List ℕ) (done : ℕ) (s : Fitting p h its w₀ r₀ w r done) (ok : Bool) (w1 : List ℕ) (d : PassDone p w ok w1) where
+  work-then : SameOutside 0 (workNeed p) w₀ w1
+  work-then = record { low = λ k g. absurd (omega arith); high = λ k g. d .kept .high k (omega arith) ∙ s .work-kept .high k g }
 
-    both : SameOutside 0 (p .n * 3) r₀ r'
-    both = kept-then 0 (p .n * 3) 0 (p .n * 3) r₀ r r' (omega arith) (omega arith) (s .kept) (d .kept)
+  ok-is : ok ≡ passes p (s .scales)
+  ok-is = pass-answer p (s .scales) w w1 ok d (s .stand)
 
-    module _ (g : ℕ → ℕ → Float) (q : Tabulated r (p .n) g) where
-      anchors-same : (j : ℕ) → j < p .anchors .count → anchorScale (p .anchors) h (fitIn r) j ≡ anchorScale (p .anchors) h g j
-      anchors-same j l = held-anchor (p .anchors) (p .n) h r g q j (v .anchors .below j l)
+  pub fitting-fails : ok ≡ false → (b : Bool) → (b ≡ true → 0 < done) → (b ≡ false → done ≡ 0) → FitDone p h its w₀ w1 r₀ b r
+  fitting-fails f b t z =
+      let n : passes p (s .scales) ≡ false = sym ok-is ∙ f in
+      record {
+        work-kept = work-then;
+        kept = s .kept;
+        answer = go b t z;
+        yes-holds = λ y. s .ahead .if-later n (t y) .1;
+        no-same = λ y. s .ahead .if-first n (z y) .1;
+      }
+    where
+      go : (b : Bool) → (b ≡ true → 0 < done) → (b ≡ false → done ≡ 0) → b ≡ passes p ones
+      go true t z = sym (s .ahead .if-later (sym ok-is ∙ f) (t refl) .0)
+      go false t z = sym (s .ahead .if-first (sym ok-is ∙ f) (z refl) .0)
 
-      links-same : (j : ℕ) → j < p .links .count → linkScale (p .links) h (fitIn r) j ≡ linkScale (p .links) h g j
-      links-same j l = held-link (p .links) (p .n) h r g q j (omega (arith, v .links .below j l))
+  module _ (y : ok ≡ true) (r1 : List ℕ) (q : Published w1 (p .n) (getD (p .anchors .value) 0 nan) (getD (p .anchors .value) 1 nan) (getD (p .anchors .value) 2 nan) r r1) where
+    good : passes p (s .scales) ≡ true
+    good = sym ok-is ∙ y
 
-      ok-is : ok ≡ passes p (scalesOf p h g)
-      ok-is = d .answer ∙ passes-same p (scalesOf p h (fitIn r)) (scalesOf p h g) anchors-same links-same
+    abbrev g : ℕ → ℕ → Float
+    g = fitOf p (s .scales)
 
-      next-holds : ok ≡ true → Tabulated r' (p .n) (fitOf p (scalesOf p h g))
-      next-holds t = holds-same r' (p .n) _ _ (fit-same p (scalesOf p h (fitIn r)) (scalesOf p h g) anchors-same links-same) (d .yes-holds t)
+    holds : Tabulated r1 (p .n) g
+    holds = published-fit p (s .scales) w w1 ok d (s .stand) y r r1 q
 
-    pub going-stop : ok ≡ false → RefineDone p h rounds w₀ w' r₀ r'
-    going-stop f = record {
-      work-kept = work-both;
-      kept = both;
-      holds = λ f' q.
-          let u = s .goes f' q in
-          holds-is r' (p .n) (u .0) (refined p h rounds f') (sym (u .2 ∙ refined-no p h left (u .0) (sym (ok-is (u .0) (u .1)) ∙ f) more))
-          (rw (← d .no-same f) at (u .1));
+    kept-then-too : SameOutside 0 (p .n * 3) r₀ r1
+    kept-then-too = kept-then 0 (p .n * 3) 0 (p .n * 3) r₀ r r1 (omega arith) (omega arith) (s .kept) (q .kept)
+
+    pub fitting-ends : its ≤ done + 1 → FitDone p h its w₀ w1 r₀ true r1
+    fitting-ends m = record {
+      work-kept = work-then;
+      kept = kept-then-too;
+      answer = sym (s .ahead .if-good good .0);
+      yes-holds = λ _. tabulated-is r1 (p .n) g _ (sym (s .ahead .if-good good .1 ∙ refined-none p h (its - (done + 1)) g (omega arith))) holds;
+      no-same = λ f. let z : _≡_ {A = ℕ} 0 1 = cc in absurd (omega arith);
     }
 
-    pub going-more : ok ≡ true → length w' ≡ length w → length r' ≡ length r → Going p h rounds w₀ w' r₀ r' (left - 1)
-    going-more t lw lr = record {
-      work-kept = work-both;
-      kept = both;
-      work-long = lw ∙ s .work-long;
-      long = lr ∙ s .long;
-      goes = λ f q.
-          let u = s .goes f q in
-          (fitOf p (scalesOf p h (u .0)), next-holds (u .0) (u .1) t, u .2 ∙ refined-yes p h left (u .0) (sym (ok-is (u .0) (u .1)) ∙ t) more);
-    }
+    in-fit : (t k : ℕ) → t < 3 → k < p .n → fitIn r1 t k ≡ g t k
+    in-fit = tabulated-fit r1 (p .n) g (fit-fits p (s .scales)) holds
 
--- ---- the whole fit
+    fit-number : (t k : ℕ) → t < 3 → k < p .n → isNan (fitIn r1 t k) ≡ false
+    fit-number t k l h = ap isNan (in-fit t k l h) ∙ finite-number (g t k) (pass-finite p small (s .scales) good t l k h)
 
-module _ (p : Trajectory) (h : Float) (its : ℕ) (w r : List Float) (w1 w2 : List Float) (ok : Bool)
-    (f : Filled (p .n * 9) (p .n * 9 + p .anchors .count + p .links .count) 1·0 w w1) (d : PassDone p w1 ok w2) where
-  anchor-ones : (j : ℕ) → j < p .anchors .count → col w1 (p .n * 9) j ≡ 1·0
-  anchor-ones j g = f .filled (p .n * 9 + j) (omega arith) (omega arith)
+    -- the first part of the result, as a list, holds numbers, and the same fit
+    module _ (rs : List ℕ) (long-rs : length rs ≡ p .n * 3) (same : (k : ℕ) → k < p .n * 3 → getD rs k 0 ≡ getD r1 k 0) where
+      pub fit-numbers : Numbers rs
+      fit-numbers = record { number = λ k h. go k h (k % 3) (k / 3) (omega arith) (omega arith) }
+        where
+          go : (k : ℕ) → k < length rs → (t q : ℕ) → t < 3 → k ≡ q * 3 + t → isNan (floatAt rs k) ≡ false
+          go k h t q l e = ap isNan (ap bits (same k (omega arith) ∙ place r1 k (q * 3 + t) e)) ∙ fit-number t q l (omega arith)
 
-  link-ones : (j : ℕ) → j < p .links .count → col w1 (p .n * 9 + p .anchors .count) j ≡ 1·0
-  link-ones j g = f .filled (p .n * 9 + p .anchors .count + j) (omega arith) (omega arith)
+      in-part : (t k : ℕ) → t < 3 → k < p .n → fitIn rs t k ≡ g t k
+      in-part t k l h = ap bits (same (k * 3 + t) (omega arith)) ∙ in-fit t k l h
 
-  first-work : SameOutside 0 (workNeed p) w w2
-  first-work = record { low = λ k g. absurd (omega arith); high = λ k g. d .kept .high k (omega arith) ∙ f .kept .high k (omega arith) }
-
-  first-answer : ok ≡ passes p ones
-  first-answer = d .answer ∙ passes-same p (scalesIn p w1) ones anchor-ones link-ones
-
-  pub fit-no : ok ≡ false → FitDone p h its w w2 r false r
-  fit-no t = record {
-    work-kept = first-work;
-    kept = kept-none 0 (p .n * 3) r;
-    answer = sym t ∙ first-answer;
-    yes-holds = λ q. let z : _≡_ {A = ℕ} 0 1 = cc in absurd (omega arith);
-    no-same = λ q. refl;
-  }
-
-  module _ (t : ok ≡ true) (r1 : List Float) (q : Published w2 (p .n) (p .n) (getD (p .anchors .value) 0 nan) (getD (p .anchors .value) 1 nan) (getD (p .anchors .value) 2 nan) r r1) where
-    first-holds : Tabulated r1 (p .n) (fitOf p ones)
-    first-holds = published-fit p ones w1 w2 ok d t anchor-ones link-ones r r1 q
-
-    pub fit-one : its ≤ 1 → FitDone p h its w w2 r true r1
-    unfolding smoothed
-    fit-one m = record {
-      work-kept = first-work;
-      kept = q .kept;
-      answer = sym t ∙ first-answer;
-      yes-holds = λ _. holds-is r1 (p .n) (fitOf p ones) (smoothed p h its) (sym (refined-none p h (its - 1) (fitOf p ones) (omega arith))) first-holds;
-      no-same = λ g. let z : _≡_ {A = ℕ} 0 1 = cc in absurd (omega arith);
-    }
-
-    pub fit-more : (w3 r2 : List Float) → RefineDone p h (its - 1) w2 w3 r1 r2 → FitDone p h its w w3 r true r2
-    unfolding smoothed
-    fit-more w3 r2 g = record {
-      work-kept = kept-then 0 (workNeed p) 0 (workNeed p) w w2 w3 (omega arith) (omega arith) first-work (g .work-kept);
-      kept = kept-then 0 (p .n * 3) 0 (p .n * 3) r r1 r2 (omega arith) (omega arith) (q .kept) (g .kept);
-      answer = sym t ∙ first-answer;
-      yes-holds = λ _. g .holds (fitOf p ones) first-holds;
-      no-same = λ g. let z : _≡_ {A = ℕ} 0 1 = cc in absurd (omega arith);
-    }
+      pub fitting-more : done + 1 < its → (w2 : List ℕ) → Reweighed p h rs w1 w2 → length w1 ≡ length w → length w2 ≡ length w1 → length r1 ≡ length r → Fitting p h its w₀ r₀ w2 r1 (done + 1)
+      fitting-more more w2 x lw1 lw2 lr =
+          let m = its - (done + 1) in
+          let so = s .ahead .if-good good in
+          let step : (e : passes p (scalesOf p h g) ≡ true) → refined p h m g ≡ refined p h (its - (done + 1 + 1)) (fitOf p (scalesOf p h g))
+          = λ e. let i : m - 1 ≡ its - (done + 1 + 1) = omega arith in refined-yes p h m g e (omega arith) ∙ ap (λ (i : ℕ). refined p h i (fitOf p (scalesOf p h g))) i in
+          record {
+            work-kept = kept-then 0 (workNeed p) 0 (workNeed p) w₀ w1 w2 (omega arith) (omega arith) work-then (x .kept);
+            kept = kept-then-too;
+            work-long = lw2 ∙ lw1 ∙ s .work-long;
+            long = lr ∙ s .long;
+            few = omega arith;
+            scales = scalesOf p h g;
+            stand = record {
+              anchors = λ j l. x .anchors j l ∙ held-anchor (p .anchors) (p .n) h rs g in-part j (v .anchors .below j l);
+              links = λ j l. x .links j l ∙ held-link (p .links) (p .n) h rs g in-part j (omega (arith, v .links .below j l));
+            };
+            ahead = record {
+              if-good = λ e. (so .0, so .1 ∙ step e);
+              if-first = λ e z. absurd (omega arith);
+              if-later = λ e z. (so .0, tabulated-is r1 (p .n) g _ (sym (so .1 ∙ refined-no p h m g e (omega arith))) holds);
+            };
+          }

@@ -1,20 +1,20 @@
 -- What the call answers and leaves in the lent memory: docs/SCOPE.md, "Why a call turns back", as far as it is about a track. Definitions only.
 use mathlib.Core.Path.{_≡_}
 use mathlib.Core.Bool.{Bool, true, _&&_, cond}
-use mathlib.Core.List.{List, _++_}
-use Prim.Native.Nat.{ℕ, _*_, _<_}
+use mathlib.Core.List.{List, _++_, map}
+use Prim.Native.Nat.{ℕ, _+_, _*_, _<_}
 use lib.Dec.{leb, ltb}
 use lib.ListN.{length, getD, replicate, drop}
 use lib.Ieee.{Float, nan, lt}
 use lib.Ieee.Scale.{finite}
 use Rattle.exact.specs.Float.{+0}
+use Rattle.numeric.specs.Order.{patternOf}
 use Rattle.numeric.specs.Real.{inRange}
 use Rattle.numeric.specs.Refusal.{numberOf}
 use Rattle.numeric.specs.declared.refusal.Refusal.{Refusal}
 use Rattle.numeric.specs.declared.refusal.Refusal.the-variants.{TooMany, SettingOutOfRange, RecordOutOfRange, BadTrack, FitFailed}
-use Rattle.tridiagonal.specs.Columns.{eachBelow}
-use Rattle.trajectory.specs.Input.{Measured, Trajectory, indexAt, workNeed}
-use Rattle.trajectory.specs.Equations.{nextAt}
+use Rattle.tridiagonal.specs.Tridiagonal.{eachBelow}
+use Rattle.trajectory.specs.Input.{Measured, Trajectory, workNeed}
 use Rattle.trajectory.specs.Pass.{passes, fitOf, PassAccurate}
 use Rattle.smooth.specs.declared.Settings.{Settings}
 use Rattle.smooth.specs.declared.Track.{Track}
@@ -37,21 +37,28 @@ unfoldable pub settingsOk : Settings → Bool
 settingsOk s = inRange (s .huber) && leb (s .iterations) 50
 
 -- 4: so is every float of a counted anchor or link
+abbrev pub floatsOk : (count : ℕ) → (value sigma : List Float) → Bool
+floatsOk count value sigma = eachBelow (λ k. inRange (getD value k nan)) (count * 3) && eachBelow (λ k. inRange (getD sigma k nan)) (count * 3)
+
 abbrev pub measuredOk : Measured → Bool
-measuredOk m = eachBelow (λ k. inRange (getD (m .value) k nan)) (m .count * 3) && eachBelow (λ k. inRange (getD (m .sigma) k nan)) (m .count * 3)
+measuredOk m = floatsOk (m .count) (m .value) (m .sigma)
 
 unfoldable pub recordsOk : Trajectory → Bool
 recordsOk p = measuredOk (p .anchors) && measuredOk (p .links)
 
 -- 6: there are epochs and anchors, each sigma is above 0, an anchor's index is below n, and so is a link's index plus one
-abbrev pub sigmasAbove : Measured → Bool
-sigmasAbove m = eachBelow (λ k. lt +0 (getD (m .sigma) k nan)) (m .count * 3)
+abbrev pub sigmasAbove : ℕ → List Float → Bool
+sigmasAbove count sigma = eachBelow (λ k. lt +0 (getD sigma k nan)) (count * 3)
 
-unfoldable pub trackOk : Trajectory → Bool
-trackOk p =
-    ltb 0 (p .n) && (ltb 0 (p .anchors .count)
-    && (sigmasAbove (p .anchors) && (sigmasAbove (p .links)
-    && (eachBelow (λ j. ltb (indexAt (p .anchors) j) (p .n)) (p .anchors .count) && eachBelow (λ j. ltb (nextAt (p .links) j) (p .n)) (p .links .count)))))
+-- of the columns that it looks at: the anchors' epochs and sigmas, and the links'
+unfoldable pub placesOk : (n anchors : ℕ) → List ℕ → List Float → (links : ℕ) → List ℕ → List Float → Bool
+placesOk n anchors at sigma links from step =
+    ltb 0 n && (ltb 0 anchors
+    && (sigmasAbove anchors sigma && (sigmasAbove links step
+    && (eachBelow (λ j. ltb (getD at j 0) n) anchors && eachBelow (λ j. ltb (getD from j 0 + 1) n) links))))
+
+abbrev pub trackOk : Trajectory → Bool
+trackOk p = placesOk (p .n) (p .anchors .count) (p .anchors .index) (p .anchors .sigma) (p .links .count) (p .links .index) (p .links .sigma)
 
 -- ---- the answer
 
@@ -84,23 +91,25 @@ trackNumber Track.Smoothed = 0
 
 -- ---- the lent memory afterwards
 
--- the result holds the track, or what it held; beyond the track it is as it was
-abbrev pub resultAfter : Tracked → List Float → List Float
-resultAfter (Refused x) r = r
-resultAfter (Points ps) r = ps ++ drop (length ps) r
+-- Both are lists of patterns, so that what is said of them is said of every bit.
 
--- zeros in the needed part
-abbrev pub cleared : ℕ → List Float → List Float
-cleared need w = replicate need +0 ++ drop need w
+-- the result holds the patterns of the track, or what it held; beyond the track it is as it was
+abbrev pub resultAfter : Tracked → List ℕ → List ℕ
+resultAfter (Refused x) r = r
+resultAfter (Points ps) r = map patternOf ps ++ drop (length ps) r
+
+-- zero bits in the needed part
+abbrev pub cleared : ℕ → List ℕ → List ℕ
+cleared need w = replicate need 0 ++ drop need w
 
 -- under 2 to 6 the work is as it was, and otherwise its needed part is all zero
-abbrev pub workAfter : ℕ → Tracked → List Float → List Float
+abbrev pub workAfter : ℕ → Tracked → List ℕ → List ℕ
 workAfter need (Refused x) w = cond (leb (numberOf x) 6) w (cleared need w)
 workAfter need (Points ps) w = cleared need w
 
 -- What the call answers and leaves. Every coordinate of a track is finite, and the track is the fit of the last good pass.
 -- Each pass whose track is given out or reweighted from meets its equations as closely as docs/SCOPE.md, "Track", says, on every axis and in every row.
-pub record Called (p : Trajectory) (s : Settings) (r w : List Float) (x : Track) (r' w' : List Float) : Type 0 where
+pub record Called (p : Trajectory) (s : Settings) (r w : List ℕ) (x : Track) (r' w' : List ℕ) : Type 0 where
   pub answer : x ≡ answerOf (trackOf p s (length r) (length w))
   pub result : r' ≡ resultAfter (trackOf p s (length r) (length w)) r
   pub work : w' ≡ workAfter (workNeed p) (trackOf p s (length r) (length w)) w

@@ -64,6 +64,11 @@ unfoldable pub passesFrom : Trajectory → Float → ℕ → Scales → List Sca
 passesFrom p h zero s = s ∷ []
 passesFrom p h (suc r) s = let s' = scalesOf p h (fitOf p s) in s ∷ cond (passes p s') (passesFrom p h r s') []
 
+-- the scales of pass i, where all before it are good: the first counts each measurement once, and each later one goes by the fit before
+unfoldable pub passAt : Trajectory → Float → ℕ → Scales
+passAt p h zero = ones
+passAt p h (suc i) = scalesOf p h (fitOf p (passAt p h i))
+
 -- all the good passes of a track, none where the first fails
 unfoldable pub goodPasses : Trajectory → Float → ℕ → List Scales
 goodPasses p h iterations = cond (passes p ones) (passesFrom p h (iterations - 1) ones) []

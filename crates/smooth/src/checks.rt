@@ -7,34 +7,37 @@ ghost use lib.Ieee.{nan};
 ghost use lib.Ieee as Ieee;
 ghost use Rattle.exact.specs.Float.{+0};
 ghost use Rattle.numeric.specs.Real.{inRange};
-ghost use Rattle.tridiagonal.specs.Columns.{eachBelow};
+ghost use Rattle.tridiagonal.specs.Tridiagonal.{eachBelow};
 ghost use Rattle.trajectory.specs.Input.{measured, trajectory};
-ghost use Rattle.smooth.specs.Answer.{columnsLong, countsOk, measuredOk, recordsOk, trackOk};
+ghost use Rattle.smooth.specs.Answer.{columnsLong, countsOk, floatsOk, placesOk};
 use numeric::real::in_range;
 
-// Whether the columns of `count` measurements are long enough.
-fn long(count: usize, index: &[usize], value: &[f64], sigma: &[f64]) -> bool
+// Tells whether the columns of `count` measurements are long enough.
+fn is_long_enough(count: usize, index: &[usize], value: &[f64], sigma: &[f64]) -> bool
     requires { ⌜ count ≤ 1024 ⌝ }
     ensures { λ r. ⌜ r ≡ columnsLong (measured count (now (index .entry)) (now (value .entry)) (now (sigma .entry))) ⌝ }
 {
     (count <= index.len()) & ((count * 3 <= value.len()) & (count * 3 <= sigma.len()))
 }
 
-// Whether the counts are allowed and all that is lent is long enough.
-pub(crate) fn counts(
+// Tells whether the counts are allowed and all that is lent is long enough, a result of r floats and a work of w too.
+pub(crate) fn fits_limits(
     n: usize,
     anchors: usize,
     links: usize,
-    ai: &[usize],
-    av: &[f64],
-    ag: &[f64],
-    li: &[usize],
-    lv: &[f64],
-    lg: &[f64],
+    anchor_epoch: &[usize],
+    anchor_position: &[f64],
+    anchor_sigma: &[f64],
+    link_epoch: &[usize],
+    link_change: &[f64],
+    link_sigma: &[f64],
     r: usize,
     w: usize,
 ) -> bool
-    ensures { λ x. ⌜ x ≡ countsOk (trajectory n (measured anchors (now (ai .entry)) (now (av .entry)) (now (ag .entry))) (measured links (now (li .entry)) (now (lv .entry)) (now (lg .entry)))) r w ⌝ }
+    ensures { λ x. ⌜ (
+        let a = measured anchors (now («anchor_epoch» .entry)) (now («anchor_position» .entry)) (now («anchor_sigma» .entry)) in
+        let l = measured links (now («link_epoch» .entry)) (now («link_change» .entry)) (now («link_sigma» .entry)) in
+        x ≡ countsOk (trajectory n a l) r w) ⌝ }
 {
     if n > 1024 {
         return false;
@@ -45,17 +48,17 @@ pub(crate) fn counts(
     if links > 1024 {
         return false;
     }
-    if !long(anchors, ai, av, ag) {
+    if !is_long_enough(anchors, anchor_epoch, anchor_position, anchor_sigma) {
         return false;
     }
-    if !long(links, li, lv, lg) {
+    if !is_long_enough(links, link_epoch, link_change, link_sigma) {
         return false;
     }
     (n * 3 <= r) & (n * 9 + anchors + links <= w)
 }
 
-// Whether the first `count` floats are finite and at most 1e9 in magnitude.
-fn all_in_range(v: &[f64], count: usize) -> bool
+// Tells whether the first `count` floats are finite and at most 1e9 in magnitude.
+fn are_in_range(v: &[f64], count: usize) -> bool
     requires { ⌜ count ≤ length (now v) ⌝ }
     ensures { λ x. ⌜ x ≡ eachBelow (λ k. inRange (getD (now (v .entry)) k nan)) count ⌝ }
 {
@@ -69,8 +72,8 @@ fn all_in_range(v: &[f64], count: usize) -> bool
     true
 }
 
-// Whether the first `count` floats are above 0.
-fn all_above(v: &[f64], count: usize) -> bool
+// Tells whether the first `count` floats are above 0.
+fn are_above_zero(v: &[f64], count: usize) -> bool
     requires { ⌜ count ≤ length (now v) ⌝ }
     ensures { λ x. ⌜ x ≡ eachBelow (λ k. Ieee.lt +0 (getD (now (v .entry)) k nan)) count ⌝ }
 {
@@ -84,8 +87,8 @@ fn all_above(v: &[f64], count: usize) -> bool
     true
 }
 
-// Whether the first `count` indices are below n.
-fn all_below(v: &[usize], count: usize, n: usize) -> bool
+// Tells whether the first `count` indices are below n.
+fn are_below(v: &[usize], count: usize, n: usize) -> bool
     requires { ⌜ count ≤ length (now v) ⌝ }
     ensures { λ x. ⌜ x ≡ eachBelow (λ j. ltb (getD (now (v .entry)) j 0) n) count ⌝ }
 {
@@ -99,52 +102,33 @@ fn all_below(v: &[usize], count: usize, n: usize) -> bool
     true
 }
 
-// Whether every float of `count` measurements is in range.
-fn measured_in_range(count: usize, index: &[usize], value: &[f64], sigma: &[f64]) -> bool
+// Tells whether every float of `count` measurements is in range.
+pub(crate) fn has_floats_in_range(count: usize, value: &[f64], sigma: &[f64]) -> bool
     requires { ⌜ (count * 3 ≤ length (now value)) × (count * 3 ≤ length (now sigma)) ⌝ }
-    ensures { λ x. ⌜ x ≡ measuredOk (measured count (now (index .entry)) (now (value .entry)) (now (sigma .entry))) ⌝ }
+    ensures { λ x. ⌜ x ≡ floatsOk count (now (value .entry)) (now (sigma .entry)) ⌝ }
 {
-    if all_in_range(value, count * 3) {
-        return all_in_range(sigma, count * 3);
+    if are_in_range(value, count * 3) {
+        return are_in_range(sigma, count * 3);
     }
     false
 }
 
-// Whether every float of a counted anchor or link is in range.
-pub(crate) fn records(
+// Tells whether there are epochs and anchors, all sigmas are above 0 and all indices within the epochs.
+pub(crate) fn is_track(
     n: usize,
     anchors: usize,
     links: usize,
-    ai: &[usize],
-    av: &[f64],
-    ag: &[f64],
-    li: &[usize],
-    lv: &[f64],
-    lg: &[f64],
+    anchor_epoch: &[usize],
+    anchor_sigma: &[f64],
+    link_epoch: &[usize],
+    link_sigma: &[f64],
 ) -> bool
-    requires { ⌜ (anchors * 3 ≤ length (now av)) × (anchors * 3 ≤ length (now ag)) × (links * 3 ≤ length (now lv)) × (links * 3 ≤ length (now lg)) ⌝ }
-    ensures { λ x. ⌜ x ≡ recordsOk (trajectory n (measured anchors (now (ai .entry)) (now (av .entry)) (now (ag .entry))) (measured links (now (li .entry)) (now (lv .entry)) (now (lg .entry)))) ⌝ }
-{
-    if measured_in_range(anchors, ai, av, ag) {
-        return measured_in_range(links, li, lv, lg);
-    }
-    false
-}
-
-// Whether there are epochs and anchors, all sigmas are above 0 and all indices within the epochs.
-pub(crate) fn sound(
-    n: usize,
-    anchors: usize,
-    links: usize,
-    ai: &[usize],
-    av: &[f64],
-    ag: &[f64],
-    li: &[usize],
-    lv: &[f64],
-    lg: &[f64],
-) -> bool
-    requires { ⌜ (anchors ≤ length (now ai)) × (anchors * 3 ≤ length (now ag)) × (links ≤ length (now li)) × (links * 3 ≤ length (now lg)) ⌝ }
-    ensures { λ x. ⌜ x ≡ trackOk (trajectory n (measured anchors (now (ai .entry)) (now (av .entry)) (now (ag .entry))) (measured links (now (li .entry)) (now (lv .entry)) (now (lg .entry)))) ⌝ }
+    requires { ⌜ (anchors ≤ length (now «anchor_epoch»)) × (anchors * 3 ≤ length (now «anchor_sigma»)) ⌝ }
+    requires { ⌜ (links ≤ length (now «link_epoch»)) × (links * 3 ≤ length (now «link_sigma»)) ⌝ }
+    ensures { λ x. ⌜ (
+        let a = now («anchor_epoch» .entry) in
+        let l = now («link_epoch» .entry) in
+        x ≡ placesOk n anchors a (now («anchor_sigma» .entry)) links l (now («link_sigma» .entry))) ⌝ }
 {
     if n == 0 {
         return false;
@@ -152,14 +136,14 @@ pub(crate) fn sound(
     if anchors == 0 {
         return false;
     }
-    if !all_above(ag, anchors * 3) {
+    if !are_above_zero(anchor_sigma, anchors * 3) {
         return false;
     }
-    if !all_above(lg, links * 3) {
+    if !are_above_zero(link_sigma, links * 3) {
         return false;
     }
-    if !all_below(ai, anchors, n) {
+    if !are_below(anchor_epoch, anchors, n) {
         return false;
     }
-    all_below(li, links, n - 1)
+    are_below(link_epoch, links, n - 1)
 }

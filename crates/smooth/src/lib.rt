@@ -1,5 +1,5 @@
 // The trajectory smoother, over memory that the caller lends: a track through anchors (where it was) and links (how far it moved from an epoch to the next).
-// The columns of a call: ai, av and ag are the anchors' epoch indices, positions and sigmas, li, lv and lg the links' epoch indices, changes in position and sigmas.
+// What the caller lends for the result and the work is taken as 64-bit patterns, so that a refusal is promised to leave every bit.
 mod checks;
 mod fit;
 mod weigh;
@@ -7,9 +7,9 @@ mod weigh;
 ghost use mathlib.Core.Path.{_≡_};
 ghost use Rattle.trajectory.specs.Input.{measured, trajectory};
 ghost use Rattle.smooth.specs.Answer.{settingsOk, trackNumber, Called};
-use checks::counts;
-use checks::records;
-use checks::sound;
+use checks::fits_limits;
+use checks::has_floats_in_range;
+use checks::is_track;
 use fit::fit as find;
 use numeric::real::in_range;
 use numeric::refusal::Refusal;
@@ -39,56 +39,70 @@ impl Track {
     }
 }
 
-// Whether the threshold is in range and the passes are not too many.
-fn allowed(set: Settings) -> bool
+// Tells whether the threshold is in range and the passes are not too many.
+fn allows(set: Settings) -> bool
     ensures { λ r. ⌜ r ≡ settingsOk set ⌝ }
 {
     in_range(set.huber) & (set.iterations <= 50)
 }
 
-// The track of n epochs in the result: x, y, z of the first epoch, then of the next, and so on.
-// `result` is 3 * n floats long or longer, `work` 9 * n + anchors + links: the call's only memory, all zero in that part afterwards. A refusal leaves the result as it was, and one by
-// 2 to 6 the work too.
+// Puts the track of n epochs into the result: x, y, z of the first epoch, then of the next, and so on.
+// `result` is 3 * n patterns long or longer, `work` 9 * n + anchors + links: the call's only memory, all zero in that part afterwards. A refusal leaves the result as it
+// was, and one by 2 to 6 the work too.
 pub fn smooth(
     n: usize,
     anchors: usize,
     links: usize,
-    ai: &[usize],
-    av: &[f64],
-    ag: &[f64],
-    li: &[usize],
-    lv: &[f64],
-    lg: &[f64],
+    anchor_epoch: &[usize],
+    anchor_position: &[f64],
+    anchor_sigma: &[f64],
+    link_epoch: &[usize],
+    link_change: &[f64],
+    link_sigma: &[f64],
     set: Settings,
-    result: &mut [f64],
-    work: &mut [f64],
+    result: &mut [u64],
+    work: &mut [u64],
 ) -> Track
-    ensures { λ x. ⌜ Called (trajectory n (measured anchors (now (ai .entry)) (now (av .entry)) (now (ag .entry))) (measured links (now (li .entry)) (now (lv .entry)) (now (lg .entry)))) set (now (result .entry)) (now (work .entry)) x (now (result .exit)) (now (work .exit)) ⌝ }
+    ensures { λ x. ⌜ (
+        let a = measured anchors (now («anchor_epoch» .entry)) (now («anchor_position» .entry)) (now («anchor_sigma» .entry)) in
+        let l = measured links (now («link_epoch» .entry)) (now («link_change» .entry)) (now («link_sigma» .entry)) in
+        Called (trajectory n a l) set (now (result .entry)) (now (work .entry)) x (now (result .exit)) (now (work .exit))) ⌝ }
 {
-    if !counts(
+    let room = result.len();
+    let space = work.len();
+    if !fits_limits(
         n,
         anchors,
         links,
-        ai,
-        av,
-        ag,
-        li,
-        lv,
-        lg,
-        result.len(),
-        work.len(),
+        anchor_epoch,
+        anchor_position,
+        anchor_sigma,
+        link_epoch,
+        link_change,
+        link_sigma,
+        room,
+        space,
     ) {
         return Track::Refused(Refusal::TooMany);
     }
-    let h = set.huber;
-    let iterations = set.iterations;
-    if !allowed(set) {
+    if !allows(set) {
         return Track::Refused(Refusal::SettingOutOfRange);
     }
-    if !records(n, anchors, links, ai, av, ag, li, lv, lg) {
+    if !has_floats_in_range(anchors, anchor_position, anchor_sigma) {
         return Track::Refused(Refusal::RecordOutOfRange);
     }
-    if !sound(n, anchors, links, ai, av, ag, li, lv, lg) {
+    if !has_floats_in_range(links, link_change, link_sigma) {
+        return Track::Refused(Refusal::RecordOutOfRange);
+    }
+    if !is_track(
+        n,
+        anchors,
+        links,
+        anchor_epoch,
+        anchor_sigma,
+        link_epoch,
+        link_sigma,
+    ) {
         return Track::Refused(Refusal::BadTrack);
     }
     let found = find(
@@ -96,17 +110,16 @@ pub fn smooth(
         n,
         anchors,
         links,
-        ai,
-        av,
-        ag,
-        li,
-        lv,
-        lg,
-        h,
-        iterations,
+        anchor_epoch,
+        anchor_position,
+        anchor_sigma,
+        link_epoch,
+        link_change,
+        link_sigma,
+        set,
         &mut *result,
     );
-    fill(&mut *work, 0, n * 9 + anchors + links, 0.0);
+    fill(&mut *work, 0, n * 9 + anchors + links, 0);
     if found {
         return Track::Smoothed;
     }

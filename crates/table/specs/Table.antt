@@ -1,11 +1,12 @@
 -- The table of correction samples in lent columns: its rows, its order, when it is sound, and the series of one signal. Definitions only.
-use Prim.Native.Nat.{ℕ, _+_, _*_, _^_, min}
+use Prim.Native.Nat.{ℕ, min}
 use mathlib.Core.Bool.{Bool, true, cond, not, _&&_, _||_}
 use mathlib.Core.List.{List, [], _∷_}
 use lib.Dec.{ltb, eqb}
 use lib.ListN.{length, take}
 use lib.Ieee.{Float, nan}
 use Rattle.walk.specs.Walk.{every, collect}
+use Rattle.signal.specs.Signal.{signal}
 use Rattle.numeric.specs.Order.{totalOrder, patternOf}
 use Rattle.numeric.specs.Real.{inRange}
 use Rattle.table.specs.declared.sample.Sample.{Sample}
@@ -51,10 +52,6 @@ abbrev pub tableOf : ℕ → Columns → List Sample
 tableOf n l = take n (rows l)
 
 -- ---- the order by constellation, svid, band and time
-
--- a satellite's signal as one number: its digits are the constellation, the svid, of 16 bits, and the band, of 32
-abbrev pub signal : ℕ → ℕ → ℕ → ℕ
-signal c v b = (c * 2 ^ 16 + v) * 2 ^ 32 + b
 
 abbrev pub signalOf : Sample → ℕ
 signalOf s = signal (s .constellation) (s .svid) (s .band)

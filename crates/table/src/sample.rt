@@ -4,10 +4,11 @@ ghost use mathlib.Core.Bool.{_&&_, _||_};
 ghost use Prim.Native.Nat.{_≤_, _<_, min};
 ghost use lib.ListN.{length, getD};
 ghost use lib.Dec.{ltb, eqb};
-ghost use Rattle.table.specs.Table.{lent, rows, blank, capacity, tableOf, signal, timeBefore, standsBefore, ranged, soundTable};
+ghost use Rattle.table.specs.Table.{lent, rows, blank, capacity, tableOf, timeBefore, standsBefore, ranged, soundTable};
 use numeric::order::before;
 use numeric::order::pattern;
 use numeric::real::in_range;
+use signal::signal::signal_of;
 
 pub struct Sample {
     pub constellation: u8,
@@ -15,13 +16,6 @@ pub struct Sample {
     pub band: u32,
     pub time: f64,
     pub correction: f64,
-}
-
-// A satellite's signal as one number: constellation, svid and band are its digits.
-pub fn signal_of(constellation: u8, svid: u16, band: u32) -> u64
-    ensures { λ r. ⌜ r ≡ signal constellation svid band ⌝ }
-{
-    ((constellation as u64) * 0x1_0000 + (svid as u64)) * 0x1_0000_0000 + (band as u64)
 }
 
 // Whether the time t comes before u in totalOrder and is not u. Where one number is below the other (5.10 a, b), they are compared as they are.

@@ -1,36 +1,54 @@
 -- A displacement looks at the counted carriers alone, and refuses every count of rounds above 50 alike. Assumes nothing.
-use mathlib.Core.Path.{_≡_}
-use mathlib.Core.Bool.{false, cond, and-false, _||_}
+use mathlib.Core.Path.{_≡_, refl, ap, _∙_}
+use mathlib.Core.Bool.{Bool, false, cond, and-false, _||_, true}
 use Prim.Native.Nat.{_<_}
 use borrow.Author.Tests.{lt-ltb}
 use lib.Dec.{ltb}
-use lib.Ieee.{Float}
 use Rattle.numeric.specs.declared.vec3.Vec3.{Vec3}
 use Rattle.numeric.specs.declared.refusal.Refusal.the-variants.{TooMany, SettingOutOfRange}
 use Rattle.records.specs.Record.{counted}
+use Rattle.records.specs.declared.record.Epoch.{Epoch}
+use Rattle.records.specs.declared.pair.Profile.{Profile}
 use Rattle.estimator.specs.Rules.{ruled}
 use Rattle.tdcp.specs.Valid.{settingsPass, epochRules}
-use Rattle.records.specs.declared.record.Epoch.{Epoch}
+use Rattle.tdcp.specs.Displacement.{Input, input, fitOf, displacementOf}
+use Rattle.tdcp.specs.Rated.{quality}
+use Rattle.tdcp.specs.Rows.{answerBy, answerOf}
+use Rattle.tdcp.specs.declared.displacement.Rated.the-variants as Rated
 use Rattle.tdcp.specs.declared.displacement.Settings.{Settings}
-use Rattle.tdcp.specs.Displacement as displacement
-use Rattle.tdcp.specs.Displacement.{movedIn, displacementOf}
+use Rattle.tdcp.specs.declared.displacement.Interval.{Interval}
 use Rattle.tdcp.specs.declared.displacement.Displacement.the-variants.{Refused}
 
-module _ (p q c d : Epoch) (dt : Float) (receiver : Vec3) (settings : Settings) (m : p .count ≡ q .count) (e : counted p ≡ counted q) (n : c .count ≡ d .count) (f : counted c ≡ counted d) where
+module _ (p q c d : Epoch) (since : Interval) (receiver : Vec3) (settings : Settings) (profile : Profile)
+    (m : p .count ≡ q .count) (n : c .count ≡ d .count) (e : counted p ≡ counted q) (f : counted c ≡ counted d) where
   rules-counted : epochRules p c receiver settings ≡ epochRules q d receiver settings
   unfolding epochRules
   rules-counted = rw (e, f, m, n)
 
-  pub displacement-counted : displacementOf (record { previous = p; current = c; dt = dt; receiver = receiver; settings = settings })
-      ≡ displacementOf (record { previous = q; current = d; dt = dt; receiver = receiver; settings = settings })
-  unfolding displacementOf movedIn
+  pub displacement-counted : displacementOf (input p c since receiver settings profile) ≡ displacementOf (input q d since receiver settings profile)
+  unfolding displacementOf
   displacement-counted = rw (rules-counted, e, f)
+
+  pub answer-counted : (wanted : Bool) → answerOf wanted (input p c since receiver settings profile) ≡ answerOf wanted (input q d since receiver settings profile)
+  unfolding answerOf quality fitOf
+  answer-counted wanted = rw (displacement-counted, e, f)
 
 pub many-rounds : (s : Settings) → 50 < s .rounds → settingsPass s ≡ false
 unfolding settingsPass
 many-rounds s h = rw (lt-ltb 50 (s .rounds) h, and-false)
 
-pub displacement-many-rounds : (i : displacement.Input) → 50 < i .settings .rounds
+pub displacement-many-rounds : (i : Input) → 50 < i .settings .rounds
     → displacementOf i ≡ cond (ltb 64 (i .previous .count) || ltb 64 (i .current .count)) (Refused TooMany) (Refused SettingOutOfRange)
 unfolding displacementOf epochRules ruled
 displacement-many-rounds i h = rw (many-rounds (i .settings) h)
+
+pub answer-many-rounds : (wanted : Bool) (i : Input) → 50 < i .settings .rounds
+    → answerOf wanted i ≡ cond (ltb 64 (i .previous .count) || ltb 64 (i .current .count)) (Rated.Refused TooMany) (Rated.Refused SettingOutOfRange)
+unfolding answerOf
+answer-many-rounds wanted i h = ap (answerBy wanted (quality i)) (displacement-many-rounds i h) ∙ go wanted (ltb 64 (i .previous .count) || ltb 64 (i .current .count))
+  where
+    go : (w b : Bool) → answerBy w (quality i) (cond b (Refused TooMany) (Refused SettingOutOfRange)) ≡ cond b (Rated.Refused TooMany) (Rated.Refused SettingOutOfRange)
+    go true true = refl
+    go true false = refl
+    go false true = refl
+    go false false = refl

@@ -1,8 +1,8 @@
 -- The displacement as the public call works it out: the rules on what is handed over, and what its pairs come to. Assumes nothing.
-use mathlib.Core.Path.{_≡_, refl, sym, ap, ap₂, _∙_, subst}
+use mathlib.Core.Path.{_≡_, sym, ap, ap₂, _∙_, subst}
 use Prim.Native.Nat.{ℕ, _-_, _≤_}
 use native.Mathlib.Omega.{arith}
-use mathlib.Core.Bool.{Bool, true, false, not, _&&_, _||_}
+use mathlib.Core.Bool.{Bool, true, false, not, cond, _&&_, _||_}
 use mathlib.Core.List.{List, [], _∷_, _++_}
 use lib.Dec.{ltb}
 use lib.ListN.{length, take}
@@ -10,17 +10,26 @@ use lib.Seq.{length-take-le}
 use lib.Ieee.{Float}
 use Rattle.walk.proofs.Walk.{places-length}
 use Rattle.numeric.specs.declared.refusal.Refusal.{Refusal}
-use Rattle.numeric.specs.declared.refusal.Refusal.the-variants.{TooMany, BadInterval, NotCertified}
-use Rattle.records.specs.Pair.{Paired}
+use Rattle.numeric.specs.declared.refusal.Refusal.the-variants.{TooMany, NotCertified}
+use Rattle.walk.specs.Walk.{every}
+use Rattle.time.specs.declared.time.Seconds.{Seconds}
+use Rattle.time.specs.declared.time.Seconds.the-variants.{Refused as NoSeconds, Since}
+use Rattle.records.specs.Record.{counted, soundCarrier, placeable}
+use Rattle.records.specs.City.{isCity, looked}
+use Rattle.records.specs.Pair.{pairsOf, Paired}
 use Rattle.clocks.specs.Clocks.{has, clocksOf}
 use Rattle.records.specs.Screen.{keptOf, constellations}
 use Rattle.records.specs.Kept.{pairIn, pairsIn, Kept}
 use Rattle.estimator.specs.Rules.{Rule, rule, ruled}
-use Rattle.tdcp.specs.Valid.{badInterval, epochRules, intervalRules, fewRules}
+use Rattle.tdcp.specs.Valid.{dtOf, epochRules, givenRules, fewRules}
 use Rattle.tdcp.specs.Front.{sightRules, countRules, cityRules, pairRules}
-use Rattle.estimator.specs.Rounds.{End, Stopped, Reached, Fit, concluded, Ended}
-use Rattle.tdcp.specs.Displacement.{Input, fitOver, fitBy, deltaAt, endRules, concludedAt, movedBy, movedIn, pairsFor, movedFor, displacementOf}
-use Rattle.tdcp.specs.Rows.{movedOver}
+use Rattle.estimator.specs.Rounds.{End, Stopped, Reached, Fit, concluded, Ended, stateAfter}
+use Rattle.tdcp.specs.Displacement.{Input, fitOver, fitBy, fitOf, pairs, deltaAt, endRules, concludedAt, movedBy, displacementOf}
+use Rattle.tdcp.specs.Rated.{qualityAt, quality}
+use Rattle.tdcp.specs.Rows.{movedOver, answerBy, qualityOver, qualityBy, answerOf}
+use Rattle.tdcp.specs.declared.displacement.Rated.the-variants as Rated
+use Rattle.tdcp.proofs.RatedLaws.{refused-as, quality-rows}
+use Rattle.cholesky.specs.Factor.{zeros}
 use Rattle.clocks.specs.declared.clocks.Clocks.{Clocks}
 use Rattle.records.specs.declared.pair.Pair.{Pair}
 use Rattle.records.specs.declared.pair.Pairs.{Pairs}
@@ -29,9 +38,10 @@ use Rattle.tdcp.specs.declared.displacement.Displacement.{Displacement}
 use Rattle.tdcp.specs.declared.displacement.Displacement.the-variants.{Refused, Moved}
 use Rattle.estimator.specs.declared.rules.Check.{Check}
 use Rattle.estimator.specs.declared.rules.Check.the-variants.{Refused as Stops, Passed}
-use Rattle.estimator.proofs.RulesLaws.{checked, ruled-append, append-first, refused-by, passed-by}
-use Rattle.tdcp.proofs.DisplacementLaws.{fit-same}
+use Rattle.estimator.proofs.RulesLaws.{checked, ruled-append, ruled-map, append-first, refused-by, passed-by}
+use Rattle.tdcp.proofs.DisplacementLaws.{fit-same, rows-same}
 use Rattle.tdcp.proofs.FrontLaws.{counts-passed, kept-few}
+use Rattle.tdcp.proofs.FilterLaws.{looked-alone}
 
 -- what a fit comes to, by its end and what the code has of it
 ended-refused : {A : Type 0} (f : Refusal → A) (rules : List Float → List Rule) (answer : List Float → A) (e : End) {r : Refusal} {x y : List Float} → Ended e (Stops r) x y → f r ≡ concluded f rules answer e
@@ -83,14 +93,14 @@ module _ (city : Bool) (settings : Settings) (ps : List Pair) (n : ℕ) (all : n
   abbrev answer : List Float → Displacement
   answer x = Moved (deltaAt (length kept) (length ps - length kept) x)
 
-  counted : ruled Refused counts (concluded Refused endRules answer (fitBy settings ps .end)) ≡ movedBy city settings ps
+  tested : ruled Refused counts (concluded Refused endRules answer (fitBy settings ps .end)) ≡ movedBy city settings ps
   unfolding movedBy pairRules
-  counted =
+  tested =
       ap (λ (rs : List Rule). ruled Refused rs (concluded Refused endRules answer (fitBy settings ps .end))) counts-are
       ∙ sym (ruled-append Refused _ (sightRules ps) _ ∙ passed-by Refused _ (sightRules ps) seen)
 
   pub refused-counts : {r : Refusal} → Stops r ≡ checked counts → Refused r ≡ movedBy city settings ps
-  refused-counts e = refused-by Refused _ counts e ∙ counted
+  refused-counts e = refused-by Refused _ counts e ∙ tested
 
   -- rules 7 to 9 leave a fit of at most nine unknowns
   module _ (enough : Passed ≡ checked counts) where
@@ -102,7 +112,7 @@ module _ (city : Bool) (settings : Settings) (ps : List Pair) (n : ℕ) (all : n
     fit-is = fit-same settings k h ∙ ap (λ (c : Clocks). fitOver settings c kept) clocks-are
 
     answered : concluded Refused endRules answer (fitBy settings ps .end) ≡ movedBy city settings ps
-    answered = sym (passed-by Refused _ counts enough) ∙ counted
+    answered = sym (passed-by Refused _ counts enough) ∙ tested
 
     pub over : {r : Displacement} → r ≡ movedOver settings k (pairsIn x y z constellation elevation (take used observed)) (n - used) → r ≡ movedBy city settings ps
     over e =
@@ -110,33 +120,74 @@ module _ (city : Bool) (settings : Settings) (ps : List Pair) (n : ℕ) (all : n
         e ∙ ap₂ (λ (u s : ℕ). concluded Refused endRules (λ x. Moved (deltaAt u s x)) (fitOver settings k (pairsIn x y z constellation elevation (take used observed)) .end)) many (ap₂ _-_ all (h .count))
         ∙ ap (λ (f : Fit). concluded Refused endRules answer (f .end)) fit-is ∙ answered
 
--- ---- the call
-module _ (i : Input) where
-  abbrev epochs : List Rule
-  epochs = epochRules (i .previous) (i .current) (i .receiver) (i .settings)
+    -- and the quality of the fit is that of the kept pairs
+    pub quality-over : qualityOver settings k (pairsIn x y z constellation elevation (take used observed)) ≡ qualityBy settings ps
+    quality-over =
+        quality-rows settings k (pairsIn x y z constellation elevation (take used observed)) kept _ (rows-same settings k h _)
+        ∙ ap₂ (λ (c : Clocks) (f : Fit). qualityAt settings c kept (stateAfter (f .end) zeros)) clocks-are fit-is
 
+-- ---- the call
+
+-- a refusal, or else m
+abbrev movedSince : Displacement → Seconds → Displacement
+movedSince m (NoSeconds r) = Refused r
+movedSince m (Since dt) = m
+
+-- the seconds are those of the interval
+pub since-is : (rs : List Rule) {dt x : Float} → Since dt ≡ ruled NoSeconds rs (Since x) → dt ≡ x
+unfolding ruled
+since-is [] e = cc
+since-is (r ∷ rs) {dt} {x} e = go (r .applies) e (since-is rs)
+  where
+    go : (b : Bool) → Since dt ≡ cond b (NoSeconds (r .refusal)) (ruled NoSeconds rs (Since x)) → (Since dt ≡ ruled NoSeconds rs (Since x) → dt ≡ x) → dt ≡ x
+    go true q h = absurd (let z : _≡_ {A = ℕ} 0 1 = cc in omega arith)
+    go false q h = h q
+
+-- the code's pairs are those of the call
+pub paired : (i : Input) {all : Pairs} {dt : Float} → dt ≡ dtOf (i .since)
+    → Paired all (pairsOf (i .receiver) (i .settings .mask) dt (counted (i .previous)) (looked (i .profile) (counted (i .current)))) → take (all .count) (all .pair) ≡ pairs i
+paired i {dt = dt} e h =
+    let p = counted (i .previous) in
+    let c = counted (i .current) in
+    h .held .all
+    ∙ looked-alone (i .profile) (i .receiver) (i .settings .mask) dt p c
+    ∙ ap (λ (x : Float). pairsOf (i .receiver) (i .settings .mask) x (looked (i .profile) p) (looked (i .profile) c)) e
+
+-- and so is their answer
+pub answered-pairs : (i : Input) (wanted : Bool) {ps : List Pair} → ps ≡ pairs i → movedBy (isCity (i .profile)) (i .settings) (pairs i) ≡ displacementOf i
+    → answerBy wanted (qualityBy (i .settings) ps) (movedBy (isCity (i .profile)) (i .settings) ps) ≡ answerOf wanted i
+unfolding answerOf quality fitOf
+answered-pairs i wanted e m =
+    ap (λ (ps : List Pair). answerBy wanted (qualityBy (i .settings) ps) (movedBy (isCity (i .profile)) (i .settings) ps)) e
+    ∙ ap (answerBy wanted (qualityBy (i .settings) (pairs i))) m
+
+pub answered-refused : (i : Input) (wanted : Bool) {r : Refusal} → Refused r ≡ displacementOf i → Rated.Refused r ≡ answerOf wanted i
+unfolding answerOf
+answered-refused i wanted e = refused-as wanted (quality i) e
+
+module _ (i : Input) where
   pub too-many : (ltb 64 (i .previous .count) || ltb 64 (i .current .count)) ≡ true → Refused TooMany ≡ displacementOf i
   unfolding displacementOf epochRules ruled
   too-many e = rw e
 
-  pub refused-epochs : {r : Refusal} → Stops r ≡ checked epochs → Refused r ≡ displacementOf i
-  unfolding displacementOf
-  refused-epochs e = refused-by Refused _ epochs e
+  -- where 2 does not apply the rules are those on what is given
+  module _ (few : ltb 64 (i .previous .count) ≡ false) (few′ : ltb 64 (i .current .count) ≡ false) {sound : Bool}
+      (is : sound ≡ (every soundCarrier (counted (i .previous)) && every soundCarrier (counted (i .current)) && placeable (i .receiver))) where
+    abbrev rules : List Rule
+    rules = givenRules (i .settings) sound (i .since)
 
-  pub passed-epochs : Passed ≡ checked epochs → movedIn i ≡ displacementOf i
-  unfolding displacementOf
-  passed-epochs e = sym (passed-by Refused _ epochs e)
+    abbrev moved : Displacement
+    moved = movedBy (isCity (i .profile)) (i .settings) (pairs i)
 
-  -- outside the city profile it is every pair's
-  pub general : (band : ℕ) → movedFor false band i ≡ movedIn i
-  unfolding movedFor movedIn
-  general band = refl
+    given-is : ruled Refused rules moved ≡ displacementOf i
+    unfolding displacementOf epochRules givenRules ruled
+    given-is = rw (is, few, few′)
 
-  module _ (city : Bool) (band : ℕ) where
-    pub refused-interval : badInterval (i .dt) ≡ true → Refused BadInterval ≡ movedFor city band i
-    unfolding movedFor intervalRules ruled
-    refused-interval e = rw e
+    pub answer-since : {s : Seconds} → s ≡ ruled NoSeconds rules (Since (dtOf (i .since))) → movedSince moved s ≡ displacementOf i
+    answer-since e = ap (movedSince moved) e ∙ ruled-map (movedSince moved) NoSeconds (Since (dtOf (i .since))) rules ∙ given-is
 
-    pub paired : badInterval (i .dt) ≡ false → {r : Pairs} → Paired r (pairsFor city band i) → movedBy city (i .settings) (take (r .count) (r .pair)) ≡ movedFor city band i
-    unfolding movedFor intervalRules ruled
-    paired e h = rw (e, h .held .all)
+    pub refused-given : {r : Refusal} → NoSeconds r ≡ ruled NoSeconds rules (Since (dtOf (i .since))) → Refused r ≡ displacementOf i
+    refused-given e = answer-since e
+
+    pub passed-given : {dt : Float} → Since dt ≡ ruled NoSeconds rules (Since (dtOf (i .since))) → moved ≡ displacementOf i
+    passed-given e = answer-since e

@@ -83,7 +83,7 @@ module _ (settings : Settings) (k : Clocks) {ps : List Pair} {n : ℕ} {x y z : 
       let eo = getD-take n observed i nan b ∙ filled-at (λ (p : Pair). p .observed) ps observed n i blank nan fits b (h .observeds ∙ ap (map (λ (p : Pair). p .observed)) (sym whole)) in
       rw (ex, ey, ez, ec, ee, eo)
 
-  rows-same : (s : List Float) → map (rowAt settings k s) (pairsIn x y z constellation elevation (take n observed)) ≡ map (rowAt settings k s) ps
+  pub rows-same : (s : List Float) → map (rowAt settings k s) (pairsIn x y z constellation elevation (take n observed)) ≡ map (rowAt settings k s) ps
   rows-same s =
       let e : length (take n observed) ≡ n = length-take-le n observed (omega (arith, h .room, h .observed-long)) in
       ap (λ (m : ℕ). map (rowAt settings k s) (places given m)) e ∙ places-map (rowAt settings k s) given n ∙ places-ext (λ i. rowAt settings k s (given i)) (λ i. rowAt settings k s (getD ps i blank)) n (same s)

@@ -1,9 +1,9 @@
 -- What an accepted displacement has, DEMAND 3 over all of its rounds among it. Assumes nothing.
 use mathlib.Core.Path.{_≡_, refl, sym, _∙_, subst}
-use mathlib.Core.Bool.{Bool, true, false}
+use mathlib.Core.Bool.{Bool, true}
 use Prim.Native.Nat.{ℕ, _+_, _-_, _<_}
 use native.Mathlib.Omega.{arith}
-use mathlib.Core.List.{List, map}
+use mathlib.Core.List.{List, _++_, map}
 use lib.Dec.{T}
 use lib.ListN.{length}
 use lib.Ieee.{Float}
@@ -17,12 +17,13 @@ use Rattle.robust.proofs.ResidualsFinite.{round-residuals}
 use Rattle.clocks.specs.Clocks.{clocksOf}
 use Rattle.tdcp.specs.Front.{pairRules}
 use Rattle.tdcp.specs.Valid.{epochRules, intervalRules}
+use Rattle.records.specs.City.{isCity}
 use Rattle.records.specs.Screen.{keptOf, constellations}
 use Rattle.clocks.specs.declared.clocks.Clocks.{Clocks}
 use Rattle.records.specs.declared.pair.Pair.{Pair}
 use Rattle.tdcp.specs.declared.displacement.Settings.{Settings}
 use Rattle.estimator.specs.Rounds.{concluded, Each}
-use Rattle.tdcp.specs.Displacement.{Input, rowAt, roundAt, limit, fitOver, fitBy, pairs, kept, fitOf, roundsOf, deltaAt, endRules, movedBy, movedIn, displacementOf, displacementFloats, Accepted, Promised}
+use Rattle.tdcp.specs.Displacement.{Input, rowAt, roundAt, limit, fitOver, fitBy, pairs, kept, fitOf, roundsOf, deltaAt, endRules, movedBy, displacementOf, displacementFloats, Accepted, Promised}
 use Rattle.tdcp.specs.declared.displacement.Delta.{Delta}
 use Rattle.tdcp.specs.declared.displacement.Displacement.{Displacement}
 use Rattle.tdcp.specs.declared.displacement.Displacement.the-variants.{Refused, Moved}
@@ -96,20 +97,13 @@ by-accepted city i d m =
       finite-residuals = moved-each city s ps d m FiniteResiduals (one-finite s);
     }
 
--- and which 5 lets pass before them
-pub moved-accepted : (i : Input) (d : Delta) → movedIn i ≡ Moved d → Accepted i d
-unfolding movedIn
-moved-accepted i d e =
-    let rules = intervalRules (i .dt) in
-    let m = movedBy false (i .settings) (pairs i) in
-    by-accepted false i d (sym (passed-by Refused m rules (passed-of Refused m rules e (never d))) ∙ e)
-
--- an accepted displacement is one that 2 to 4 let pass
+-- and which 2 to 5 let pass before them
 pub displacement-accepted : (i : Input) (d : Delta) → displacementOf i ≡ Moved d → Accepted i d
 unfolding displacementOf
 displacement-accepted i d e =
-    let rules = epochRules (i .previous) (i .current) (i .receiver) (i .settings) in
-    moved-accepted i d (sym (passed-by Refused (movedIn i) rules (passed-of Refused (movedIn i) rules e (never d))) ∙ e)
+    let rules = epochRules (i .previous) (i .current) (i .receiver) (i .settings) ++ intervalRules (i .since) in
+    let m = movedBy (isCity (i .profile)) (i .settings) (pairs i) in
+    by-accepted (isCity (i .profile)) i d (sym (passed-by Refused m rules (passed-of Refused m rules e (never d))) ∙ e)
 
 -- what it gives out is finite
 pub given-finite : (i : Input) (r : Displacement) → ((d : Delta) → r ≡ Moved d → Accepted i d) → every finite (displacementFloats r) ≡ true
@@ -117,7 +111,7 @@ unfolding every
 given-finite i (Refused r) h = refl
 given-finite i (Moved d) h = let a = h d refl in three-finite (d .delta .x) (d .delta .y) (d .delta .z) (a .x-finite) (a .y-finite) (a .z-finite)
 
--- the public call's promise follows from its answer
+-- the promise of every call follows from its answer
 pub promised : (i : Input) (r : Displacement) → r ≡ displacementOf i → Promised i r
 promised i r e =
     let accepted : (d : Delta) → r ≡ Moved d → Accepted i d = λ d q. displacement-accepted i d (sym e ∙ q) in

@@ -22,7 +22,8 @@ use Rattle.clocks.specs.Clocks.{none, given, slot, has, appearing, slotFrom, cl
 use Rattle.records.specs.Pair.{pairOf, firstPair, pairAt, pairsOf}
 use Rattle.records.specs.Screen.{centre, within, keptOf}
 use Rattle.tdcp.specs.Valid.{settingsPass, badInterval, epochRules, intervalRules, fewRules}
-use Rattle.tdcp.specs.Front.{allPairs, keptPairs, sightRules, countRules}
+use Rattle.tdcp.specs.Front.{sightRules, countRules}
+use Rattle.tdcp.specs.Displacement.{general, pairs, kept}
 use Rattle.records.specs.declared.record.Carrier.{Carrier}
 use Rattle.records.specs.declared.record.Epoch.{Epoch}
 use Rattle.records.specs.declared.pair.Pair.{Pair}
@@ -69,7 +70,9 @@ set m = record { screen = decimal 5 1; «sigma_a» = 1·0; «sigma_b» = +0; hub
 
 -- what the rules but for 15 say at dt seconds
 abbrev said : Float → Float → List Carrier → List Carrier → Check
-said m dt previous current = ruled Refused (epochRules (epoch previous) (epoch current) origin (set m) ++ intervalRules dt ++ countRules (set m) (allPairs (epoch previous) (epoch current) dt origin (set m))) Passed
+said m dt previous current =
+    let i = general (epoch previous) (epoch current) dt origin (set m) in
+    ruled Refused (epochRules (i .previous) (i .current) (i .receiver) (i .settings) ++ intervalRules (i .since) ++ countRules (i .settings) (pairs i)) Passed
 
 abbrev six : List Carrier
 six = map (used 1) (1 ∷ 2 ∷ 3 ∷ 4 ∷ 5 ∷ 6 ∷ [])
@@ -87,7 +90,7 @@ pub record Edges : Type 0 where
   pub six-slots : said (whole 10) 1·0 (twice (0 ∷ 1 ∷ 2 ∷ 3 ∷ 4 ∷ 5 ∷ [])) (twice (0 ∷ 1 ∷ 2 ∷ 3 ∷ 4 ∷ 5 ∷ [])) ≡ Passed
   pub seven-slots : said (whole 10) 1·0 (twice (0 ∷ 1 ∷ 2 ∷ 3 ∷ 4 ∷ 5 ∷ 6 ∷ [])) (twice (0 ∷ 1 ∷ 2 ∷ 3 ∷ 4 ∷ 5 ∷ 6 ∷ [])) ≡ Refused TooManySlots
   -- a detector that equals the screen is dropped
-  pub at-the-screen : length (keptPairs (epoch (used 1 9 ∷ six)) (epoch (carrier 1 9 (decimal 75 1) (pos 1) ∷ six)) 1·0 origin (set (whole 10))) ≡ 6
+  pub at-the-screen : length (kept (general (epoch (used 1 9 ∷ six)) (epoch (carrier 1 9 (decimal 75 1) (pos 1) ∷ six)) 1·0 origin (set (whole 10)))) ≡ 6
   pub adr-not-finite : said (whole 10) 1·0 six (carrier 1 9 (inf false) (pos 1) ∷ six) ≡ Passed
   pub adr-too-large : said (whole 10) 1·0 six (carrier 1 9 (whole 1000000001) (pos 0) ∷ six) ≡ Refused RecordOutOfRange
   pub interval-of-0 : said (whole 10) +0 six six ≡ Refused BadInterval

@@ -6,4 +6,7 @@ pub mod DisplacementLaws
 pub mod DisplacementSound
 pub mod DisplacementCall
 pub mod CountedLaws
-pub mod BetweenLaws
+pub mod IntervalLaws
+pub mod FilterLaws
+pub mod CityLaws
+pub mod RatedLaws

@@ -17,12 +17,13 @@ use Rattle.records.specs.Screen.{keptOf}
 use Rattle.records.specs.declared.record.Carrier.{Carrier}
 use Rattle.records.specs.declared.pair.Pair.{Pair}
 use Rattle.estimator.specs.Rules.{Rule, rule, ruled}
+use Rattle.records.specs.City.{isCity}
 use Rattle.estimator.specs.Rounds.{concluded}
 use Rattle.estimator.specs.declared.rules.Check.the-variants.{Refused as Stops, Passed}
 use Rattle.estimator.proofs.RulesLaws.{checked, ruled-append}
 use Rattle.tdcp.specs.Valid.{epochRules, intervalRules}
 use Rattle.tdcp.specs.Front.{rangeRules, sightRules, countRules, cityRules, pairRules}
-use Rattle.tdcp.specs.Displacement.{Input, fitBy, pairs, deltaAt, endRules, movedBy, movedIn, displacementOf}
+use Rattle.tdcp.specs.Displacement.{Input, fitBy, pairs, deltaAt, endRules, movedBy, displacementOf}
 use Rattle.tdcp.specs.declared.displacement.Settings.{Settings}
 use Rattle.tdcp.specs.declared.displacement.Displacement.{Displacement}
 use Rattle.tdcp.specs.declared.displacement.Displacement.the-variants.{Refused, Moved}
@@ -76,7 +77,7 @@ movedBefore settings ps =
     ruled Refused (countRules settings ps) (concluded Refused endRules (λ x. Moved (deltaAt used (length ps - used) x)) (fitBy settings ps .end))
 
 abbrev pub displacementBefore : Input → Displacement
-displacementBefore i = ruled Refused (epochRules (i .previous) (i .current) (i .receiver) (i .settings)) (ruled Refused (intervalRules (i .dt)) (movedBefore (i .settings) (pairs i)))
+displacementBefore i = ruled Refused (epochRules (i .previous) (i .current) (i .receiver) (i .settings) ++ intervalRules (i .since)) (movedBefore (i .settings) (pairs i))
 
 -- 20 never applies outside the city profile
 counts-alone : (settings : Settings) (ps : List Pair) (a : Displacement) → ruled Refused (countRules settings ps ++ cityRules false (keptOf (settings .screen) ps)) a ≡ ruled Refused (countRules settings ps) a
@@ -88,8 +89,10 @@ unfolding movedBy pairRules
 moved-is settings ps =
     ruled-append Refused _ (sightRules ps) _ ∙ ap (ruled Refused (sightRules ps)) (counts-alone settings ps _) ∙ sights-are Refused (movedBefore settings ps) ps
 
-pub as-before : (i : Input) → every seen (pairs i) ≡ true → displacementOf i ≡ displacementBefore i
-unfolding displacementOf movedIn
-as-before i e =
-    ap (λ (d : Displacement). ruled Refused (epochRules (i .previous) (i .current) (i .receiver) (i .settings)) (ruled Refused (intervalRules (i .dt)) d))
-    (moved-is (i .settings) (pairs i) ∙ ap (λ (b : Bool). cond b (movedBefore (i .settings) (pairs i)) (Refused OnReceiver)) e)
+pub as-before : (i : Input) → isCity (i .profile) ≡ false → every seen (pairs i) ≡ true → displacementOf i ≡ displacementBefore i
+unfolding displacementOf
+as-before i g e =
+    ap (λ (d : Displacement). ruled Refused (epochRules (i .previous) (i .current) (i .receiver) (i .settings) ++ intervalRules (i .since)) d)
+    (ap (λ (city : Bool). movedBy city (i .settings) (pairs i)) g
+    ∙ moved-is (i .settings) (pairs i)
+    ∙ ap (λ (b : Bool). cond b (movedBefore (i .settings) (pairs i)) (Refused OnReceiver)) e)

@@ -1,8 +1,8 @@
--- The displacement of a receiver between two epochs (docs/SCOPE.md, "Displacement"; tdcp.rs): its rounds, and the answer. Definitions only.
+-- The displacement of a receiver between two epochs (docs/SCOPE.md, "Displacement", "Times" and "City profile"; tdcp.rs): its rounds, and the answer. Definitions only.
 use mathlib.Core.Path.{_≡_}
 use Prim.Native.Nat.{ℕ, _+_, _-_, _<_}
-use mathlib.Core.Bool.{Bool, true, false, not}
-use mathlib.Core.List.{List, [], _∷_, map}
+use mathlib.Core.Bool.{Bool, true, not}
+use mathlib.Core.List.{List, [], _∷_, _++_, map}
 use lib.ListN.{length}
 use lib.Dec.{T}
 use lib.Ieee.{Float}
@@ -20,27 +20,39 @@ use Rattle.normal.specs.declared.row.Row.{Row}
 use Rattle.clocks.specs.Clocks.{slot, clocksOf}
 use Rattle.estimator.specs.Rules.{Rule, rule, ruled}
 use Rattle.records.specs.Record.{counted}
-use Rattle.records.specs.City.{looked}
+use Rattle.records.specs.City.{looked, isCity}
 use Rattle.records.specs.Pair.{pairsOf}
 use Rattle.records.specs.Screen.{keptOf, constellations}
-use Rattle.tdcp.specs.Valid.{epochRules, intervalRules}
-use Rattle.tdcp.specs.Front.{allPairs, keptPairs, pairRules}
+use Rattle.tdcp.specs.Valid.{dtOf, epochRules, intervalRules}
+use Rattle.tdcp.specs.Front.{pairRules}
 use Rattle.clocks.specs.declared.clocks.Clocks.{Clocks}
 use Rattle.records.specs.declared.record.Epoch.{Epoch}
 use Rattle.records.specs.declared.pair.Pair.{Pair}
+use Rattle.records.specs.declared.pair.Profile.{Profile}
+use Rattle.records.specs.declared.pair.Profile.the-variants.{General}
 use Rattle.tdcp.specs.declared.displacement.Settings.{Settings}
+use Rattle.tdcp.specs.declared.displacement.Interval.{Interval}
+use Rattle.tdcp.specs.declared.displacement.Interval.the-variants as Interval
 use Rattle.estimator.specs.Rounds.{Fit, fitFrom, vector, finiteAt, concluded, Each}
 use Rattle.tdcp.specs.declared.displacement.Delta.{Delta}
 use Rattle.tdcp.specs.declared.displacement.Displacement.{Displacement}
 use Rattle.tdcp.specs.declared.displacement.Displacement.the-variants.{Refused, Moved}
 
--- what is handed over
+-- what is handed over: two epochs, how far apart they lie, the receiver, the settings, and which carriers are looked at
 pub record Input : Type 0 where
   pub previous : Epoch
   pub current : Epoch
-  pub dt : Float
+  pub since : Interval
   pub receiver : Vec3
   pub settings : Settings
+  pub profile : Profile
+
+abbrev pub input : Epoch → Epoch → Interval → Vec3 → Settings → Profile → Input
+input previous current since receiver settings profile = record { previous = previous; current = current; since = since; receiver = receiver; settings = settings; profile = profile }
+
+-- dt seconds apart, by every carrier
+abbrev pub general : Epoch → Epoch → Float → Vec3 → Settings → Input
+general previous current dt receiver settings = input previous current (Interval.Seconds dt) receiver settings General
 
 -- ---- the rounds
 
@@ -80,12 +92,15 @@ fitBy settings ps =
     let kept = keptOf (settings .screen) ps in
     fitOver settings (clocksOf (constellations kept)) kept
 
--- the pairs of a call, before screening and after it
-abbrev pub pairs : Input → List Pair
-pairs i = allPairs (i .previous) (i .current) (i .dt) (i .receiver) (i .settings)
+-- ---- the pairs of a call
 
+-- the pairs before screening: of all counted carriers, or in the city profile of those that it certifies
+abbrev pub pairs : Input → List Pair
+pairs i = pairsOf (i .receiver) (i .settings .mask) (dtOf (i .since)) (looked (i .profile) (counted (i .previous))) (looked (i .profile) (counted (i .current)))
+
+-- and after it
 abbrev pub kept : Input → List Pair
-kept i = keptPairs (i .previous) (i .current) (i .dt) (i .receiver) (i .settings)
+kept i = keptOf (i .settings .screen) (pairs i)
 
 -- the fit of a call, and its rounds
 unfoldable pub fitOf : Input → Fit
@@ -114,20 +129,11 @@ movedBy city settings ps =
     let used = length (keptOf (settings .screen) ps) in
     ruled Refused (pairRules city settings ps) (concluded Refused endRules (λ x. Moved (deltaAt used (length ps - used) x)) (fitBy settings ps .end))
 
--- 5 on the interval, and then what its pairs come to
-unfoldable pub movedIn : Input → Displacement
-movedIn i = ruled Refused (intervalRules (i .dt)) (movedBy false (i .settings) (pairs i))
-
--- the same in the city profile, of the pairs of the carriers that it certifies
-abbrev pub pairsFor : Bool → ℕ → Input → List Pair
-pairsFor city band i = pairsOf (i .receiver) (i .settings .mask) (i .dt) (counted (i .previous)) (looked city band (counted (i .current)))
-
-unfoldable pub movedFor : Bool → ℕ → Input → Displacement
-movedFor city band i = ruled Refused (intervalRules (i .dt)) (movedBy city (i .settings) (pairsFor city band i))
-
--- 2 to 4 on what is handed over, and then 5 and what its pairs come to
+-- 2 to 4 on what is handed over, 13 and 5 on its interval, and then what its pairs come to
 unfoldable pub displacementOf : Input → Displacement
-displacementOf i = ruled Refused (epochRules (i .previous) (i .current) (i .receiver) (i .settings)) (movedIn i)
+displacementOf i =
+    ruled Refused (epochRules (i .previous) (i .current) (i .receiver) (i .settings) ++ intervalRules (i .since))
+    (movedBy (isCity (i .profile)) (i .settings) (pairs i))
 
 -- ---- an answer in numbers: its number, which is 0 where it is accepted, its floats and its counts; a refusal has its number alone
 
@@ -145,11 +151,7 @@ abbrev pub displacementCounts : Displacement → List ℕ
 displacementCounts (Refused r) = []
 displacementCounts (Moved d) = d .used ∷ d .screened ∷ []
 
--- ---- the promise of the public call
-
-abbrev pub input : Epoch → Epoch → Float → Vec3 → Settings → Input
-input previous current dt receiver settings = record { previous = previous; current = current; dt = dt; receiver = receiver; settings = settings }
-
+-- ---- the promise of every call
 -- What an accepted displacement has: it is finite, used plus screened are the pairs counted, used exceeds three plus the slots, demand 3 holds of every round, and
 -- no round has a residual that is not finite.
 pub record Accepted (i : Input) (d : Delta) : Type 0 where

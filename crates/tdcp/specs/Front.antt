@@ -2,28 +2,15 @@
 use mathlib.Core.Bool.{Bool, not, _&&_}
 use mathlib.Core.List.{List, [], _∷_, _++_}
 use lib.ListN.{length}
-use lib.Ieee.{Float}
-use Rattle.numeric.specs.declared.vec3.Vec3.{Vec3}
 use Rattle.walk.specs.Walk.{collect}
 use Rattle.numeric.specs.Sight.{onReceiver}
 use Rattle.numeric.specs.declared.refusal.Refusal.the-variants.{OnReceiver, NotCertified}
 use Rattle.estimator.specs.Rules.{Rule, rule}
-use Rattle.records.specs.Record.{counted}
 use Rattle.clocks.specs.Clocks.{has, clocksOf}
-use Rattle.records.specs.Pair.{pairsOf}
 use Rattle.records.specs.Screen.{keptOf, constellations}
 use Rattle.tdcp.specs.Valid.{fewRules}
-use Rattle.records.specs.declared.record.Epoch.{Epoch}
 use Rattle.records.specs.declared.pair.Pair.{Pair}
 use Rattle.tdcp.specs.declared.displacement.Settings.{Settings}
-
--- the pairs before screening
-abbrev pub allPairs : Epoch → Epoch → Float → Vec3 → Settings → List Pair
-allPairs previous current dt receiver settings = pairsOf receiver (settings .mask) dt (counted previous) (counted current)
-
--- the pairs after it
-abbrev pub keptPairs : Epoch → Epoch → Float → Vec3 → Settings → List Pair
-keptPairs previous current dt receiver settings = keptOf (settings .screen) (allPairs previous current dt receiver settings)
 
 -- 15, of one pair: the current satellite before the previous
 abbrev pub rangeRules : Pair → List Rule

@@ -1,5 +1,6 @@
 pub mod Valid
 pub mod Front
 pub mod Displacement
+pub mod Rated
 pub mod Rows
-pub mod Between
+pub mod City

@@ -1,18 +1,24 @@
 -- The rows of a round as the code has them, columns of numbers, place by place: the contracts of its parts. Definitions only.
 use mathlib.Core.Path.{_≡_}
 use Prim.Native.Nat.{ℕ, _<_}
+use mathlib.Core.Bool.{Bool, true, false}
 use mathlib.Core.List.{List}
 use lib.ListN.{getD, length}
 use lib.Ieee.{Float, nan}
-use Rattle.exact.specs.Float.{_⊕_, _⊖_, _⊗_}
-use Rattle.cholesky.specs.Factor.{at}
+use Rattle.exact.specs.Float.{_⊕_, _⊖_, _⊗_, +0}
+use Rattle.cholesky.specs.Factor.{at, zeros}
 use Rattle.numeric.specs.Order.{patternOf}
 use Rattle.robust.specs.Sigma.{elevationSigma}
-use Rattle.clocks.specs.Clocks.{slot}
+use Rattle.clocks.specs.Clocks.{slot, clocksOf}
 use Rattle.clocks.specs.declared.clocks.Clocks.{Clocks}
 use Rattle.records.specs.declared.pair.Pair.{Pair}
-use Rattle.estimator.specs.Rounds.{concluded}
-use Rattle.tdcp.specs.Displacement.{fitOver, deltaAt, endRules}
+use Rattle.estimator.specs.Rounds.{concluded, stateAfter}
+use Rattle.tdcp.specs.Displacement.{Input, fitOver, fitBy, deltaAt, endRules, displacementOf}
+use Rattle.tdcp.specs.Rated.{qualityAt, quality, ratedBy}
+use Rattle.tdcp.specs.declared.displacement.Rated.{Rated}
+use Rattle.tdcp.specs.declared.displacement.Rated.the-variants as Rated
+use Rattle.quality.specs.declared.figures.Quality.{Quality}
+use Rattle.records.specs.Screen.{keptOf, constellations}
 use Rattle.tdcp.specs.declared.displacement.Settings.{Settings}
 use Rattle.tdcp.specs.declared.displacement.Displacement.{Displacement}
 use Rattle.tdcp.specs.declared.displacement.Displacement.the-variants.{Refused, Moved}
@@ -37,3 +43,31 @@ pub record ResidualsAt (x y z : List Float) (clock : List ℕ) (observed s : Lis
 -- what the rounds over the pairs ps come to, with the clocks k, where so many were screened out
 abbrev pub movedOver : Settings → Clocks → List Pair → ℕ → Displacement
 movedOver settings k ps screened = concluded Refused endRules (λ x. Moved (deltaAt (length ps) screened x)) (fitOver settings k ps .end)
+
+-- ---- the answer as the code has it, with its figures where they are wanted and zeros in their place where not
+
+abbrev pub unrated : Displacement → Rated
+unrated (Refused r) = Rated.Refused r
+unrated (Moved d) = Rated.Moved (record { moved = d; chi = +0; pdop = +0 })
+
+abbrev pub answerBy : Bool → Quality → Displacement → Rated
+answerBy true q m = ratedBy q m
+answerBy false q m = unrated m
+
+-- the quality at the end of the rounds over the pairs ps, with the clocks k
+abbrev pub qualityOver : Settings → Clocks → List Pair → Quality
+qualityOver settings k ps = qualityAt settings k ps (stateAfter (fitOver settings k ps .end) zeros)
+
+-- and over those that the screen keeps of the pairs ps
+abbrev pub qualityBy : Settings → List Pair → Quality
+qualityBy settings ps =
+    let kept = keptOf (settings .screen) ps in
+    qualityAt settings (clocksOf (constellations kept)) kept (stateAfter (fitBy settings ps .end) zeros)
+
+-- an answer without its figures
+abbrev pub plainOf : Rated → Displacement
+plainOf (Rated.Refused r) = Refused r
+plainOf (Rated.Moved d) = Moved (d .moved)
+
+unfoldable pub answerOf : Bool → Input → Rated
+answerOf wanted i = answerBy wanted (quality i) (displacementOf i)

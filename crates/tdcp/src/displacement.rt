@@ -4,16 +4,18 @@ ghost use mathlib.Core.Bool.{true};
 ghost use lib.ListN.{length, take};
 ghost use Prim.Native.Nat.{ℕ, _≤_};
 ghost use Rattle.walk.specs.Walk.{every};
-ghost use Rattle.records.specs.Carriers.{carrierColumns, epochOf, epochFits};
+ghost use Rattle.records.specs.Signals.{epochIn, Fit};
 ghost use Rattle.records.specs.Kept.{pairsIn};
 ghost use Rattle.records.specs.Pair.{seen};
 ghost use Rattle.estimator.specs.Rounds.{Ended};
 ghost use Rattle.tdcp.specs.Displacement as spec;
+ghost use Rattle.tdcp.specs.Rated as rated;
+ghost use Rattle.tdcp.specs.Rated.{qualityAt};
 ghost use Rattle.tdcp.specs.Rows as code;
-use crate::valid::check_in;
+ghost use Rattle.records.specs.City.{isCity};
 use crate::valid::check_pairs;
-use crate::valid::is_bad_interval;
 use crate::valid::is_uncertified;
+use crate::valid::seconds_of;
 use clocks::clocks::Clocks;
 use estimator::rounds::is_short;
 use estimator::rounds::move_by;
@@ -23,15 +25,22 @@ use numeric::order::pattern;
 use numeric::real::is_finite;
 use numeric::refusal::Refusal;
 use numeric::vec3::Vec3;
-use records::carriers::columns_into;
+use quality::figures::Quality;
+use quality::figures::quality_of;
+use records::carriers::epoch_into;
+use records::carriers::sound_in;
 use records::pair::Pairs;
+use records::pair::Profile;
 use records::pair::pairs_in;
 use records::record::Epoch;
+use records::record::is_placeable;
 use records::screen::clocks_of;
 use records::screen::keep_into;
 use robust::round::Stepping;
 use robust::round::round_step;
 use robust::sigma::elevation_sigma;
+use time::time::GpsTime;
+use time::time::Seconds;
 
 // Weighting, screening and robustness; `agreement` is neither read nor checked.
 pub struct Settings {
@@ -51,9 +60,27 @@ pub struct Delta {
     pub screened: usize,
 }
 
+// How far two epochs lie apart: so many seconds, or the previous time and the current one.
+pub enum Interval {
+    Seconds(f64),
+    Between(GpsTime, GpsTime),
+}
+
 pub enum Displacement {
     Refused(Refusal),
     Moved(Delta),
+}
+
+// A displacement with the quality of its fit: chi, the root of the reduced chi-squared, and pdop, the dilution of precision.
+pub struct RatedDelta {
+    pub moved: Delta,
+    pub chi: f64,
+    pub pdop: f64,
+}
+
+pub enum Rated {
+    Refused(Refusal),
+    Moved(RatedDelta),
 }
 
 // What was observed, less what the state x says of the line of sight u, v, w and the clock s, as a pattern.
@@ -74,7 +101,8 @@ fn residuals_at(
     residual: &mut [u64; 64],
 )
     requires { ⌜ (length (now observed) ≤ 64) × (length (now residual) ≡ 64) ⌝ }
-    ensures { λ _. ⌜ code.ResidualsAt (now (x .entry)) (now (y .entry)) (now (z .entry)) (now (clock .entry)) (now (observed .entry)) at (now (residual .exit)) ⌝ }
+    ensures { λ _. ⌜ code.ResidualsAt (now (x .entry)) (now (y .entry)) (now (z .entry)) (now (clock .entry)) (now (observed .entry)) at
+        (now (residual .exit)) ⌝ }
 {
     let count = observed.len();
     for j in 0..count {
@@ -125,7 +153,9 @@ pub(crate) fn fit_pairs(
     state: &mut [f64; 9],
 ) -> Check
     requires { ⌜ (length (now observed) ≤ 64) × (k .count ≤ 6) ⌝ }
-    ensures { λ r. ⌜ Ended (spec.fitOver settings k (pairsIn (now (x .entry)) (now (y .entry)) (now (z .entry)) (now (constellation .entry)) (now (elevation .entry)) (now (observed .entry))) .end) r (now (state .entry)) (now (state .exit)) ⌝ }
+    ensures { λ r. ⌜ (let pairs = pairsIn (now (x .entry)) (now (y .entry)) (now (z .entry)) (now (constellation .entry)) (now (elevation .entry))
+        (now (observed .entry)) in
+        Ended (spec.fitOver settings k pairs .end) r (now (state .entry)) (now (state .exit))) ⌝ }
 {
     let count = observed.len();
     let mut clock = [0usize; 64];
@@ -183,7 +213,48 @@ fn moved_to(x: [f64; 9], used: usize, screened: usize) -> Displacement
     Displacement::Refused(Refusal::FitFailed)
 }
 
-// What the rounds over the pairs of the columns come to: the displacement at the state that they reach, or why one is refused.
+// Returns chi and pdop of the pairs of the columns at a state, or their refusal.
+fn quality_at(
+    settings: Settings,
+    k: Clocks,
+    x: &[f64; 64],
+    y: &[f64; 64],
+    z: &[f64; 64],
+    constellation: &[u8; 64],
+    elevation: &[f64; 64],
+    observed: &[f64],
+    at: [f64; 9],
+) -> Quality
+    requires { ⌜ (length (now observed) ≤ 64) × (k .count ≤ 6) ⌝ }
+    ensures { λ r. ⌜ (let pairs = pairsIn (now (x .entry)) (now (y .entry)) (now (z .entry)) (now (constellation .entry)) (now (elevation .entry)) (now (observed .entry)) in
+        r ≡ qualityAt settings k pairs at) ⌝ }
+{
+    let count = observed.len();
+    let mut clock = [0usize; 64];
+    clocks_into(k, constellation, count, &mut clock);
+    let mut sigma = [0.0; 64];
+    sigmas_into(settings, elevation, count, &mut sigma);
+    let mut residual = [0u64; 64];
+    residuals_at(x, y, z, &clock, observed, at, &mut residual);
+    let n = 3 + k.count;
+    quality_of(x, y, z, &clock, &sigma, &residual[..count], n)
+}
+
+// Returns a displacement with its figures, or why these are refused.
+fn rate(d: Delta, quality: Quality) -> Rated
+    ensures { λ r. ⌜ r ≡ rated.rate d quality ⌝ }
+{
+    match quality {
+        Quality::Refused(r) => Rated::Refused(r),
+        Quality::Rated(f) => Rated::Moved(RatedDelta {
+            moved: d,
+            chi: f.chi,
+            pdop: f.pdop,
+        }),
+    }
+}
+
+// Runs the rounds over the pairs of the columns. Returns the displacement at the state that they reach, with its figures where these are wanted, or the refusal.
 fn moved_over(
     settings: Settings,
     k: Clocks,
@@ -194,9 +265,11 @@ fn moved_over(
     elevation: &[f64; 64],
     observed: &[f64],
     screened: usize,
-) -> Displacement
+    wanted: bool,
+) -> Rated
     requires { ⌜ (length (now observed) ≤ 64) × (k .count ≤ 6) ⌝ }
-    ensures { λ r. ⌜ r ≡ code.movedOver settings k (pairsIn (now (x .entry)) (now (y .entry)) (now (z .entry)) (now (constellation .entry)) (now (elevation .entry)) (now (observed .entry))) screened ⌝ }
+    ensures { λ r. ⌜ (let pairs = pairsIn (now (x .entry)) (now (y .entry)) (now (z .entry)) (now (constellation .entry)) (now (elevation .entry)) (now (observed .entry)) in
+        r ≡ code.answerBy wanted (code.qualityOver settings k pairs) (code.movedOver settings k pairs screened)) ⌝ }
 {
     let used = observed.len();
     let mut state = [0.0; 9];
@@ -211,16 +284,41 @@ fn moved_over(
         observed,
         &mut state,
     ) {
-        return Displacement::Refused(r);
+        return Rated::Refused(r);
     }
-    moved_to(state, used, screened)
+    let moved = moved_to(state, used, screened);
+    match moved {
+        Displacement::Refused(r) => Rated::Refused(r),
+        Displacement::Moved(d) => {
+            if wanted {
+                let quality = quality_at(
+                    settings,
+                    k,
+                    x,
+                    y,
+                    z,
+                    constellation,
+                    elevation,
+                    observed,
+                    state,
+                );
+                return rate(d, quality);
+            }
+            Rated::Moved(RatedDelta {
+                moved: d,
+                chi: 0.0,
+                pdop: 0.0,
+            })
+        }
+    }
 }
 
 // What every displacement shares, from the pairs on: 15, the screen, rules 7 to 9 and in the city profile 20, the rounds, and 10. 15 is asked behind the screen:
 // a way out before it keeps the pairs a second time.
-pub(crate) fn moved_by(settings: Settings, all: Pairs, city: bool) -> Displacement
+pub(crate) fn moved_by(settings: Settings, all: Pairs, profile: Profile, wanted: bool) -> Rated
     requires { ⌜ (all .count ≤ 64) × (all .seen ≡ every seen (take (all .count) (all .pair))) ⌝ }
-    ensures { λ r. ⌜ r ≡ spec.movedBy city settings (take (all .count) (all .pair)) ⌝ }
+    ensures { λ r. ⌜ (let pairs = take (all .count) (all .pair) in
+        r ≡ code.answerBy wanted (code.qualityBy settings pairs) (spec.movedBy (isCity profile) settings pairs)) ⌝ }
 {
     let pairs = all.count;
     let seen = all.seen;
@@ -241,12 +339,12 @@ pub(crate) fn moved_by(settings: Settings, all: Pairs, city: bool) -> Displaceme
         &mut observed,
     );
     if !seen {
-        return Displacement::Refused(Refusal::OnReceiver);
+        return Rated::Refused(Refusal::OnReceiver);
     }
     let clocks = clocks_of(&constellation[..used]);
-    let uncertified = is_uncertified(city, &constellation[..used]);
+    let uncertified = is_uncertified(profile, &constellation[..used]);
     if let Check::Refused(r) = check_pairs(pairs, used, clocks.count, uncertified) {
-        return Displacement::Refused(r);
+        return Rated::Refused(r);
     }
     moved_over(
         settings,
@@ -258,11 +356,174 @@ pub(crate) fn moved_by(settings: Settings, all: Pairs, city: bool) -> Displaceme
         &elevation,
         &observed[..used],
         pairs - used,
+        wanted,
     )
 }
 
-// The receiver's position change between two epochs, dt seconds apart. The receiver's position sets the geometry only.
-// Each epoch is written into columns once, so that one form of the tests and the pairs serves both calls.
+// Returns the displacement of an answer without its figures.
+pub fn plain(answer: Rated) -> Displacement
+    ensures { λ r. ⌜ r ≡ code.plainOf answer ⌝ }
+{
+    match answer {
+        Rated::Refused(r) => Displacement::Refused(r),
+        Rated::Moved(d) => {
+            let moved = d.moved;
+            Displacement::Moved(moved)
+        }
+    }
+}
+
+// Returns the receiver's position change between two epochs of signals, states and floats, with the figures of its fit where these are wanted. Every displacement
+// ends here. The receiver's position sets the geometry only.
+pub fn answered(
+    previous_signals: &[u64],
+    previous_states: &[i32],
+    previous_floats: &[f64],
+    current_signals: &[u64],
+    current_states: &[i32],
+    current_floats: &[f64],
+    since: Interval,
+    receiver: Vec3,
+    settings: Settings,
+    profile: Profile,
+    wanted: bool,
+) -> Rated
+    requires { ⌜ Fit (now «previous_signals») (now «previous_states») (now «previous_floats») ⌝ }
+    requires { ⌜ Fit (now «current_signals») (now «current_states») (now «current_floats») ⌝ }
+    ensures { λ r. ⌜ r ≡ code.answerOf wanted (spec.input
+        (epochIn (now («previous_signals» .entry)) (now («previous_states» .entry)) (now («previous_floats» .entry)))
+        (epochIn (now («current_signals» .entry)) (now («current_states» .entry)) (now («current_floats» .entry)))
+        since receiver settings profile) ⌝ }
+{
+    let sound = sound_in(previous_signals, previous_states, previous_floats)
+        & sound_in(current_signals, current_states, current_floats)
+        & is_placeable(receiver);
+    let seconds = seconds_of(settings, sound, since);
+    match seconds {
+        Seconds::Refused(r) => Rated::Refused(r),
+        Seconds::Since(dt) => {
+            let all = pairs_in(
+                previous_signals,
+                previous_states,
+                previous_floats,
+                current_signals,
+                current_states,
+                current_floats,
+                receiver,
+                settings.mask,
+                dt,
+                profile,
+            );
+            moved_by(settings, all, profile, wanted)
+        }
+    }
+}
+
+// Returns the receiver's position change between two epochs of signals, states and floats, of which no float is copied.
+pub fn displaced(
+    previous_signals: &[u64],
+    previous_states: &[i32],
+    previous_floats: &[f64],
+    current_signals: &[u64],
+    current_states: &[i32],
+    current_floats: &[f64],
+    since: Interval,
+    receiver: Vec3,
+    settings: Settings,
+    profile: Profile,
+) -> Displacement
+    requires { ⌜ Fit (now «previous_signals») (now «previous_states») (now «previous_floats») ⌝ }
+    requires { ⌜ Fit (now «current_signals») (now «current_states») (now «current_floats») ⌝ }
+    ensures { λ r. ⌜ spec.Promised (spec.input
+        (epochIn (now («previous_signals» .entry)) (now («previous_states» .entry)) (now («previous_floats» .entry)))
+        (epochIn (now («current_signals» .entry)) (now («current_states» .entry)) (now («current_floats» .entry)))
+        since receiver settings profile) r ⌝ }
+{
+    let answer = answered(
+        previous_signals,
+        previous_states,
+        previous_floats,
+        current_signals,
+        current_states,
+        current_floats,
+        since,
+        receiver,
+        settings,
+        profile,
+        false,
+    );
+    plain(answer)
+}
+
+// Returns the answer of two epochs by value: each is written as signals, states and floats once.
+fn answered_by(
+    previous: Epoch,
+    current: Epoch,
+    since: Interval,
+    receiver: Vec3,
+    settings: Settings,
+    profile: Profile,
+    wanted: bool,
+) -> Rated
+    ensures { λ r. ⌜ r ≡ code.answerOf wanted (spec.input previous current since receiver settings profile) ⌝ }
+{
+    let m = previous.count;
+    let n = current.count;
+    if 64 < m {
+        return Rated::Refused(Refusal::TooMany);
+    }
+    if 64 < n {
+        return Rated::Refused(Refusal::TooMany);
+    }
+    let mut previous_signals = [0u64; 64];
+    let mut previous_states = [0i32; 64];
+    let mut previous_floats = [0.0; 384];
+    epoch_into(
+        previous,
+        &mut previous_signals,
+        &mut previous_states,
+        &mut previous_floats,
+    );
+    let mut current_signals = [0u64; 64];
+    let mut current_states = [0i32; 64];
+    let mut current_floats = [0.0; 384];
+    epoch_into(
+        current,
+        &mut current_signals,
+        &mut current_states,
+        &mut current_floats,
+    );
+    answered(
+        &previous_signals[..m],
+        &previous_states,
+        &previous_floats,
+        &current_signals[..n],
+        &current_states,
+        &current_floats,
+        since,
+        receiver,
+        settings,
+        profile,
+        wanted,
+    )
+}
+
+// Returns the receiver's position change between two epochs by value.
+pub fn displaced_by(
+    previous: Epoch,
+    current: Epoch,
+    since: Interval,
+    receiver: Vec3,
+    settings: Settings,
+    profile: Profile,
+) -> Displacement
+    ensures { λ r. ⌜ spec.Promised (spec.input previous current since receiver settings profile) r ⌝ }
+{
+    let answer = answered_by(previous, current, since, receiver, settings, profile, false);
+    plain(answer)
+}
+
+// The receiver's position change between two epochs, dt seconds apart.
 pub fn delta_position(
     previous: Epoch,
     current: Epoch,
@@ -270,166 +531,99 @@ pub fn delta_position(
     receiver: Vec3,
     settings: Settings,
 ) -> Displacement
-    ensures { λ r. ⌜ spec.Promised (spec.input previous current dt receiver settings) r ⌝ }
+    ensures { λ r. ⌜ spec.Promised (spec.general previous current dt receiver settings) r ⌝ }
 {
-    if 64 < previous.count {
-        return Displacement::Refused(Refusal::TooMany);
-    }
-    if 64 < current.count {
-        return Displacement::Refused(Refusal::TooMany);
-    }
-    let mut previous_constellation = [0u8; 64];
-    let mut previous_svid = [0u16; 64];
-    let mut previous_band = [0u32; 64];
-    let mut previous_state = [0i32; 64];
-    let mut previous_floats = [0.0; 384];
-    columns_into(
+    displaced_by(
         previous,
-        &mut previous_constellation,
-        &mut previous_svid,
-        &mut previous_band,
-        &mut previous_state,
-        &mut previous_floats,
-    );
-    let mut current_constellation = [0u8; 64];
-    let mut current_svid = [0u16; 64];
-    let mut current_band = [0u32; 64];
-    let mut current_state = [0i32; 64];
-    let mut current_floats = [0.0; 384];
-    columns_into(
         current,
-        &mut current_constellation,
-        &mut current_svid,
-        &mut current_band,
-        &mut current_state,
-        &mut current_floats,
-    );
-    delta_in(
-        &previous_constellation,
-        &previous_svid,
-        &previous_band,
-        &previous_state,
-        &previous_floats,
-        previous.count,
-        &current_constellation,
-        &current_svid,
-        &current_band,
-        &current_state,
-        &current_floats,
-        current.count,
-        dt,
+        Interval::Seconds(dt),
         receiver,
         settings,
+        Profile::General,
     )
 }
 
-// What every displacement of two epochs' columns shares once 2 to 4 have passed: rule 5, the pairs, in the city profile those of the carriers that it certifies,
-// and what they come to.
-pub fn moved_in(
-    previous_constellation: &[u8],
-    previous_svid: &[u16],
-    previous_band: &[u32],
-    previous_state: &[i32],
-    previous_floats: &[f64],
-    previous_count: usize,
-    current_constellation: &[u8],
-    current_svid: &[u16],
-    current_band: &[u32],
-    current_state: &[i32],
-    current_floats: &[f64],
-    current_count: usize,
-    dt: f64,
+// The receiver's position change between two epochs by their times.
+pub fn delta_between(
+    previous: Epoch,
+    current: Epoch,
+    previous_time: GpsTime,
+    current_time: GpsTime,
     receiver: Vec3,
     settings: Settings,
-    city: bool,
-    band: u32,
 ) -> Displacement
-    requires { ⌜ epochFits (carrierColumns (now «previous_constellation») (now «previous_svid») (now «previous_band») (now «previous_state») (now «previous_floats»)) «previous_count» ≡ true ⌝ }
-    requires { ⌜ epochFits (carrierColumns (now «current_constellation») (now «current_svid») (now «current_band») (now «current_state») (now «current_floats»)) «current_count» ≡ true ⌝ }
-    ensures { λ r. ⌜ r ≡ spec.movedFor city band (spec.input (epochOf (carrierColumns (now («previous_constellation» .entry)) (now («previous_svid» .entry)) (now («previous_band» .entry)) (now («previous_state» .entry)) (now («previous_floats» .entry))) «previous_count») (epochOf (carrierColumns (now («current_constellation» .entry)) (now («current_svid» .entry)) (now («current_band» .entry)) (now («current_state» .entry)) (now («current_floats» .entry))) «current_count») dt receiver settings) ⌝ }
+    ensures { λ r. ⌜ spec.Promised (spec.input previous current (Interval.Between «previous_time» «current_time») receiver settings Profile.General) r ⌝ }
 {
-    if is_bad_interval(dt) {
-        return Displacement::Refused(Refusal::BadInterval);
-    }
-    let all = pairs_in(
-        previous_constellation,
-        previous_svid,
-        previous_band,
-        previous_state,
-        previous_floats,
-        previous_count,
-        current_constellation,
-        current_svid,
-        current_band,
-        current_state,
-        current_floats,
-        current_count,
+    displaced_by(
+        previous,
+        current,
+        Interval::Between(previous_time, current_time),
         receiver,
-        settings.mask,
-        dt,
-        city,
-        band,
-    );
-    moved_by(settings, all, city)
+        settings,
+        Profile::General,
+    )
 }
 
-// The same of two epochs' columns: nothing of them is copied. Rules 2 to 4, and then 5 and what the pairs come to.
-pub fn delta_in(
-    previous_constellation: &[u8],
-    previous_svid: &[u16],
-    previous_band: &[u32],
-    previous_state: &[i32],
-    previous_floats: &[f64],
-    previous_count: usize,
-    current_constellation: &[u8],
-    current_svid: &[u16],
-    current_band: &[u32],
-    current_state: &[i32],
-    current_floats: &[f64],
-    current_count: usize,
+// The receiver's position change between two epochs, dt seconds apart, by the carriers that the city profile certifies: GPS (1) and Galileo (6) on one band.
+pub fn city_displacement(
+    previous: Epoch,
+    current: Epoch,
     dt: f64,
+    band: u32,
     receiver: Vec3,
     settings: Settings,
 ) -> Displacement
-    requires { ⌜ epochFits (carrierColumns (now «previous_constellation») (now «previous_svid») (now «previous_band») (now «previous_state») (now «previous_floats»)) «previous_count» ≡ true ⌝ }
-    requires { ⌜ epochFits (carrierColumns (now «current_constellation») (now «current_svid») (now «current_band») (now «current_state») (now «current_floats»)) «current_count» ≡ true ⌝ }
-    ensures { λ r. ⌜ spec.Promised (spec.input (epochOf (carrierColumns (now («previous_constellation» .entry)) (now («previous_svid» .entry)) (now («previous_band» .entry)) (now («previous_state» .entry)) (now («previous_floats» .entry))) «previous_count») (epochOf (carrierColumns (now («current_constellation» .entry)) (now («current_svid» .entry)) (now («current_band» .entry)) (now («current_state» .entry)) (now («current_floats» .entry))) «current_count») dt receiver settings) r ⌝ }
+    ensures { λ r. ⌜ spec.Promised (spec.input previous current (Interval.Seconds dt) receiver settings (Profile.City band)) r ⌝ }
 {
-    if let Check::Refused(r) = check_in(
-        previous_constellation,
-        previous_svid,
-        previous_band,
-        previous_state,
-        previous_floats,
-        previous_count,
-        current_constellation,
-        current_svid,
-        current_band,
-        current_state,
-        current_floats,
-        current_count,
+    displaced_by(
+        previous,
+        current,
+        Interval::Seconds(dt),
         receiver,
         settings,
-    ) {
-        return Displacement::Refused(r);
-    }
-    moved_in(
-        previous_constellation,
-        previous_svid,
-        previous_band,
-        previous_state,
-        previous_floats,
-        previous_count,
-        current_constellation,
-        current_svid,
-        current_band,
-        current_state,
-        current_floats,
-        current_count,
-        dt,
+        Profile::City(band),
+    )
+}
+
+// Returns the receiver's position change between two epochs, dt seconds apart, with the quality of its fit.
+pub fn rated_displacement(
+    previous: Epoch,
+    current: Epoch,
+    dt: f64,
+    receiver: Vec3,
+    settings: Settings,
+) -> Rated
+    ensures { λ r. ⌜ rated.RatedPromised (spec.general previous current dt receiver settings) r ⌝ }
+{
+    answered_by(
+        previous,
+        current,
+        Interval::Seconds(dt),
         receiver,
         settings,
-        false,
-        0,
+        Profile::General,
+        true,
+    )
+}
+
+// Returns the same by the carriers that the city profile certifies: GPS (1) and Galileo (6) on one band.
+pub fn rated_city_displacement(
+    previous: Epoch,
+    current: Epoch,
+    dt: f64,
+    band: u32,
+    receiver: Vec3,
+    settings: Settings,
+) -> Rated
+    ensures { λ r. ⌜ rated.RatedPromised (spec.input previous current (Interval.Seconds dt) receiver settings (Profile.City band)) r ⌝ }
+{
+    answered_by(
+        previous,
+        current,
+        Interval::Seconds(dt),
+        receiver,
+        settings,
+        Profile::City(band),
+        true,
     )
 }

@@ -1,4 +1,3 @@
 // The displacement between two carrier epochs: the rules on what is handed over, the pairs, and the rounds over them.
-pub mod between;
 pub mod displacement;
 pub mod valid;

@@ -1,47 +1,32 @@
--- The contract of each displacement of columns, from the answer that was given. Assumes nothing.
-use mathlib.Core.Path.{_≡_, ap, _∙_}
+-- What the displacement of columns promises, from its answer. Assumes nothing.
+use mathlib.Core.Path.{_≡_, sym, subst, _∙_}
+use mathlib.Core.Bool.{Bool, true, false, cond}
 use mathlib.Core.List.{List}
 use Prim.Native.Nat.{ℕ}
-use lib.Ieee.{Float}
-use Rattle.numeric.specs.declared.vec3.Vec3.{Vec3}
-use Rattle.time.specs.declared.time.GpsTime.{GpsTime}
-use Rattle.records.specs.Carriers.{CarrierColumns}
-use Rattle.tdcp.specs.Displacement.{Input, Accepted, displacementOf, displacementNumber}
-use Rattle.tdcp.specs.Between.{betweenOf}
-use Rattle.tdcp.specs.declared.displacement.Settings.{Settings}
+use Rattle.numeric.specs.declared.refusal.Refusal.the-variants.{TooMany}
+use Rattle.tdcp.specs.Displacement.{displacementOf, Accepted}
 use Rattle.tdcp.specs.declared.displacement.Delta.{Delta}
 use Rattle.tdcp.specs.declared.displacement.Displacement.{Displacement}
-use Rattle.tdcp.specs.declared.displacement.Displacement.the-variants.{Moved}
-use Rattle.tdcp.proofs.DisplacementSound.{displacement-accepted}
-use Rattle.tdcp.proofs.BetweenLaws.{between-accepted}
-use Rattle.city.specs.City.{cityOf}
-use Rattle.city.proofs.CityLaws.{city-accepted}
-use Rattle.tdcp_columns.specs.Displacement.{whereFit, displacementInput, columnDisplacementOf, betweenInput, timedInput, columnBetweenOf, cityInput, leftInput, columnCityOf, deltaAfter, countsAfter, DisplacementAnswers}
-use Rattle.tdcp_columns.proofs.FitLaws.{moved-fit}
+use Rattle.tdcp.specs.declared.displacement.Displacement.the-variants.{Refused, Moved}
+use Rattle.tdcp.proofs.DisplacementSound.{never, displacement-accepted, given-finite}
+use Rattle.tdcp_columns.specs.Displacement.{Lent, inputOf, isFit, columnsDisplaced, ColumnsPromised, Leaves, DisplacementAnswers}
 
--- the answer q that was given is the displacement e of the input i where the columns fit, and e has what an accepted displacement has
-answers : (p : CarrierColumns) (m : ℕ) (c : CarrierColumns) (n : ℕ) (i : Input) (e : Displacement) → ((v : Delta) → e ≡ Moved v → Accepted i v)
-    → {q : Displacement} {number : ℕ} {delta₀ delta counts₀ counts : List ℕ} → q ≡ whereFit p m c n e
-    → (number ≡ displacementNumber q) × (delta ≡ deltaAfter q delta₀) × (counts ≡ countsAfter q counts₀)
-    → DisplacementAnswers i (whereFit p m c n e) number delta₀ delta counts₀ counts
-answers p m c n i e sound {delta₀ = delta₀} {counts₀ = counts₀} is (a, b, d) =
-    record {
-      number-is = a ∙ ap displacementNumber is;
-      delta-is = b ∙ ap (λ (z : Displacement). deltaAfter z delta₀) is;
-      counts-are = d ∙ ap (λ (z : Displacement). countsAfter z counts₀) is;
-      accepted = λ v h. sound v (moved-fit p m c n e v h);
-    }
+module _ (l : Lent) where
+  -- a displacement that was accepted is that of columns that fit
+  pub columns-accepted : (d : Delta) → columnsDisplaced l ≡ Moved d → Accepted (inputOf l) d
+  unfolding columnsDisplaced
+  columns-accepted d = go (isFit l)
+    where
+      go : (b : Bool) → cond b (displacementOf (inputOf l)) (Refused TooMany) ≡ Moved d → Accepted (inputOf l) d
+      go true e = displacement-accepted (inputOf l) d e
+      go false e = absurd (never d TooMany e)
 
-module _ (p : CarrierColumns) (m : ℕ) (c : CarrierColumns) (n : ℕ) (receiver : Vec3) (settings : Settings) {q : Displacement} {number : ℕ} {delta₀ delta counts₀ counts : List ℕ}
-    (given : (number ≡ displacementNumber q) × (delta ≡ deltaAfter q delta₀) × (counts ≡ countsAfter q counts₀)) where
-  pub displacement-answers : (dt : Float) → q ≡ columnDisplacementOf p m c n dt receiver settings
-      → DisplacementAnswers (displacementInput p m c n dt receiver settings) (columnDisplacementOf p m c n dt receiver settings) number delta₀ delta counts₀ counts
-  displacement-answers dt is = let i = displacementInput p m c n dt receiver settings in answers p m c n i (displacementOf i) (displacement-accepted i) is given
+  pub promised : (r : Displacement) → r ≡ columnsDisplaced l → ColumnsPromised l r
+  promised r e =
+      let accepted : (d : Delta) → r ≡ Moved d → Accepted (inputOf l) d = λ d q. columns-accepted d (sym e ∙ q) in
+      record { answer = e; given-finite = given-finite (inputOf l) r accepted; accepted = accepted }
 
-  pub between-answers : (u t : GpsTime) → q ≡ columnBetweenOf p m c n u t receiver settings
-      → DisplacementAnswers (timedInput p m c n u t receiver settings) (columnBetweenOf p m c n u t receiver settings) number delta₀ delta counts₀ counts
-  between-answers u t is = let i = betweenInput p m c n u t receiver settings in answers p m c n (timedInput p m c n u t receiver settings) (betweenOf i) (between-accepted i) is given
-
-  pub city-answers : (dt : Float) (band : ℕ) → q ≡ columnCityOf p m c n dt band receiver settings
-      → DisplacementAnswers (leftInput p m c n dt band receiver settings) (columnCityOf p m c n dt band receiver settings) number delta₀ delta counts₀ counts
-  city-answers dt band is = let i = cityInput p m c n dt band receiver settings in answers p m c n (leftInput p m c n dt band receiver settings) (cityOf i) (city-accepted i) is given
+  -- what is left in lent memory of the answer q that was given
+  pub answers : {q : Displacement} {number : ℕ} {delta₀ delta counts₀ counts : List ℕ} → ColumnsPromised l q → Leaves q number delta₀ delta counts₀ counts → DisplacementAnswers l number delta₀ delta counts₀ counts
+  answers {number = number} {delta₀ = delta₀} {delta = delta} {counts₀ = counts₀} {counts = counts} p h =
+      record { leaves = subst (λ (d : Displacement). Leaves d number delta₀ delta counts₀ counts) (p .answer) h; accepted = columns-accepted }

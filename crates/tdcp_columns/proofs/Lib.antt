@@ -2,3 +2,4 @@ pub mod RoundLaws
 pub mod FitLaws
 pub mod AnswerLaws
 pub mod AnswerValues
+pub mod RatedLaws

@@ -1,27 +1,25 @@
 -- Displacements of a caller's columns: the answer, its number, and what the lent results hold afterwards. Definitions only.
 use Prim.Native.Nat.{ℕ}
 use mathlib.Core.Path.{_≡_}
-use mathlib.Core.Bool.{cond, _&&_}
+use mathlib.Core.Bool.{Bool, true, cond, _&&_}
 use mathlib.Core.List.{List, map}
 use lib.ListN.{getD}
 use lib.Ieee.{Float, nan}
+use lib.Ieee.Scale.{finite}
 use Rattle.exact.specs.Float.{+0}
+use Rattle.walk.specs.Walk.{every}
 use Rattle.numeric.specs.Order.{patternOf}
 use Rattle.numeric.specs.declared.refusal.Refusal.the-variants.{TooMany}
 use Rattle.numeric.specs.declared.vec3.Vec3.{Vec3}
-use Rattle.time.specs.Time.{secondsAfter}
-use Rattle.time.specs.declared.time.GpsTime.{GpsTime}
 use Rattle.records.specs.Carriers.{CarrierColumns, epochOf, epochFits}
-use Rattle.tdcp.specs.Displacement as displacement
-use Rattle.tdcp.specs.Displacement.{displacementOf, displacementNumber, displacementFloats, displacementCounts}
-use Rattle.tdcp.specs.Between as between
-use Rattle.tdcp.specs.Between.{timed, betweenOf}
+use Rattle.records.specs.Signals.{Signalled}
+use Rattle.records.specs.declared.pair.Profile.{Profile}
+use Rattle.tdcp.specs.Displacement.{Input, input, displacementOf, displacementNumber, displacementFloats, displacementCounts, Accepted}
 use Rattle.tdcp.specs.declared.displacement.Settings.{Settings}
+use Rattle.tdcp.specs.declared.displacement.Interval.{Interval}
 use Rattle.tdcp.specs.declared.displacement.Delta.{Delta}
 use Rattle.tdcp.specs.declared.displacement.Displacement.{Displacement}
 use Rattle.tdcp.specs.declared.displacement.Displacement.the-variants.{Refused, Moved}
-use Rattle.city.specs.City as city
-use Rattle.city.specs.City.{left, cityOf}
 
 -- five floats (screen, sigma_a, sigma_b, huber, mask) and the rounds; `agreement` is neither read nor checked
 abbrev pub displacementSettings : List Float → ℕ → Settings
@@ -36,44 +34,42 @@ displacementSettings s rounds =
       agreement = +0;
     }
 
--- The displacement d of the first m carriers of p and the first n of c. 2: one epoch has more than 64, or one of its columns is too short.
-unfoldable pub whereFit : CarrierColumns → ℕ → CarrierColumns → ℕ → Displacement → Displacement
-whereFit p m c n d = cond (epochFits p m && epochFits c n) d (Refused TooMany)
+-- what is lent: the first carriers of two epochs' columns, so many of each, and what every displacement is handed
+pub record Lent : Type 0 where
+  pub previous : CarrierColumns
+  pub previous-count : ℕ
+  pub current : CarrierColumns
+  pub current-count : ℕ
+  pub since : Interval
+  pub receiver : Vec3
+  pub settings : Settings
+  pub profile : Profile
 
--- ---- dt seconds apart
+abbrev pub lent : CarrierColumns → ℕ → CarrierColumns → ℕ → Interval → Vec3 → Settings → Profile → Lent
+lent p m c n since receiver settings profile =
+    record { previous = p; previous-count = m; current = c; current-count = n; since = since; receiver = receiver; settings = settings; profile = profile }
 
--- what is handed over: the first m carriers of p, then the first n of c
-abbrev pub displacementInput : CarrierColumns → ℕ → CarrierColumns → ℕ → Float → Vec3 → Settings → displacement.Input
-displacementInput p m c n dt receiver settings = displacement.input (epochOf p m) (epochOf c n) dt receiver settings
+-- the two epochs, and the same
+abbrev pub inputOf : Lent → Input
+inputOf l = input (epochOf (l .previous) (l .previous-count)) (epochOf (l .current) (l .current-count)) (l .since) (l .receiver) (l .settings) (l .profile)
 
-abbrev pub columnDisplacementOf : CarrierColumns → ℕ → CarrierColumns → ℕ → Float → Vec3 → Settings → Displacement
-columnDisplacementOf p m c n dt receiver settings = whereFit p m c n (displacementOf (displacementInput p m c n dt receiver settings))
+abbrev pub isFit : Lent → Bool
+isFit l = epochFits (l .previous) (l .previous-count) && epochFits (l .current) (l .current-count)
 
--- ---- between two times
+-- whether n carriers of the columns fit, and then their signals
+pub record FitInto (c : CarrierColumns) (n : ℕ) (r : Bool) (signals : List ℕ) : Type 0 where
+  pub fits : r ≡ epochFits c n
+  pub signalled : r ≡ true → Signalled (c .constellation) (c .svid) (c .band) n signals
 
--- what is handed over: the first m carriers of p at the time s, then the first n of c at the time t
-abbrev pub betweenInput : CarrierColumns → ℕ → CarrierColumns → ℕ → GpsTime → GpsTime → Vec3 → Settings → between.Input
-betweenInput p m c n s t receiver settings = between.input (epochOf p m) (epochOf c n) s t receiver settings
+-- their displacement. 2: one epoch has more than 64 carriers, or one of its columns is too short.
+unfoldable pub columnsDisplaced : Lent → Displacement
+columnsDisplaced l = cond (isFit l) (displacementOf (inputOf l)) (Refused TooMany)
 
--- the same with the seconds between the two times as dt
-abbrev pub timedInput : CarrierColumns → ℕ → CarrierColumns → ℕ → GpsTime → GpsTime → Vec3 → Settings → displacement.Input
-timedInput p m c n s t receiver settings = timed (betweenInput p m c n s t receiver settings) (secondsAfter t s)
-
-abbrev pub columnBetweenOf : CarrierColumns → ℕ → CarrierColumns → ℕ → GpsTime → GpsTime → Vec3 → Settings → Displacement
-columnBetweenOf p m c n s t receiver settings = whereFit p m c n (betweenOf (betweenInput p m c n s t receiver settings))
-
--- ---- in the city profile
-
--- what is handed over: the first m carriers of p, then the first n of c, and the band
-abbrev pub cityInput : CarrierColumns → ℕ → CarrierColumns → ℕ → Float → ℕ → Vec3 → Settings → city.Input
-cityInput p m c n dt band receiver settings = city.input (epochOf p m) (epochOf c n) dt band receiver settings
-
--- what is left of it for a general displacement
-abbrev pub leftInput : CarrierColumns → ℕ → CarrierColumns → ℕ → Float → ℕ → Vec3 → Settings → displacement.Input
-leftInput p m c n dt band receiver settings = left (cityInput p m c n dt band receiver settings)
-
-abbrev pub columnCityOf : CarrierColumns → ℕ → CarrierColumns → ℕ → Float → ℕ → Vec3 → Settings → Displacement
-columnCityOf p m c n dt band receiver settings = whereFit p m c n (cityOf (cityInput p m c n dt band receiver settings))
+-- the answer is the definition's, what it gives out is finite, and an accepted one has what every accepted displacement has, demand 3 of every round included
+pub record ColumnsPromised (l : Lent) (r : Displacement) : Type 0 where
+  pub answer : r ≡ columnsDisplaced l
+  pub given-finite : every finite (displacementFloats r) ≡ true
+  pub accepted : (d : Delta) → r ≡ Moved d → Accepted (inputOf l) d
 
 -- ---- the answer in lent memory
 
@@ -86,9 +82,14 @@ abbrev pub countsAfter : Displacement → List ℕ → List ℕ
 countsAfter (Refused r) before = before
 countsAfter (Moved d) before = displacementCounts (Moved d)
 
--- The number and the lent results afterwards are those of the displacement d of the input i. An accepted one has what an accepted displacement has, demand 3 of every round included.
-pub record DisplacementAnswers (i : displacement.Input) (d : Displacement) (number : ℕ) (delta₀ delta : List ℕ) (counts₀ counts : List ℕ) : Type 0 where
+-- the number and the lent results afterwards are those of the displacement d
+pub record Leaves (d : Displacement) (number : ℕ) (delta₀ delta : List ℕ) (counts₀ counts : List ℕ) : Type 0 where
   pub number-is : number ≡ displacementNumber d
   pub delta-is : delta ≡ deltaAfter d delta₀
   pub counts-are : counts ≡ countsAfter d counts₀
-  pub accepted : (v : Delta) → d ≡ Moved v → displacement.Accepted i v
+
+-- The number and the lent results afterwards are those of the displacement of what is lent. An accepted one has what an accepted displacement has, demand 3 of every
+-- round included.
+pub record DisplacementAnswers (l : Lent) (number : ℕ) (delta₀ delta : List ℕ) (counts₀ counts : List ℕ) : Type 0 where
+  pub leaves : Leaves (columnsDisplaced l) number delta₀ delta counts₀ counts
+  pub accepted : (d : Delta) → columnsDisplaced l ≡ Moved d → Accepted (inputOf l) d

@@ -1,1 +1,2 @@
 pub mod Displacement
+pub mod Rated

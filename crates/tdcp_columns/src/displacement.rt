@@ -1,17 +1,20 @@
-// Displacements of two epochs' columns: 2 where they do not fit, and else what the call of the epochs answers.
+// Displacements of two epochs' columns: 2 where they do not fit, and else what their signals, states and floats answer.
 ghost use mathlib.Core.Path.{_≡_};
-ghost use mathlib.Core.Bool.{_&&_};
+ghost use lib.ListN.{length};
 ghost use Rattle.records.specs.Carriers.{carrierColumns, epochFits};
 ghost use Rattle.numeric.specs.Vec3.{vectorAt};
 ghost use Rattle.tdcp_columns.specs.Displacement as spec;
+ghost use Rattle.tdcp_columns.specs.Rated.{columnsAnswered};
 use crate::settings::displacement_settings;
-use city::city::city_in;
 use numeric::refusal::Refusal;
 use numeric::vec3::vector;
-use tdcp::between::between_in;
+use records::carriers::signals_into;
+use records::pair::Profile;
 use tdcp::displacement::Displacement;
-use tdcp::displacement::delta_in;
-use time::time::GpsTime;
+use tdcp::displacement::Interval;
+use tdcp::displacement::Rated;
+use tdcp::displacement::answered;
+use tdcp::displacement::plain;
 
 // Whether there are at most 64 carriers and no column is shorter than they need.
 fn epoch_fits(
@@ -22,7 +25,8 @@ fn epoch_fits(
     floats: &[f64],
     n: usize,
 ) -> bool
-    ensures { λ r. ⌜ r ≡ epochFits (carrierColumns (now (constellation .entry)) (now (svid .entry)) (now (band .entry)) (now (state .entry)) (now (floats .entry))) n ⌝ }
+    ensures { λ r. ⌜ r ≡ epochFits (carrierColumns (now (constellation .entry)) (now (svid .entry)) (now (band .entry))
+        (now (state .entry)) (now (floats .entry))) n ⌝ }
 {
     if n > 64 {
         return false;
@@ -34,43 +38,29 @@ fn epoch_fits(
         & (6 * n <= floats.len())
 }
 
-// Whether that is so of both epochs.
-fn both_fit(
-    previous_constellation: &[u8],
-    previous_svid: &[u16],
-    previous_band: &[u32],
-    previous_state: &[i32],
-    previous_floats: &[f64],
-    previous_count: usize,
-    current_constellation: &[u8],
-    current_svid: &[u16],
-    current_band: &[u32],
-    current_state: &[i32],
-    current_floats: &[f64],
-    current_count: usize,
+// Whether the epoch fits, and then its signals in signals.
+fn fit_into(
+    constellation: &[u8],
+    svid: &[u16],
+    band: &[u32],
+    state: &[i32],
+    floats: &[f64],
+    n: usize,
+    signals: &mut [u64; 64],
 ) -> bool
-    ensures { λ r. ⌜ r ≡ (epochFits (carrierColumns (now («previous_constellation» .entry)) (now («previous_svid» .entry)) (now («previous_band» .entry)) (now («previous_state» .entry)) (now («previous_floats» .entry))) «previous_count» && epochFits (carrierColumns (now («current_constellation» .entry)) (now («current_svid» .entry)) (now («current_band» .entry)) (now («current_state» .entry)) (now («current_floats» .entry))) «current_count») ⌝ }
+    requires { ⌜ length (now signals) ≡ 64 ⌝ }
+    ensures { λ r. ⌜ spec.FitInto (carrierColumns (now (constellation .entry)) (now (svid .entry)) (now (band .entry))
+        (now (state .entry)) (now (floats .entry))) n r (now (signals .exit)) ⌝ }
 {
-    epoch_fits(
-        previous_constellation,
-        previous_svid,
-        previous_band,
-        previous_state,
-        previous_floats,
-        previous_count,
-    )
-        & epoch_fits(
-            current_constellation,
-            current_svid,
-            current_band,
-            current_state,
-            current_floats,
-            current_count,
-        )
+    if !epoch_fits(constellation, svid, band, state, floats, n) {
+        return false;
+    }
+    signals_into(constellation, svid, band, n, signals);
+    true
 }
 
-// The displacement between two epochs.
-pub fn displacement_of(
+// Returns the answer of two epochs, of which the states and the floats are read where they lie, with the figures of its fit where these are wanted.
+pub fn columns_answered(
     previous_constellation: &[u8],
     previous_svid: &[u16],
     previous_band: &[u32],
@@ -83,52 +73,63 @@ pub fn displacement_of(
     current_state: &[i32],
     current_floats: &[f64],
     current_count: usize,
-    dt: f64,
+    since: Interval,
     receiver: &[f64; 3],
     settings: &[f64; 5],
     rounds: usize,
-) -> Displacement
-    ensures { λ r. ⌜ r ≡ spec.columnDisplacementOf (carrierColumns (now («previous_constellation» .entry)) (now («previous_svid» .entry)) (now («previous_band» .entry)) (now («previous_state» .entry)) (now («previous_floats» .entry))) «previous_count» (carrierColumns (now («current_constellation» .entry)) (now («current_svid» .entry)) (now («current_band» .entry)) (now («current_state» .entry)) (now («current_floats» .entry))) «current_count» dt (vectorAt (now (receiver .entry)) 0) (spec.displacementSettings (now (settings .entry)) rounds) ⌝ }
+    profile: Profile,
+    wanted: bool,
+) -> Rated
+    ensures { λ r. ⌜ (let previous = carrierColumns (now («previous_constellation» .entry)) (now («previous_svid» .entry)) (now («previous_band» .entry))
+        (now («previous_state» .entry)) (now («previous_floats» .entry)) in
+        let current = carrierColumns (now («current_constellation» .entry)) (now («current_svid» .entry)) (now («current_band» .entry))
+        (now («current_state» .entry)) (now («current_floats» .entry)) in
+        r ≡ columnsAnswered wanted (spec.lent previous «previous_count» current «current_count» since
+        (vectorAt (now (receiver .entry)) 0) (spec.displacementSettings (now (settings .entry)) rounds) profile)) ⌝ }
 {
-    if !both_fit(
+    let mut previous_signals = [0u64; 64];
+    if !fit_into(
         previous_constellation,
         previous_svid,
         previous_band,
         previous_state,
         previous_floats,
         previous_count,
+        &mut previous_signals,
+    ) {
+        return Rated::Refused(Refusal::TooMany);
+    }
+    let mut current_signals = [0u64; 64];
+    if !fit_into(
         current_constellation,
         current_svid,
         current_band,
         current_state,
         current_floats,
         current_count,
+        &mut current_signals,
     ) {
-        return Displacement::Refused(Refusal::TooMany);
+        return Rated::Refused(Refusal::TooMany);
     }
     let at = vector(receiver);
     let s = displacement_settings(settings, rounds);
-    delta_in(
-        previous_constellation,
-        previous_svid,
-        previous_band,
+    answered(
+        &previous_signals[..previous_count],
         previous_state,
         previous_floats,
-        previous_count,
-        current_constellation,
-        current_svid,
-        current_band,
+        &current_signals[..current_count],
         current_state,
         current_floats,
-        current_count,
-        dt,
+        since,
         at,
         s,
+        profile,
+        wanted,
     )
 }
 
-// The displacement between two epochs whose times are known.
-pub fn between_of(
+// Returns the displacement between two epochs.
+pub fn columns_displaced(
     previous_constellation: &[u8],
     previous_svid: &[u16],
     previous_band: &[u32],
@@ -141,15 +142,20 @@ pub fn between_of(
     current_state: &[i32],
     current_floats: &[f64],
     current_count: usize,
-    previous_time: GpsTime,
-    current_time: GpsTime,
+    since: Interval,
     receiver: &[f64; 3],
     settings: &[f64; 5],
     rounds: usize,
+    profile: Profile,
 ) -> Displacement
-    ensures { λ r. ⌜ r ≡ spec.columnBetweenOf (carrierColumns (now («previous_constellation» .entry)) (now («previous_svid» .entry)) (now («previous_band» .entry)) (now («previous_state» .entry)) (now («previous_floats» .entry))) «previous_count» (carrierColumns (now («current_constellation» .entry)) (now («current_svid» .entry)) (now («current_band» .entry)) (now («current_state» .entry)) (now («current_floats» .entry))) «current_count» «previous_time» «current_time» (vectorAt (now (receiver .entry)) 0) (spec.displacementSettings (now (settings .entry)) rounds) ⌝ }
+    ensures { λ r. ⌜ (let previous = carrierColumns (now («previous_constellation» .entry)) (now («previous_svid» .entry)) (now («previous_band» .entry))
+        (now («previous_state» .entry)) (now («previous_floats» .entry)) in
+        let current = carrierColumns (now («current_constellation» .entry)) (now («current_svid» .entry)) (now («current_band» .entry))
+        (now («current_state» .entry)) (now («current_floats» .entry)) in
+        spec.ColumnsPromised (spec.lent previous «previous_count» current «current_count» since
+        (vectorAt (now (receiver .entry)) 0) (spec.displacementSettings (now (settings .entry)) rounds) profile) r) ⌝ }
 {
-    if !both_fit(
+    let answer = columns_answered(
         previous_constellation,
         previous_svid,
         previous_band,
@@ -162,87 +168,12 @@ pub fn between_of(
         current_state,
         current_floats,
         current_count,
-    ) {
-        return Displacement::Refused(Refusal::TooMany);
-    }
-    let at = vector(receiver);
-    let s = displacement_settings(settings, rounds);
-    between_in(
-        previous_constellation,
-        previous_svid,
-        previous_band,
-        previous_state,
-        previous_floats,
-        previous_count,
-        current_constellation,
-        current_svid,
-        current_band,
-        current_state,
-        current_floats,
-        current_count,
-        previous_time,
-        current_time,
-        at,
-        s,
-    )
-}
-
-// The displacement between two epochs by GPS (1) and Galileo (6) on the chosen band.
-pub fn city_of(
-    previous_constellation: &[u8],
-    previous_svid: &[u16],
-    previous_band: &[u32],
-    previous_state: &[i32],
-    previous_floats: &[f64],
-    previous_count: usize,
-    current_constellation: &[u8],
-    current_svid: &[u16],
-    current_band: &[u32],
-    current_state: &[i32],
-    current_floats: &[f64],
-    current_count: usize,
-    dt: f64,
-    band: u32,
-    receiver: &[f64; 3],
-    settings: &[f64; 5],
-    rounds: usize,
-) -> Displacement
-    ensures { λ r. ⌜ r ≡ spec.columnCityOf (carrierColumns (now («previous_constellation» .entry)) (now («previous_svid» .entry)) (now («previous_band» .entry)) (now («previous_state» .entry)) (now («previous_floats» .entry))) «previous_count» (carrierColumns (now («current_constellation» .entry)) (now («current_svid» .entry)) (now («current_band» .entry)) (now («current_state» .entry)) (now («current_floats» .entry))) «current_count» dt band (vectorAt (now (receiver .entry)) 0) (spec.displacementSettings (now (settings .entry)) rounds) ⌝ }
-{
-    if !both_fit(
-        previous_constellation,
-        previous_svid,
-        previous_band,
-        previous_state,
-        previous_floats,
-        previous_count,
-        current_constellation,
-        current_svid,
-        current_band,
-        current_state,
-        current_floats,
-        current_count,
-    ) {
-        return Displacement::Refused(Refusal::TooMany);
-    }
-    let at = vector(receiver);
-    let s = displacement_settings(settings, rounds);
-    city_in(
-        previous_constellation,
-        previous_svid,
-        previous_band,
-        previous_state,
-        previous_floats,
-        previous_count,
-        current_constellation,
-        current_svid,
-        current_band,
-        current_state,
-        current_floats,
-        current_count,
-        dt,
-        band,
-        at,
-        s,
-    )
+        since,
+        receiver,
+        settings,
+        rounds,
+        profile,
+        false,
+    );
+    plain(answer)
 }

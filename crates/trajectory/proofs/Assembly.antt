@@ -1,18 +1,22 @@
 -- The equations of the three axes, from the steps that put them together, and what they depend on. Assumes nothing.
-use mathlib.Core.Path.{_≡_, refl, _∙_, fun-ext}
+use mathlib.Core.Bool.{false}
+use mathlib.Core.Path.{_≡_, refl, _∙_, ap, fun-ext}
+use mathlib.Core.Logic.{inl, inr, ⊎-elim}
 use mathlib.Core.List.{List}
-use Prim.Native.Nat.{ℕ, _+_, _*_, _≤_, _<_}
+use Prim.Native.Nat.{ℕ, zero, suc, _+_, _*_, _<_}
 use native.Mathlib.Omega.{arith}
-use lib.ListN.{getD}
-use lib.Ieee.{Float, nan}
-use Rattle.exact.specs.Float.{+0}
-use Rattle.tridiagonal.specs.Columns.{col, Filled}
-use Rattle.tridiagonal.specs.Steps.{block, Alike}
-use Rattle.tridiagonal.proofs.Cells.{kept-then}
+use lib.Ieee.{Float, isNan, ofBits}
+use Rattle.exact.specs.Float.{+0, bits}
+use Rattle.tridiagonal.specs.Rows.{floatAt, cell, axisIn, Filled}
+use Rattle.tridiagonal.specs.Tridiagonal.{Equations}
+use Rattle.tridiagonal.specs.Steps.{Alike, NoNan, Spoilt}
+use Rattle.tridiagonal.proofs.Cells.{same-float}
+use Rattle.tridiagonal.proofs.Alike.{alike-then}
 use Rattle.trajectory.specs.Input.{Measured, Trajectory, indexAt}
-use Rattle.trajectory.specs.Equations.{raise, lower, zeros, Scales, weight, anchorPull, linkDiagonal, linkRight, diagonal, upper, right, equationsOf}
-use Rattle.trajectory.specs.Steps.{Anchored, Linked, Added, scalesIn, Assembled}
+use Rattle.trajectory.specs.Equations.{changed, raise, lower, zeros, Scales, weight, anchorPull, linkDiagonal, linkRight, anchorChange, linkChange, changedBy, diagonal, upper, right, equationsOf}
+use Rattle.trajectory.specs.Steps.{scalesIn}
 use Rattle.trajectory.proofs.Changed.{changed-same}
+use Rattle.trajectory.proofs.Adding.{links-steady, changed-keeps}
 
 -- ---- the same scales give the same steps
 
@@ -34,39 +38,80 @@ module _ (m : Measured) (scale scale' : ℕ → Float) (t j : ℕ) (e : scale j 
 
 -- ---- the whole equations
 
-module _ (p : Trajectory) (w w1 w2 w3 : List Float) (f : Filled 0 (p .n * 9) +0 w w1) (a : Added (Anchored w1 (p .n) (p .n * 9) (p .anchors) (p .anchors .count)) w1 (p .n) w2)
-    (l : Added (Linked w2 (p .n) (p .n * 9 + p .anchors .count) (p .links) (p .links .count)) w2 (p .n) w3) where
-  anchor-scale : (j : ℕ) → col w1 (p .n * 9) j ≡ col w (p .n * 9) j
-  anchor-scale j = f .kept .high (p .n * 9 + j) (omega arith)
+-- an anchor leaves the upper diagonal as it is
+upper-kept : (c : ℕ → Float) (j k : ℕ) → changed (λ j k x. x) c j k ≡ c k
+unfolding changed
+upper-kept c zero k = refl
+upper-kept c (suc j) k = upper-kept c j k
 
-  link-scale : (j : ℕ) → col w2 (p .n * 9 + p .anchors .count) j ≡ col w (p .n * 9 + p .anchors .count) j
-  link-scale j = a .kept .high (p .n * 9 + p .anchors .count + j) (omega arith) ∙ f .kept .high (p .n * 9 + p .anchors .count + j) (omega arith)
+zero-number : isNan +0 ≡ false
+unfolding isNan ofBits
+zero-number = refl
 
-  cleared : (q : ℕ) → q < p .n * 9 → getD w1 q nan ≡ +0
-  cleared q h = f .filled q (omega arith) h
+module _ (p : Trajectory) (w w1 : List ℕ) (f : Filled 0 (p .n * 9) 0 w w1) (t : ℕ) (small : t < 3) where
+  abbrev s : Scales
+  s = scalesIn p w
 
-  one : (at t : ℕ) → at + p .n * 3 ≤ p .n * 9 → Anchored w1 (p .n) (p .n * 9) (p .anchors) (p .anchors .count) at t w2
-      → Linked w2 (p .n) (p .n * 9 + p .anchors .count) (p .links) (p .links .count) at t w3 → Alike (equationsOf p (scalesIn p w) t) (block w3 at (p .n)) (p .n)
-  unfolding diagonal upper right
-  one at t h x y = record {
-    diagonal = λ k g. y .diagonal k g
-        ∙ changed-same _ _ (col w2 at) _ (p .links .count) k (λ j q i. same-diagonal (p .links) (col w2 (p .n * 9 + p .anchors .count)) (col w (p .n * 9 + p .anchors .count)) t j (link-scale j) k q)
-        (x .diagonal k g ∙ changed-same _ _ (col w1 at) zeros (p .anchors .count) k (λ j q i. same-anchor (p .anchors) (col w1 (p .n * 9)) (col w (p .n * 9)) t j (anchor-scale j) k q) (cleared (at + k) (omega arith)));
-    upper = λ k g. y .upper k g
-        ∙ changed-same _ _ (col w2 (at + p .n)) zeros (p .links .count) k (λ j q i. same-upper (p .links) (col w2 (p .n * 9 + p .anchors .count)) (col w (p .n * 9 + p .anchors .count)) t j (link-scale j) k q) (x .upper k g ∙ cleared (at + p .n + k) (omega arith));
-    right = λ k g. y .right k g
-        ∙ changed-same _ _ (col w2 (at + p .n * 2)) _ (p .links .count) k (λ j q i. same-right (p .links) (col w2 (p .n * 9 + p .anchors .count)) (col w (p .n * 9 + p .anchors .count)) t j (link-scale j) k q)
-        (x .right k g ∙ changed-same _ _ (col w1 (at + p .n * 2)) zeros (p .anchors .count) k (λ j q i. same-pull (p .anchors) (col w1 (p .n * 9)) (col w (p .n * 9)) t j (anchor-scale j) k q) (cleared (at + p .n * 2 + k) (omega arith)));
+  -- the equations once the anchors are in
+  abbrev pub anchored : Equations
+  anchored = record {
+    diagonal = changed (raise (indexAt (p .anchors)) (weight (p .anchors) (s .anchors) t)) zeros (p .anchors .count);
+    upper = zeros;
+    right = changed (raise (indexAt (p .anchors)) (anchorPull (p .anchors) (s .anchors) t)) zeros (p .anchors .count);
   }
 
-  pub assembled : Assembled p w w3
-  assembled = record {
-    kept = kept-then 0 (p .n * 9) 0 (p .n * 9) w w2 w3 (omega arith) (omega arith) (kept-then 0 (p .n * 9) 0 (p .n * 9) w w1 w2 (omega arith) (omega arith) (f .kept) (a .kept)) (l .kept);
-    blocks = record {
-      x = one 0 0 (omega arith) (a .blocks .x) (l .blocks .x);
-      y = one (p .n * 3) 1 (omega arith) (a .blocks .y) (l .blocks .y);
-      z = one (p .n * 6) 2 (omega arith) (a .blocks .z) (l .blocks .z);
-    };
+  abbrev scale1 : ℕ → Float
+  scale1 j = floatAt w1 (p .n * 9 + j)
+
+  anchor-scale : (j : ℕ) → scale1 j ≡ s .anchors j
+  anchor-scale j = same-float w w1 (p .n * 9 + j) (f .kept .high (p .n * 9 + j) (omega arith))
+
+  cleared : (q k : ℕ) → q < 9 → k < p .n → cell w1 q k ≡ +0
+  cleared q k a b = ap bits (f .filled (k * 9 + q) (omega arith) (omega arith))
+
+  pub anchored-alike : Alike anchored (changedBy (anchorChange (p .anchors) scale1) (axisIn w1 t) t (p .anchors .count)) (p .n)
+  anchored-alike = record {
+    diagonal = λ k g. changed-same _ _ (cell w1 t) zeros (p .anchors .count) k (λ j q i. same-anchor (p .anchors) scale1 (s .anchors) t j (anchor-scale j) k q) (cleared t k (omega arith) g);
+    upper = λ k g. upper-kept (cell w1 (3 + t)) (p .anchors .count) k ∙ cleared (3 + t) k (omega arith) g;
+    right = λ k g. changed-same _ _ (cell w1 (6 + t)) zeros (p .anchors .count) k (λ j q i. same-pull (p .anchors) scale1 (s .anchors) t j (anchor-scale j) k q) (cleared (6 + t) k (omega arith) g);
+  }
+
+  -- the links make no number of a NaN
+  pub anchored-spoilt : Spoilt anchored (p .n) → Spoilt (equationsOf p s t) (p .n)
+  unfolding diagonal upper right
+  anchored-spoilt x =
+      let k = links-steady (p .links) (s .links) in
+      record {
+        row = x .row;
+        inside = x .inside;
+        spoilt = ⊎-elim
+            (λ g. inl (changed-keeps (linkDiagonal (p .links) (s .links) t) (k .diagonal t) (anchored .diagonal) (p .links .count) (x .row) g))
+            (λ r. inr (⊎-elim
+            (λ g. inl (changed-keeps (linkRight (p .links) (s .links) t) (k .right t) (anchored .right) (p .links .count) (x .row) g))
+            (λ g. inr (g .0, changed-keeps (lower (indexAt (p .links)) (weight (p .links) (s .links) t)) (k .upper t) zeros (p .links .count) (x .row) (g .1))) r))
+            (x .spoilt);
+      }
+
+  module _ (w2 : List ℕ) (a : Alike (changedBy (anchorChange (p .anchors) scale1) (axisIn w1 t) t (p .anchors .count)) (axisIn w2 t) (p .n))
+      (kept : (j : ℕ) → floatAt w2 (p .n * 9 + p .anchors .count + j) ≡ s .links j) where
+    abbrev scale2 : ℕ → Float
+    scale2 j = floatAt w2 (p .n * 9 + p .anchors .count + j)
+
+    pub linked-alike : Alike (equationsOf p s t) (changedBy (linkChange (p .links) scale2) (axisIn w2 t) t (p .links .count)) (p .n)
+    unfolding diagonal upper right
+    linked-alike =
+        let x : Alike anchored (axisIn w2 t) (p .n) = alike-then anchored _ (axisIn w2 t) (p .n) anchored-alike a in
+        record {
+          diagonal = λ k g. changed-same _ _ (cell w2 t) (anchored .diagonal) (p .links .count) k (λ j q i. same-diagonal (p .links) scale2 (s .links) t j (kept j) k q) (x .diagonal k g);
+          upper = λ k g. changed-same _ _ (cell w2 (3 + t)) zeros (p .links .count) k (λ j q i. same-upper (p .links) scale2 (s .links) t j (kept j) k q) (x .upper k g);
+          right = λ k g. changed-same _ _ (cell w2 (6 + t)) (anchored .right) (p .links .count) k (λ j q i. same-right (p .links) scale2 (s .links) t j (kept j) k q) (x .right k g);
+        }
+
+  pub cleared-numbers : NoNan (axisIn w1 t) (p .n)
+  cleared-numbers = record {
+    diagonal = λ k h. ap isNan (cleared t k (omega arith) h) ∙ zero-number;
+    upper = λ k h. ap isNan (cleared (3 + t) k (omega arith) h) ∙ zero-number;
+    right = λ k h. ap isNan (cleared (6 + t) k (omega arith) h) ∙ zero-number;
   }
 
 -- ---- the equations look at the scales of the anchors and the links that there are

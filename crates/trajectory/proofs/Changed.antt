@@ -15,7 +15,7 @@ pub changed-none : (step : ℕ → ℕ → Float → Float) (c : ℕ → Float) 
 unfolding changed
 changed-none step c k = refl
 
-changed-next : (step : ℕ → ℕ → Float → Float) (c : ℕ → Float) (j k : ℕ) (x : Float) → x ≡ changed step c j k → step j k x ≡ changed step c (j + 1) k
+pub changed-next : (step : ℕ → ℕ → Float → Float) (c : ℕ → Float) (j k : ℕ) (x : Float) → x ≡ changed step c j k → step j k x ≡ changed step c (j + 1) k
 unfolding changed
 changed-next step c j k x e = rw (add-one, e)
 
@@ -42,7 +42,7 @@ module _ (row : ℕ → ℕ) (amount c : ℕ → Float) (j k i : ℕ) (a x : Flo
   across-next e = rw (ei, ea) (changed-next (λ j k x. raise (λ j. row j + 1) amount j k (lower row amount j k x)) c j k x e)
 
 -- a loop over measurements, j of them done: w is what it has made of w₀
-pub record Counting (count j : ℕ) (w₀ w : List Float) (A : Type 0) : Type 0 where
+pub record Counting (count j : ℕ) (w₀ w : List ℕ) (A : Type 0) : Type 0 where
   pub below : j ≤ count
   pub long : length w ≡ length w₀
   pub added : A

@@ -1,6 +1,7 @@
+pub mod Accuracy
 pub mod Changed
+pub mod Adding
 pub mod Anchors
 pub mod Links
 pub mod Assembly
 pub mod Passing
-pub mod Accuracy

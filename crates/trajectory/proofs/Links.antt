@@ -1,123 +1,273 @@
--- Links, added one at a time to the three blocks. Assumes nothing.
+-- A link, added to the row of one axis and the next. Assumes nothing.
 use mathlib.Core.Path.{_≡_, refl, sym, _∙_, ap}
-use mathlib.Core.Bool.{cond}
+use mathlib.Core.Logic.{inl, inr, ⊎-elim}
+use mathlib.Core.Bool.{Bool, true, false, _&&_, cond}
 use mathlib.Core.List.{List}
 use Prim.Native.Nat.{ℕ, _+_, _*_, _≤_, _<_}
 use native.Mathlib.Omega.{arith}
 use lib.Dec.{eqb}
 use lib.ListN.{length, getD, set, length-set}
-use lib.Ieee.{Float, nan}
+use lib.Ieee.{Float, nan, isNan, eq, binary64, toBits}
+use lib.Ieee.Fits.{add-fits, sub-fits}
 use Rattle.exact.specs.Float.{_⊕_, _⊖_, _⊗_, _⊘_}
-use Rattle.tridiagonal.specs.Columns.{col, SameOutside}
-use Rattle.tridiagonal.proofs.Cells.{place, miss, miss2, miss3, update, kept-none, kept-set, kept-then}
-use Rattle.tridiagonal.proofs.Blocks.{Local, blocks-kept, blocks-step}
-use Rattle.trajectory.specs.Input.{Measured, indexAt, valueAt, sigmaAt}
-use Rattle.trajectory.specs.Equations.{weight, linkPull}
-use Rattle.trajectory.specs.Steps.{linkAdded, Linked, Added}
-use Rattle.trajectory.proofs.Changed.{changed-none, lower-next, both-next, across-next}
+use Rattle.numeric.specs.Order.{patternOf}
+use Rattle.numeric.proofs.OrderLaws.{pattern-bits}
+use Rattle.tridiagonal.specs.Rows.{floatAt, cell, axisIn}
+use Rattle.tridiagonal.specs.Steps.{Alike, NumbersAt, Spoilt}
+use Rattle.tridiagonal.proofs.EachBelow.{left-true, right-true}
+use Rattle.tridiagonal.proofs.Cells.{same-float, float-place, float-hit, float-miss, float-miss2, float-miss3, number-set, update}
+use Rattle.tridiagonal.proofs.Axes.{touched-none, touched-diagonal, touched-upper, touched-right, touched-if, taken}
+use Rattle.tridiagonal.proofs.Nan.{IsNan, which-fails, un-not}
+use Rattle.trajectory.specs.Input.{Measured, indexAt}
+use Rattle.trajectory.specs.Equations.{weight, linkPull, linkChange, changedBy}
+use Rattle.trajectory.specs.Steps.{number, LinkAdded, AddDone}
+use Rattle.trajectory.proofs.Changed.{lower-next, both-next, across-next}
+use Rattle.trajectory.proofs.Adding.{AxisAdded, Step, Adding, links-steady, y-next, z-next, adding-ends, adding-more}
+use Rattle.trajectory.proofs.Anchors.{not-number, self-equal}
 
-linked-local : (w₀ : List Float) (n from : ℕ) (m : Measured) (j : ℕ) → Local n (Linked w₀ n from m j)
-linked-local w₀ n from m j at t w w' e s = record {
-  diagonal = λ k h. e .at (at + k) (omega arith) (omega arith) ∙ s .diagonal k h;
-  upper = λ k h. e .at (at + n + k) (omega arith) (omega arith) ∙ s .upper k h;
-  right = λ k h. e .at (at + n * 2 + k) (omega arith) (omega arith) ∙ s .right k h;
-}
+-- five numbers
+pub record Five (a b c d e : Bool) : Type 0 where
+  pub one : a ≡ true
+  pub two : b ≡ true
+  pub three : c ≡ true
+  pub four : d ≡ true
+  pub five : e ≡ true
 
-linked-none : (w₀ : List Float) (n from : ℕ) (m : Measured) (at t : ℕ) → Linked w₀ n from m 0 at t w₀
-linked-none w₀ n from m at t = record { diagonal = λ k h. sym (changed-none _ _ k); upper = λ k h. sym (changed-none _ _ k); right = λ k h. sym (changed-none _ _ k) }
+pub all-five : (a b c d e : Bool) → (a && (b && (c && (d && e)))) ≡ true → Five a b c d e
+all-five a b c d e h =
+    let h1 = right-true a (b && (c && (d && e))) h in
+    let h2 = right-true b (c && (d && e)) h1 in
+    let h3 = right-true c (d && e) h2 in
+    record { one = left-true a _ h; two = left-true b _ h1; three = left-true c _ h2; four = left-true d e h3; five = right-true d e h3 }
 
-link-kept : (w : List Float) (at n i : ℕ) (a b : Float) (w' : List Float) → i + 1 < n → w' ≡ linkAdded w at n i a b → SameOutside at (at + n * 3) w w'
-link-kept w at n i a b w' h e =
-    rw e
-    (kept-set at (at + n * 3) w _ (at + n * 2 + (i + 1)) _ (omega arith) (omega arith)
-    (kept-set at (at + n * 3) w _ (at + n * 2 + i) _ (omega arith) (omega arith)
-    (kept-set at (at + n * 3) w _ (at + n + i) _ (omega arith) (omega arith)
-    (kept-set at (at + n * 3) w _ (at + (i + 1)) _ (omega arith) (omega arith)
-    (kept-set at (at + n * 3) w w (at + i) _ (omega arith) (omega arith) (kept-none at (at + n * 3) w))))))
+-- ---- the call
+
+pub five-numbers : (d u r e q : Float) → (eq d d && (eq u u && (eq r r && (eq e e && eq q q)))) ≡ true → Five (number d) (number u) (number r) (number e) (number q)
+five-numbers d u r e q t =
+    let f = all-five (eq d d) (eq u u) (eq r r) (eq e e) (eq q q) t in
+    record { one = sym (self-equal d) ∙ f .one; two = sym (self-equal u) ∙ f .two; three = sym (self-equal r) ∙ f .three; four = sym (self-equal e) ∙ f .four; five = sym (self-equal q) ∙ f .five }
+
+module _ (w : List ℕ) (at : ℕ) (a b : Float) where
+  abbrev D : Float
+  D = floatAt w at ⊕ a
+
+  abbrev U : Float
+  U = floatAt w (at + 3) ⊖ a
+
+  abbrev R : Float
+  R = floatAt w (at + 6) ⊖ b
+
+  abbrev E : Float
+  E = floatAt w (at + 9) ⊕ a
+
+  abbrev Q : Float
+  Q = floatAt w (at + 15) ⊕ b
+
+  link-test : (eq D D && (eq U U && (eq R R && (eq E E && eq Q Q)))) ≡ (number D && (number U && (number R && (number E && number Q))))
+  link-test = rw (self-equal D, self-equal U, self-equal R, self-equal E, self-equal Q)
+
+  pub link-left : (eq D D && (eq U U && (eq R R && (eq E E && eq Q Q)))) ≡ false → LinkAdded w at a b false w
+  link-left f = record { answer = sym (sym link-test ∙ f); stored = refl }
+
+  pub link-stored : (eq D D && (eq U U && (eq R R && (eq E E && eq Q Q)))) ≡ true
+      → LinkAdded w at a b true (set (set (set (set (set w at (toBits binary64 D)) (at + 3) (toBits binary64 U)) (at + 6) (toBits binary64 R)) (at + 9) (toBits binary64 E)) (at + 15) (toBits binary64 Q))
+  link-stored t = record { answer = sym (sym link-test ∙ t); stored = rw (pattern-bits D, pattern-bits U, pattern-bits R, pattern-bits E, pattern-bits Q) }
+
+-- ---- what it does to its axis
+
+module _ (w₀ : List ℕ) (n : ℕ) (m : Measured) (scale : ℕ → Float) (j t i : ℕ) (w : List ℕ) (at : ℕ) (a b : Float) (place : at ≡ i * 9 + t) (small : t < 3) (inside : i + 1 < n) (room : n * 9 ≤ length w) (ei : i ≡ indexAt m j)
+    (ea : a ≡ weight m scale t j) (eb : b ≡ linkPull m scale t j) (s : AxisAdded (linkChange m scale) w₀ n t j w) where
+  abbrev d : Float
+  d = floatAt w at ⊕ a
+
+  abbrev u : Float
+  u = floatAt w (at + 3) ⊖ a
+
+  abbrev r : Float
+  r = floatAt w (at + 6) ⊖ b
+
+  abbrev e : Float
+  e = floatAt w (at + 9) ⊕ a
+
+  abbrev q : Float
+  q = floatAt w (at + 15) ⊕ b
+
+  abbrev w1 : List ℕ
+  w1 = set w at (patternOf d)
+
+  abbrev w2 : List ℕ
+  w2 = set w1 (at + 3) (patternOf u)
+
+  abbrev w3 : List ℕ
+  w3 = set w2 (at + 6) (patternOf r)
+
+  abbrev w4 : List ℕ
+  w4 = set w3 (at + 9) (patternOf e)
+
+  abbrev w5 : List ℕ
+  w5 = set w4 (at + 15) (patternOf q)
+
+  stored-same : Alike (changedBy (linkChange m scale) (axisIn w₀ t) t (j + 1)) (axisIn w5 t) n
+  stored-same = record {
+    diagonal = λ k h. float-miss w4 (at + 15) (k * 9 + t) (patternOf q) (omega arith)
+        ∙ update w3 (at + 9) t (i + 1) k e (λ x. x ⊕ a) (omega arith) (omega arith) (simp length-set (omega arith)) (add-fits binary64 _ _)
+        (ap (λ (x : Float). x ⊕ a) (sym (float-miss3 w at (at + 3) (at + 6) (at + 9) _ _ _ (omega arith) (omega arith) (omega arith))))
+        ∙ ap (λ (x : Float). cond (eqb (i + 1) k) (x ⊕ a) x)
+        (float-miss2 w1 (at + 3) (at + 6) (k * 9 + t) _ _ (omega arith) (omega arith) ∙ update w at t i k d (λ x. x ⊕ a) (omega arith) place (omega arith) (add-fits binary64 _ _) refl)
+        ∙ both-next (indexAt m) (weight m scale t) (cell w₀ t) j k i a _ ei ea (s .same .diagonal k h);
+    upper = λ k h. float-miss3 w2 (at + 6) (at + 9) (at + 15) (k * 9 + (3 + t)) _ _ _ (omega arith) (omega arith) (omega arith)
+        ∙ update w1 (at + 3) (3 + t) i k u (λ x. x ⊖ a) (omega arith) (omega arith) (simp length-set (omega arith)) (sub-fits binary64 _ _)
+        (ap (λ (x : Float). x ⊖ a) (sym (float-miss w at (at + 3) (patternOf d) (omega arith))))
+        ∙ lower-next (indexAt m) (weight m scale t) (cell w₀ (3 + t)) j k i a _ ei ea (float-miss w at (k * 9 + (3 + t)) (patternOf d) (omega arith) ∙ s .same .upper k h);
+    right = λ k h. update w4 (at + 15) (6 + t) (i + 1) k q (λ x. x ⊕ b) (omega arith) (omega arith) (simp length-set (omega arith)) (add-fits binary64 _ _)
+        (ap (λ (x : Float). x ⊕ b) (sym (float-miss w3 (at + 9) (at + 15) (patternOf e) (omega arith) ∙ float-miss3 w at (at + 3) (at + 6) (at + 15) _ _ _ (omega arith) (omega arith) (omega arith))))
+        ∙ ap (λ (x : Float). cond (eqb (i + 1) k) (x ⊕ b) x)
+        (float-miss w3 (at + 9) (k * 9 + (6 + t)) (patternOf e) (omega arith)
+        ∙ update w2 (at + 6) (6 + t) i k r (λ x. x ⊖ b) (omega arith) (omega arith) (simp length-set (omega arith)) (sub-fits binary64 _ _)
+        (ap (λ (x : Float). x ⊖ b) (sym (float-miss2 w at (at + 3) (at + 6) _ _ (omega arith) (omega arith)))))
+        ∙ across-next (indexAt m) (linkPull m scale t) (cell w₀ (6 + t)) j k i b _ ei eb (float-miss2 w at (at + 3) (k * 9 + (6 + t)) _ _ (omega arith) (omega arith) ∙ s .same .right k h);
+  }
+
+  stored-number : (k : ℕ) → Five (number d) (number u) (number r) (number e) (number q) → isNan (floatAt w k) ≡ false → isNan (floatAt w5 k) ≡ false
+  stored-number k f o =
+      number-set w4 (at + 15) k q (add-fits binary64 _ _) (simp length-set (omega arith)) (not-number q (f .five))
+      (number-set w3 (at + 9) k e (add-fits binary64 _ _) (simp length-set (omega arith)) (not-number e (f .four))
+      (number-set w2 (at + 6) k r (sub-fits binary64 _ _) (simp length-set (omega arith)) (not-number r (f .three))
+      (number-set w1 (at + 3) k u (sub-fits binary64 _ _) (simp length-set (omega arith)) (not-number u (f .two))
+      (number-set w at k d (add-fits binary64 _ _) (omega arith) (not-number d (f .one)) o))))
+
+  pub link-needs : NumbersAt w at (at + 3) (at + 6)
+  link-needs = record {
+    first = ap isNan (float-place w at (i * 9 + t) place) ∙ s .numbers .diagonal i (omega arith);
+    second = ap isNan (float-place w (at + 3) (i * 9 + (3 + t)) (omega arith)) ∙ s .numbers .upper i (omega arith);
+    third = ap isNan (float-place w (at + 6) (i * 9 + (6 + t)) (omega arith)) ∙ s .numbers .right i (omega arith);
+  }
+
+  pub link-needs-below : NumbersAt w (at + 9) (at + 9) (at + 15)
+  link-needs-below =
+      let f : isNan (floatAt w (at + 9)) ≡ false = ap isNan (float-place w (at + 9) ((i + 1) * 9 + t) (omega arith)) ∙ s .numbers .diagonal (i + 1) inside in
+      record { first = f; second = f; third = ap isNan (float-place w (at + 15) ((i + 1) * 9 + (6 + t)) (omega arith)) ∙ s .numbers .right (i + 1) inside }
+
+  -- a NaN that would be stored is one that the links make
+  on-d : number d ≡ false → IsNan (changedBy (linkChange m scale) (axisIn w₀ t) t (j + 1) .diagonal i)
+  on-d f = ap isNan (sym (stored-same .diagonal i (omega arith)) ∙ (float-miss w4 (at + 15) (i * 9 + t) (patternOf q) (omega arith)
+      ∙ float-miss3 w1 (at + 3) (at + 6) (at + 9) (i * 9 + t) _ _ _ (omega arith) (omega arith) (omega arith) ∙ float-hit w at (i * 9 + t) d (add-fits binary64 _ _) (omega arith) (omega arith))) ∙ un-not (isNan d) f
+
+  on-u : number u ≡ false → IsNan (changedBy (linkChange m scale) (axisIn w₀ t) t (j + 1) .upper i)
+  on-u f = ap isNan (sym (stored-same .upper i (omega arith)) ∙ (float-miss3 w2 (at + 6) (at + 9) (at + 15) (i * 9 + (3 + t)) _ _ _ (omega arith) (omega arith) (omega arith)
+      ∙ float-hit w1 (at + 3) (i * 9 + (3 + t)) u (sub-fits binary64 _ _) (simp length-set (omega arith)) (omega arith))) ∙ un-not (isNan u) f
+
+  on-r : number r ≡ false → IsNan (changedBy (linkChange m scale) (axisIn w₀ t) t (j + 1) .right i)
+  on-r f = ap isNan (sym (stored-same .right i (omega arith)) ∙ (float-miss2 w3 (at + 9) (at + 15) (i * 9 + (6 + t)) _ _ (omega arith) (omega arith)
+      ∙ float-hit w2 (at + 6) (i * 9 + (6 + t)) r (sub-fits binary64 _ _) (simp length-set (omega arith)) (omega arith))) ∙ un-not (isNan r) f
+
+  on-e : number e ≡ false → IsNan (changedBy (linkChange m scale) (axisIn w₀ t) t (j + 1) .diagonal (i + 1))
+  on-e f = ap isNan (sym (stored-same .diagonal (i + 1) inside) ∙ (float-miss w4 (at + 15) ((i + 1) * 9 + t) (patternOf q) (omega arith)
+      ∙ float-hit w3 (at + 9) ((i + 1) * 9 + t) e (add-fits binary64 _ _) (simp length-set (omega arith)) (omega arith))) ∙ un-not (isNan e) f
+
+  on-q : number q ≡ false → IsNan (changedBy (linkChange m scale) (axisIn w₀ t) t (j + 1) .right (i + 1))
+  on-q f = ap isNan (sym (stored-same .right (i + 1) inside) ∙ float-hit w4 (at + 15) ((i + 1) * 9 + (6 + t)) q (add-fits binary64 _ _) (simp length-set (omega arith)) (omega arith)) ∙ un-not (isNan q) f
+
+  spoils : (number d && (number u && (number r && (number e && number q)))) ≡ false → Spoilt (changedBy (linkChange m scale) (axisIn w₀ t) t (j + 1)) n
+  spoils f = ⊎-elim
+      (λ x. record { row = i; inside = omega arith; spoilt = inl (on-d x) })
+      (λ g. ⊎-elim
+      (λ x. record { row = i; inside = omega arith; spoilt = inr (inr (omega arith, on-u x)) })
+      (λ g. ⊎-elim
+      (λ x. record { row = i; inside = omega arith; spoilt = inr (inl (on-r x)) })
+      (λ g. ⊎-elim
+      (λ x. record { row = i + 1; inside = inside; spoilt = inl (on-e x) })
+      (λ x. record { row = i + 1; inside = inside; spoilt = inr (inl (on-q x)) })
+      (which-fails (number e) (number q) g))
+      (which-fails (number r) (number e && number q) g))
+      (which-fails (number u) (number r && (number e && number q)) g))
+      (which-fails (number d) (number u && (number r && (number e && number q))) f)
+
+  pub link-step : (ok : Bool) (w' : List ℕ) → LinkAdded w at a b ok w' → Step (linkChange m scale) w₀ n t j w ok w'
+  link-step ok w' x = record {
+    touched = touched-if t n w w5 w' ok (x .stored)
+        (touched-right t n w w4 small
+        (touched-diagonal t n w w3 small
+        (touched-right t n w w2 small
+        (touched-upper t n w w1 small
+        (touched-diagonal t n w w small (touched-none t n w) i at (patternOf d) (omega arith) place)
+        i (at + 3) (patternOf u) (omega arith) (omega arith))
+        i (at + 6) (patternOf r) (omega arith) (omega arith))
+        (i + 1) (at + 9) (patternOf e) inside (omega arith))
+        (i + 1) (at + 15) (patternOf q) inside (omega arith));
+    more = λ y.
+        let z : w' ≡ w5 = taken ok _ _ _ y (x .stored) in
+        let f = all-five (number d) (number u) (number r) (number e) (number q) (sym (x .answer) ∙ y) in
+        rw z (record {
+          same = stored-same;
+          numbers = record {
+            diagonal = λ k h. stored-number (k * 9 + t) f (s .numbers .diagonal k h);
+            upper = λ k h. stored-number (k * 9 + (3 + t)) f (s .numbers .upper k h);
+            right = λ k h. stored-number (k * 9 + (6 + t)) f (s .numbers .right k h);
+          };
+        });
+    spoils = λ y. spoils (sym (x .answer) ∙ y);
+  }
 
 -- a link's weight and pull, from what its columns hold
-amounts : (m : Measured) (scale : ℕ → Float) (t j : ℕ) (c s v : Float) → c ≡ scale j → s ≡ sigmaAt m t j → v ≡ valueAt m t j
-    → (c ⊘ (s ⊗ s) ≡ weight m scale t j) × (c ⊘ (s ⊗ s) ⊗ v ≡ linkPull m scale t j)
-amounts m scale t j c s v ec es ev = (rw (ec, es), rw (ec, es, ev))
+pub link-weight : (m : Measured) (scale : ℕ → Float) (t j q : ℕ) (c : Float) → c ≡ scale j → q ≡ j * 3 + t → (let g = getD (m .sigma) q nan in c ⊘ (g ⊗ g) ≡ weight m scale t j)
+link-weight m scale t j q c ec eq = rw (ec, eq)
 
-linked-more : (w₀ : List Float) (n from : ℕ) (m : Measured) (j at t i : ℕ) (w : List Float) (a b : Float) → i + 1 < n → at + n * 3 ≤ length w → i ≡ indexAt m j
-    → (a ≡ weight m (col w₀ from) t j) × (b ≡ linkPull m (col w₀ from) t j) → Linked w₀ n from m j at t w → Linked w₀ n from m (j + 1) at t (linkAdded w at n i a b)
-linked-more w₀ n from m j at t i w a b inside room ei e s =
-    let p1 = at + i in
-    let p2 = at + (i + 1) in
-    let p3 = at + n + i in
-    let p4 = at + n * 2 + i in
-    let p5 = at + n * 2 + (i + 1) in
-    let y1 = col w at i ⊕ a in
-    let y2 = col w at (i + 1) ⊕ a in
-    let y3 = col w (at + n) i ⊖ a in
-    let y4 = col w (at + n * 2) i ⊖ b in
-    let y5 = col w (at + n * 2) (i + 1) ⊕ b in
-    let w1 = set w p1 y1 in
-    let w2 = set w1 p2 y2 in
-    let w3 = set w2 p3 y3 in
-    let w4 = set w3 p4 y4 in
-    record {
-      diagonal = λ k h. miss3 w2 p3 p4 p5 (at + k) y3 y4 y5 (omega arith) (omega arith) (omega arith)
-          ∙ update w1 p2 at (i + 1) k y2 (λ x. x ⊕ a) refl (simp length-set (omega arith)) (ap (λ (x : Float). x ⊕ a) (sym (miss w p1 p2 y1 (omega arith))))
-          ∙ ap (λ (x : Float). cond (eqb (i + 1) k) (x ⊕ a) x) (update w p1 at i k y1 (λ x. x ⊕ a) refl (omega arith) refl)
-          ∙ both-next (indexAt m) (weight m (col w₀ from) t) (col w₀ at) j k i a _ ei (e .0) (s .diagonal k h);
-      upper = λ k h. miss2 w3 p4 p5 (at + n + k) y4 y5 (omega arith) (omega arith)
-          ∙ update w2 p3 (at + n) i k y3 (λ x. x ⊖ a) refl (simp length-set (omega arith)) (ap (λ (x : Float). x ⊖ a) (sym (miss2 w p1 p2 p3 y1 y2 (omega arith) (omega arith))))
-          ∙ lower-next (indexAt m) (weight m (col w₀ from) t) (col w₀ (at + n)) j k i a _ ei (e .0) (miss2 w p1 p2 (at + n + k) y1 y2 (omega arith) (omega arith) ∙ s .upper k h);
-      right = λ k h. update w4 p5 (at + n * 2) (i + 1) k y5 (λ x. x ⊕ b) refl (simp length-set (omega arith))
-          (ap (λ (x : Float). x ⊕ b) (sym (miss w3 p4 p5 y4 (omega arith) ∙ miss3 w p1 p2 p3 p5 y1 y2 y3 (omega arith) (omega arith) (omega arith))))
-          ∙ ap (λ (x : Float). cond (eqb (i + 1) k) (x ⊕ b) x)
-          (update w3 p4 (at + n * 2) i k y4 (λ x. x ⊖ b) refl (simp length-set (omega arith)) (ap (λ (x : Float). x ⊖ b) (sym (miss3 w p1 p2 p3 p4 y1 y2 y3 (omega arith) (omega arith) (omega arith)))))
-          ∙ across-next (indexAt m) (linkPull m (col w₀ from) t) (col w₀ (at + n * 2)) j k i b _ ei (e .1) (miss3 w p1 p2 p3 (at + n * 2 + k) y1 y2 y3 (omega arith) (omega arith) (omega arith) ∙ s .right k h);
-    }
+pub link-pull : (m : Measured) (scale : ℕ → Float) (t j q : ℕ) (c : Float) → c ≡ scale j → q ≡ j * 3 + t
+    → (let g = getD (m .sigma) q nan in c ⊘ (g ⊗ g) ⊗ getD (m .value) q nan ≡ linkPull m scale t j)
+link-pull m scale t j q c ec eq = rw (ec, eq)
 
--- ---- the three blocks
+-- ---- link j: the calls on x, y and z, from w to w1, w2 and w3
 
-pub links-none : (w₀ : List Float) (n from : ℕ) (m : Measured) → Added (Linked w₀ n from m 0) w₀ n w₀
-links-none w₀ n from m = record {
-  kept = kept-none 0 (n * 9) w₀;
-  blocks = record { x = linked-none w₀ n from m 0 0; y = linked-none w₀ n from m (n * 3) 1; z = linked-none w₀ n from m (n * 6) 2 };
-}
+module _ (w₀ : List ℕ) (n skip : ℕ) (m : Measured) (j : ℕ) (w : List ℕ) (s : Adding (linkChange m (λ j. floatAt w₀ (n * 9 + skip + j))) w₀ n (m .count) j w) (more : j < m .count) (inside : indexAt m j + 1 < n) (at : ℕ) (place : at ≡ indexAt m j * 9)
+    (c : Float) (ec : c ≡ floatAt w (n * 9 + skip + j)) where
+  abbrev scale : ℕ → Float
+  scale j = floatAt w₀ (n * 9 + skip + j)
 
-module _ (w₀ : List Float) (n from : ℕ) (m : Measured) (j : ℕ) (w w1 w2 w3 : List Float) (s : Added (Linked w₀ n from m j) w₀ n w) (far : n * 9 ≤ from) (room : n * 9 ≤ length w)
-    (inside : indexAt m j + 1 < n) (l1 : length w1 ≡ length w) (l2 : length w2 ≡ length w1) where
-  -- the link in the block at a place, whose floats stand at q
-  stored : (w' : List Float) (at q : ℕ) → List Float
-  stored w' at q =
-      let c = getD w (from + j) nan in
-      let g = getD (m .sigma) q nan in
-      linkAdded w' at n (indexAt m j) (c ⊘ (g ⊗ g)) (c ⊘ (g ⊗ g) ⊗ getD (m .value) q nan)
+  abbrev a : ℕ → Float
+  a q = c ⊘ (getD (m .sigma) q nan ⊗ getD (m .sigma) q nan)
 
-  one : (w' : List Float) (at q t : ℕ) → at + n * 3 ≤ length w' → q ≡ j * 3 + t → Linked w₀ n from m j at t w' → Linked w₀ n from m (j + 1) at t (stored w' at q)
-  unfolding stored
-  one w' at q t h e r = linked-more w₀ n from m j at t (indexAt m j) w' _ _ inside h refl
-      (amounts m (col w₀ from) t j _ _ _ (s .kept .high (from + j) (omega arith)) (place (m .sigma) q (j * 3 + t) e) (place (m .value) q (j * 3 + t) e)) r
+  abbrev b : ℕ → Float
+  b q = a q ⊗ getD (m .value) q nan
 
-  kept-one : (w' w″ : List Float) (at q : ℕ) → w″ ≡ stored w' at q → SameOutside at (at + n * 3) w' w″
-  unfolding stored
-  kept-one w' w″ at q e = link-kept w' at n (indexAt m j) _ _ w″ inside e
+  scale-is : c ≡ scale j
+  scale-is = ec ∙ same-float w₀ w (n * 9 + skip + j) (s .kept .high (n * 9 + skip + j) (omega arith))
 
-  all-three : w1 ≡ stored w 0 (j * 3) → w2 ≡ stored w1 (n * 3) (j * 3 + 1) → w3 ≡ stored w2 (n * 6) (j * 3 + 2) → Added (Linked w₀ n from m (j + 1)) w₀ n w3
-  all-three e1 e2 e3 =
-      let k1 = kept-one w w1 0 (j * 3) e1 in
-      let k2 = kept-one w1 w2 (n * 3) (j * 3 + 1) e2 in
-      let k3 = kept-one w2 w3 (n * 6) (j * 3 + 2) e3 in
-      record {
-        kept = kept-then 0 (n * 9) 0 (n * 9) w₀ w w3 (omega arith) (omega arith) (s .kept) (blocks-kept n w w1 w2 w3 k1 k2 k3);
-        blocks = blocks-step n w w1 w2 w3 k1 k2 k3 (Linked w₀ n from m j) (Linked w₀ n from m (j + 1)) (linked-local w₀ n from m j) (linked-local w₀ n from m (j + 1))
-            (λ r. rw e1 (one w 0 (j * 3) 0 (omega arith) (omega arith) r))
-            (λ r. rw e2 (one w1 (n * 3) (j * 3 + 1) 1 (omega (arith, l1)) refl r))
-            (λ r. rw e3 (one w2 (n * 6) (j * 3 + 2) 2 (omega (arith, l1, l2)) refl r))
-            (s .blocks);
-      }
+  weight-is : (t q : ℕ) → q ≡ j * 3 + t → a q ≡ weight m scale t j
+  weight-is t q e = link-weight m scale t j q c scale-is e
 
-  pub links-more : (let c = getD w (from + j) nan in let g = getD (m .sigma) (j * 3) nan in w1 ≡ linkAdded w 0 n (indexAt m j) (c ⊘ (g ⊗ g)) (c ⊘ (g ⊗ g) ⊗ getD (m .value) (j * 3) nan))
-      → (let c = getD w (from + j) nan in let g = getD (m .sigma) (j * 3 + 1) nan in w2 ≡ linkAdded w1 (n * 3) n (indexAt m j) (c ⊘ (g ⊗ g)) (c ⊘ (g ⊗ g) ⊗ getD (m .value) (j * 3 + 1) nan))
-      → (let c = getD w (from + j) nan in let g = getD (m .sigma) (j * 3 + 2) nan in w3 ≡ linkAdded w2 (n * 6) n (indexAt m j) (c ⊘ (g ⊗ g)) (c ⊘ (g ⊗ g) ⊗ getD (m .value) (j * 3 + 2) nan))
-      → Added (Linked w₀ n from m (j + 1)) w₀ n w3
-  unfolding stored
-  links-more e1 e2 e3 = all-three e1 e2 e3
+  pull-is : (t q : ℕ) → q ≡ j * 3 + t → b q ≡ linkPull m scale t j
+  pull-is t q e = link-pull m scale t j q c scale-is e
 
-pub links-all : (w₀ : List Float) (n from : ℕ) (m : Measured) (j : ℕ) (w : List Float) → j ≡ m .count → Added (Linked w₀ n from m j) w₀ n w → Added (Linked w₀ n from m (m .count)) w₀ n w
-links-all w₀ n from m j w e s = rw e at s
+  pub link-x-needs : NumbersAt w at (at + 3) (at + 6) × NumbersAt w (at + 9) (at + 9) (at + 15)
+  link-x-needs = (link-needs w₀ n m scale j 0 (indexAt m j) w at (a (j * 3)) (b (j * 3)) (omega arith) (omega arith) inside (omega (arith, s .long, s .room)) refl (weight-is 0 (j * 3) (omega arith)) (pull-is 0 (j * 3) (omega arith)) (s .on-x), link-needs-below w₀ n m scale j 0 (indexAt m j) w at (a (j * 3)) (b (j * 3)) (omega arith) (omega arith) inside (omega (arith, s .long, s .room)) refl (weight-is 0 (j * 3) (omega arith)) (pull-is 0 (j * 3) (omega arith)) (s .on-x))
+
+  module _ (b1 : Bool) (w1 : List ℕ) (d1 : LinkAdded w at (a (j * 3)) (b (j * 3)) b1 w1) (l1 : length w1 ≡ length w) where
+    x-step : Step (linkChange m scale) w₀ n 0 j w b1 w1
+    x-step = link-step w₀ n m scale j 0 (indexAt m j) w at (a (j * 3)) (b (j * 3)) (omega arith) (omega arith) inside (omega (arith, s .long, s .room)) refl (weight-is 0 (j * 3) (omega arith)) (pull-is 0 (j * 3) (omega arith)) (s .on-x) b1 w1 d1
+
+    y1 : AxisAdded (linkChange m scale) w₀ n 1 j w1
+    y1 = y-next (linkChange m scale) (links-steady m scale) w₀ n (m .count) j w s more b1 w1 x-step
+
+    pub link-y-needs : NumbersAt w1 (at + 1) (at + 1 + 3) (at + 1 + 6) × NumbersAt w1 (at + 1 + 9) (at + 1 + 9) (at + 1 + 15)
+    link-y-needs = (link-needs w₀ n m scale j 1 (indexAt m j) w1 (at + 1) (a (j * 3 + 1)) (b (j * 3 + 1)) (omega arith) (omega arith) inside (omega (arith, l1, s .long, s .room)) refl (weight-is 1 (j * 3 + 1) refl) (pull-is 1 (j * 3 + 1) refl) y1, link-needs-below w₀ n m scale j 1 (indexAt m j) w1 (at + 1) (a (j * 3 + 1)) (b (j * 3 + 1)) (omega arith) (omega arith) inside (omega (arith, l1, s .long, s .room)) refl (weight-is 1 (j * 3 + 1) refl) (pull-is 1 (j * 3 + 1) refl) y1)
+
+    module _ (b2 : Bool) (w2 : List ℕ) (d2 : LinkAdded w1 (at + 1) (a (j * 3 + 1)) (b (j * 3 + 1)) b2 w2) (l2 : length w2 ≡ length w1) where
+      y-step : Step (linkChange m scale) w₀ n 1 j w1 b2 w2
+      y-step = link-step w₀ n m scale j 1 (indexAt m j) w1 (at + 1) (a (j * 3 + 1)) (b (j * 3 + 1)) (omega arith) (omega arith) inside (omega (arith, l1, s .long, s .room)) refl (weight-is 1 (j * 3 + 1) refl) (pull-is 1 (j * 3 + 1) refl) y1 b2 w2 d2
+
+      z2 : AxisAdded (linkChange m scale) w₀ n 2 j w2
+      z2 = z-next (linkChange m scale) (links-steady m scale) w₀ n (m .count) j w s more b1 w1 x-step b2 w2 y-step
+
+      pub link-z-needs : NumbersAt w2 (at + 2) (at + 2 + 3) (at + 2 + 6) × NumbersAt w2 (at + 2 + 9) (at + 2 + 9) (at + 2 + 15)
+      link-z-needs = (link-needs w₀ n m scale j 2 (indexAt m j) w2 (at + 2) (a (j * 3 + 2)) (b (j * 3 + 2)) (omega arith) (omega arith) inside (omega (arith, l2, l1, s .long, s .room)) refl (weight-is 2 (j * 3 + 2) refl) (pull-is 2 (j * 3 + 2) refl) z2, link-needs-below w₀ n m scale j 2 (indexAt m j) w2 (at + 2) (a (j * 3 + 2)) (b (j * 3 + 2)) (omega arith) (omega arith) inside (omega (arith, l2, l1, s .long, s .room)) refl (weight-is 2 (j * 3 + 2) refl) (pull-is 2 (j * 3 + 2) refl) z2)
+
+      module _ (b3 : Bool) (w3 : List ℕ) (d3 : LinkAdded w2 (at + 2) (a (j * 3 + 2)) (b (j * 3 + 2)) b3 w3) (l3 : length w3 ≡ length w2) where
+        z-step : Step (linkChange m scale) w₀ n 2 j w2 b3 w3
+        z-step = link-step w₀ n m scale j 2 (indexAt m j) w2 (at + 2) (a (j * 3 + 2)) (b (j * 3 + 2)) (omega arith) (omega arith) inside (omega (arith, l2, l1, s .long, s .room)) refl (weight-is 2 (j * 3 + 2) refl) (pull-is 2 (j * 3 + 2) refl) z2 b3 w3 d3
+
+        pub links-end : (b1 && (b2 && b3)) ≡ false → AddDone (linkChange m scale) w₀ n (m .count) false w3
+        links-end f = adding-ends (linkChange m scale) (links-steady m scale) w₀ n (m .count) j w s more b1 w1 x-step b2 w2 y-step b3 w3 z-step f
+
+        pub links-more : (b1 && (b2 && b3)) ≡ true → Adding (linkChange m scale) w₀ n (m .count) (j + 1) w3
+        links-more g = adding-more (linkChange m scale) (links-steady m scale) w₀ n (m .count) j w s more b1 w1 x-step b2 w2 y-step b3 w3 z-step g l1 l2 l3

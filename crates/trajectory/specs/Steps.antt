@@ -1,19 +1,20 @@
 -- What each step of a pass leaves in the lent work. Definitions only.
--- The blocks of x, y and z stand first, then the scales of the anchors, then those of the links.
+-- The rows of nine stand first, then the scales of the anchors, then those of the links.
 use mathlib.Core.Path.{_≡_}
-use mathlib.Core.Bool.{Bool, true, _&&_}
+use mathlib.Core.Bool.{Bool, true, false, not, _&&_, cond}
+use mathlib.Core.Logic.{_⊎_}
 use mathlib.Core.List.{List}
 use Prim.Native.Nat.{ℕ, _+_, _-_, _*_, _≤_, _<_}
 use lib.ListN.{length, set}
-use lib.Ieee.{Float}
-use lib.Ieee.Scale.{finite}
+use lib.Ieee.{Float, isNan}
 use Rattle.exact.specs.Float.{_⊕_, _⊖_}
-use Rattle.tridiagonal.specs.Columns.{col, SameOutside, Blocks, eachBelow}
+use Rattle.numeric.specs.Order.{patternOf}
+use Rattle.tridiagonal.specs.Rows.{floatAt, cell, axisIn, Axes, SameOutside}
 use Rattle.tridiagonal.specs.Tridiagonal.{solution}
-use Rattle.tridiagonal.specs.Steps.{block, Alike, allSolvable}
+use Rattle.tridiagonal.specs.Steps.{Alike, NoNan, Spoilt}
 use Rattle.trajectory.specs.Input.{Measured, Trajectory, indexAt}
-use Rattle.trajectory.specs.Equations.{changed, raise, lower, Scales, weight, anchorPull, linkDiagonal, linkRight, equationsOf}
-use Rattle.trajectory.specs.Pass.{held, finiteSolution, passes}
+use Rattle.trajectory.specs.Equations.{Change, changedBy, Scales, equationsOf}
+use Rattle.trajectory.specs.Pass.{passes}
 
 -- the columns hold the measurements that are counted, each with an epoch that there is
 pub record Lent (m : Measured) (bound : ℕ) : Type 0 where
@@ -29,67 +30,45 @@ pub record Valid (p : Trajectory) : Type 0 where
   pub anchors : Lent (p .anchors) (p .n)
   pub links : Lent (p .links) (p .n - 1)
 
--- an anchor of weight a and pull b at row i of a block
-abbrev pub anchorAdded : List Float → (at n i : ℕ) → (a b : Float) → List Float
-anchorAdded w at n i a b = set (set w (at + i) (col w at i ⊕ a)) (at + n * 2 + i) (col w (at + n * 2) i ⊕ b)
+-- ---- one measurement, of weight a and pull b, on the row of one axis whose diagonal stands at a place
 
--- a link of weight a and pull b from row i to the next
-abbrev pub linkAdded : List Float → (at n i : ℕ) → (a b : Float) → List Float
-linkAdded w at n i a b =
-    set
-    (set
-    (set (set (set w (at + i) (col w at i ⊕ a)) (at + (i + 1)) (col w at (i + 1) ⊕ a)) (at + n + i) (col w (at + n) i ⊖ a))
-    (at + n * 2 + i)
-    (col w (at + n * 2) i ⊖ b))
-    (at + n * 2 + (i + 1))
-    (col w (at + n * 2) (i + 1) ⊕ b)
+-- x is the float that is to be stored at k: not a NaN
+abbrev pub number : Float → Bool
+number x = not (isNan x)
 
--- the first j anchors are added to the block at a place, for axis t; their scales stand at `from`
-pub record Anchored (w : List Float) (n from : ℕ) (m : Measured) (j at t : ℕ) (w' : List Float) : Type 0 where
-  pub diagonal : (k : ℕ) → k < n → col w' at k ≡ changed (raise (indexAt m) (weight m (col w from) t)) (col w at) j k
-  pub upper : (k : ℕ) → k < n → col w' (at + n) k ≡ col w (at + n) k
-  pub right : (k : ℕ) → k < n → col w' (at + n * 2) k ≡ changed (raise (indexAt m) (anchorPull m (col w from) t)) (col w (at + n * 2)) j k
+-- an anchor, stored unless a NaN would be
+pub record AnchorAdded (w : List ℕ) (at : ℕ) (a b : Float) (ok : Bool) (w' : List ℕ) : Type 0 where
+  pub answer : ok ≡ (number (floatAt w at ⊕ a) && number (floatAt w (at + 6) ⊕ b))
+  pub stored : w' ≡ cond ok (set (set w at (patternOf (floatAt w at ⊕ a))) (at + 6) (patternOf (floatAt w (at + 6) ⊕ b))) w
 
--- the same of links
-pub record Linked (w : List Float) (n from : ℕ) (m : Measured) (j at t : ℕ) (w' : List Float) : Type 0 where
-  pub diagonal : (k : ℕ) → k < n → col w' at k ≡ changed (linkDiagonal m (col w from) t) (col w at) j k
-  pub upper : (k : ℕ) → k < n → col w' (at + n) k ≡ changed (lower (indexAt m) (weight m (col w from) t)) (col w (at + n)) j k
-  pub right : (k : ℕ) → k < n → col w' (at + n * 2) k ≡ changed (linkRight m (col w from) t) (col w (at + n * 2)) j k
+-- a link to the next row, stored unless a NaN would be
+pub record LinkAdded (w : List ℕ) (at : ℕ) (a b : Float) (ok : Bool) (w' : List ℕ) : Type 0 where
+  pub answer : ok ≡ (number (floatAt w at ⊕ a) && (number (floatAt w (at + 3) ⊖ a) && (number (floatAt w (at + 6) ⊖ b)
+      && (number (floatAt w (at + 9) ⊕ a) && number (floatAt w (at + 15) ⊕ b)))))
+  pub stored : w' ≡ cond ok
+      (set (set (set (set (set w at (patternOf (floatAt w at ⊕ a))) (at + 3) (patternOf (floatAt w (at + 3) ⊖ a))) (at + 6) (patternOf (floatAt w (at + 6) ⊖ b)))
+      (at + 9) (patternOf (floatAt w (at + 9) ⊕ a))) (at + 15) (patternOf (floatAt w (at + 15) ⊕ b))) w
 
--- the first j measurements are added to the three blocks, where P says it of one
-pub record Added (P : ℕ → ℕ → List Float → Type 0) (w : List Float) (n : ℕ) (w' : List Float) : Type 0 where
+-- ---- all of them
+
+-- the first j measurements have changed the n rows of w, in which no NaN stands
+pub record Added (c : Change) (w : List ℕ) (n j : ℕ) (w' : List ℕ) : Type 0 where
   pub kept : SameOutside 0 (n * 9) w w'
-  pub blocks : Blocks n (λ at t. P at t w')
+  pub rows : Axes (λ t. Alike (changedBy c (axisIn w t) t j) (axisIn w' t) n)
+  pub numbers : Axes (λ t. NoNan (axisIn w' t) n)
 
--- the scales that stand after the blocks
-abbrev pub scalesIn : Trajectory → List Float → Scales
-scalesIn p w = record { anchors = col w (p .n * 9); links = col w (p .n * 9 + p .anchors .count) }
-
--- the equations of the three axes
-abbrev pub Assembled : Trajectory → List Float → List Float → Type 0
-Assembled p w w' = Added (λ at t w'. Alike (equationsOf p (scalesIn p w) t) (block w' at (p .n)) (p .n)) w (p .n) w'
-
--- a test of each block
-abbrev pub onBlocks : (ℕ → Bool) → ℕ → Bool
-onBlocks f n = f 0 && (f (n * 3) && f (n * 6))
-
-abbrev pub allHeld : List Float → ℕ → Bool
-allHeld w n = onBlocks (λ at. held (block w at n) n) n
-
-abbrev pub finiteRows : List Float → ℕ → ℕ → Bool
-finiteRows w at n = eachBelow (λ k. finite (col w (at + n * 2) k)) n
-
-abbrev pub allFinite : List Float → ℕ → Bool
-allFinite w n = onBlocks (λ at. finiteRows w at n) n
-
--- The equations in the three blocks, solved: true where each epoch is held, no pivot vanishes and each unknown is finite.
-pub record Settled (w : List Float) (n : ℕ) (ok : Bool) (w' : List Float) : Type 0 where
+-- all of them have, or they make a NaN somewhere
+pub record AddDone (c : Change) (w : List ℕ) (n count : ℕ) (ok : Bool) (w' : List ℕ) : Type 0 where
   pub kept : SameOutside 0 (n * 9) w w'
-  pub answer : ok ≡ (allHeld w n && (allSolvable w n && onBlocks (λ at. finiteSolution (block w at n) n) n))
-  pub solutions : ok ≡ true → Blocks n (λ at t. (k : ℕ) → k < n → col w' (at + n * 2) k ≡ solution (block w at n) n k)
+  pub done : ok ≡ true → Added c w n count w'
+  pub ends : ok ≡ false → (Spoilt (changedBy c (axisIn w 0) 0 count) n) ⊎ ((Spoilt (changedBy c (axisIn w 1) 1 count) n) ⊎ (Spoilt (changedBy c (axisIn w 2) 2 count) n))
+
+-- the scales that stand after the rows
+abbrev pub scalesIn : Trajectory → List ℕ → Scales
+scalesIn p w = record { anchors = λ j. floatAt w (p .n * 9 + j); links = λ j. floatAt w (p .n * 9 + p .anchors .count + j) }
 
 -- A pass: true where it does not fail, and then the solutions stand in place of the right sides.
-pub record PassDone (p : Trajectory) (w : List Float) (ok : Bool) (w' : List Float) : Type 0 where
+pub record PassDone (p : Trajectory) (w : List ℕ) (ok : Bool) (w' : List ℕ) : Type 0 where
   pub kept : SameOutside 0 (p .n * 9) w w'
   pub answer : ok ≡ passes p (scalesIn p w)
-  pub solutions : ok ≡ true → Blocks (p .n) (λ at t. (k : ℕ) → k < p .n → col w' (at + p .n * 2) k ≡ solution (equationsOf p (scalesIn p w) t) (p .n) k)
+  pub solutions : ok ≡ true → Axes (λ t. (k : ℕ) → k < p .n → cell w' (6 + t) k ≡ solution (equationsOf p (scalesIn p w) t) (p .n) k)

@@ -1,4 +1,5 @@
 // One pass of a trajectory's least-squares fit, in lent work: the equations of the three axes, put together and solved.
-// The columns of a call: ai, av and ag are the anchors' epoch indices, positions and sigmas, li, lv and lg the links' epoch indices, changes in position and sigmas.
+// The work is rows of nine patterns, a row for each epoch (crate tridiagonal), then a scale for each anchor and for each link. No NaN is stored in a row: a pass ends
+// where one would be, since it fails in any case.
 pub mod pass;
 mod system;

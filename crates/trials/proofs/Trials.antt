@@ -1,22 +1,25 @@
 -- Every marked trial holds. Assumes nothing.
+use mathlib.Core.Logic.{inl, inr}
 use mathlib.Core.Path.{_≡_, refl, _∙_}
+use mathlib.Core.List.{List}
 use Prim.Native.Nat.{_+_}
 use mathlib.Core.Bool.{false}
-use lib.Ieee.{add, sub, mul, div, lt, le, eq, isNan, ofInt, ofBits, toBits}
-use Rattle.exact.specs.Float.{+0}
+use lib.Ieee.{Float, add, sub, mul, div, lt, le, eq, isNan, ofInt, ofBits, toBits}
+use Rattle.exact.specs.Float.{+0, bits}
 use Rattle.exact.specs.Products.{lessProducts}
 use Rattle.root.specs.Root.{rootOf}
-use Rattle.cholesky.specs.Factor.{isPivot, withElement, below, pivotOf, rowOf, Refused, next, factorTo, factorOf}
+use Rattle.cholesky.specs.Factor.{cell, isPivot, withElement, below, pivotOf, rowOf, Refused, next, factorTo, factorOf}
 use Rattle.exact.specs.Pattern.{sign}
 use Rattle.numeric.specs.Order.{totalOrder, patternOf}
 use Rattle.numeric.specs.Real.{abs, inRange}
-use Rattle.walk.specs.Walk.{every, collect}
+use Rattle.walk.specs.Walk.{every, collect, fold}
 use Rattle.median.specs.Sorted.{insertBy, sortedBy, medianOf}
 use Rattle.median.specs.Centre.{centreOf, deviationOf, centreAndScaleOf, centreScaleOf}
-use Rattle.clocks.specs.Clocks.{has, appearing, slotFrom, clocksIn, clocksOf}
+use Rattle.clocks.specs.Clocks.{given}
 use Rattle.records.specs.Record.{unsigned, bitSet, usable}
-use Rattle.table.specs.Table.{timeBefore, standsBefore, sortedFrom, sorted, ranged, soundTable}
-use Rattle.query.specs.Query.{near, firstOf, lastOf, through, nearOr, spanned, ruled, answerIn, answerAt, guarded, queryOf}
+use Rattle.table.specs.Table.{timeBefore}
+use Rattle.directory.specs.Directory.{entryRows, readingRows, ascends, tiles, timely, timelyFrom, blockTimes, inReach, soundDirectory, block, flat}
+use Rattle.query.specs.Query.{near, firstOf, lastOf, through, nearOr, spanned, ruled, answerIn, answerAt, guarded, queryIn}
 use Rattle.smooth.proofs.Trials.{one-point, not-held}
 use Rattle.cholesky.proofs.FactorLaws.{factorTo-zero, factorTo-next, refused-more}
 use Rattle.trials.specs.Marked.{All, marked, m1, m2, m3, m4, m5, m6, m7, m8, m9, m10, m11}
@@ -42,7 +45,7 @@ unfolding centreOf medianOf sortedBy insertBy totalOrder sign lt eq ofBits ofInt
 centre-four = (refl, refl)
 
 slots-five : m6
-unfolding clocksOf clocksIn appearing has slotFrom
+unfolding fold given
 slots-five = refl
 
 pub identity-factors : m7
@@ -54,22 +57,31 @@ zero-no-pivot : isPivot +0 ≡ false
 unfolding isPivot lt ofBits
 zero-no-pivot = refl
 
-pub zero-pivot : m8
+minus-zero-no-pivot : isPivot (bits 0x8000_0000_0000_0000) ≡ false
+unfolding isPivot lt ofBits
+minus-zero-no-pivot = refl
+
+-- the first pivot is the matrix's first cell
+first-refused : (a : List (List Float)) (z : Float) → cell a 0 0 ≡ z → isPivot z ≡ false → factorOf a ≡ Refused
 unfolding factorOf pivotOf lessProducts
-zero-pivot a e =
-    let first : factorTo (0 + 1) a ≡ Refused = factorTo-next 0 a _ (factorTo-zero a) ∙ rw (e, zero-no-pivot) in
+first-refused a z e f =
+    let first : factorTo (0 + 1) a ≡ Refused = factorTo-next 0 a _ (factorTo-zero a) ∙ rw (e, f) in
     refused-more 8 1 a first
+
+pub zero-pivot : m8
+zero-pivot a (inl e) = first-refused a +0 e zero-no-pivot
+zero-pivot a (inr e) = first-refused a (bits 0x8000_0000_0000_0000) e minus-zero-no-pivot
 
 states : m9
 unfolding usable bitSet unsigned
 states c h = rw h
 
 pub half-way : m10
-unfolding queryOf guarded answerAt answerIn collect ruled nearOr spanned through near firstOf lastOf inRange abs soundTable ranged sorted sortedFrom standsBefore timeBefore totalOrder sign patternOf every lt le add sub mul div ofBits ofInt toBits isNan
+unfolding queryIn guarded answerAt answerIn flat block collect ruled nearOr spanned through near firstOf lastOf inRange abs soundDirectory inReach ascends tiles timely timelyFrom blockTimes entryRows readingRows timeBefore totalOrder sign patternOf every lt le eq add sub mul div ofBits ofInt toBits isNan
 half-way = refl
 
 pub gap-too-long : m11
-unfolding queryOf guarded answerAt answerIn collect ruled nearOr spanned through near firstOf lastOf inRange abs soundTable ranged sorted sortedFrom standsBefore timeBefore totalOrder sign patternOf every lt le add sub mul div ofBits ofInt toBits isNan
+unfolding queryIn guarded answerAt answerIn flat block collect ruled nearOr spanned through near firstOf lastOf inRange abs soundDirectory inReach ascends tiles timely timelyFrom blockTimes entryRows readingRows timeBefore totalOrder sign patternOf every lt le eq add sub mul div ofBits ofInt toBits isNan
 gap-too-long = refl
 
 -- THE FACT over the list

@@ -5,7 +5,7 @@ use lib.ListN.{replicate}
 use lib.Ieee.{Float}
 use Rattle.exact.specs.Float.{+0, 1·0, bits}
 use Rattle.numeric.specs.declared.vec3.Vec3.{Vec3}
-use Rattle.tdcp.specs.Displacement.{Input, input}
+use Rattle.tdcp.specs.Displacement.{Input, general}
 use Rattle.records.specs.declared.record.Carrier.{Carrier}
 use Rattle.records.specs.declared.record.Epoch.{Epoch}
 use Rattle.tdcp.specs.declared.displacement.Displacement.{Displacement}
@@ -32,7 +32,7 @@ epochIn z = record { count = 6; carriers = replicate 64 (carrierIn z) }
 -- six of them at either epoch, a second apart, and zero rounds
 abbrev pub sixIn : ℤ → Input
 sixIn z =
-    input (epochIn z) (epochIn z) 1·0 origin
+    general (epochIn z) (epochIn z) 1·0 origin
     (record { screen = bits 0x3FE0_0000_0000_0000; «sigma_a» = 1·0; «sigma_b» = +0; huber = 1·0; mask = ten; rounds = 0; agreement = +0 })
 
 -- how many pairs are used, 0 where the displacement is refused

@@ -1,5 +1,6 @@
 -- docs/SCOPE.md, "Trials at the edges", those marked for proof: one list, in its order. Definitions only.
 use Prim.Native.Nat.{ℕ}
+use mathlib.Core.Logic.{_⊎_}
 use mathlib.Core.Path.{_≡_}
 use mathlib.Core.List.{List, [], _∷_, map}
 use mathlib.Core.Bool.{true, false, cond}
@@ -15,11 +16,12 @@ use Rattle.numeric.specs.declared.refusal.Refusal.the-variants.{NoCorrection}
 use Rattle.median.specs.Sorted.{medianOf}
 use Rattle.median.specs.Centre.{centreOf, deviationsOf, centreScaleOf}
 use Rattle.median.specs.declared.centre.Centre.the-variants.{Of}
-use Rattle.clocks.specs.Clocks.{slot, clocksOf}
+use Rattle.walk.specs.Walk.{fold}
+use Rattle.clocks.specs.Clocks.{none, slot, given}
 use Rattle.records.specs.Record.{usable}
 use Rattle.records.specs.declared.record.Carrier.{Carrier}
-use Rattle.query.specs.Query.{queryOf}
-use Rattle.table.specs.declared.sample.Sample.{Sample}
+use Rattle.directory.specs.Directory.{Directory, lentBlocks, directoryIn}
+use Rattle.query.specs.Query.{queryIn}
 use Rattle.query.specs.declared.query.Correction.the-variants as Correction
 use Rattle.query.specs.declared.query.Correction.the-variants.{Metres}
 use Rattle.smooth.specs.Trials.{m12, m13}
@@ -63,20 +65,20 @@ four = patternOf (whole 3) ∷ patternOf (whole 1) ∷ patternOf (whole 2) ∷ p
 abbrev pub m5 : Type 0
 m5 = (centreOf four ≡ whole 3) × (medianOf (deviationsOf (centreOf four) four) ≡ patternOf (whole 1))
 
--- m6: constellations 6, 1, 6, 9, 7 give slots 3, 4, 3, 5, 5
+-- m6: constellations 6, 1, 6, 9, 7, given one after the other, have the slots 3, 4, 3, 5, 5
 abbrev pub five : List ℕ
 five = 6 ∷ 1 ∷ 6 ∷ 9 ∷ 7 ∷ []
 
 abbrev pub m6 : Type 0
-m6 = map (slot (clocksOf five)) five ≡ 3 ∷ 4 ∷ 3 ∷ 5 ∷ 5 ∷ []
+m6 = map (slot (fold given none five)) five ≡ 3 ∷ 4 ∷ 3 ∷ 5 ∷ 5 ∷ []
 
 -- m7: the identity factors to itself
 abbrev pub m7 : Type 0
 m7 = factorOf identity ≡ Lower identity
 
--- m8: a zero first pivot is refused, whatever the rest of the matrix
+-- m8: a zero first pivot of either sign is refused, whatever the rest of the matrix
 abbrev pub m8 : Type 0
-m8 = (a : List (List Float)) → cell a 0 0 ≡ +0 → factorOf a ≡ Refused
+m8 = (a : List (List Float)) → (cell a 0 0 ≡ +0) ⊎ (cell a 0 0 ≡ bits 0x8000_0000_0000_0000) → factorOf a ≡ Refused
 
 -- the carrier c in the state z
 abbrev pub inState : Carrier → ℤ → Carrier
@@ -86,20 +88,17 @@ inState c z = record { constellation = c .constellation; svid = c .svid; band = 
 abbrev pub m9 : Type 0
 m9 = (c : Carrier) → finite (c .adr) ≡ true → map (λ (z : ℤ). usable (inState c z)) (pos 1 ∷ pos 0 ∷ pos 3 ∷ pos 5 ∷ negsuc 0 ∷ []) ≡ true ∷ false ∷ false ∷ false ∷ false ∷ []
 
--- samples (10 s, 1 m) and (20 s, 3 m) of one signal
-abbrev pub twoSamples : List Sample
-twoSamples =
-    record { constellation = 1; svid = 5; band = 1; time = whole 10; correction = whole 1 }
-    ∷ record { constellation = 1; svid = 5; band = 1; time = whole 20; correction = whole 3 }
-    ∷ []
+-- samples (10 s, 1 m) and (20 s, 3 m) of one signal, as the one block of a directory in columns of two places
+abbrev pub twoSamples : Directory
+twoSamples = directoryIn 1 2 (lentBlocks (1 ∷ 1 ∷ []) (5 ∷ 5 ∷ []) (1 ∷ 1 ∷ []) (0 ∷ 0 ∷ []) (2 ∷ 2 ∷ []) (whole 10 ∷ whole 20 ∷ []) (whole 1 ∷ whole 3 ∷ []))
 
 -- m10: gap limit 90: 15 s gives 2 m
 abbrev pub m10 : Type 0
-m10 = queryOf 2 2 twoSamples (whole 90) 1 5 1 (whole 15) ≡ Metres (whole 2)
+m10 = queryIn 1 2 2 twoSamples (whole 90) 1 5 1 (whole 15) ≡ Metres (whole 2)
 
 -- m11: gap limit 5: 12
 abbrev pub m11 : Type 0
-m11 = queryOf 2 2 twoSamples (whole 5) 1 5 1 (whole 15) ≡ Correction.Refused NoCorrection
+m11 = queryIn 1 2 2 twoSamples (whole 5) 1 5 1 (whole 15) ≡ Correction.Refused NoCorrection
 
 -- m12 and m13, those of a track, stand beside its definition
 abbrev pub marked : List (Type 0)

@@ -2,14 +2,14 @@
 ghost use mathlib.Core.Path.{_≡_};
 ghost use mathlib.Core.Bool.{true};
 ghost use Rattle.exact.specs.Float.{whole};
-ghost use Rattle.query.specs.Query.{queryOf};
+ghost use Rattle.query.specs.Query.{queryIn};
 ghost use Rattle.trials.specs.Marked.{twoSamples};
 use query::query::Correction;
 use query::query::query;
 
 // The correction at 15 s of samples (10 s, 1 m), (20 s, 3 m).
 fn half_way(gap: f64) -> Correction
-    ensures { λ r. ⌜ r ≡ queryOf 2 2 twoSamples gap 1 5 1 (whole 15) ⌝ }
+    ensures { λ r. ⌜ r ≡ queryIn 1 2 2 twoSamples gap 1 5 1 (whole 15) ⌝ }
 {
     let dc = [1u8; 2];
     let dv = [5u16; 2];

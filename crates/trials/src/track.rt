@@ -4,17 +4,17 @@ ghost use mathlib.Core.Bool.{true};
 use smooth::Settings;
 use smooth::smooth;
 
-// A one-epoch track with one anchor of sigma 1 at (5, 6, 7) is that point.
+// A one-epoch track with one anchor of sigma 1 at (5, 6, 7) is that point, by its patterns.
 pub fn one_point() -> bool
     ensures { λ r. ⌜ r ≡ true ⌝ }
 {
-    let ai = [0usize; 1];
-    let av = [5.0, 6.0, 7.0];
-    let ag = [1.0; 3];
-    let li = [0usize; 0];
-    let lv = [0.0; 0];
-    let mut result = [0.0; 3];
-    let mut work = [0.0; 10];
+    let epoch = [0usize; 1];
+    let position = [5.0, 6.0, 7.0];
+    let sigma = [1.0; 3];
+    let link_epoch = [0usize; 0];
+    let link_floats = [0.0; 0];
+    let mut result = [0u64; 3];
+    let mut work = [0u64; 10];
     let settings = Settings {
         huber: 2.0,
         iterations: 6,
@@ -23,30 +23,33 @@ pub fn one_point() -> bool
         1,
         1,
         0,
-        &ai,
-        &av,
-        &ag,
-        &li,
-        &lv,
-        &lv,
+        &epoch,
+        &position,
+        &sigma,
+        &link_epoch,
+        &link_floats,
+        &link_floats,
         settings,
         &mut result,
         &mut work,
     );
-    (track.number() == 0) & (result[0] == 5.0) & (result[1] == 6.0) & (result[2] == 7.0)
+    (track.number() == 0)
+        & (result[0] == 0x4014_0000_0000_0000)
+        & (result[1] == 0x4018_0000_0000_0000)
+        & (result[2] == 0x401C_0000_0000_0000)
 }
 
 // Two epochs, one anchor, no link: 10.
 pub fn not_held() -> bool
     ensures { λ r. ⌜ r ≡ true ⌝ }
 {
-    let ai = [0usize; 1];
-    let av = [5.0, 6.0, 7.0];
-    let ag = [1.0; 3];
-    let li = [0usize; 0];
-    let lv = [0.0; 0];
-    let mut result = [0.0; 6];
-    let mut work = [0.0; 19];
+    let epoch = [0usize; 1];
+    let position = [5.0, 6.0, 7.0];
+    let sigma = [1.0; 3];
+    let link_epoch = [0usize; 0];
+    let link_floats = [0.0; 0];
+    let mut result = [0u64; 6];
+    let mut work = [0u64; 19];
     let settings = Settings {
         huber: 2.0,
         iterations: 6,
@@ -55,12 +58,12 @@ pub fn not_held() -> bool
         2,
         1,
         0,
-        &ai,
-        &av,
-        &ag,
-        &li,
-        &lv,
-        &lv,
+        &epoch,
+        &position,
+        &sigma,
+        &link_epoch,
+        &link_floats,
+        &link_floats,
         settings,
         &mut result,
         &mut work,

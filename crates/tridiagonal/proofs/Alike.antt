@@ -1,11 +1,14 @@
 -- The definitions look at the first n rows of the equations alone. Assumes nothing.
-use mathlib.Core.Path.{_≡_, ap}
+use mathlib.Core.Path.{_≡_, sym, _∙_, ap}
 use mathlib.Core.Bool.{not}
+use mathlib.Core.Logic.{inl, inr, ⊎-elim}
 use Prim.Native.Nat.{ℕ, zero, suc, _-_, _<_}
 use native.Mathlib.Omega.{arith}
-use lib.Ieee.{Float}
-use Rattle.tridiagonal.specs.Tridiagonal.{Equations, vanishing, pivot, reduced, eliminated, solvable, back, solution}
-use Rattle.tridiagonal.specs.Steps.{Alike}
+use lib.Ieee.{Float, isNan, le}
+use lib.Ieee.Scale.{finite}
+use Rattle.exact.specs.Float.{+0}
+use Rattle.tridiagonal.specs.Tridiagonal.{Equations, vanishing, pivot, reduced, eliminated, solvable, back, solution, held, finiteSolution, axisSolved}
+use Rattle.tridiagonal.specs.Steps.{Alike, Spoilt}
 use Rattle.tridiagonal.proofs.EachBelow.{each-same}
 
 pub back-same : (e e' : Equations) (m n : ℕ) → m < n → Alike e e' n → (j : ℕ) → back e' m j ≡ back e m j
@@ -30,3 +33,31 @@ module _ (e e' : Equations) (n : ℕ) (s : Alike e e' n) where
   pub solution-same : 0 < n → (i : ℕ) → solution e' n i ≡ solution e n i
   unfolding solution
   solution-same h i = back-same (eliminated e) (eliminated e') (n - 1) n (omega arith) (record { diagonal = pivot-same; upper = s .upper; right = reduced-same }) (n - 1 - i)
+
+  held-same : held e' n ≡ held e n
+  held-same = each-same (λ k. not (le (e' .diagonal k) +0)) (λ k. not (le (e .diagonal k) +0)) n (λ k h. ap (λ (x : Float). not (le x +0)) (s .diagonal k h))
+
+  finite-same : 0 < n → finiteSolution e' n ≡ finiteSolution e n
+  finite-same h = each-same (λ k. finite (solution e' n k)) (λ k. finite (solution e n k)) n (λ k l. ap finite (solution-same h k))
+
+  pub axis-same : 0 < n → axisSolved e' n ≡ axisSolved e n
+  axis-same h = rw (held-same, solvable-same, finite-same h)
+
+  pub spoilt-same : Spoilt e' n → Spoilt e n
+  spoilt-same p = record {
+    row = p .row;
+    inside = p .inside;
+    spoilt = ⊎-elim
+        (λ g. inl (ap isNan (sym (s .diagonal (p .row) (p .inside))) ∙ g))
+        (λ r. inr (⊎-elim
+        (λ g. inl (ap isNan (sym (s .right (p .row) (p .inside))) ∙ g))
+        (λ g. inr (g .0, ap isNan (sym (s .upper (p .row) (p .inside))) ∙ g .1)) r))
+        (p .spoilt);
+  }
+
+pub alike-then : (e e' e″ : Equations) (n : ℕ) → Alike e e' n → Alike e' e″ n → Alike e e″ n
+alike-then e e' e″ n s t = record {
+  diagonal = λ k h. t .diagonal k h ∙ s .diagonal k h;
+  upper = λ k h. t .upper k h ∙ s .upper k h;
+  right = λ k h. t .right k h ∙ s .right k h;
+}

@@ -2,11 +2,11 @@
 use mathlib.Core.Path.{_≡_, refl, sym, _∙_, ap}
 use mathlib.Core.Bool.{Bool, true, false, _&&_}
 use Prim.Native.Nat.{ℕ, zero, suc, _+_, _-_, _<_}
-use mathlib.Core.Logic.{⊎-elim}
+use mathlib.Core.Logic.{_⊎_, inl, inr, ⊎-elim}
 use native.Mathlib.Nat.{add-zero, add-suc, eq-or-lt-of-le}
 use native.Mathlib.Numerals.{add-one}
 use native.Mathlib.Omega.{arith}
-use Rattle.tridiagonal.specs.Columns.{eachBelow}
+use Rattle.tridiagonal.specs.Tridiagonal.{eachBelow}
 
 pub each-none : (f : ℕ → Bool) → eachBelow f 0 ≡ true
 unfolding eachBelow
@@ -53,3 +53,38 @@ each-stop f k n s h e = sym (each-not f k n h e s)
 
 pub each-all : (f : ℕ → Bool) (k n : ℕ) → eachBelow f k ≡ true → k ≡ n → true ≡ eachBelow f n
 each-all f k n s e = sym s ∙ ap (eachBelow f) e
+
+-- by its places
+pub each-of : (f : ℕ → Bool) (n : ℕ) → ((k : ℕ) → k < n → f k ≡ true) → eachBelow f n ≡ true
+unfolding eachBelow
+each-of f zero h = refl
+each-of f (suc n) h = rw (each-of f n (λ k l. h k (omega arith)), h n (omega arith))
+
+pub each-fails : (f : ℕ → Bool) (k n : ℕ) → k < n → f k ≡ false → eachBelow f n ≡ false
+each-fails f k n h e = go (eachBelow f n) refl
+  where
+    go : (b : Bool) → eachBelow f n ≡ b → eachBelow f n ≡ false
+    go true t = let z : _≡_ {A = Bool} true false = sym (each-at f n t k h) ∙ e in t ∙ z
+    go false t = t
+
+-- one of three tests fails
+pub first-fails : (a b c : Bool) → a ≡ false → (a && (b && c)) ≡ false
+first-fails a b c e = rw e
+
+pub second-fails : (a b c : Bool) → b ≡ false → (a && (b && c)) ≡ false
+second-fails true b c e = rw e
+second-fails false b c e = refl
+
+pub third-fails : (a b c : Bool) → c ≡ false → (a && (b && c)) ≡ false
+third-fails true true c e = e
+third-fails true false c e = refl
+third-fails false b c e = refl
+
+pub all-three : (a b c : Bool) → a ≡ true → b ≡ true → c ≡ true → (a && (b && c)) ≡ true
+all-three a b c e f g = rw (e, f, g)
+
+-- which of three tests fails
+pub who-fails : (a b c : Bool) → (a && (b && c)) ≡ false → (a ≡ false) ⊎ ((b ≡ false) ⊎ (c ≡ false))
+who-fails true true c e = inr (inr e)
+who-fails true false c e = inr (inl refl)
+who-fails false b c e = inl refl

@@ -1,20 +1,27 @@
--- The elimination, one row of the three blocks at a time. Assumes nothing.
+-- The elimination, one row of the three axes at a time. Assumes nothing.
 use mathlib.Core.Path.{_≡_, refl, sym, _∙_, ap}
 use mathlib.Core.Logic.{⊎-elim}
-use mathlib.Core.Bool.{Bool, true, false, not, _&&_, cond}
+use mathlib.Core.Bool.{Bool, true, false, not, _&&_}
 use mathlib.Core.List.{List}
 use Prim.Native.Nat.{ℕ, _+_, _*_, _≤_, _<_}
+use native.Mathlib.Nat.{eq-or-lt-of-le}
 use native.Mathlib.Numerals.{add-one}
 use native.Mathlib.Omega.{arith}
-use lib.ListN.{length, set}
-use lib.Ieee.{Float}
-use Rattle.exact.specs.Float.{_⊖_, _⊗_, _⊘_}
-use Rattle.tridiagonal.specs.Columns.{col, SameOutside, Blocks}
-use Rattle.tridiagonal.specs.Tridiagonal.{Equations, vanishing, pivot, reduced, solvable}
-use Rattle.tridiagonal.specs.Steps.{block, rowEliminated, allSolvable, Left, Eliminated}
-use Rattle.tridiagonal.proofs.EachBelow.{each-none, each-next, each-not}
-use Rattle.tridiagonal.proofs.Cells.{place, miss2, hit-under, hit-over, grown, kept-none, kept-set, kept-then}
-use Rattle.tridiagonal.proofs.Blocks.{Local, blocks-step, blocks-map}
+use lib.Dec.{T}
+use lib.ListN.{length, set, length-set}
+use lib.Ieee.{Float, isNan, le, binary64, fits, toBits}
+use lib.Ieee.Fits.{sub-fits}
+use Rattle.exact.specs.Float.{_⊖_, _⊗_, _⊘_, +0}
+use Rattle.numeric.specs.Order.{patternOf}
+use Rattle.numeric.proofs.OrderLaws.{pattern-bits}
+use Rattle.tridiagonal.specs.Rows.{floatAt, cell, axisIn, Axes, SameOutside}
+use Rattle.tridiagonal.specs.Tridiagonal.{Equations, pivot, reduced, vanishing, axisSolved, goesOn, goodRow}
+use Rattle.tridiagonal.specs.Steps.{NoNan, NumbersAt, FirstRow, RowEliminated, Left, Eliminated}
+use Rattle.tridiagonal.specs.declared.solve.Row.{Row}
+use Rattle.tridiagonal.proofs.EachBelow.{each-of, left-true, right-true, first-fails, second-fails, third-fails, who-fails}
+use Rattle.tridiagonal.proofs.Cells.{grown, kept-then, float-place, float-hit, float-miss}
+use Rattle.tridiagonal.proofs.Axes.{Beside, beside, Touched, touched-none, touched-diagonal, touched-right, touched-if, taken}
+use Rattle.tridiagonal.proofs.Nan.{bad-fails}
 
 -- ---- the definitions at i + 1
 
@@ -26,20 +33,21 @@ reduced-next : (e : Equations) (i : ℕ) (x y p q : Float) → x ≡ e .right (i
 unfolding reduced
 reduced-next e i x y p q ex ey ep eq = rw (add-one, ex, ey, ep, eq, add-one)
 
--- ---- one block, its rows 0 to i done
+goes-same : (d d' p p' q q' : Float) → d ≡ d' → p ≡ p' → q ≡ q' → goesOn d p q ≡ goesOn d' p' q'
+goes-same d d' p p' q q' ed ep eq = rw (ed, ep, eq)
 
-pub record Rows (w₀ : List Float) (n i at : ℕ) (w : List Float) : Type 0 where
-  pub fine : solvable (block w₀ at n) i ≡ true
-  pub pivots : (k : ℕ) → k ≤ i → col w at k ≡ pivot (block w₀ at n) k
-  pub below : (k : ℕ) → i < k → k < n → col w at k ≡ col w₀ at k
-  pub uppers : (k : ℕ) → k < n → col w (at + n) k ≡ col w₀ (at + n) k
-  pub rights : (k : ℕ) → k ≤ i → col w (at + n * 2) k ≡ reduced (block w₀ at n) k
-  pub under : (k : ℕ) → i < k → k < n → col w (at + n * 2) k ≡ col w₀ (at + n * 2) k
+-- ---- one axis, its rows 0 to i done
 
-rows-none : (w₀ : List Float) (n at : ℕ) → Rows w₀ n 0 at w₀
+pub record Rows (w₀ : List ℕ) (n i t : ℕ) (w : List ℕ) : Type 0 where
+  pub pivots : (k : ℕ) → k ≤ i → cell w t k ≡ pivot (axisIn w₀ t) k
+  pub below : (k : ℕ) → i < k → k < n → cell w t k ≡ cell w₀ t k
+  pub uppers : (k : ℕ) → k < n → cell w (3 + t) k ≡ cell w₀ (3 + t) k
+  pub rights : (k : ℕ) → k ≤ i → cell w (6 + t) k ≡ reduced (axisIn w₀ t) k
+  pub under : (k : ℕ) → i < k → k < n → cell w (6 + t) k ≡ cell w₀ (6 + t) k
+
+rows-none : (w₀ : List ℕ) (n t : ℕ) → Rows w₀ n 0 t w₀
 unfolding pivot reduced
-rows-none w₀ n at = record {
-  fine = each-none _;
+rows-none w₀ n t = record {
   pivots = λ k l. let e : k ≡ 0 = omega arith in rw e;
   below = λ k l m. refl;
   uppers = λ k m. refl;
@@ -47,183 +55,254 @@ rows-none w₀ n at = record {
   under = λ k l m. refl;
 }
 
-rows-local : (w₀ : List Float) (n i : ℕ) → i < n → Local n (λ at t. Rows w₀ n i at)
-rows-local w₀ n i g at t w w' e s = record {
-  fine = s .fine;
-  pivots = λ k l. e .at (at + k) (omega arith) (omega arith) ∙ s .pivots k l;
-  below = λ k l m. e .at (at + k) (omega arith) (omega arith) ∙ s .below k l m;
-  uppers = λ k m. e .at (at + n + k) (omega arith) (omega arith) ∙ s .uppers k m;
-  rights = λ k l. e .at (at + n * 2 + k) (omega arith) (omega arith) ∙ s .rights k l;
-  under = λ k l m. e .at (at + n * 2 + k) (omega arith) (omega arith) ∙ s .under k l m;
+rows-beside : (w₀ : List ℕ) (n i t : ℕ) (w w' : List ℕ) → Beside t w w' → Rows w₀ n i t w → Rows w₀ n i t w'
+rows-beside w₀ n i t w w' b s = record {
+  pivots = λ k l. b .diagonal k ∙ s .pivots k l;
+  below = λ k l m. b .diagonal k ∙ s .below k l m;
+  uppers = λ k m. b .upper k ∙ s .uppers k m;
+  rights = λ k l. b .right k ∙ s .rights k l;
+  under = λ k l m. b .right k ∙ s .under k l m;
 }
 
-module _ (w₀ : List Float) (n i at : ℕ) (w : List Float) (inside : i < n) (s : Rows w₀ n i at w) where
-  -- the pivot of row i stands in its place
-  solvable-next : (t : Bool) → t ≡ not (vanishing (col w at i)) → solvable (block w₀ at n) (i + 1) ≡ t
-  solvable-next t e = each-next (λ k. not (vanishing (pivot (block w₀ at n) k))) i t (s .fine) (ap (λ (x : Float). not (vanishing x)) (sym (s .pivots i (omega arith))) ∙ sym e)
+-- r is row i, and the rows above let the elimination go on; if r does too, the list holds the rows so far
+pub record Reached (w₀ : List ℕ) (n i t : ℕ) (w : List ℕ) (r : Row) : Type 0 where
+  pub pivot-is : r .pivot ≡ pivot (axisIn w₀ t) i
+  pub right-is : r .right ≡ reduced (axisIn w₀ t) i
+  pub good-is : r .good ≡ goodRow (axisIn w₀ t) i
+  pub above : (k : ℕ) → k < i → goodRow (axisIn w₀ t) k ≡ true
+  pub rows : r .good ≡ true → Rows w₀ n i t w
 
-  solvable-stop : not (vanishing (col w at i)) ≡ false → solvable (block w₀ at n) n ≡ false
-  solvable-stop e = each-not (λ k. not (vanishing (pivot (block w₀ at n) k))) i n inside (ap (λ (x : Float). not (vanishing x)) (sym (s .pivots i (omega arith))) ∙ e) (s .fine)
+pub reached-beside : (w₀ : List ℕ) (n i t : ℕ) (w w' : List ℕ) (r : Row) → Beside t w w' → Reached w₀ n i t w r → Reached w₀ n i t w' r
+reached-beside w₀ n i t w w' r b s = record {
+  pivot-is = s .pivot-is;
+  right-is = s .right-is;
+  good-is = s .good-is;
+  above = s .above;
+  rows = λ g. rows-beside w₀ n i t w w' b (s .rows g);
+}
 
-  left-all : i + 1 ≡ n → Left w₀ at n w
-  left-all e = record { pivots = λ k l. s .pivots k (omega arith); uppers = s .uppers; rights = λ k l. s .rights k (omega arith) }
+-- the first row
+pub reached-none : (w₀ : List ℕ) (n at t : ℕ) (r : Row) → at ≡ t → FirstRow w₀ at r → Reached w₀ n 0 t w₀ r
+unfolding pivot reduced
+reached-none w₀ n at t r e s =
+    let d : floatAt w₀ at ≡ cell w₀ t 0 = float-place w₀ at (0 * 9 + t) (omega arith) in
+    let q : floatAt w₀ (at + 6) ≡ cell w₀ (6 + t) 0 = float-place w₀ (at + 6) (0 * 9 + (6 + t)) (omega arith) in
+    record {
+      pivot-is = s .pivot ∙ d;
+      right-is = s .right ∙ q;
+      good-is = s .good ∙ goes-same _ _ _ _ _ _ d (s .pivot ∙ d) (s .right ∙ q);
+      above = λ k l. absurd (omega arith);
+      rows = λ g. rows-none w₀ n t;
+    }
 
-  rows-more : i + 1 < n → at + n * 3 ≤ length w → true ≡ not (vanishing (col w at i)) → Rows w₀ n (i + 1) at (rowEliminated w at n i)
-  rows-more more room e =
-      let f = col w (at + n) i ⊘ col w at i in
-      let v = col w at (i + 1) ⊖ f ⊗ col w (at + n) i in
-      let r = col w (at + n * 2) (i + 1) ⊖ f ⊗ col w (at + n * 2) i in
-      let a = at + (i + 1) in
-      let b = at + n * 2 + (i + 1) in
-      record {
-        fine = solvable-next true e;
-        pivots = λ k l. ⊎-elim
-            (λ g. hit-under w a b (at + k) v r (omega arith) (omega arith) (omega arith)
-            ∙ pivot-next (block w₀ at n) i _ _ _ (s .below (i + 1) (omega arith) more) (s .uppers i inside) (s .pivots i (omega arith))
-            ∙ ap (pivot (block w₀ at n)) (sym g))
-            (λ h. miss2 w a b (at + k) v r (omega arith) (omega arith) ∙ s .pivots k h)
-            (grown k i l);
-        below = λ k l m. miss2 w a b (at + k) v r (omega arith) (omega arith) ∙ s .below k (omega arith) m;
-        uppers = λ k m. miss2 w a b (at + n + k) v r (omega arith) (omega arith) ∙ s .uppers k m;
-        rights = λ k l. ⊎-elim
-            (λ g. hit-over w a b (at + n * 2 + k) v r (omega arith) (omega arith)
-            ∙ reduced-next (block w₀ at n) i _ _ _ _ (s .under (i + 1) (omega arith) more) (s .uppers i inside) (s .pivots i (omega arith)) (s .rights i (omega arith))
-            ∙ ap (reduced (block w₀ at n)) (sym g))
-            (λ h. miss2 w a b (at + n * 2 + k) v r (omega arith) (omega arith) ∙ s .rights k h)
-            (grown k i l);
-        under = λ k l m. miss2 w a b (at + n * 2 + k) v r (omega arith) (omega arith) ∙ s .under k (omega arith) m;
-      }
+pub first-needs : (w : List ℕ) (n at t : ℕ) → at ≡ t → 0 < n → NoNan (axisIn w t) n → NumbersAt w at (at + 6) (at + 6)
+first-needs w n at t e h m =
+    let d : isNan (floatAt w at) ≡ false = ap isNan (float-place w at (0 * 9 + t) (omega arith)) ∙ m .diagonal 0 h in
+    let q : isNan (floatAt w (at + 6)) ≡ false = ap isNan (float-place w (at + 6) (0 * 9 + (6 + t)) (omega arith)) ∙ m .right 0 h in
+    record { first = d; second = q; third = q }
 
--- ---- the three blocks
+-- ---- what is stored is no NaN
 
-pub record Eliminating (w₀ : List Float) (n i : ℕ) (w : List Float) : Type 0 where
+un-not : (b : Bool) → not b ≡ true → T (not b)
+un-not b h = rw h tt
+
+module _ (d p q : Float) (g : goesOn d p q ≡ true) where
+  numbers : (not (isNan p) && not (isNan q)) ≡ true
+  numbers = right-true (not (vanishing p)) (not (isNan p) && not (isNan q)) (right-true (not (le d +0)) (not (vanishing p) && (not (isNan p) && not (isNan q))) g)
+
+  pub pivot-writable : T (not (isNan p))
+  pivot-writable = un-not (isNan p) (left-true (not (isNan p)) (not (isNan q)) numbers)
+
+  pub right-writable : T (not (isNan q))
+  right-writable = un-not (isNan q) (right-true (not (isNan p)) (not (isNan q)) numbers)
+
+-- the row that the call gives, stored or not
+module _ (w : List ℕ) (at : ℕ) (above r : Row) (ep : r .pivot ≡ floatAt w (at + 9) ⊖ (floatAt w (at + 3) ⊘ above .pivot) ⊗ floatAt w (at + 3))
+    (eq : r .right ≡ floatAt w (at + 15) ⊖ (floatAt w (at + 3) ⊘ above .pivot) ⊗ above .right) (eg : r .good ≡ goesOn (floatAt w (at + 9)) (r .pivot) (r .right)) where
+  pub row-ends : r .good ≡ false → RowEliminated w at above r w
+  row-ends f = record { pivot = ep; right = eq; good = eg; stored = rw f }
+
+  pub row-goes : r .good ≡ true → RowEliminated w at above r (set (set w (at + 9) (toBits binary64 (r .pivot))) (at + 15) (toBits binary64 (r .right)))
+  row-goes t = record { pivot = ep; right = eq; good = eg; stored = rw (t, pattern-bits (r .pivot), pattern-bits (r .right)) }
+
+-- ---- one row more, of one axis
+
+module _ (w₀ : List ℕ) (n i t : ℕ) (w : List ℕ) (above : Row) (at : ℕ) (place : at ≡ i * 9 + t) (small : t < 3) (more : i + 1 < n) (s : Reached w₀ n i t w above) (g : above .good ≡ true) where
+  abbrev e : Equations
+  e = axisIn w₀ t
+
+  upper-at : floatAt w (at + 3) ≡ cell w₀ (3 + t) i
+  upper-at = float-place w (at + 3) (i * 9 + (3 + t)) (omega arith) ∙ s .rows g .uppers i (omega arith)
+
+  diagonal-at : floatAt w (at + 9) ≡ cell w₀ t (i + 1)
+  diagonal-at = float-place w (at + 9) ((i + 1) * 9 + t) (omega arith) ∙ s .rows g .below (i + 1) (omega arith) more
+
+  right-at : floatAt w (at + 15) ≡ cell w₀ (6 + t) (i + 1)
+  right-at = float-place w (at + 15) ((i + 1) * 9 + (6 + t)) (omega arith) ∙ s .rows g .under (i + 1) (omega arith) more
+
+  pub numbers-below : NoNan (axisIn w₀ t) n → NumbersAt w (at + 3) (at + 9) (at + 15)
+  numbers-below m = record {
+    first = ap isNan upper-at ∙ m .upper i (omega arith);
+    second = ap isNan diagonal-at ∙ m .diagonal (i + 1) more;
+    third = ap isNan right-at ∙ m .right (i + 1) more;
+  }
+
+  module _ (r : Row) (w' : List ℕ) (room : n * 9 ≤ length w) (d : RowEliminated w at above r w') where
+    pub row-touched : Touched t n w w'
+    row-touched =
+        touched-if t n w _ w' (r .good) (d .stored)
+        (touched-right t n w (set w (at + 9) (patternOf (r .pivot))) small
+        (touched-diagonal t n w w small (touched-none t n w) (i + 1) (at + 9) (patternOf (r .pivot)) more (omega arith))
+        (i + 1) (at + 15) (patternOf (r .right)) more (omega arith))
+
+    new-pivot : r .pivot ≡ pivot e (i + 1)
+    new-pivot = d .pivot ∙ pivot-next e i _ _ _ diagonal-at upper-at (s .pivot-is)
+
+    new-right : r .right ≡ reduced e (i + 1)
+    new-right = d .right ∙ reduced-next e i _ _ _ _ right-at upper-at (s .pivot-is) (s .right-is)
+
+    pivot-fits : T (fits binary64 (r .pivot))
+    pivot-fits = rw (d .pivot) (sub-fits binary64 _ _)
+
+    right-fits : T (fits binary64 (r .right))
+    right-fits = rw (d .right) (sub-fits binary64 _ _)
+
+    stored-rows : Rows w₀ n (i + 1) t (set (set w (at + 9) (patternOf (r .pivot))) (at + 15) (patternOf (r .right)))
+    stored-rows =
+        let p = patternOf (r .pivot) in
+        let q = patternOf (r .right) in
+        let w1 = set w (at + 9) p in
+        let o = s .rows g in
+        record {
+          pivots = λ k l. ⊎-elim
+              (λ h. float-miss w1 (at + 15) (k * 9 + t) q (omega arith) ∙ float-hit w (at + 9) (k * 9 + t) (r .pivot) pivot-fits (omega arith) (omega arith) ∙ new-pivot ∙ ap (pivot e) (sym h))
+              (λ h. float-miss w1 (at + 15) (k * 9 + t) q (omega arith) ∙ float-miss w (at + 9) (k * 9 + t) p (omega arith) ∙ o .pivots k h)
+              (grown k i l);
+          below = λ k l m. float-miss w1 (at + 15) (k * 9 + t) q (omega arith) ∙ float-miss w (at + 9) (k * 9 + t) p (omega arith) ∙ o .below k (omega arith) m;
+          uppers = λ k m. float-miss w1 (at + 15) (k * 9 + (3 + t)) q (omega arith) ∙ float-miss w (at + 9) (k * 9 + (3 + t)) p (omega arith) ∙ o .uppers k m;
+          rights = λ k l. ⊎-elim
+              (λ h. float-hit w1 (at + 15) (k * 9 + (6 + t)) (r .right) right-fits (simp length-set (omega arith)) (omega arith) ∙ new-right ∙ ap (reduced e) (sym h))
+              (λ h. float-miss w1 (at + 15) (k * 9 + (6 + t)) q (omega arith) ∙ float-miss w (at + 9) (k * 9 + (6 + t)) p (omega arith) ∙ o .rights k h)
+              (grown k i l);
+          under = λ k l m. float-miss w1 (at + 15) (k * 9 + (6 + t)) q (omega arith) ∙ float-miss w (at + 9) (k * 9 + (6 + t)) p (omega arith) ∙ o .under k (omega arith) m;
+        }
+
+    pub reached-more : Reached w₀ n (i + 1) t w' r
+    reached-more = record {
+      pivot-is = new-pivot;
+      right-is = new-right;
+      good-is = d .good ∙ goes-same _ _ _ _ _ _ diagonal-at new-pivot new-right;
+      above = λ k l. ⊎-elim
+          (λ h. let q : k ≡ i = omega arith in ap (goodRow e) q ∙ sym (s .good-is) ∙ g)
+          (λ h. s .above k (omega arith))
+          (eq-or-lt-of-le l);
+      rows = λ y. let q : w' ≡ set (set w (at + 9) (patternOf (r .pivot))) (at + 15) (patternOf (r .right)) = taken (r .good) _ _ _ y (d .stored) in rw q stored-rows;
+    }
+
+-- ---- the three axes
+
+pub record Eliminating (w₀ : List ℕ) (n i : ℕ) (w : List ℕ) (x y z : Row) : Type 0 where
   pub inside : i < n
   pub room : n * 9 ≤ length w₀
   pub long : length w ≡ length w₀
   pub kept : SameOutside 0 (n * 9) w₀ w
-  pub rows : Blocks n (λ at t. Rows w₀ n i at w)
+  pub on-x : Reached w₀ n i 0 w x
+  pub on-y : Reached w₀ n i 1 w y
+  pub on-z : Reached w₀ n i 2 w z
 
-pub eliminating-none : (w₀ : List Float) (n : ℕ) → 0 < n → n * 9 ≤ length w₀ → Eliminating w₀ n 0 w₀
-eliminating-none w₀ n h room = record {
-  inside = h;
-  room = room;
-  long = refl;
-  kept = kept-none 0 (n * 9) w₀;
-  rows = record { x = rows-none w₀ n 0; y = rows-none w₀ n (n * 3); z = rows-none w₀ n (n * 6) };
-}
+module _ (w₀ : List ℕ) (n i : ℕ) (w : List ℕ) (x y z : Row) (s : Eliminating w₀ n i w x y z) where
+  pub eliminating-ends : (x .good && (y .good && z .good)) ≡ false → Eliminated w₀ n false w
+  eliminating-ends f =
+      let X = axisSolved (axisIn w₀ 0) n in
+      let Y = axisSolved (axisIn w₀ 1) n in
+      let Z = axisSolved (axisIn w₀ 2) n in
+      record {
+        kept = s .kept;
+        left = λ h. let q : _≡_ {A = ℕ} 0 1 = cc in absurd (omega arith);
+        ends = λ _. ⊎-elim
+            (λ a. first-fails X Y Z (bad-fails (axisIn w₀ 0) n i (s .inside) (sym (s .on-x .good-is) ∙ a)))
+            (λ b. ⊎-elim
+            (λ a. second-fails X Y Z (bad-fails (axisIn w₀ 1) n i (s .inside) (sym (s .on-y .good-is) ∙ a)))
+            (λ a. third-fails X Y Z (bad-fails (axisIn w₀ 2) n i (s .inside) (sym (s .on-z .good-is) ∙ a))) b)
+            (who-fails (x .good) (y .good) (z .good) f);
+      }
 
-row-kept : (w : List Float) (at n i : ℕ) (w' : List Float) → i + 1 < n → w' ≡ rowEliminated w at n i → SameOutside at (at + n * 3) w w'
-row-kept w at n i w' h e =
-    rw e
-    (kept-set at (at + n * 3) w (set w (at + (i + 1)) _) (at + n * 2 + (i + 1)) _ (omega arith) (omega arith)
-    (kept-set at (at + n * 3) w w (at + (i + 1)) _ (omega arith) (omega arith) (kept-none at (at + n * 3) w)))
-
-taken : {A : Type 0} (b : Bool) (x y z : A) → b ≡ true → z ≡ cond b x y → z ≡ x
-taken b x y z e h = rw e at h
-
-left-out : {A : Type 0} (b : Bool) (x y z : A) → b ≡ false → z ≡ cond b x y → z ≡ y
-left-out b x y z e h = rw e at h
-
--- one of three tests fails
-first-fails : (a b c : Bool) → a ≡ false → (a && (b && c)) ≡ false
-first-fails a b c e = rw e
-
-second-fails : (a b c : Bool) → b ≡ false → (a && (b && c)) ≡ false
-second-fails true b c e = rw e
-second-fails false b c e = refl
-
-third-fails : (a b c : Bool) → c ≡ false → (a && (b && c)) ≡ false
-third-fails true true c e = e
-third-fails true false c e = refl
-third-fails false b c e = refl
-
-module _ (w₀ : List Float) (n i : ℕ) (w : List Float) (inside : i < n) (kept : SameOutside 0 (n * 9) w₀ w) where
-  fails : allSolvable w₀ n ≡ false → Eliminated w₀ n false w
-  fails e = record { kept = kept; answer = sym e; left = λ h. let u : _≡_ {A = ℕ} 0 1 = cc in absurd (omega arith) }
-
-  abbrev ok-at : ℕ → Bool
-  ok-at at = solvable (block w₀ at n) n
-
-  -- a pivot vanishes
-  pub stop-x : Rows w₀ n i 0 w → not (vanishing (col w 0 i)) ≡ false → Eliminated w₀ n false w
-  stop-x s e = fails (first-fails (ok-at 0) (ok-at (n * 3)) (ok-at (n * 6)) (solvable-stop w₀ n i 0 w inside s e))
-
-  pub stop-y : Rows w₀ n i (n * 3) w → not (vanishing (col w (n * 3) i)) ≡ false → Eliminated w₀ n false w
-  stop-y s e = fails (second-fails (ok-at 0) (ok-at (n * 3)) (ok-at (n * 6)) (solvable-stop w₀ n i (n * 3) w inside s e))
-
-  pub stop-z : Rows w₀ n i (n * 6) w → not (vanishing (col w (n * 6) i)) ≡ false → Eliminated w₀ n false w
-  stop-z s e = fails (third-fails (ok-at 0) (ok-at (n * 3)) (ok-at (n * 6)) (solvable-stop w₀ n i (n * 6) w inside s e))
-
-all-three : (a b c : Bool) → a ≡ true → b ≡ true → c ≡ true → true ≡ (a && (b && c))
-all-three a b c e f g = rw (e, f, g)
-
--- one row more: the calls on the three blocks, from w to w1, w2 and w3
-module _ (w₀ : List Float) (n i : ℕ) (w : List Float) (s : Eliminating w₀ n i w) (more : i + 1 < n)
-    (b1 : Bool) (w1 : List Float) (t1 : b1 ≡ not (vanishing (col w 0 i))) (e1 : w1 ≡ cond b1 (rowEliminated w 0 n i) w) where
-  pub row-x-stops : b1 ≡ false → Eliminated w₀ n false w1
-  row-x-stops f = let g : w1 ≡ w = left-out b1 _ _ _ f e1 in rw g (stop-x w₀ n i w (s .inside) (s .kept) (s .rows .x) (sym t1 ∙ f))
-
-  module _ (y1 : b1 ≡ true) (b2 : Bool) (w2 : List Float) (t2 : b2 ≡ not (vanishing (col w1 (n * 3) i))) (e2 : w2 ≡ cond b2 (rowEliminated w1 (n * 3) n i) w1) where
-    k1 : SameOutside 0 (0 + n * 3) w w1
-    k1 = row-kept w 0 n i w1 more (taken b1 _ _ _ y1 e1)
-
-    kept1 : SameOutside 0 (n * 9) w₀ w1
-    kept1 = kept-then 0 (n * 9) 0 (0 + n * 3) w₀ w w1 (omega arith) (omega arith) (s .kept) k1
-
-    y-rows : Rows w₀ n i (n * 3) w1
-    y-rows = rows-local w₀ n i (s .inside) (n * 3) 1 w w1 (record { at = λ k a b. k1 .high k (omega arith) }) (s .rows .y)
-
-    pub row-y-stops : b2 ≡ false → Eliminated w₀ n false w2
-    row-y-stops f = let g : w2 ≡ w1 = left-out b2 _ _ _ f e2 in rw g (stop-y w₀ n i w1 (s .inside) kept1 y-rows (sym t2 ∙ f))
-
-    module _ (y2 : b2 ≡ true) (b3 : Bool) (w3 : List Float) (t3 : b3 ≡ not (vanishing (col w2 (n * 6) i))) (e3 : w3 ≡ cond b3 (rowEliminated w2 (n * 6) n i) w2) where
-      k2 : SameOutside (n * 3) (n * 3 + n * 3) w1 w2
-      k2 = row-kept w1 (n * 3) n i w2 more (taken b2 _ _ _ y2 e2)
-
-      kept2 : SameOutside 0 (n * 9) w₀ w2
-      kept2 = kept-then 0 (n * 9) (n * 3) (n * 3 + n * 3) w₀ w1 w2 (omega arith) (omega arith) kept1 k2
-
-      z-rows : Rows w₀ n i (n * 6) w2
-      z-rows = rows-local w₀ n i (s .inside) (n * 6) 2 w w2 (record { at = λ k a b. k2 .high k (omega arith) ∙ k1 .high k (omega arith) }) (s .rows .z)
-
-      pub row-z-stops : b3 ≡ false → Eliminated w₀ n false w3
-      row-z-stops f = let g : w3 ≡ w2 = left-out b3 _ _ _ f e3 in rw g (stop-z w₀ n i w2 (s .inside) kept2 z-rows (sym t3 ∙ f))
-
-      pub eliminating-more : b3 ≡ true → length w1 ≡ length w → length w2 ≡ length w1 → length w3 ≡ length w2 → Eliminating w₀ n (i + 1) w3
-      eliminating-more y3 l1 l2 l3 =
-          let k3 : SameOutside (n * 6) (n * 6 + n * 3) w2 w3 = row-kept w2 (n * 6) n i w3 more (taken b3 _ _ _ y3 e3) in
-          let r1 : w1 ≡ rowEliminated w 0 n i = taken b1 _ _ _ y1 e1 in
-          let r2 : w2 ≡ rowEliminated w1 (n * 3) n i = taken b2 _ _ _ y2 e2 in
-          let r3 : w3 ≡ rowEliminated w2 (n * 6) n i = taken b3 _ _ _ y3 e3 in
-          record {
-            inside = more;
-            room = s .room;
-            long = l3 ∙ l2 ∙ l1 ∙ s .long;
-            kept = kept-then 0 (n * 9) (n * 6) (n * 6 + n * 3) w₀ w2 w3 (omega arith) (omega arith) kept2 k3;
-            rows = blocks-step n w w1 w2 w3 k1 k2 k3 (λ at t. Rows w₀ n i at) (λ at t. Rows w₀ n (i + 1) at) (rows-local w₀ n i (s .inside)) (rows-local w₀ n (i + 1) more)
-                (λ r. rw r1 (rows-more w₀ n i 0 w (s .inside) r more (omega (arith, s .long, s .room)) (sym y1 ∙ t1)))
-                (λ r. rw r2 (rows-more w₀ n i (n * 3) w1 (s .inside) r more (omega (arith, s .long, s .room, l1)) (sym y2 ∙ t2)))
-                (λ r. rw r3 (rows-more w₀ n i (n * 6) w2 (s .inside) r more (omega (arith, s .long, s .room, l1, l2)) (sym y3 ∙ t3)))
-                (s .rows);
-          }
-
--- the last row
-module _ (w₀ : List Float) (n i : ℕ) (w : List Float) (s : Eliminating w₀ n i w) where
-  pub last-x-stops : vanishing (col w 0 i) ≡ true → Eliminated w₀ n false w
-  last-x-stops f = stop-x w₀ n i w (s .inside) (s .kept) (s .rows .x) (ap not f)
-
-  pub last-y-stops : vanishing (col w (n * 3) i) ≡ true → Eliminated w₀ n false w
-  last-y-stops f = stop-y w₀ n i w (s .inside) (s .kept) (s .rows .y) (ap not f)
-
-  pub last-z-stops : vanishing (col w (n * 6) i) ≡ true → Eliminated w₀ n false w
-  last-z-stops f = stop-z w₀ n i w (s .inside) (s .kept) (s .rows .z) (ap not f)
-
-  solvable-at : (at : ℕ) → i + 1 ≡ n → Rows w₀ n i at w → vanishing (col w at i) ≡ false → solvable (block w₀ at n) n ≡ true
-  solvable-at at e r f = ap (solvable (block w₀ at n)) (sym e) ∙ solvable-next w₀ n i at w (s .inside) r true (sym (ap not f))
-
-  pub eliminated-all : i + 1 ≡ n → vanishing (col w 0 i) ≡ false → vanishing (col w (n * 3) i) ≡ false → vanishing (col w (n * 6) i) ≡ false → Eliminated w₀ n true w
-  eliminated-all e f g h = record {
-    kept = s .kept;
-    answer = all-three (solvable (block w₀ 0 n) n) (solvable (block w₀ (n * 3) n) n) (solvable (block w₀ (n * 6) n) n) (solvable-at 0 e (s .rows .x) f) (solvable-at (n * 3) e (s .rows .y) g) (solvable-at (n * 6) e (s .rows .z) h);
-    left = λ _. blocks-map n (λ at t. Rows w₀ n i at w) (λ at t. Left w₀ at n w) (λ at t r. left-all w₀ n i at w (s .inside) r e) (s .rows);
+  left-of : (t : ℕ) (r : Row) → n ≤ i + 1 → Reached w₀ n i t w r → r .good ≡ true → Left (axisIn w₀ t) n (axisIn w t)
+  left-of t r h a g = record {
+    good = each-of (goodRow (axisIn w₀ t)) n (λ k l. ⊎-elim
+        (λ q. let e : k ≡ i = omega (arith, s .inside) in ap (goodRow (axisIn w₀ t)) e ∙ sym (a .good-is) ∙ g)
+        (λ q. a .above k (omega (arith, s .inside)))
+        (eq-or-lt-of-le l));
+    same = record {
+      diagonal = λ k l. a .rows g .pivots k (omega arith);
+      upper = λ k l. a .rows g .uppers k l;
+      right = λ k l. a .rows g .rights k (omega arith);
+    };
   }
+
+  pub eliminating-all : (x .good && (y .good && z .good)) ≡ true → n ≤ i + 1 → Eliminated w₀ n true w
+  eliminating-all g h = record {
+    kept = s .kept;
+    left = λ _. record {
+      x = left-of 0 x h (s .on-x) (left-true (x .good) (y .good && z .good) g);
+      y = left-of 1 y h (s .on-y) (left-true (y .good) (z .good) (right-true (x .good) (y .good && z .good) g));
+      z = left-of 2 z h (s .on-z) (right-true (y .good) (z .good) (right-true (x .good) (y .good && z .good) g));
+    };
+    ends = λ q. let z : _≡_ {A = ℕ} 0 1 = cc in absurd (omega arith);
+  }
+
+-- one row more: the calls on x, y and z, from w to w1, w2 and w3
+module _ (w₀ : List ℕ) (n i : ℕ) (w : List ℕ) (x y z : Row) (s : Eliminating w₀ n i w x y z) (m : Axes (λ t. NoNan (axisIn w₀ t) n)) (g : (x .good && (y .good && z .good)) ≡ true) (more : i + 1 < n)
+    (at : ℕ) (place : at ≡ i * 9) where
+  good-x : x .good ≡ true
+  good-x = left-true (x .good) (y .good && z .good) g
+
+  good-y : y .good ≡ true
+  good-y = left-true (y .good) (z .good) (right-true (x .good) (y .good && z .good) g)
+
+  good-z : z .good ≡ true
+  good-z = right-true (y .good) (z .good) (right-true (x .good) (y .good && z .good) g)
+
+  pub row-x-needs : NumbersAt w (at + 3) (at + 9) (at + 15)
+  row-x-needs = numbers-below w₀ n i 0 w x at (omega arith) (omega arith) more (s .on-x) good-x (m .x)
+
+  module _ (x' : Row) (w1 : List ℕ) (d1 : RowEliminated w at x x' w1) where
+    touched-x : Touched 0 n w w1
+    touched-x = row-touched w₀ n i 0 w x at (omega arith) (omega arith) more (s .on-x) good-x x' w1 (omega (arith, s .long, s .room)) d1
+
+    y1 : Reached w₀ n i 1 w1 y
+    y1 = reached-beside w₀ n i 1 w w1 y (beside 0 1 n w w1 (omega arith) (omega arith) (omega arith) touched-x) (s .on-y)
+
+    pub row-y-needs : NumbersAt w1 (at + 1 + 3) (at + 1 + 9) (at + 1 + 15)
+    row-y-needs = numbers-below w₀ n i 1 w1 y (at + 1) (omega arith) (omega arith) more y1 good-y (m .y)
+
+    module _ (l1 : length w1 ≡ length w) (y' : Row) (w2 : List ℕ) (d2 : RowEliminated w1 (at + 1) y y' w2) where
+      touched-y : Touched 1 n w1 w2
+      touched-y = row-touched w₀ n i 1 w1 y (at + 1) (omega arith) (omega arith) more y1 good-y y' w2 (omega (arith, l1, s .long, s .room)) d2
+
+      z2 : Reached w₀ n i 2 w2 z
+      z2 = reached-beside w₀ n i 2 w1 w2 z (beside 1 2 n w1 w2 (omega arith) (omega arith) (omega arith) touched-y)
+          (reached-beside w₀ n i 2 w w1 z (beside 0 2 n w w1 (omega arith) (omega arith) (omega arith) touched-x) (s .on-z))
+
+      pub row-z-needs : NumbersAt w2 (at + 2 + 3) (at + 2 + 9) (at + 2 + 15)
+      row-z-needs = numbers-below w₀ n i 2 w2 z (at + 2) (omega arith) (omega arith) more z2 good-z (m .z)
+
+      module _ (l2 : length w2 ≡ length w1) (z' : Row) (w3 : List ℕ) (d3 : RowEliminated w2 (at + 2) z z' w3) (l3 : length w3 ≡ length w2) where
+        touched-z : Touched 2 n w2 w3
+        touched-z = row-touched w₀ n i 2 w2 z (at + 2) (omega arith) (omega arith) more z2 good-z z' w3 (omega (arith, l2, l1, s .long, s .room)) d3
+
+        pub eliminating-more : Eliminating w₀ n (i + 1) w3 x' y' z'
+        eliminating-more = record {
+          inside = more;
+          room = s .room;
+          long = l3 ∙ l2 ∙ l1 ∙ s .long;
+          kept = kept-then 0 (n * 9) 0 (n * 9) w₀ w2 w3 (omega arith) (omega arith)
+              (kept-then 0 (n * 9) 0 (n * 9) w₀ w1 w2 (omega arith) (omega arith)
+              (kept-then 0 (n * 9) 0 (n * 9) w₀ w w1 (omega arith) (omega arith) (s .kept) (touched-x .kept)) (touched-y .kept)) (touched-z .kept);
+          on-x = reached-beside w₀ n (i + 1) 0 w2 w3 x' (beside 2 0 n w2 w3 (omega arith) (omega arith) (omega arith) touched-z)
+              (reached-beside w₀ n (i + 1) 0 w1 w2 x' (beside 1 0 n w1 w2 (omega arith) (omega arith) (omega arith) touched-y)
+              (reached-more w₀ n i 0 w x at (omega arith) (omega arith) more (s .on-x) good-x x' w1 (omega (arith, s .long, s .room)) d1));
+          on-y = reached-beside w₀ n (i + 1) 1 w2 w3 y' (beside 2 1 n w2 w3 (omega arith) (omega arith) (omega arith) touched-z)
+              (reached-more w₀ n i 1 w1 y (at + 1) (omega arith) (omega arith) more y1 good-y y' w2 (omega (arith, l1, s .long, s .room)) d2);
+          on-z = reached-more w₀ n i 2 w2 z (at + 2) (omega arith) (omega arith) more z2 good-z z' w3 (omega (arith, l2, l1, s .long, s .room)) d3;
+        }

@@ -1,7 +1,8 @@
-pub mod Cells
 pub mod EachBelow
-pub mod Blocks
+pub mod Cells
 pub mod Alike
+pub mod Axes
+pub mod Nan
 pub mod Elimination
 pub mod Substitution
 pub mod RowGap

@@ -1,4 +1,4 @@
-pub mod Columns
 pub mod Tridiagonal
+pub mod Rows
 pub mod Accuracy
 pub mod Steps

@@ -1,11 +1,16 @@
 -- Symmetric tridiagonal equations and their solution, in the order of operations of the reference (smooth.rs, `thomas`). Definitions only.
 -- A column is a function of the row, and rows count from 0.
-use mathlib.Core.Bool.{Bool, not}
+use mathlib.Core.Bool.{Bool, true, not, _&&_}
 use Prim.Native.Nat.{ℕ, zero, suc, _-_}
-use lib.Ieee.{Float, lt}
-use Rattle.exact.specs.Float.{_⊖_, _⊗_, _⊘_, bits}
+use lib.Ieee.{Float, isNan, lt, le}
+use lib.Ieee.Scale.{finite}
+use Rattle.exact.specs.Float.{_⊖_, _⊗_, _⊘_, +0, bits}
 use Rattle.numeric.specs.Real.{abs}
-use Rattle.tridiagonal.specs.Columns.{eachBelow}
+
+-- the test holds of each of the first n
+unfoldable pub eachBelow : (ℕ → Bool) → ℕ → Bool
+eachBelow f zero = true
+eachBelow f (suc k) = eachBelow f k && f k
 
 -- The equations: row i is upper (i − 1) · x (i − 1) + diagonal i · x i + upper i · x (i + 1) = right i.
 pub record Equations : Type 0 where
@@ -55,3 +60,23 @@ back e m (suc j) = (e .right (m - suc j) ⊖ e .upper (m - suc j) ⊗ back e m j
 -- the unknown of row i of n rows
 unfoldable pub solution : Equations → ℕ → ℕ → Float
 solution e n i = back (eliminated e) (n - 1) (n - 1 - i)
+
+-- ---- when the equations are solved
+
+-- every row is held by what is known: no diagonal is at or below 0
+abbrev pub held : Equations → ℕ → Bool
+held e n = eachBelow (λ k. not (le (e .diagonal k) +0)) n
+
+abbrev pub finiteSolution : Equations → ℕ → Bool
+finiteSolution e n = eachBelow (λ k. finite (solution e n k)) n
+
+-- an axis is not solved where a row is not held, a pivot vanishes or an unknown is not finite
+abbrev pub axisSolved : Equations → ℕ → Bool
+axisSolved e n = held e n && (solvable e n && finiteSolution e n)
+
+-- The elimination goes on from a row of diagonal d, pivot p and right side q: the row is held, its pivot does not vanish, and neither float that would be stored is a NaN.
+abbrev pub goesOn : (d p q : Float) → Bool
+goesOn d p q = not (le d +0) && (not (vanishing p) && (not (isNan p) && not (isNan q)))
+
+abbrev pub goodRow : Equations → ℕ → Bool
+goodRow e k = goesOn (e .diagonal k) (pivot e k) (reduced e k)

@@ -1,10 +1,10 @@
-// One float at each place of a part of lent memory.
+// One pattern at each place of a part of lent memory.
 ghost use Prim.Native.Nat.{_≤_};
 ghost use lib.ListN.{length};
-ghost use Rattle.tridiagonal.specs.Columns.{Filled};
+ghost use Rattle.tridiagonal.specs.Rows.{Filled};
 
-// v at each place from lo up to hi.
-pub fn fill(w: &mut [f64], lo: usize, hi: usize, v: f64)
+// Puts v at each place from lo up to hi.
+pub fn fill(w: &mut [u64], lo: usize, hi: usize, v: u64)
     requires { ⌜ (lo ≤ hi) × (hi ≤ length (now w)) ⌝ }
     ensures { λ _. ⌜ Filled lo hi v (now (w .entry)) (now (w .exit)) ⌝ }
 {

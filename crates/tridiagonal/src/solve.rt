@@ -1,115 +1,158 @@
 // The solution of tridiagonal equations, in place.
 ghost use mathlib.Core.Path.{_≡_};
-ghost use mathlib.Core.Bool.{not, cond};
+ghost use mathlib.Core.Bool.{cond};
 ghost use Prim.Native.Nat.{_+_, _*_, _<_, _≤_};
 ghost use lib.ListN.{length};
-ghost use Rattle.tridiagonal.specs.Columns.{col};
-ghost use Rattle.tridiagonal.specs.Tridiagonal.{vanishing};
-ghost use Rattle.tridiagonal.specs.Steps.{rowEliminated, rowSolved, Eliminated, Substituted, Solved};
+ghost use Rattle.exact.specs.Float.{_⊖_, _⊗_, _⊘_};
+ghost use Rattle.tridiagonal.specs.Rows.{Axes, axisIn};
+ghost use Rattle.tridiagonal.specs.Tridiagonal.{vanishing, goesOn};
+ghost use Rattle.tridiagonal.specs.Steps.{NumbersAt, FirstRow, RowEliminated, Eliminated, RowSolved, Substituted, Solved, NoNan};
 use numeric::real::abs;
+use numeric::real::is_finite;
 
-// Whether a pivot vanishes. A NaN does not.
+// A row of one system once the rows above are eliminated, and whether the elimination can go on.
+pub struct Row {
+    pub pivot: f64,
+    pub right: f64,
+    pub good: bool,
+}
+
+// Tells whether a pivot vanishes. A NaN does not.
 fn vanishes(p: f64) -> bool
     ensures { λ r. ⌜ r ≡ vanishing p ⌝ }
 {
     abs(p) < 2.2250738585072014e-308
 }
 
-// The unknown of row i, eliminated from the next row. False where the pivot of row i vanishes.
-fn eliminate_row(w: &mut [f64], at: usize, n: usize, i: usize) -> bool
-    requires { ⌜ (i + 1 < n) × (at + n * 3 ≤ length (now w)) ⌝ }
-    ensures { λ r. ⌜ (r ≡ not (vanishing (col (now (w .entry)) at i))) × (now (w .exit) ≡ cond r (rowEliminated (now (w .entry)) at n i) (now (w .entry))) ⌝ }
+// Tells whether the elimination can go on from a row of diagonal d, pivot p and right side q.
+fn goes_on(d: f64, p: f64, q: f64) -> bool
+    ensures { λ r. ⌜ r ≡ goesOn d p q ⌝ }
 {
-    let p = w[at + i];
-    if vanishes(p) {
-        return false;
-    }
-    let k = i + 1;
-    let m = at + n * 2;
-    let u = w[at + n + i];
-    let q = w[m + i];
-    let d = w[at + k];
-    let r = w[m + k];
-    let f = u / p;
-    w[at + k] = d - f * u;
-    w[m + k] = r - f * q;
-    true
+    let held = !(d <= 0.0);
+    let stands = !vanishes(p);
+    held & (stands & (!(p != p) & !(q != q)))
 }
 
-// The elimination, from the first row to the last.
-fn eliminate(w: &mut [f64], n: usize) -> bool
-    requires { ⌜ (0 < n) × (n * 9 ≤ length (now w)) ⌝ }
+// Reads the first row of the system whose diagonal starts at `at`.
+fn first_row(w: &[u64], at: usize) -> Row
+    requires { ⌜ (at + 6 < length (now w)) × NumbersAt (now w) at (at + 6) (at + 6) ⌝ }
+    ensures { λ r. ⌜ FirstRow (now (w .entry)) at r ⌝ }
+{
+    let p = f64::from_bits(w[at]);
+    let q = f64::from_bits(w[at + 6]);
+    let good = goes_on(p, p, q);
+    Row {
+        pivot: p,
+        right: q,
+        good: good,
+    }
+}
+
+// Eliminates an unknown from the row below. Its own row, whose diagonal stands at `at`, is `above`.
+fn eliminate_row(w: &mut [u64], at: usize, above: Row) -> Row
+    requires { ⌜ (at + 15 < length (now w)) × NumbersAt (now w) (at + 3) (at + 9) (at + 15) ⌝ }
+    ensures { λ r. ⌜ RowEliminated (now (w .entry)) at above r (now (w .exit)) ⌝ }
+{
+    let u = f64::from_bits(w[at + 3]);
+    let d = f64::from_bits(w[at + 9]);
+    let r = f64::from_bits(w[at + 15]);
+    let f = u / above.pivot;
+    let p = d - f * u;
+    let q = r - f * above.right;
+    let good = goes_on(d, p, q);
+    let row = Row {
+        pivot: p,
+        right: q,
+        good: good,
+    };
+    if !good {
+        return row;
+    }
+    w[at + 9] = f64::to_bits(p);
+    w[at + 15] = f64::to_bits(q);
+    row
+}
+
+// Eliminates from the first row to the last. False where a system cannot be solved.
+fn eliminate(w: &mut [u64], n: usize) -> bool
+    requires { ⌜ (0 < n) × (n * 9 ≤ length (now w)) × Axes (λ t. NoNan (axisIn (now w) t) n) ⌝ }
     ensures { λ r. ⌜ Eliminated (now (w .entry)) n r (now (w .exit)) ⌝ }
 {
-    let y = n * 3;
-    let z = n * 6;
+    let mut x = first_row(&w[..], 0);
+    let mut y = first_row(&w[..], 1);
+    let mut z = first_row(&w[..], 2);
     let mut i: usize = 0;
-    while i + 1 < n {
-        if !eliminate_row(&mut *w, 0, n, i) {
-            return false;
+    while x.good & (y.good & z.good) {
+        if i + 1 >= n {
+            return true;
         }
-        if !eliminate_row(&mut *w, y, n, i) {
-            return false;
-        }
-        if !eliminate_row(&mut *w, z, n, i) {
-            return false;
-        }
+        let at = i * 9;
+        let y_at = at + 1;
+        let z_at = at + 2;
+        x = eliminate_row(&mut *w, at, x);
+        y = eliminate_row(&mut *w, y_at, y);
+        z = eliminate_row(&mut *w, z_at, z);
         i += 1;
     }
-    if vanishes(w[i]) {
-        return false;
+    false
+}
+
+// Computes an unknown from its row and the unknown x of the next row, where there is one.
+fn unknown(last: bool, d: f64, u: f64, r: f64, x: f64) -> f64
+    ensures { λ v. ⌜ v ≡ cond last r (r ⊖ u ⊗ x) ⊘ d ⌝ }
+{
+    if last {
+        return r / d;
     }
-    if vanishes(w[y + i]) {
-        return false;
+    (r - u * x) / d
+}
+
+// Solves the row whose diagonal stands at `at`, by the unknown x of the next row, and puts its unknown, if finite, in place of the right side.
+fn solve_row(w: &mut [u64], at: usize, last: bool, x: f64) -> f64
+    requires { ⌜ (at + 6 < length (now w)) × NumbersAt (now w) at (at + 3) (at + 6) ⌝ }
+    ensures { λ v. ⌜ RowSolved (now (w .entry)) at last x v (now (w .exit)) ⌝ }
+{
+    let d = f64::from_bits(w[at]);
+    let u = f64::from_bits(w[at + 3]);
+    let r = f64::from_bits(w[at + 6]);
+    let v = unknown(last, d, u, r, x);
+    if !is_finite(v) {
+        return v;
     }
-    if vanishes(w[z + i]) {
-        return false;
+    w[at + 6] = f64::to_bits(v);
+    v
+}
+
+// Substitutes from the last row to the first. False where an unknown is not finite.
+fn substitute(w: &mut [u64], n: usize) -> bool
+    requires { ⌜ (n * 9 ≤ length (now w)) × Axes (λ t. NoNan (axisIn (now w) t) n) ⌝ }
+    ensures { λ r. ⌜ Substituted (now (w .entry)) n r (now (w .exit)) ⌝ }
+{
+    let mut x = 0.0;
+    let mut y = 0.0;
+    let mut z = 0.0;
+    let mut k = n;
+    while k > 0 {
+        let last = k == n;
+        k -= 1;
+        let at = k * 9;
+        x = solve_row(&mut *w, at, last, x);
+        y = solve_row(&mut *w, at + 1, last, y);
+        z = solve_row(&mut *w, at + 2, last, z);
+        if !(is_finite(x) & (is_finite(y) & is_finite(z))) {
+            return false;
+        }
     }
     true
 }
 
-// The unknown of row k, from that of the next row where there is one.
-fn solve_row(w: &mut [f64], at: usize, n: usize, k: usize)
-    requires { ⌜ (k < n) × (at + n * 3 ≤ length (now w)) ⌝ }
-    ensures { λ _. ⌜ now (w .exit) ≡ rowSolved (now (w .entry)) at n k ⌝ }
-{
-    let m = at + n * 2;
-    let j = k + 1;
-    let d = w[at + k];
-    let r = w[m + k];
-    if j < n {
-        let u = w[at + n + k];
-        let x = w[m + j];
-        w[m + k] = (r - u * x) / d;
-        return;
-    }
-    w[m + k] = r / d;
-}
-
-// The back substitution, from the last row to the first.
-fn substitute(w: &mut [f64], n: usize)
-    requires { ⌜ n * 9 ≤ length (now w) ⌝ }
-    ensures { λ _. ⌜ Substituted (now (w .entry)) n (now (w .exit)) ⌝ }
-{
-    let y = n * 3;
-    let z = n * 6;
-    let mut k = n;
-    while k > 0 {
-        k -= 1;
-        solve_row(&mut *w, 0, n, k);
-        solve_row(&mut *w, y, n, k);
-        solve_row(&mut *w, z, n, k);
-    }
-}
-
-// The solutions of the three systems of n equations, in place of their right sides. False where a pivot vanishes.
-pub fn thomas(w: &mut [f64], n: usize) -> bool
-    requires { ⌜ (0 < n) × (n * 9 ≤ length (now w)) ⌝ }
+// Solves the three systems of n equations, in place of their right sides. False where a diagonal is at or below 0, a pivot vanishes or an unknown is not finite.
+pub fn solve(w: &mut [u64], n: usize) -> bool
+    requires { ⌜ (0 < n) × (n * 9 ≤ length (now w)) × Axes (λ t. NoNan (axisIn (now w) t) n) ⌝ }
     ensures { λ r. ⌜ Solved (now (w .entry)) n r (now (w .exit)) ⌝ }
 {
     if eliminate(&mut *w, n) {
-        substitute(&mut *w, n);
-        return true;
+        return substitute(&mut *w, n);
     }
     false
 }

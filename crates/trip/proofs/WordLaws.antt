@@ -24,14 +24,10 @@ use Rattle.trip.specs.Words.{tooWide, wordsOf, addedHeld, reportedHeld, 
 pub record FieldsFit (w : List ℕ) : Type 0 where
   pub rate : getD w 0 0 ≤ 65535
   pub epochs : getD w 1 0 ≤ 4294967295
-  pub reached : getD w 5 0 ≤ 4294967295
 
 pub fields-fit : (w : List ℕ) → tooWide w ≡ false → FieldsFit w
 unfolding tooWide
-fields-fit w h =
-    let a = or-no _ _ h in
-    let b = or-no _ _ (a .0) in
-    record { rate = ltb-false _ _ (b .0); epochs = ltb-false _ _ (b .1); reached = ltb-false _ _ (a .1) }
+fields-fit w h = let a = or-no _ _ h in record { rate = ltb-false _ _ (a .0); epochs = ltb-false _ _ (a .1) }
 
 -- the call on the trip that words hold, by that trip
 module _ (s : Step) where

@@ -1,16 +1,17 @@
 -- A trip as six words (docs/SCOPE.md, "Trip"): pulses per kilometre, epochs, carrier millimetres, pulses, greatest difference, its epoch. What the calls on them
 -- answer, and what lent words hold afterwards. Definitions only.
-use Prim.Native.Nat.{ℕ}
-use mathlib.Core.Bool.{Bool, cond, _||_}
-use mathlib.Core.List.{List, [], _∷_}
-use lib.Dec.{ltb}
+use Prim.Native.Nat.{ℕ, _*_}
+use mathlib.Core.Bool.{Bool, cond, _&&_, _||_}
+use mathlib.Core.List.{List, [], _∷_, map}
+use lib.Dec.{leb, ltb}
 use lib.ListN.{getD}
 use lib.Ieee.{Float}
+use Rattle.walk.specs.Walk.{fold}
 use Rattle.numeric.specs.Refusal.{numberOf}
 use Rattle.numeric.specs.declared.refusal.Refusal.the-variants.{BadTrip}
 use Rattle.numeric.specs.Vec3.{vectorAt}
 use Rattle.numeric.specs.declared.vec3.Vec3.{Vec3}
-use Rattle.trip.specs.Trip.{Leg, added, reported, fuelled}
+use Rattle.trip.specs.Trip.{Leg, started, added, reported, fuelled, counting}
 use Rattle.trip.specs.declared.trip.Trip.{Trip}
 use Rattle.trip.specs.declared.trip.Step.{Step}
 use Rattle.trip.specs.declared.trip.Step.the-variants as Step
@@ -23,7 +24,7 @@ use Rattle.trip.specs.declared.trip.Fuel.the-variants as Fuel
 
 -- a word that its field cannot hold: a rate above 16 bits, or a count of epochs above 32
 unfoldable pub tooWide : List ℕ → Bool
-tooWide w = ltb 65535 (getD w 0 0) || ltb 4294967295 (getD w 1 0) || ltb 4294967295 (getD w 5 0)
+tooWide w = ltb 65535 (getD w 0 0) || ltb 4294967295 (getD w 1 0)
 
 abbrev pub tripFrom : List ℕ → Trip
 tripFrom w = record { rate = getD w 0 0; epochs = getD w 1 0; carrier = getD w 2 0; pulses = getD w 3 0; greatest = getD w 4 0; reached = getD w 5 0 }
@@ -84,8 +85,31 @@ abbrev pub fuelAfter : Fuel → ℕ → ℕ
 fuelAfter (Fuel.Refused r) before = before
 fuelAfter (Fuel.PerKilometre m) before = m
 
+-- ---- 16, of six words handed in
+
+-- a rate from 1 to 65,535, at most 65,535 epochs, and at most 1,000,000 mm and 65,535 pulses times the epochs: the fifth and sixth words decide nothing
+unfoldable pub soundWords : List ℕ → Bool
+soundWords w =
+    ltb 0 (getD w 0 0) && leb (getD w 0 0) 65535 && leb (getD w 1 0) 65535 && leb (getD w 2 0) (1000000 * getD w 1 0) && leb (getD w 3 0) (65535 * getD w 1 0)
+
 -- ---- calls one after the other
 
+-- what a caller hands to one addition: three floats and the pulses
+pub record Addition : Type 0 where
+  pub delta : List Float
+  pub pulses : ℕ
+
+unfoldable pub legOf : Addition → Leg
+legOf a = record { displacement = vectorAt (a .delta) 0; pulses = a .pulses }
+
 -- the words that an addition leaves
-unfoldable pub wordsNext : List ℕ → Leg → List ℕ
-wordsNext w l = wordsAfter (addedHeld (heldOf w) (l .displacement) (l .pulses)) w
+unfoldable pub wordsNext : List ℕ → Addition → List ℕ
+wordsNext w a = wordsAfter (addedWords w (a .delta) (a .pulses)) w
+
+-- the words after the start with this rate and these additions, from what they held before
+unfoldable pub wordsAfterCalls : ℕ → List ℕ → List Addition → List ℕ
+wordsAfterCalls rate before calls = fold wordsNext (wordsAfter (started rate) before) calls
+
+-- the epochs that count among these additions
+unfoldable pub countedLegs : List Addition → List Leg
+countedLegs calls = counting (map legOf calls)

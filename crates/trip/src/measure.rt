@@ -59,7 +59,7 @@ fn is_certain(b: u64, a: u64) -> bool
 }
 
 // The way of the length whose square is given. Most are seen without the root. Two functions call it, so that a compiler hands it the square in a register.
-pub(crate) fn way_of_square(square: f64) -> Way
+pub fn way_of_square(square: f64) -> Way
     ensures { λ r. ⌜ r ≡ spec.wayOf (rootOf square) ⌝ }
 {
     if 9.5367431640625e-7 < square {

@@ -21,8 +21,7 @@ pub fn held(w: [u64; 6]) -> Step
 {
     let rate = w[0];
     let epochs = w[1];
-    let reached = w[5];
-    if (65535 < rate) | (4294967295 < epochs) | (4294967295 < reached) {
+    if (65535 < rate) | (4294967295 < epochs) {
         return Step::Refused(Refusal::BadTrip);
     }
     Step::Goes(Trip {
@@ -31,7 +30,7 @@ pub fn held(w: [u64; 6]) -> Step
         carrier: w[2],
         pulses: w[3],
         greatest: w[4],
-        reached: reached as u32,
+        reached: w[5],
     })
 }
 
@@ -45,7 +44,7 @@ pub fn words(t: Trip) -> [u64; 6]
         t.carrier,
         t.pulses,
         t.greatest,
-        t.reached as u64,
+        t.reached,
     ]
 }
 
@@ -130,7 +129,7 @@ pub fn report_in(trip: &[u64; 6], report: &mut [u64; 4]) -> u8
     match answer {
         Reported::Refused(r) => r.number(),
         Reported::Totals(p) => {
-            *report = [p.carrier, p.odometer, p.greatest, p.reached as u64];
+            *report = [p.carrier, p.odometer, p.greatest, p.reached];
             0
         }
     }

@@ -13,7 +13,7 @@ use Rattle.numeric.specs.declared.vec3.Vec3.{Vec3}
 use Rattle.records.specs.Carriers.{carrierAt, carriersOf, epochOf}
 use Rattle.records.specs.declared.record.Carrier.{Carrier}
 use Rattle.records.specs.declared.record.Epoch.{Epoch}
-use Rattle.tdcp.specs.Displacement.{input, displacementOf}
+use Rattle.tdcp.specs.Displacement.{general, displacementOf}
 use Rattle.tdcp.specs.declared.displacement.Settings.{Settings}
 use Rattle.wire.specs.Record.{recordAt, countIn, recordsOf}
 use Rattle.wire.specs.Columns.{RecordColumns, columnRecord, floatsOf}
@@ -73,7 +73,7 @@ module _ {s : List ℕ} {c₀ c : RecordColumns} {count₀ count : ℕ} (read : 
 module _ {p : List ℕ} {d₀ d : RecordColumns} {m₀ m : ℕ} (before : ReadAnswers p 0 d₀ d m₀ m) {c : List ℕ} {e₀ e : RecordColumns} {n₀ n : ℕ} (now : ReadAnswers c 0 e₀ e n₀ n) where
   -- two slices that are read into columns: with room for the result, the answer is the displacement of these columns
   pub same-displacement : (dt : Float) (receiver : Vec3) (settings : Settings) (out : List ℕ) → 40 ≤ length out
-      → answerOf (handed p c dt receiver settings) out ≡ displacementOf (input (epochOf (floatColumns d) m) (epochOf (floatColumns e) n) dt receiver settings)
+      → answerOf (handed p c dt receiver settings) out ≡ displacementOf (general (epochOf (floatColumns d) m) (epochOf (floatColumns e) n) dt receiver settings)
   same-displacement dt receiver settings out room =
       answer-is (handed p c dt receiver settings) out (was-even before) (was-even now) (was-few before) (was-few now) room
-      ∙ ap₂ (λ (x y : Epoch). displacementOf (input x y dt receiver settings)) (read-epoch before) (read-epoch now)
+      ∙ ap₂ (λ (x y : Epoch). displacementOf (general x y dt receiver settings)) (read-epoch before) (read-epoch now)

@@ -4,31 +4,46 @@ use mathlib.Core.List.{List}
 use Prim.Native.Nat.{ℕ, _%_, _≤_, _<_}
 use native.Mathlib.Omega.{arith}
 use borrow.Author.Tests.{lt-ltb, le-ltb, eq-eqb, ne-eqb}
-use lib.ListN.{length, getD, length-map}
+use lib.ListN.{length, getD, take}
 use lib.Seq.{sets, sets-eq}
-use Rattle.walk.proofs.Walk.{places-length, places-map, places-at}
+use lib.IntN.{ℤ}
+use lib.Ieee.{Float}
+use Rattle.walk.proofs.Walk.{places-map, places-at}
 use Rattle.numeric.specs.Order.{patternOf}
 use Rattle.numeric.specs.declared.refusal.Refusal.{Refusal}
 use Rattle.numeric.specs.declared.refusal.Refusal.the-variants.{TooMany, BrokenRecords}
+use Rattle.records.specs.Signals as signals
+use Rattle.records.specs.Signals.{Fit, Laid}
 use Rattle.records.specs.declared.record.Carrier.{Carrier}
 use Rattle.records.proofs.RecordLaws.{blank}
+use Rattle.records.proofs.EpochLaws.{cut-count, cut-fits, cut-is}
 use Rattle.estimator.specs.Rules.{ruled}
 use Rattle.tdcp.specs.Displacement.{displacementOf, displacementNumber, Promised}
 use Rattle.tdcp.specs.declared.displacement.Delta.{Delta}
 use Rattle.tdcp.specs.declared.displacement.Displacement.{Displacement}
 use Rattle.tdcp.specs.declared.displacement.Displacement.the-variants.{Refused, Moved}
 use Rattle.wire.specs.Number.{bytesIn, fiveBytes}
-use Rattle.wire.specs.Record.{recordAt, recordsIn, countIn}
+use Rattle.wire.specs.Record.{recordAt, countIn}
 use Rattle.wire.specs.Columns.{over}
-use Rattle.wire_tdcp.specs.Displacement.{carrierOf, carriersIn, Handed, inputOf, recordRules, answerOf, deltaBytes, resultAfter, Answers}
+use Rattle.wire_tdcp.specs.Displacement.{carrierOf, carriersIn, epochIn, Handed, inputOf, recordRules, answerOf, deltaBytes, resultAfter, Answers}
 
 -- ---- the carriers
 
-pub carriers-long : (s : List ℕ) (n : ℕ) → length (carriersIn s n) ≡ n
-carriers-long s n = length-map (recordsIn s n) carrierOf ∙ places-length (recordAt s) n
+pub carrier-in : (s : List ℕ) (n i : ℕ) (d : Carrier) → i < n → carrierOf (recordAt s i) ≡ getD (carriersIn s n) i d
+carrier-in s n i d l = sym (ap (λ (xs : List Carrier). getD xs i d) (places-map carrierOf (recordAt s) n) ∙ places-at (λ (k : ℕ). carrierOf (recordAt s k)) n i d l)
 
-pub carrier-in : (s : List ℕ) (n i : ℕ) → i < n → carrierOf (recordAt s i) ≡ getD (carriersIn s n) i blank
-carrier-in s n i l = sym (ap (λ (xs : List Carrier). getD xs i blank) (places-map carrierOf (recordAt s) n) ∙ places-at (λ (k : ℕ). carrierOf (recordAt s k)) n i blank l)
+-- ---- the epoch of the records s, once its carriers stand in signals, states and floats
+module _ (s : List ℕ) {ss : List ℕ} {ts : List ℤ} {fs : List Float} (h : Laid (carriersIn s (countIn s)) (countIn s) ss ts fs) (few : countIn s ≤ 64) where
+  pub laid-count : length (take (countIn s) ss) ≡ countIn s
+  laid-count = cut-count ss ts fs (countIn s) (h .signals-long) few
+
+  pub laid-fits : Fit (take (countIn s) ss) ts fs
+  laid-fits = cut-fits ss ts fs (countIn s) (h .signals-long) few (omega (arith, h .states-long, few)) (omega (arith, h .floats-long, few)) (h .small)
+
+  pub laid-is : signals.epochIn (take (countIn s) ss) ts fs ≡ epochIn s
+  laid-is =
+      cut-is ss ts fs (countIn s) (h .signals-long) few (λ (k : ℕ). carrierOf (recordAt s k)) (λ k l. h .all k l blank ∙ sym (carrier-in s (countIn s) k blank l))
+      ∙ ap (λ (xs : List Carrier). record { count = countIn s; carriers = xs }) (sym (places-map carrierOf (recordAt s) (countIn s)))
 
 -- ---- the answers
 

@@ -14,7 +14,7 @@ use Rattle.records.specs.Carriers.{CarrierColumns, carrierColumns}
 use Rattle.records.specs.declared.record.Carrier.{Carrier}
 use Rattle.records.specs.declared.record.Epoch.{Epoch}
 use Rattle.estimator.specs.Rules.{Rule, rule, ruled}
-use Rattle.tdcp.specs.Displacement.{Input, input, displacementOf, displacementNumber, Accepted}
+use Rattle.tdcp.specs.Displacement.{Input, general, displacementOf, displacementNumber, Accepted}
 use Rattle.tdcp.specs.declared.displacement.Settings.{Settings}
 use Rattle.tdcp.specs.declared.displacement.Delta.{Delta}
 use Rattle.tdcp.specs.declared.displacement.Displacement.{Displacement}
@@ -68,7 +68,7 @@ handed previous current dt receiver settings = record { previous = previous; cur
 
 -- the two epochs, and the same numbers
 abbrev pub inputOf : Handed → Input
-inputOf h = input (epochIn (h .previous)) (epochIn (h .current)) (h .dt) (h .receiver) (h .settings)
+inputOf h = general (epochIn (h .previous)) (epochIn (h .current)) (h .dt) (h .receiver) (h .settings)
 
 -- ---- the answer
 

@@ -25,36 +25,12 @@ use Rattle.estimator.specs.declared.rules.Check.{Check}
 use Rattle.estimator.specs.declared.rules.Check.the-variants.{Refused as Stops, Passed}
 use Rattle.estimator.proofs.RulesLaws.{checked, ruled-append, refused-by, passed-by}
 use Rattle.wls.specs.Front.{fixRules}
-use Rattle.wls.specs.Fix.{Input, sightAt, sightRules, roundAt, limit, start, fitOver, kept, clocks, plainMatrix, dilutionOf, chiAt, qualityRules, endRules, solutionAt, foundOver, fixOf}
+use Rattle.wls.specs.Fix.{Input, sightAt, sightRules, roundAt, limit, start, fitOver, kept, clocks, chiAt, qualityRules, endRules, foundOver, fixOf}
+use Rattle.quality.specs.Quality.{unweightedMatrix, dilutionOf}
+use Rattle.wls.specs.Before.{bare, fitBefore, rulesBefore, answerBefore, foundBefore, fixBefore, seenAt}
 use Rattle.wls.specs.declared.fix.Settings.{Settings}
 use Rattle.wls.specs.declared.fix.Fix.{Fix}
-use Rattle.wls.specs.declared.fix.Fix.the-variants.{Refused, At}
-use Rattle.wls.proofs.SightLaws.{bare}
-
--- ---- before the request: no range was tested, in a round or at the end
-module _ (settings : Settings) (k : Clocks) (os : List Observation) (guess : Vec3) where
-  abbrev pub fitBefore : Fit
-  fitBefore = fitFrom (bare settings k os) (3 + k .count) limit (settings .rounds) (start guess)
-
-  abbrev pub rulesBefore : List Row → List Float → List Rule
-  rulesBefore rows x =
-      rule FitFailed (not (finiteAt x))
-      ∷ rule FitFailed (not (factor.accepted (factorOf (plainMatrix (3 + k .count) rows))))
-      ∷ rule QualityNotFinite (not (finite (chiAt settings k os x) && finite (dilutionOf (3 + k .count) rows)))
-      ∷ []
-
-  abbrev pub answerBefore : List Row → List Float → Fix
-  answerBefore rows x = At (solutionAt (3 + k .count) rows (chiAt settings k os x) x)
-
-  abbrev pub foundBefore : Fix
-  foundBefore = let rows = lastRows [] (fitBefore .rounds) in concluded Refused (rulesBefore rows) (answerBefore rows) (fitBefore .end)
-
-abbrev pub fixBefore : Input → Fix
-fixBefore i = ruled Refused (fixRules (i .observations) (i .guess) (i .settings)) (foundBefore (i .settings) (clocks i) (kept i) (i .guess))
-
--- ---- no range is zero or not finite at the state x
-abbrev pub seenAt : List Observation → List Float → Bool
-seenAt os x = every (λ (o : Observation). not (onReceiver (sightAt x o .range))) os
+use Rattle.wls.specs.declared.fix.Fix.the-variants.{Refused}
 
 -- the states that rounds of n unknowns begin at, from x on, and the one that they leave
 pub met : ℕ → List Float → List Round → List (List Float)
@@ -62,7 +38,7 @@ met n x [] = x ∷ []
 met n x (r ∷ rs) = x ∷ met n (moved n x (r .step)) rs
 
 module _ {A : Type 0} (f : Refusal → A) (a : A) where
-  sights-are : (os : List Observation) (x : List Float) → ruled f (sightRules os x) a ≡ cond (seenAt os x) a (f OnReceiver)
+  pub sights-are : (os : List Observation) (x : List Float) → ruled f (sightRules os x) a ≡ cond (seenAt os x) a (f OnReceiver)
   unfolding sightRules every ruled
   sights-are [] x = refl
   sights-are (o ∷ os) x = go (onReceiver (sightAt x o .range)) (sights-are os x)
@@ -82,14 +58,14 @@ module _ (settings : Settings) (k : Clocks) (os : List Observation) where
   abbrev old : ℕ → List Float → Fit
   old count x = fitFrom (bare settings k os) n limit count x
 
-  round-is : (x : List Float) → roundAt settings k os x ≡ cond (seenAt os x) (bare settings k os x) (NoRound OnReceiver)
+  pub round-is : (x : List Float) → roundAt settings k os x ≡ cond (seenAt os x) (bare settings k os x) (NoRound OnReceiver)
   unfolding roundAt
   round-is x = sights-are NoRound (bare settings k os x) os x
 
-  round-seen : (x : List Float) → seenAt os x ≡ true → roundAt settings k os x ≡ bare settings k os x
+  pub round-seen : (x : List Float) → seenAt os x ≡ true → roundAt settings k os x ≡ bare settings k os x
   round-seen x e = round-is x ∙ ap (λ (b : Bool). cond b (bare settings k os x) (NoRound OnReceiver)) e
 
-  round-not : (x : List Float) → seenAt os x ≡ false → roundAt settings k os x ≡ NoRound OnReceiver
+  pub round-not : (x : List Float) → seenAt os x ≡ false → roundAt settings k os x ≡ NoRound OnReceiver
   round-not x e = round-is x ∙ ap (λ (b : Bool). cond b (bare settings k os x) (NoRound OnReceiver)) e
 
   -- 15, or the rounds from before
@@ -175,18 +151,18 @@ module _ (settings : Settings) (k : Clocks) (os : List Observation) where
     rulesNow x = endRules n rows (sightRules os x) (chiAt settings k os x) x
 
     -- at a state that the rounds reach: 10, and then 15 or what was before
-    end-is : (x : List Float) → ruled Refused (rulesNow x) (answerBefore settings k os guess rows x)
-        ≡ cond (not (finiteAt x)) (Refused FitFailed) (cond (not (factor.accepted (factorOf (plainMatrix n rows)))) (Refused FitFailed)
-        (cond (seenAt os x) (ruled Refused (rule QualityNotFinite (not (finite (chiAt settings k os x) && finite (dilutionOf n rows))) ∷ []) (answerBefore settings k os guess rows x)) (Refused OnReceiver)))
+    end-is : (x : List Float) → ruled Refused (rulesNow x) (answerBefore settings k os rows x)
+        ≡ cond (not (finiteAt x)) (Refused FitFailed) (cond (not (factor.accepted (factorOf (unweightedMatrix n rows)))) (Refused FitFailed)
+        (cond (seenAt os x) (ruled Refused (rule QualityNotFinite (not (finite (chiAt settings k os x) && finite (dilutionOf n rows))) ∷ []) (answerBefore settings k os rows x)) (Refused OnReceiver)))
     unfolding endRules qualityRules ruled
     end-is x =
-        ap (λ (a : Fix). cond (not (finiteAt x)) (Refused FitFailed) (cond (not (factor.accepted (factorOf (plainMatrix n rows)))) (Refused FitFailed) a))
+        ap (λ (a : Fix). cond (not (finiteAt x)) (Refused FitFailed) (cond (not (factor.accepted (factorOf (unweightedMatrix n rows)))) (Refused FitFailed) a))
         (ruled-append Refused _ (sightRules os x) _ ∙ sights-are Refused _ os x)
 
-    end-either : (e : End) → let was = concluded Refused (rulesBefore settings k os guess rows) (answerBefore settings k os guess rows) e in let is = concluded Refused rulesNow (answerBefore settings k os guess rows) e in (is ≡ Refused OnReceiver) ⊎ (is ≡ was)
+    end-either : (e : End) → let was = concluded Refused (rulesBefore settings k os rows) (answerBefore settings k os rows) e in let is = concluded Refused rulesNow (answerBefore settings k os rows) e in (is ≡ Refused OnReceiver) ⊎ (is ≡ was)
     unfolding ruled
     end-either (Stopped r) = inr refl
-    end-either (Reached x) = go (not (finiteAt x)) (not (factor.accepted (factorOf (plainMatrix n rows)))) (seenAt os x) _ _ (end-is x)
+    end-either (Reached x) = go (not (finiteAt x)) (not (factor.accepted (factorOf (unweightedMatrix n rows)))) (seenAt os x) _ _ (end-is x)
       where
         go : (a b c : Bool) (is quality : Fix) → is ≡ cond a (Refused FitFailed) (cond b (Refused FitFailed) (cond c quality (Refused OnReceiver)))
             → (is ≡ Refused OnReceiver) ⊎ (is ≡ cond a (Refused FitFailed) (cond b (Refused FitFailed) quality))
@@ -195,7 +171,7 @@ module _ (settings : Settings) (k : Clocks) (os : List Observation) where
         go false false true is quality e = inr e
         go false false false is quality e = inl e
 
-    end-same : (e : End) → ((x : List Float) → e ≡ Reached x → seenAt os x ≡ true) → concluded Refused rulesNow (answerBefore settings k os guess rows) e ≡ concluded Refused (rulesBefore settings k os guess rows) (answerBefore settings k os guess rows) e
+    end-same : (e : End) → ((x : List Float) → e ≡ Reached x → seenAt os x ≡ true) → concluded Refused rulesNow (answerBefore settings k os rows) e ≡ concluded Refused (rulesBefore settings k os rows) (answerBefore settings k os rows) e
     unfolding ruled
     end-same (Stopped r) h = refl
     end-same (Reached x) h = end-is x ∙ (rw (h x refl))

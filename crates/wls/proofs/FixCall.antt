@@ -1,16 +1,13 @@
 -- The fix as the public call works it out: the rules in two parts, the fit, and what it comes to. Assumes nothing.
-use mathlib.Core.Path.{_≡_, refl, sym, ap, ap₂, _∙_}
+use mathlib.Core.Path.{_≡_, sym, ap, ap₂, _∙_}
 use Prim.Native.Nat.{ℕ, _≤_}
-use native.Mathlib.Omega.{arith}
 use mathlib.Core.Bool.{Bool, true, false, _&&_}
-use mathlib.Core.List.{List, []}
+use mathlib.Core.List.{List}
 use lib.ListN.{length, take}
 use lib.Ieee.{Float}
 use lib.Ieee.Scale.{finite}
 use Rattle.walk.specs.Walk.{Holds}
-use Rattle.cholesky.specs.Factor.{at, Factored, Refused as NoFactor, Lower, factorOf}
-use Rattle.cholesky.specs.Answer.{rowsAfter}
-use Rattle.cholesky.specs.Answer as factor
+use Rattle.cholesky.specs.Factor.{at}
 use Rattle.numeric.specs.declared.refusal.Refusal.{Refusal}
 use Rattle.numeric.specs.declared.refusal.Refusal.the-variants.{FitFailed, QualityNotFinite}
 use Rattle.normal.specs.declared.row.Row.{Row}
@@ -20,23 +17,21 @@ use Rattle.clocks.specs.Clocks.{clocksOf}
 use Rattle.records.specs.Mask.{constellations}
 use Rattle.wls.specs.Valid.{fixInputRules}
 use Rattle.estimator.specs.Rounds.{vector, finiteAt}
-use Rattle.wls.specs.Fix.{Input, kept, clocks, plainMatrix, pdopOf, dilutionOf, qualityRules, endRules, solutionAt, concludedAt, foundOver, fixOf, ratedBy}
+use Rattle.quality.specs.Quality.{dilutionOf, dilutionFound}
+use Rattle.quality.specs.declared.figures.Dilution.the-variants as Dilution
+use Rattle.quality.proofs.QualityLaws.{dilution-no, dilution-yes}
+use Rattle.wls.specs.Fix.{Input, kept, clocks, qualityRules, endRules, solutionAt, concludedAt, foundOver, fixOf, ratedBy}
 use Rattle.clocks.specs.declared.clocks.Clocks.{Clocks}
 use Rattle.records.specs.declared.record.Observation.{Observation}
 use Rattle.records.specs.declared.record.Observations.{Observations}
 use Rattle.numeric.specs.declared.vec3.Vec3.{Vec3}
-use Rattle.wls.specs.declared.quality.Chi.{Chi}
-use Rattle.wls.specs.declared.quality.Chi.the-variants.{Refused as NoChi, Of as ChiOf}
+use Rattle.wls.specs.declared.chi.Chi.{Chi}
+use Rattle.wls.specs.declared.chi.Chi.the-variants.{Refused as NoChi, Of as ChiOf}
 use Rattle.wls.specs.declared.fix.Fix.{Fix}
 use Rattle.wls.specs.declared.fix.Fix.the-variants.{Refused, At}
 use Rattle.estimator.specs.declared.rules.Check.the-variants.{Refused as Stops, Passed}
 use Rattle.estimator.proofs.RulesLaws.{checked, ruled-append, ruled-map, rows-passed}
 use Rattle.wls.proofs.FrontLaws.{fix-input-refused, fix-clocks, fix-counts-refused, fix-counts-kept}
-
--- the lent rows do not matter where there is a factor
-same-rows : (v : Factored) (y z : List (List Float)) → true ≡ factor.accepted v → rowsAfter v y ≡ rowsAfter v z
-same-rows NoFactor y z e = absurd (let z : _≡_ {A = ℕ} 0 1 = cc in omega arith)
-same-rows (Lower l) y z e = refl
 
 -- the code's three ways of what chi and pdop come to
 module _ (position : Vec3) (used : ℕ) (pdop : Float) {v : Chi} where
@@ -65,27 +60,20 @@ module _ (n : ℕ) (rows : List Row) (sights : List Rule) (chi : Float) (x : Lis
   unfolding endRules finiteAt ruled
   found-no e = rw (rw (a-is, b-is, d-is) at e)
 
-  -- with the unweighted matrix m, and whether it has a factor
-  module _ (tests : (a && b && d) ≡ true) (m : List (List Float)) (m-is : m ≡ plainMatrix n rows) (ok : Bool) (ok-is : ok ≡ factor.accepted (factorOf m)) where
-    factored : ok ≡ factor.accepted (factorOf (plainMatrix n rows))
-    factored = ok-is ∙ ap (λ (z : List (List Float)). factor.accepted (factorOf z)) m-is
-
-    pub found-refused : ok ≡ false → Refused FitFailed ≡ concludedAt n rows sights chi x
+  -- with the code's answer on the dilution
+  module _ (tests : (a && b && d) ≡ true) where
+    pub found-refused : (r : Refusal) → Dilution.Refused r ≡ dilutionFound n rows → Refused FitFailed ≡ concludedAt n rows sights chi x
     unfolding endRules finiteAt ruled
-    found-refused e = rw (rw (a-is, b-is, d-is) at tests, sym factored ∙ e)
+    found-refused r e = rw (rw (a-is, b-is, d-is) at tests, dilution-no n rows r e)
 
-    -- with the factor l and its pdop
-    module _ (l z : List (List Float)) (l-is : l ≡ rowsAfter (factorOf m) z) (e : ok ≡ true) (pdop : Float) (pdop-is : pdop ≡ pdopOf l) where
-      dilution : pdop ≡ dilutionOf n rows
-      dilution = pdop-is ∙ ap pdopOf (l-is ∙ same-rows (factorOf m) z [] (sym e ∙ ok-is) ∙ ap (λ (y : List (List Float)). rowsAfter (factorOf y) []) m-is)
-
+    module _ (pdop : Float) (e : Dilution.Of pdop ≡ dilutionFound n rows) where
       passed-ten : (answer : Fix) → ruled Refused (qualityRules sights chi (dilutionOf n rows)) answer ≡ ruled Refused (endRules n rows sights chi x) answer
       unfolding endRules finiteAt ruled
-      passed-ten answer = rw (rw (a-is, b-is, d-is) at tests, sym factored ∙ e)
+      passed-ten answer = rw (rw (a-is, b-is, d-is) at tests, dilution-yes n rows pdop e .0)
 
       pub found-rated : (count : ℕ) → count ≡ length rows → {v : Chi} → v ≡ ruled NoChi sights (ChiOf chi) → ratedBy (vector x) count pdop v ≡ concludedAt n rows sights chi x
       found-rated count count-is {v} v-is =
-          ap₂ (λ (u : ℕ) (p : Float). ratedBy (vector x) u p v) count-is dilution
+          ap₂ (λ (u : ℕ) (p : Float). ratedBy (vector x) u p v) count-is (dilution-yes n rows pdop e .1)
           ∙ rated-is (vector x) (length rows) (dilutionOf n rows) sights chi v-is
           ∙ passed-ten (At (solutionAt n rows chi x))
 

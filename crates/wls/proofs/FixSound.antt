@@ -24,7 +24,8 @@ use Rattle.clocks.specs.declared.clocks.Clocks.{Clocks}
 use Rattle.records.specs.declared.record.Observation.{Observation}
 use Rattle.wls.specs.declared.fix.Settings.{Settings}
 use Rattle.estimator.specs.Rounds.{lastRows, Each}
-use Rattle.wls.specs.Fix.{Input, rowAt, roundAt, limit, start, fitOver, kept, clocks, fitOf, roundsOf, sightRules, dilutionOf, chiAt, qualityRules, endRules, solutionAt, foundOver, fixOf, positionOf, fixFloats, positionFloats, Accepted, Promised, PositionPromised}
+use Rattle.quality.specs.Quality.{dilutionOf}
+use Rattle.wls.specs.Fix.{Input, rowAt, roundAt, limit, start, fitOver, kept, clocks, fitOf, roundsOf, sightRules, chiAt, qualityRules, endRules, solutionAt, foundOver, fixOf, positionOf, fixFloats, positionFloats, Accepted, Promised, PositionPromised}
 use Rattle.wls.specs.declared.fix.Solution.{Solution}
 use Rattle.wls.specs.declared.fix.Fix.{Fix}
 use Rattle.wls.specs.declared.fix.Fix.the-variants.{Refused, At}
@@ -60,7 +61,7 @@ rulesAt i x = endRules (unknowns i) (rows i) (sightRules (kept i) x) (chiAt (i .
 abbrev answerAt : Input → List Float → Fix
 answerAt i x = At (solutionAt (unknowns i) (rows i) (chiAt (i .settings) (clocks i) (kept i) x) x)
 
-ended : (i : Input) (s : Solution) → fixOf i ≡ At s → Finished (rulesAt i) (answerAt i) (At s) (fitOf i .end)
+pub ended : (i : Input) (s : Solution) → fixOf i ≡ At s → Finished (rulesAt i) (answerAt i) (At s) (fitOf i .end)
 unfolding fixOf foundOver roundsOf fitOf
 ended i s e =
     let rules = fixRules (i .observations) (i .guess) (i .settings) in

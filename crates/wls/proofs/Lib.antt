@@ -5,8 +5,8 @@ pub mod RowLaws
 pub mod FixLaws
 pub mod FixSound
 pub mod QualityLaws
-pub mod QualityValues
 pub mod FixCall
 pub mod CountedLaws
 pub mod BeforeLaws
 pub mod QualityBefore
+pub mod ChangeLaws

@@ -16,12 +16,13 @@ use Rattle.records.specs.declared.record.Observation.{Observation}
 use Rattle.estimator.specs.Rules.{Rule, rule, ruled}
 use Rattle.estimator.specs.Rounds.{End, Stopped, Reached, lastRows, finiteAt, concluded}
 use Rattle.wls.specs.Front.{fixRules}
-use Rattle.wls.specs.Fix.{Input, kept, clocks, plainMatrix, dilutionOf, chiOf, chiAt, solutionAt}
+use Rattle.wls.specs.Fix.{Input, kept, clocks, chiAt, solutionAt}
+use Rattle.quality.specs.Quality.{unweightedMatrix, dilutionOf, chiOf}
 use Rattle.wls.specs.declared.fix.Settings.{Settings}
 use Rattle.wls.specs.declared.fix.Solution.{Solution}
 use Rattle.wls.specs.declared.fix.Fix.{Fix}
 use Rattle.wls.specs.declared.fix.Fix.the-variants.{Refused, At}
-use Rattle.wls.proofs.BeforeLaws.{fitBefore, rulesBefore, answerBefore, fixBefore}
+use Rattle.wls.specs.Before.{fitBefore, tenRules, answerFirst, rulesBefore, answerBefore, fixFirst, fixBefore}
 
 -- 14, of the figures
 abbrev pub figureRules : Float → Float → List Rule
@@ -35,33 +36,21 @@ pub data Became : Fix → Fix → Type 0 where
   Same : (r : Refusal) → Became (Refused r) (Refused r)
   Anew : (s : Solution) (chi : Float) → Became (At s) (ruled Refused (figureRules chi (s .pdop)) (At (withChi chi s)))
 
--- ---- the fix before the request: 10 alone at the end, and chi of the last round's rows
+-- ---- at the end of the rounds
 module _ (settings : Settings) (k : Clocks) (os : List Observation) (guess : Vec3) where
   abbrev n : ℕ
   n = 3 + k .count
 
-  abbrev rulesFirst : List Row → List Float → List Rule
-  rulesFirst rows x = rule FitFailed (not (finiteAt x)) ∷ rule FitFailed (not (factor.accepted (factorOf (plainMatrix n rows)))) ∷ []
-
-  abbrev answerFirst : List Row → List Float → Fix
-  answerFirst rows x = At (solutionAt n rows (chiOf n rows) x)
-
-  abbrev pub foundFirst : Fix
-  foundFirst = let f = fitBefore settings k os guess in let rows = lastRows [] (f .rounds) in concluded Refused (rulesFirst rows) (answerFirst rows) (f .end)
-
-  end-became : (rows : List Row) (e : End) → Became (concluded Refused (rulesFirst rows) (answerFirst rows) e) (concluded Refused (rulesBefore settings k os guess rows) (answerBefore settings k os guess rows) e)
+  end-became : (rows : List Row) (e : End) → Became (concluded Refused (tenRules n rows) (answerFirst n rows) e) (concluded Refused (rulesBefore settings k os rows) (answerBefore settings k os rows) e)
   unfolding ruled
   end-became rows (Stopped r) = Same r
-  end-became rows (Reached x) = go (not (finiteAt x)) (not (factor.accepted (factorOf (plainMatrix n rows))))
+  end-became rows (Reached x) = go (not (finiteAt x)) (not (factor.accepted (factorOf (unweightedMatrix n rows))))
     where
-      go : (a b : Bool) → Became (cond a (Refused FitFailed) (cond b (Refused FitFailed) (answerFirst rows x)))
-          (cond a (Refused FitFailed) (cond b (Refused FitFailed) (ruled Refused (figureRules (chiAt settings k os x) (dilutionOf n rows)) (answerBefore settings k os guess rows x))))
+      go : (a b : Bool) → Became (cond a (Refused FitFailed) (cond b (Refused FitFailed) (answerFirst n rows x)))
+          (cond a (Refused FitFailed) (cond b (Refused FitFailed) (ruled Refused (figureRules (chiAt settings k os x) (dilutionOf n rows)) (answerBefore settings k os rows x))))
       go true b = Same FitFailed
       go false true = Same FitFailed
       go false false = Anew (solutionAt n rows (chiOf n rows) x) (chiAt settings k os x)
-
-abbrev pub fixFirst : Input → Fix
-fixFirst i = ruled Refused (fixRules (i .observations) (i .guess) (i .settings)) (foundFirst (i .settings) (clocks i) (kept i) (i .guess))
 
 -- rules that come first refuse both alike
 behind : (rs : List Rule) {a b : Fix} → Became a b → Became (ruled Refused rs a) (ruled Refused rs b)

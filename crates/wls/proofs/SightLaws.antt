@@ -1,7 +1,7 @@
 -- Rule 15 of the rows of a fit, one row after the other, and a round that it refuses or lets pass. Assumes nothing.
 use mathlib.Core.Path.{_≡_, refl, sym, _∙_, subst}
 use mathlib.Core.Bool.{cond}
-use mathlib.Core.List.{List, [], map}
+use mathlib.Core.List.{List, []}
 use Prim.Native.Nat.{ℕ, _+_, _≤_, _<_}
 use native.Mathlib.Omega.{arith}
 use lib.ListN.{length, getD, take, drop}
@@ -15,7 +15,7 @@ use Rattle.numeric.specs.declared.sight.Sighting.{Sighting}
 use Rattle.numeric.specs.declared.sight.Sighting.the-variants.{Refused as NotSeen, Seen}
 use Rattle.numeric.proofs.SightLaws.{seen-by}
 use Rattle.numeric.proofs.SightLaws.{refused-by as not-seen-by}
-use Rattle.robust.specs.Round.{Round, Outcome, Refused as NoRound, Solved, roundOf}
+use Rattle.robust.specs.Round.{Round, Outcome, Refused as NoRound, Solved}
 use Rattle.robust.specs.Solving.{Solving}
 use Rattle.robust.specs.declared.round.Stepping.the-variants as Stepping
 use Rattle.clocks.specs.declared.clocks.Clocks.{Clocks}
@@ -25,7 +25,8 @@ use Rattle.estimator.specs.Rules.{ruled}
 use Rattle.estimator.specs.Rounds.{vector}
 use Rattle.estimator.specs.declared.rules.Check.the-variants.{Refused as Stops, Passed}
 use Rattle.estimator.proofs.RulesLaws.{checked, refused-by, passed-by, passed-of}
-use Rattle.wls.specs.Fix.{sightAt, sightRules, rowAt, roundAt}
+use Rattle.wls.specs.Fix.{sightAt, sightRules, roundAt}
+use Rattle.wls.specs.Before.{bare}
 use Rattle.wls.specs.declared.fix.Settings.{Settings}
 
 -- what is left to test after j of the first n rows at the state s
@@ -57,21 +58,21 @@ module _ (os : List Observation) (n : ℕ) (s : List Float) where
 
 -- ---- the round at the state x
 module _ (settings : Settings) (k : Clocks) (os : List Observation) (x : List Float) where
-  abbrev pub bare : Outcome
-  bare = roundOf (map (rowAt settings k x) os) (3 + k .count) (settings .huber)
+  abbrev plain : Outcome
+  plain = bare settings k os x
 
   pub round-refused : {r : Refusal} → Stops r ≡ checked (sightRules os x) → Solving (roundAt settings k os x) (Stepping.Refused r) [] []
   unfolding roundAt
-  round-refused {r} e = subst (λ (o : Outcome). Solving o (Stepping.Refused r) [] []) (refused-by NoRound bare (sightRules os x) e) (record { answer-is = refl; step-is = refl })
+  round-refused {r} e = subst (λ (o : Outcome). Solving o (Stepping.Refused r) [] []) (refused-by NoRound plain (sightRules os x) e) (record { answer-is = refl; step-is = refl })
 
-  pub round-passed : Passed ≡ checked (sightRules os x) → roundAt settings k os x ≡ bare
+  pub round-passed : Passed ≡ checked (sightRules os x) → roundAt settings k os x ≡ plain
   unfolding roundAt
-  round-passed e = passed-by NoRound bare (sightRules os x) e
+  round-passed e = passed-by NoRound plain (sightRules os x) e
 
   -- a round that is solved has been let pass
-  pub round-solved : (r : Round) → roundAt settings k os x ≡ Solved r → bare ≡ Solved r
+  pub round-solved : (r : Round) → roundAt settings k os x ≡ Solved r → plain ≡ Solved r
   unfolding roundAt
-  round-solved r e = sym (passed-by NoRound bare (sightRules os x) (passed-of NoRound bare (sightRules os x) e never)) ∙ e
+  round-solved r e = sym (passed-by NoRound plain (sightRules os x) (passed-of NoRound plain (sightRules os x) e never)) ∙ e
     where
       never : (q : Refusal) → NoRound q ≡ Solved r → ⊥
       never q h = let z : _≡_ {A = ℕ} 0 1 = cc in omega arith

@@ -1,35 +1,29 @@
 -- The position of a receiver from one epoch (docs/SCOPE.md, "Fix"; wls.rs): its rounds, what the fit says of itself, and the answer. Definitions only.
 use mathlib.Core.Path.{_≡_}
-use Prim.Native.Nat.{ℕ, _+_, _-_, _≤_, _<_, max}
+use Prim.Native.Nat.{ℕ, _+_, _≤_, _<_}
 use mathlib.Core.Bool.{Bool, true, not, cond, _&&_}
 use mathlib.Core.List.{List, [], _∷_, _++_, map}
-use lib.Dec.{eqb}
 use lib.ListN.{length, take, replicate}
 use lib.Dec.{T}
 use lib.Ieee.{Float}
 use lib.Ieee.Scale.{finite}
-use Rattle.exact.specs.Float.{_⊕_, _⊖_, _⊗_, _⊘_, +0, 1·0, bits, whole, decimal}
-use Rattle.root.specs.Root.{rootOf}
+use Rattle.exact.specs.Float.{_⊕_, _⊖_, +0, decimal}
 use Rattle.walk.specs.Walk.{every}
-use Rattle.cholesky.specs.Factor.{at, factorOf, solutionOf}
-use Rattle.cholesky.specs.Answer.{rowsAfter}
-use Rattle.cholesky.specs.Answer as factor
+use Rattle.cholesky.specs.Factor.{at}
 use Rattle.numeric.specs.Order.{patternOf}
-use Rattle.numeric.specs.Real.{square}
 use Rattle.numeric.specs.Sight.{sightOf, onReceiver}
 use Rattle.numeric.specs.Refusal.{numberOf}
 use Rattle.numeric.specs.declared.sight.Sight.{Sight}
 use Rattle.numeric.specs.declared.vec3.Vec3.{Vec3}
 use Rattle.numeric.specs.declared.refusal.Refusal.{Refusal}
 use Rattle.numeric.specs.declared.refusal.Refusal.the-variants.{FitFailed, QualityNotFinite, OnReceiver}
-use Rattle.normal.specs.Nine.{nine}
-use Rattle.normal.specs.Equations.{wide, total, triangleOf}
 use Rattle.robust.specs.Round.{Round, Outcome, Refused as NoRound, roundOf, SoundRound, FiniteResiduals}
 use Rattle.robust.specs.Sigma.{elevationSigma}
 use Rattle.normal.specs.Columns.{columns, rowsIn}
 use Rattle.normal.specs.declared.row.Row.{Row}
 use Rattle.clocks.specs.Clocks.{slot, clocksOf}
 use Rattle.estimator.specs.Rules.{Rule, rule, ruled}
+use Rattle.quality.specs.Quality.{chiOf, dilutionOf, pivotRule}
 use Rattle.estimator.specs.declared.rules.Check.{Check}
 use Rattle.estimator.specs.declared.rules.Check.the-variants as Check
 use Rattle.records.specs.Mask.{constellations}
@@ -44,8 +38,8 @@ use Rattle.wls.specs.declared.fix.Ending.the-variants.{Refused as NotEnd
 use Rattle.wls.specs.declared.fix.Solution.{Solution}
 use Rattle.wls.specs.declared.fix.Fix.{Fix}
 use Rattle.wls.specs.declared.fix.Fix.the-variants.{Refused, At}
-use Rattle.wls.specs.declared.quality.Chi.{Chi}
-use Rattle.wls.specs.declared.quality.Chi.the-variants.{Refused as NoChi, Of as ChiOf}
+use Rattle.wls.specs.declared.chi.Chi.{Chi}
+use Rattle.wls.specs.declared.chi.Chi.the-variants.{Refused as NoChi, Of as ChiOf}
 use Rattle.wls.specs.declared.fix.Position.{Position}
 use Rattle.wls.specs.declared.fix.Position.the-variants.{Refused as NoPosition, At as PositionAt}
 
@@ -117,29 +111,6 @@ roundsOf i = fitOf i .rounds
 
 -- ---- what the fit says of itself, with n unknowns
 
--- the degrees of freedom of so many rows, at least 1
-unfoldable pub freedomOf : ℕ → ℕ → Float
-freedomOf count n = whole (max 1 (count - n))
-
--- the root of the reduced chi-squared: the sum of (residual / sigma) squared by the degrees of freedom
-unfoldable pub chiOf : ℕ → List Row → Float
-chiOf n rows = rootOf (total (λ r. square (bits (r .residual) ⊘ r .sigma)) rows ⊘ freedomOf (length rows) n)
-
--- the normal equations without weights, by their lower triangle
-unfoldable pub plainMatrix : ℕ → List Row → List (List Float)
-plainMatrix n rows = triangleOf n (λ i j. total (λ r. at (wide r) i ⊗ at (wide r) j) rows)
-
--- place i of the inverse's diagonal, by the factor l
-abbrev pub variance : List (List Float) → ℕ → Float
-variance l i = at (solutionOf l (nine (λ j. cond (eqb i j) 1·0 +0))) i
-
-unfoldable pub pdopOf : List (List Float) → Float
-pdopOf l = rootOf (+0 ⊕ variance l 0 ⊕ variance l 1 ⊕ variance l 2)
-
--- pdop of the last round's rows, by the factor of their unweighted matrix
-abbrev pub dilutionOf : ℕ → List Row → Float
-dilutionOf n rows = pdopOf (rowsAfter (factorOf (plainMatrix n rows)) [])
-
 -- chi of the point handed out: of the rows at the state x that the rounds reach, where the residuals are worked out anew, with the final clocks
 unfoldable pub chiAt : Settings → Clocks → List Observation → List Float → Float
 chiAt settings k os x = chiOf (3 + k .count) (map (rowAt settings k x) os)
@@ -154,7 +125,7 @@ qualityRules sights chi pdop = sights ++ (rule QualityNotFinite (not (finite chi
 unfoldable pub endRules : ℕ → List Row → List Rule → Float → List Float → List Rule
 endRules n rows sights chi x =
     rule FitFailed (not (finiteAt x))
-    ∷ rule FitFailed (not (factor.accepted (factorOf (plainMatrix n rows))))
+    ∷ pivotRule n rows
     ∷ qualityRules sights chi (dilutionOf n rows)
 
 abbrev pub solutionAt : ℕ → List Row → Float → List Float → Solution

@@ -1,3 +1,4 @@
 pub mod Valid
 pub mod Front
 pub mod Fix
+pub mod Before

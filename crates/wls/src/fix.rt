@@ -7,12 +7,9 @@ ghost use lib.Ieee.{Float};
 ghost use Rattle.normal.specs.Columns.{columns, rowsIn};
 ghost use Rattle.estimator.specs.Rules.{Rule, ruled};
 ghost use Rattle.wls.specs.Fix as spec;
-use crate::quality::Chi;
-use crate::quality::chi_at;
-use crate::quality::pdop_of;
-use crate::quality::plain_matrix;
+use crate::chi::Chi;
+use crate::chi::chi_at;
 use crate::valid::check_fix;
-use cholesky::factor::factor_into;
 use clocks::clocks::Clocks;
 use estimator::rounds::is_short;
 use estimator::rounds::move_by;
@@ -25,6 +22,8 @@ use numeric::refusal::Refusal;
 use numeric::sight::Sighting;
 use numeric::sight::geometry;
 use numeric::vec3::Vec3;
+use quality::figures::Dilution;
+use quality::figures::dilution_of;
 use records::mask::above_mask;
 use records::mask::clocks_of;
 use records::record::Observations;
@@ -219,7 +218,7 @@ fn found_at(
     s: [f64; 9],
     chi: Chi,
 ) -> Fix
-    requires { ⌜ (length (now residual) ≤ 64) × (n ≤ 9) ⌝ }
+    requires { ⌜ (length (now residual) ≤ 64) × (3 ≤ n) × (n ≤ 9) ⌝ }
     ensures { λ r. ⌜ ((sights : List Rule) (c : Float) → chi ≡ ruled Chi.Refused sights (Chi.Of c) → r ≡ spec.concludedAt n (rowsIn (columns (now (x .entry)) (now (y .entry)) (now (z .entry)) (now (clock .entry)) (now (sigma .entry)) (now (residual .entry)))) sights c s) ⌝ }
 {
     let position = Vec3 {
@@ -228,12 +227,8 @@ fn found_at(
         z: s[2],
     };
     if is_finite(position.x) & is_finite(position.y) & is_finite(position.z) {
-        let mut a = [[0.0; 9]; 9];
-        plain_matrix(x, y, z, clock, sigma, residual, n, &mut a);
-        let mut l = [[0.0; 9]; 9];
-        if factor_into(&a, &mut l) {
+        if let Dilution::Of(pdop) = dilution_of(x, y, z, clock, sigma, residual, n) {
             let used = residual.len();
-            let pdop = pdop_of(&l);
             return rated(position, used, chi, pdop);
         }
     }

@@ -1,6 +1,6 @@
 -- Records of columns, and columns that are too short, computed. Assumes nothing.
 use mathlib.Core.Path.{_≡_, refl}
-use mathlib.Core.List.{List, [], _∷_}
+use mathlib.Core.List.{[], _∷_}
 use mathlib.Core.Bool.{true, false}
 use Prim.Native.Nat.{ℕ}
 use lib.IntN.{pos}
@@ -8,6 +8,7 @@ use lib.Ieee.{Float}
 use Rattle.walk.specs.Walk.{places}
 use Rattle.exact.specs.Float.{+0}
 use Rattle.numeric.specs.declared.refusal.Refusal.the-variants.{TooMany}
+use Rattle.cholesky.specs.Factor.{zeros}
 use Rattle.robust.specs.Step.{refused}
 use Rattle.records.specs.Carriers.{carrierColumns, carrierAt, carriersOf, epochFits}
 use Rattle.wls_columns.specs.Columns.{RowColumns, rowColumns, rowFrom, rowsFrom, rowsFit, observationColumns, observationAt, observationsOf, observationsFit}
@@ -57,6 +58,6 @@ module _ (a b c d e f : Float) where
   observation-short = refl
 
 -- 65 rows, whatever the columns hold
-pub too-many : (c : RowColumns) (unknowns : ℕ) (huber : Float) (dx : List Float) → columnStepOf c 65 unknowns huber dx ≡ refused TooMany dx
+pub too-many : (c : RowColumns) (unknowns : ℕ) (huber : Float) → columnStepOf c 65 unknowns huber ≡ refused TooMany zeros
 unfolding columnStepOf rowsFit
-too-many c unknowns huber dx = refl
+too-many c unknowns huber = refl

@@ -3,3 +3,5 @@ pub mod ColumnValues
 pub mod FixLaws
 pub mod FixValues
 pub mod StepLaws
+pub mod BitLaws
+pub mod ChangeLaws

@@ -1,3 +1,4 @@
 pub mod Columns
 pub mod Fix
 pub mod Step
+pub mod Bits

@@ -2,10 +2,12 @@
 use Prim.Native.Nat.{ℕ}
 use mathlib.Core.Path.{_≡_}
 use mathlib.Core.Bool.{cond}
-use mathlib.Core.List.{List}
+use mathlib.Core.List.{List, map}
 use lib.Ieee.{Float}
+use Rattle.numeric.specs.Order.{patternOf}
 use Rattle.numeric.specs.Refusal.{numberOf}
 use Rattle.numeric.specs.declared.refusal.Refusal.the-variants.{TooMany}
+use Rattle.cholesky.specs.Factor.{zeros}
 use Rattle.robust.specs.Step.{Stepped, refused, stepOf}
 use Rattle.robust.specs.declared.round.Stepping.{Stepping}
 use Rattle.robust.specs.declared.round.Stepping.the-variants as Stepping
@@ -16,11 +18,16 @@ abbrev pub stepNumber : Stepping → ℕ
 stepNumber (Stepping.Refused r) = numberOf r
 stepNumber Stepping.Done = 0
 
--- the number and the lent dx afterwards are those of the step s
-pub record StepAnswers (s : Stepped) (number : ℕ) (dx : List Float) : Type 0 where
-  pub number-is : number ≡ stepNumber (s .answer)
-  pub dx-is : dx ≡ s .dx
+-- the round of the first n rows of the columns, worked out in nine zeros: refused by 2 where those are more than 64 or a column is too short
+unfoldable pub columnStepOf : RowColumns → ℕ → ℕ → Float → Stepped
+columnStepOf c n unknowns huber = cond (rowsFit c n) (stepOf (rowsFrom c n) unknowns huber zeros) (refused TooMany zeros)
 
--- the round of the first n rows of the columns: refused by 2 where those are more than 64 or a column is too short
-unfoldable pub columnStepOf : RowColumns → ℕ → ℕ → Float → List Float → Stepped
-columnStepOf c n unknowns huber dx = cond (rowsFit c n) (stepOf (rowsFrom c n) unknowns huber dx) (refused TooMany dx)
+-- what the lent dx holds afterwards: the patterns of the step, or what it held, to the last bit
+abbrev pub stepAfter : Stepping → List Float → List ℕ → List ℕ
+stepAfter (Stepping.Refused r) step before = before
+stepAfter Stepping.Done step before = map patternOf step
+
+-- the number and the lent dx afterwards are those of the step s
+pub record StepAnswers (s : Stepped) (number : ℕ) (dx₀ dx : List ℕ) : Type 0 where
+  pub number-is : number ≡ stepNumber (s .answer)
+  pub dx-is : dx ≡ stepAfter (s .answer) (s .dx) dx₀

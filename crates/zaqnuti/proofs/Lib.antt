@@ -1,4 +1,3 @@
-pub mod FactorNumber
 pub mod SightNumber
 pub mod CorrectionLaws
 pub mod TimeLaws

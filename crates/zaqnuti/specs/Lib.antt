@@ -1,3 +1,4 @@
 pub mod Numbers
 pub mod Track
+pub mod Version
 pub mod Times

@@ -11,8 +11,8 @@ use Rattle.smooth.specs.Answer.{trackNumber, Called}
 abbrev pub settings : Float → ℕ → Settings
 settings huber iterations = record { huber = huber; iterations = iterations }
 
--- the number of the answer that `smooth` gives, with what it leaves
-pub record TrackCalled (p : Trajectory) (s : Settings) (r w : List Float) (number : ℕ) (r' w' : List Float) : Type 0 where
+-- result and work are the patterns of what the caller lends: the number of the answer that `smooth` gives, with what it leaves
+pub record TrackCalled (p : Trajectory) (s : Settings) (r w : List ℕ) (number : ℕ) (r' w' : List ℕ) : Type 0 where
   pub answer : Track
   pub number-is : number ≡ trackNumber answer
   pub called : Called p s r w answer r' w'

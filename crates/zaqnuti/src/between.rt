@@ -2,9 +2,12 @@
 ghost use mathlib.Core.Path.{_≡_};
 ghost use Rattle.records.specs.Carriers.{carrierColumns};
 ghost use Rattle.numeric.specs.Vec3.{vectorAt};
-ghost use Rattle.tdcp_columns.specs.Displacement.{displacementSettings, timedInput, columnBetweenOf, DisplacementAnswers};
+ghost use Rattle.tdcp_columns.specs.Displacement.{lent, displacementSettings, DisplacementAnswers};
 ghost use Rattle.zaqnuti.specs.Times.{timeAt};
-use tdcp_columns::lent::between_into;
+use records::pair::Profile;
+use tdcp::displacement::Interval;
+use tdcp_columns::displacement::columns_displaced;
+use tdcp_columns::lent::answer_into;
 use time::time::GpsTime;
 
 // The displacement between two epochs whose times are known in nanoseconds since the start of week 0: 0, the displacement in metres in delta and how many pairs
@@ -31,10 +34,13 @@ pub extern "C" fn zaqnuti_displacement_between(
     delta: &mut [u64; 3],
     counts: &mut [usize; 2],
 ) -> u8
-    ensures { λ r. ⌜ DisplacementAnswers
-        (timedInput (carrierColumns (now («previous_constellation» .entry)) (now («previous_svid» .entry)) (now («previous_band» .entry)) (now («previous_state» .entry)) (now («previous_floats» .entry))) «previous_count» (carrierColumns (now («current_constellation» .entry)) (now («current_svid» .entry)) (now («current_band» .entry)) (now («current_state» .entry)) (now («current_floats» .entry))) «current_count» (timeAt «previous_time») (timeAt «current_time») (vectorAt (now (receiver .entry)) 0) (displacementSettings (now (settings .entry)) rounds))
-        (columnBetweenOf (carrierColumns (now («previous_constellation» .entry)) (now («previous_svid» .entry)) (now («previous_band» .entry)) (now («previous_state» .entry)) (now («previous_floats» .entry))) «previous_count» (carrierColumns (now («current_constellation» .entry)) (now («current_svid» .entry)) (now («current_band» .entry)) (now («current_state» .entry)) (now («current_floats» .entry))) «current_count» (timeAt «previous_time») (timeAt «current_time») (vectorAt (now (receiver .entry)) 0) (displacementSettings (now (settings .entry)) rounds))
-        r (now (delta .entry)) (now (delta .exit)) (now (counts .entry)) (now (counts .exit)) ⌝ }
+    ensures { λ r. ⌜ (let previous = carrierColumns (now («previous_constellation» .entry)) (now («previous_svid» .entry)) (now («previous_band» .entry))
+        (now («previous_state» .entry)) (now («previous_floats» .entry)) in
+        let current = carrierColumns (now («current_constellation» .entry)) (now («current_svid» .entry)) (now («current_band» .entry))
+        (now («current_state» .entry)) (now («current_floats» .entry)) in
+        DisplacementAnswers (lent previous «previous_count» current «current_count» (Interval.Between (timeAt «previous_time») (timeAt «current_time»))
+        (vectorAt (now (receiver .entry)) 0) (displacementSettings (now (settings .entry)) rounds) Profile.General)
+        r (now (delta .entry)) (now (delta .exit)) (now (counts .entry)) (now (counts .exit))) ⌝ }
 {
     let before = GpsTime {
         nanos: previous_time,
@@ -42,7 +48,7 @@ pub extern "C" fn zaqnuti_displacement_between(
     let after = GpsTime {
         nanos: current_time,
     };
-    between_into(
+    let answer = columns_displaced(
         previous_constellation,
         previous_svid,
         previous_band,
@@ -55,12 +61,11 @@ pub extern "C" fn zaqnuti_displacement_between(
         current_state,
         current_floats,
         current_count,
-        before,
-        after,
+        Interval::Between(before, after),
         receiver,
         settings,
         rounds,
-        delta,
-        counts,
-    )
+        Profile::General,
+    );
+    answer_into(answer, delta, counts)
 }

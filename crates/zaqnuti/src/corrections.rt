@@ -1,80 +1,84 @@
 // Entry points of the corrections: one base epoch added to a directory, and the bands of an old table.
 ghost use mathlib.Core.Path.{_≡_};
 ghost use Rattle.table.specs.Widen.{widenOf, wideningNumber, bandsAfter};
-ghost use Rattle.directory.specs.Directory.{lentBlocks, blockCapacity, directoryIn};
-ghost use Rattle.addition.specs.Add.{Places};
+ghost use Rattle.directory.specs.Directory.{lentBlocks, floats, blockCapacity, directoryIn};
+ghost use Rattle.addition.specs.Add.{Places, PatternsAfter};
 ghost use Rattle.numeric.specs.Vec3.{vectorAt};
 ghost use Rattle.epoch_columns.specs.Epoch.{settingsOf, entryIn};
 use epoch_columns::lent::add_into;
 use table::widen::Widening;
 use table::widen::widen_bands;
 
-// One base epoch of k ranges, with j states of eight floats each (position, velocity, clock, modelled) or the mark that there are none, to the directory of
-// `blocks` entries and n samples: 0 and the columns and both counts with its corrections, or the number of the refusal, which leaves them as they were.
+// Adds one base epoch of ranges, with states of eight floats each (position, velocity, clock, modelled) or the mark that there are none, to the directory of
+// `blocks` entries and `table_count` samples: 0 and the columns and both counts with its corrections, or the number of the refusal, which leaves them as they were.
 #[no_mangle]
 pub extern "C" fn zaqnuti_add_epoch(
-    dc: &mut [u8],
-    dv: &mut [u16],
-    db: &mut [u32],
-    df: &mut [usize],
-    dn: &mut [usize],
+    block_constellation: &mut [u8],
+    block_svid: &mut [u16],
+    block_band: &mut [u32],
+    block_first: &mut [usize],
+    block_samples: &mut [usize],
     blocks: &mut usize,
-    ts: &mut [f64],
-    xs: &mut [f64],
-    n: &mut usize,
+    table_time: &mut [u64],
+    table_metres: &mut [u64],
+    table_count: &mut usize,
     time: f64,
-    k: usize,
-    rc: &[u8],
-    rv: &[u16],
-    rb: &[u32],
-    rp: &[f64],
-    present: bool,
-    j: usize,
-    sc: &[u8],
-    sv: &[u16],
-    sb: &[u32],
-    sf: &[f64],
+    ranges: usize,
+    range_constellation: &[u8],
+    range_svid: &[u16],
+    range_band: &[u32],
+    range_pseudorange: &[f64],
+    states_present: bool,
+    states: usize,
+    state_constellation: &[u8],
+    state_svid: &[u16],
+    state_band: &[u32],
+    state_floats: &[f64],
     base: &[f64; 3],
     rover: &[f64; 3],
-    gap: f64,
-    max: f64,
-    on: &[bool; 8],
+    max_gap: f64,
+    max_correction: f64,
+    corrected: &[bool; 8],
 ) -> u8
-    ensures { λ r. ⌜ (let l = lentBlocks (now (dc .entry)) (now (dv .entry)) (now (db .entry)) (now (df .entry)) (now (dn .entry)) (now (ts .entry)) (now (xs .entry)) in
-        Places (entryIn (now (blocks .entry)) (now (n .entry)) (blockCapacity l) (directoryIn (now (blocks .entry)) (now (n .entry)) l) time
-        k (now (rc .entry)) (now (rv .entry)) (now (rb .entry)) (now (rp .entry))
-        present j (now (sc .entry)) (now (sv .entry)) (now (sb .entry)) (now (sf .entry))
-        (vectorAt (now (base .entry)) 0) (vectorAt (now (rover .entry)) 0) (settingsOf gap max (now (on .entry)))) r
-        (now (blocks .entry)) (now (blocks .exit)) (now (n .entry)) (now (n .exit)) l
-        (lentBlocks (now (dc .exit)) (now (dv .exit)) (now (db .exit)) (now (df .exit)) (now (dn .exit)) (now (ts .exit)) (now (xs .exit)))) ⌝ }
+    ensures { λ r. ⌜ (let l = lentBlocks
+        (now («block_constellation» .entry)) (now («block_svid» .entry)) (now («block_band» .entry))
+        (now («block_first» .entry)) (now («block_samples» .entry)) (floats (now («table_time» .entry))) (floats (now («table_metres» .entry))) in
+        let o = entryIn (now (blocks .entry)) (now («table_count» .entry)) (blockCapacity l) (directoryIn (now (blocks .entry)) (now («table_count» .entry)) l) time
+        ranges (now («range_constellation» .entry)) (now («range_svid» .entry)) (now («range_band» .entry)) (now («range_pseudorange» .entry))
+        «states_present» states (now («state_constellation» .entry)) (now («state_svid» .entry)) (now («state_band» .entry)) (now («state_floats» .entry))
+        (vectorAt (now (base .entry)) 0) (vectorAt (now (rover .entry)) 0) (settingsOf «max_gap» «max_correction» (now (corrected .entry))) in
+        Places o r (now (blocks .entry)) (now (blocks .exit)) (now («table_count» .entry)) (now («table_count» .exit)) l (lentBlocks
+        (now («block_constellation» .exit)) (now («block_svid» .exit)) (now («block_band» .exit))
+        (now («block_first» .exit)) (now («block_samples» .exit)) (floats (now («table_time» .exit))) (floats (now («table_metres» .exit))))
+        × PatternsAfter o (now («table_time» .entry)) (now («table_metres» .entry)) (now («table_time» .exit)) (now («table_metres» .exit))) ⌝ }
 {
     add_into(
-        dc,
-        dv,
-        db,
-        df,
-        dn,
+        block_constellation,
+        block_svid,
+        block_band,
+        block_first,
+        block_samples,
         blocks,
-        ts,
-        xs,
-        n,
+        table_time,
+        table_metres,
+        table_count,
         time,
-        k,
-        rc,
-        rv,
-        rb,
-        rp,
-        present,
-        j,
-        sc,
-        sv,
-        sb,
-        sf,
+        ranges,
+        range_constellation,
+        range_svid,
+        range_band,
+        range_pseudorange,
+        states_present,
+        states,
+        state_constellation,
+        state_svid,
+        state_band,
+        state_floats,
         base,
         rover,
-        gap,
-        max,
-        on,
+        max_gap,
+        max_correction,
+        corrected,
     )
 }
 

@@ -5,11 +5,14 @@ ghost use Rattle.records.specs.Carriers.{carrierColumns};
 ghost use Rattle.numeric.specs.Vec3.{vectorAt};
 ghost use Rattle.trip.specs.Words.{heldOf};
 ghost use Rattle.drive.specs.Drive.{begunOf, underNew, tested};
-ghost use Rattle.tdcp_columns.specs.Displacement.{displacementSettings};
-ghost use Rattle.drive.specs.Lent.{lent, DrivingAnswers, BegunAnswers, TravelAnswers};
-use drive::lent::begin_in;
-use drive::lent::change_in;
-use drive::lent::travel_in;
+ghost use Rattle.tdcp_columns.specs.Displacement.{lent, displacementSettings};
+ghost use Rattle.drive.specs.Lent.{DrivingAnswers, BegunAnswers, TravelAnswers};
+use drive::lent::begin_into;
+use drive::lent::change_into;
+use drive::lent::travel_into;
+use records::pair::Profile;
+use tdcp::displacement::Interval;
+use tdcp_columns::displacement::columns_displaced;
 
 // A trip just started in the lent words, its settings in force in the lent floats and rounds, and 0; or 3 or 16, which leave all of them as they were.
 #[no_mangle]
@@ -22,9 +25,10 @@ pub extern "C" fn zaqnuti_trip_begin(
     in_force_rounds: &mut usize,
 ) -> u8
     ensures { λ r. ⌜ BegunAnswers (begunOf (displacementSettings (now (settings .entry)) rounds) «per_km») r
-        (now (trip .entry)) (now (trip .exit)) (now («in_force» .entry)) (now («in_force» .exit)) (now («in_force_rounds» .entry)) (now («in_force_rounds» .exit)) ⌝ }
+        (now (trip .entry)) (now (trip .exit)) (now («in_force» .entry)) (now («in_force» .exit))
+        (now («in_force_rounds» .entry)) (now («in_force_rounds» .exit)) ⌝ }
 {
-    begin_in(settings, rounds, per_km, trip, in_force, in_force_rounds)
+    begin_into(settings, rounds, per_km, trip, in_force, in_force_rounds)
 }
 
 // New settings in force in the lent floats and rounds, and 0; or 3 or 16, which leave them as they were.
@@ -39,7 +43,7 @@ pub extern "C" fn zaqnuti_trip_settings(
     ensures { λ r. ⌜ DrivingAnswers (underNew (displacementSettings (now (settings .entry)) rounds) (tested (heldOf (now (trip .entry))))) r
         (now («in_force» .entry)) (now («in_force» .exit)) (now («in_force_rounds» .entry)) (now («in_force_rounds» .exit)) ⌝ }
 {
-    change_in(trip, settings, rounds, in_force, in_force_rounds)
+    change_into(trip, settings, rounds, in_force, in_force_rounds)
 }
 
 // The displacement under the settings in force, added to the lent words with its pulses: 0, the displacement in metres in delta and how many pairs were used and screened out in
@@ -67,13 +71,15 @@ pub extern "C" fn zaqnuti_trip_displacement(
     delta: &mut [u64; 3],
     counts: &mut [usize; 2],
 ) -> u8
-    ensures { λ r. ⌜ TravelAnswers (lent (carrierColumns (now («previous_constellation» .entry)) (now («previous_svid» .entry)) (now («previous_band» .entry)) (now («previous_state» .entry)) (now («previous_floats» .entry))) «previous_count» (carrierColumns (now («current_constellation» .entry)) (now («current_svid» .entry)) (now («current_band» .entry)) (now («current_state» .entry)) (now («current_floats» .entry))) «current_count» dt (vectorAt (now (receiver .entry)) 0) (displacementSettings (now («in_force» .entry)) «in_force_rounds»)) pulses
-        r (now (trip .entry)) (now (trip .exit)) (now (delta .entry)) (now (delta .exit)) (now (counts .entry)) (now (counts .exit)) ⌝ }
+    ensures { λ r. ⌜ (let previous = carrierColumns (now («previous_constellation» .entry)) (now («previous_svid» .entry)) (now («previous_band» .entry))
+        (now («previous_state» .entry)) (now («previous_floats» .entry)) in
+        let current = carrierColumns (now («current_constellation» .entry)) (now («current_svid» .entry)) (now («current_band» .entry))
+        (now («current_state» .entry)) (now («current_floats» .entry)) in
+        TravelAnswers (lent previous «previous_count» current «current_count» (Interval.Seconds dt)
+        (vectorAt (now (receiver .entry)) 0) (displacementSettings (now («in_force» .entry)) «in_force_rounds») Profile.General) pulses
+        r (now (trip .entry)) (now (trip .exit)) (now (delta .entry)) (now (delta .exit)) (now (counts .entry)) (now (counts .exit))) ⌝ }
 {
-    travel_in(
-        trip,
-        in_force,
-        in_force_rounds,
+    let moved = columns_displaced(
         previous_constellation,
         previous_svid,
         previous_band,
@@ -86,10 +92,11 @@ pub extern "C" fn zaqnuti_trip_displacement(
         current_state,
         current_floats,
         current_count,
-        dt,
+        Interval::Seconds(dt),
         receiver,
-        pulses,
-        delta,
-        counts,
-    )
+        in_force,
+        in_force_rounds,
+        Profile::General,
+    );
+    travel_into(trip, moved, pulses, delta, counts)
 }

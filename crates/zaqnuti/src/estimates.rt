@@ -2,10 +2,13 @@
 ghost use mathlib.Core.Path.{_≡_};
 ghost use Rattle.records.specs.Carriers.{carrierColumns};
 ghost use Rattle.numeric.specs.Vec3.{vectorAt};
-ghost use Rattle.tdcp_columns.specs.Displacement as columns;
+ghost use Rattle.tdcp_columns.specs.Displacement.{lent, displacementSettings, DisplacementAnswers};
 ghost use Rattle.wls_columns.specs.Columns.{observationColumns};
 ghost use Rattle.wls_columns.specs.Fix as spec;
-use tdcp_columns::lent::displacement_into;
+use records::pair::Profile;
+use tdcp::displacement::Interval;
+use tdcp_columns::displacement::columns_displaced;
+use tdcp_columns::lent::answer_into;
 use wls_columns::fix::fix_into;
 use wls_columns::fix::position_into;
 
@@ -31,12 +34,15 @@ pub extern "C" fn zaqnuti_displacement(
     delta: &mut [u64; 3],
     counts: &mut [usize; 2],
 ) -> u8
-    ensures { λ r. ⌜ columns.DisplacementAnswers
-        (columns.displacementInput (carrierColumns (now («previous_constellation» .entry)) (now («previous_svid» .entry)) (now («previous_band» .entry)) (now («previous_state» .entry)) (now («previous_floats» .entry))) «previous_count» (carrierColumns (now («current_constellation» .entry)) (now («current_svid» .entry)) (now («current_band» .entry)) (now («current_state» .entry)) (now («current_floats» .entry))) «current_count» dt (vectorAt (now (receiver .entry)) 0) (columns.displacementSettings (now (settings .entry)) rounds))
-        (columns.columnDisplacementOf (carrierColumns (now («previous_constellation» .entry)) (now («previous_svid» .entry)) (now («previous_band» .entry)) (now («previous_state» .entry)) (now («previous_floats» .entry))) «previous_count» (carrierColumns (now («current_constellation» .entry)) (now («current_svid» .entry)) (now («current_band» .entry)) (now («current_state» .entry)) (now («current_floats» .entry))) «current_count» dt (vectorAt (now (receiver .entry)) 0) (columns.displacementSettings (now (settings .entry)) rounds))
-        r (now (delta .entry)) (now (delta .exit)) (now (counts .entry)) (now (counts .exit)) ⌝ }
+    ensures { λ r. ⌜ (let previous = carrierColumns (now («previous_constellation» .entry)) (now («previous_svid» .entry)) (now («previous_band» .entry))
+        (now («previous_state» .entry)) (now («previous_floats» .entry)) in
+        let current = carrierColumns (now («current_constellation» .entry)) (now («current_svid» .entry)) (now («current_band» .entry))
+        (now («current_state» .entry)) (now («current_floats» .entry)) in
+        DisplacementAnswers (lent previous «previous_count» current «current_count» (Interval.Seconds dt)
+        (vectorAt (now (receiver .entry)) 0) (displacementSettings (now (settings .entry)) rounds) Profile.General)
+        r (now (delta .entry)) (now (delta .exit)) (now (counts .entry)) (now (counts .exit))) ⌝ }
 {
-    displacement_into(
+    let answer = columns_displaced(
         previous_constellation,
         previous_svid,
         previous_band,
@@ -49,13 +55,13 @@ pub extern "C" fn zaqnuti_displacement(
         current_state,
         current_floats,
         current_count,
-        dt,
+        Interval::Seconds(dt),
         receiver,
         settings,
         rounds,
-        delta,
-        counts,
-    )
+        Profile::General,
+    );
+    answer_into(answer, delta, counts)
 }
 
 // The position from one epoch: 0, x, y, z, chi and pdop in solution and how many observations were used in used; or the refusal's number, which leaves both as they were.
@@ -70,10 +76,11 @@ pub extern "C" fn zaqnuti_fix(
     solution: &mut [u64; 5],
     used: &mut usize,
 ) -> u8
-    ensures { λ r. ⌜ spec.FixAnswers
-        (spec.fixInput (observationColumns (now (constellation .entry)) (now (floats .entry))) count (vectorAt (now (guess .entry)) 0) (spec.fixSettings (now (settings .entry)) rounds))
-        (spec.columnFixOf (observationColumns (now (constellation .entry)) (now (floats .entry))) count (vectorAt (now (guess .entry)) 0) (spec.fixSettings (now (settings .entry)) rounds))
-        r (now (solution .entry)) (now (solution .exit)) (now (used .entry)) (now (used .exit)) ⌝ }
+    ensures { λ r. ⌜ (let columns = observationColumns (now (constellation .entry)) (now (floats .entry)) in
+        let place = vectorAt (now (guess .entry)) 0 in
+        let given = spec.fixSettings (now (settings .entry)) rounds in
+        spec.FixAnswers (spec.fixInput columns count place given) (spec.columnFixOf columns count place given)
+        r (now (solution .entry)) (now (solution .exit)) (now (used .entry)) (now (used .exit))) ⌝ }
 {
     fix_into(
         constellation,
@@ -98,10 +105,11 @@ pub extern "C" fn zaqnuti_position(
     rounds: usize,
     position: &mut [u64; 3],
 ) -> u8
-    ensures { λ r. ⌜ spec.PositionAnswers
-        (spec.fixInput (observationColumns (now (constellation .entry)) (now (floats .entry))) count (vectorAt (now (guess .entry)) 0) (spec.fixSettings (now (settings .entry)) rounds))
-        (spec.columnFixOf (observationColumns (now (constellation .entry)) (now (floats .entry))) count (vectorAt (now (guess .entry)) 0) (spec.fixSettings (now (settings .entry)) rounds))
-        r (now (position .entry)) (now (position .exit)) ⌝ }
+    ensures { λ r. ⌜ (let columns = observationColumns (now (constellation .entry)) (now (floats .entry)) in
+        let place = vectorAt (now (guess .entry)) 0 in
+        let given = spec.fixSettings (now (settings .entry)) rounds in
+        spec.PositionAnswers (spec.fixInput columns count place given) (spec.columnFixOf columns count place given)
+        r (now (position .entry)) (now (position .exit))) ⌝ }
 {
     position_into(
         constellation,

@@ -2,6 +2,9 @@
 ghost use Rattle.wire.specs.Columns.{recordColumns};
 ghost use Rattle.wire.specs.Lent.{ReadAnswers, WriteAnswers};
 ghost use Rattle.wire_tdcp.specs.Displacement as spec;
+use numeric::vec3::Vec3;
+use tdcp::displacement::Settings;
+use wire_tdcp::displacement::displacement_records;
 
 // The displacement between two slices of carrier records, by the numbers of line S in its order: 0, and in the first 40 bytes of result how many pairs were used
 // and screened out and the displacement in metres; or the refusal's number, which leaves result as it was.
@@ -25,21 +28,17 @@ pub extern "C" fn zaqnuti_displacement_records(
         (spec.handed (now (previous .entry)) (now (current .entry)) dt (spec.vectorOf x y z) (spec.settingsOf screen «sigma_a» «sigma_b» huber mask rounds))
         r (now (result .entry)) (now (result .exit)) ⌝ }
 {
-    wire_tdcp::displacement::displacement_records(
-        previous,
-        current,
-        dt,
-        x,
-        y,
-        z,
-        screen,
-        sigma_a,
-        sigma_b,
-        huber,
-        mask,
-        rounds,
-        result,
-    )
+    let receiver = Vec3 { x: x, y: y, z: z };
+    let settings = Settings {
+        screen: screen,
+        sigma_a: sigma_a,
+        sigma_b: sigma_b,
+        huber: huber,
+        mask: mask,
+        rounds: rounds,
+        agreement: 0.0,
+    };
+    displacement_records(previous, current, dt, receiver, settings, result)
 }
 
 // Writes the first count records of the columns into bytes: 0; or 2, which leaves bytes as they were.
@@ -53,7 +52,9 @@ pub extern "C" fn zaqnuti_write_records(
     count: usize,
     bytes: &mut [u8],
 ) -> u8
-    ensures { λ r. ⌜ WriteAnswers (recordColumns (now (constellation .entry)) (now (svid .entry)) (now (band .entry)) (now (state .entry)) (now (floats .entry))) count r (now (bytes .entry)) (now (bytes .exit)) ⌝ }
+    ensures { λ r. ⌜ WriteAnswers
+        (recordColumns (now (constellation .entry)) (now (svid .entry)) (now (band .entry)) (now (state .entry)) (now (floats .entry)))
+        count r (now (bytes .entry)) (now (bytes .exit)) ⌝ }
 {
     wire::columns::write_records(constellation, svid, band, state, floats, count, bytes)
 }

@@ -1,10 +1,10 @@
 // Entry points of the two forms of a table.
-ghost use mathlib.Core.Path.{_≡_};
 ghost use Prim.Native.Nat.{min};
 ghost use lib.ListN.{length};
 ghost use Rattle.table.specs.Table.{lent};
 ghost use Rattle.directory.specs.Directory.{lentBlocks, entryRows};
-ghost use Rattle.directory.specs.Rearrange.{filedOf, filedNumber, entriesAfter, filedColumns, listedOf, listedNumber, listedColumns};
+ghost use Rattle.directory.specs.Rearrange.{filedOf, listedOf};
+ghost use Rattle.rearrange.specs.Lent.{Files, Lists};
 use rearrange::lent::directory_into;
 use rearrange::lent::signals_into;
 
@@ -27,8 +27,8 @@ pub extern "C" fn zaqnuti_directory_of(
 ) -> u8
     ensures { λ r. ⌜ (let l = lentBlocks (now (dc .entry)) (now (dv .entry)) (now (db .entry)) (now (df .entry)) (now (dn .entry)) (now (ts .entry)) (now (xs .entry)) in
         let o = filedOf n (length (entryRows (now (dc .entry)) (now (dv .entry)) (now (db .entry)) (now (df .entry)) (now (dn .entry)))) (lent (now (cs .entry)) (now (vs .entry)) (now (bs .entry)) (now (ts .entry)) (now (xs .entry))) in
-        (r ≡ filedNumber o) × ((now (m .exit) ≡ entriesAfter o (now (m .entry)))
-        × (lentBlocks (now (dc .exit)) (now (dv .exit)) (now (db .exit)) (now (df .exit)) (now (dn .exit)) (now (ts .entry)) (now (xs .entry)) ≡ filedColumns o l))) ⌝ }
+        Files o r (now (m .entry)) (now (m .exit)) l
+        (lentBlocks (now (dc .exit)) (now (dv .exit)) (now (db .exit)) (now (df .exit)) (now (dn .exit)) (now (ts .entry)) (now (xs .entry)))) ⌝ }
 {
     directory_into(cs, vs, bs, ts, xs, n, dc, dv, db, df, dn, m)
 }
@@ -53,7 +53,7 @@ pub extern "C" fn zaqnuti_signals_of(
     ensures { λ r. ⌜ (let l = lent (now (cs .entry)) (now (vs .entry)) (now (bs .entry)) (now (ts .entry)) (now (xs .entry)) in
         let o = listedOf m n (min (length (now (cs .entry))) (min (length (now (vs .entry))) (length (now (bs .entry)))))
         (lentBlocks (now (dc .entry)) (now (dv .entry)) (now (db .entry)) (now (df .entry)) (now (dn .entry)) (now (ts .entry)) (now (xs .entry))) in
-        (r ≡ listedNumber o) × (lent (now (cs .exit)) (now (vs .exit)) (now (bs .exit)) (now (ts .entry)) (now (xs .entry)) ≡ listedColumns o l)) ⌝ }
+        Lists o r l (lent (now (cs .exit)) (now (vs .exit)) (now (bs .exit)) (now (ts .entry)) (now (xs .entry)))) ⌝ }
 {
     signals_into(dc, dv, db, df, dn, m, ts, xs, n, cs, vs, bs)
 }

@@ -1,29 +1,27 @@
 // Entry points of the Cholesky factor and its solve.
 ghost use mathlib.Core.Path.{_≡_};
+ghost use mathlib.Core.List.{map};
+ghost use Rattle.numeric.specs.Order.{patternOf};
 ghost use Rattle.cholesky.specs.Factor.{factorOf, solutionOf};
-ghost use Rattle.cholesky.specs.Answer.{rowsAfter};
-ghost use Rattle.zaqnuti.specs.Numbers.{factorNumber};
-use cholesky::factor::factor_into;
-use cholesky::factor::solve_into;
-use numeric::refusal::Refusal;
+ghost use Rattle.cholesky.specs.Answer.{factoringOf, factoringNumber};
+ghost use Rattle.wls_columns.specs.Bits.{patternsAfter};
+use cholesky::factor::solve_lent;
+use wls_columns::bits::factor_patterns;
+use wls_columns::bits::patterns;
 
-// The factor of a in l and 0, or 10, which leaves l as it was.
+// Returns 0 and writes the patterns of the factor of a to l, or returns 10 and leaves every bit of l.
 #[no_mangle]
-pub extern "C" fn zaqnuti_factor(a: &[[f64; 9]; 9], l: &mut [[f64; 9]; 9]) -> u8
-    ensures { λ r. ⌜ (r ≡ factorNumber (factorOf (now (a .entry)))) × (now (l .exit) ≡ rowsAfter (factorOf (now (a .entry))) (now (l .entry))) ⌝ }
+pub extern "C" fn zaqnuti_factor(a: &[[f64; 9]; 9], l: &mut [[u64; 9]; 9]) -> u8
+    ensures { λ r. ⌜ (let f = factorOf (now (a .entry)) in (r ≡ factoringNumber (factoringOf f)) × (now (l .exit) ≡ patternsAfter f (now (l .entry)))) ⌝ }
 {
-    if factor_into(a, l) {
-        0
-    } else {
-        Refusal::FitFailed.number()
-    }
+    factor_patterns(a, l).number()
 }
 
-// The solution of l lᵀ x = b in x.
+// Writes the patterns of the solution of l lᵀ x = b to x: of a NaN 7FF8000000000000.
 #[no_mangle]
-pub extern "C" fn zaqnuti_solve(l: &[[f64; 9]; 9], b: &[f64; 9], x: &mut [f64; 9])
-    ensures { λ _. ⌜ now (x .exit) ≡ solutionOf (now (l .entry)) (now (b .entry)) ⌝ }
+pub extern "C" fn zaqnuti_solve(l: &[[f64; 9]; 9], b: &[f64; 9], x: &mut [u64; 9])
+    ensures { λ _. ⌜ now (x .exit) ≡ map patternOf (solutionOf (now (l .entry)) (now (b .entry))) ⌝ }
 {
-    *x = *b;
-    solve_into(l, x);
+    let y = solve_lent(l, *b);
+    *x = patterns(y);
 }

@@ -2,8 +2,11 @@
 ghost use mathlib.Core.Path.{_≡_};
 ghost use Rattle.records.specs.Carriers.{carrierColumns};
 ghost use Rattle.numeric.specs.Vec3.{vectorAt};
-ghost use Rattle.tdcp_columns.specs.Displacement.{displacementSettings, leftInput, columnCityOf, DisplacementAnswers};
-use tdcp_columns::lent::city_into;
+ghost use Rattle.tdcp_columns.specs.Displacement.{lent, displacementSettings, DisplacementAnswers};
+use records::pair::Profile;
+use tdcp::displacement::Interval;
+use tdcp_columns::displacement::columns_displaced;
+use tdcp_columns::lent::answer_into;
 
 // The displacement between two epochs by GPS (1) and Galileo (6) on the chosen band: 0, the displacement in metres in delta and how many of their pairs were used and
 // screened out in counts; or the refusal's number, which leaves both as they were.
@@ -29,12 +32,15 @@ pub extern "C" fn zaqnuti_city_displacement(
     delta: &mut [u64; 3],
     counts: &mut [usize; 2],
 ) -> u8
-    ensures { λ r. ⌜ DisplacementAnswers
-        (leftInput (carrierColumns (now («previous_constellation» .entry)) (now («previous_svid» .entry)) (now («previous_band» .entry)) (now («previous_state» .entry)) (now («previous_floats» .entry))) «previous_count» (carrierColumns (now («current_constellation» .entry)) (now («current_svid» .entry)) (now («current_band» .entry)) (now («current_state» .entry)) (now («current_floats» .entry))) «current_count» dt band (vectorAt (now (receiver .entry)) 0) (displacementSettings (now (settings .entry)) rounds))
-        (columnCityOf (carrierColumns (now («previous_constellation» .entry)) (now («previous_svid» .entry)) (now («previous_band» .entry)) (now («previous_state» .entry)) (now («previous_floats» .entry))) «previous_count» (carrierColumns (now («current_constellation» .entry)) (now («current_svid» .entry)) (now («current_band» .entry)) (now («current_state» .entry)) (now («current_floats» .entry))) «current_count» dt band (vectorAt (now (receiver .entry)) 0) (displacementSettings (now (settings .entry)) rounds))
-        r (now (delta .entry)) (now (delta .exit)) (now (counts .entry)) (now (counts .exit)) ⌝ }
+    ensures { λ r. ⌜ (let previous = carrierColumns (now («previous_constellation» .entry)) (now («previous_svid» .entry)) (now («previous_band» .entry))
+        (now («previous_state» .entry)) (now («previous_floats» .entry)) in
+        let current = carrierColumns (now («current_constellation» .entry)) (now («current_svid» .entry)) (now («current_band» .entry))
+        (now («current_state» .entry)) (now («current_floats» .entry)) in
+        DisplacementAnswers (lent previous «previous_count» current «current_count» (Interval.Seconds dt)
+        (vectorAt (now (receiver .entry)) 0) (displacementSettings (now (settings .entry)) rounds) (Profile.City band))
+        r (now (delta .entry)) (now (delta .exit)) (now (counts .entry)) (now (counts .exit))) ⌝ }
 {
-    city_into(
+    let answer = columns_displaced(
         previous_constellation,
         previous_svid,
         previous_band,
@@ -47,12 +53,11 @@ pub extern "C" fn zaqnuti_city_displacement(
         current_state,
         current_floats,
         current_count,
-        dt,
-        band,
+        Interval::Seconds(dt),
         receiver,
         settings,
         rounds,
-        delta,
-        counts,
-    )
+        Profile::City(band),
+    );
+    answer_into(answer, delta, counts)
 }

@@ -1,12 +1,12 @@
 // Entry points of the centre, the line of sight, the one-sigma and the round.
 ghost use mathlib.Core.Path.{_≡_};
-ghost use Rattle.median.specs.Centre.{centreScaleOf, centreNumber, centreAfter};
+ghost use Rattle.median.specs.Centre.{centreScaleOf, centreNumber};
 ghost use Rattle.numeric.specs.Sight as sight;
 ghost use Rattle.robust.specs.Sigma.{elevationSigma};
 ghost use Rattle.numeric.specs.Vec3.{vectorAt};
 ghost use Rattle.wls_columns.specs.Columns.{rowColumns};
 ghost use Rattle.wls_columns.specs.Step.{columnStepOf, StepAnswers};
-ghost use Rattle.zaqnuti.specs.Numbers.{sightAfter};
+ghost use Rattle.zaqnuti.specs.Numbers.{centreAfter, sightAfter};
 use median::centre::Centre;
 use median::centre::centre_scale;
 use numeric::order::pattern;
@@ -16,15 +16,15 @@ use numeric::vec3::vector;
 use robust::sigma::elevation_sigma;
 use wls_columns::round::round_into;
 
-// The centre and the scale of the residuals' patterns in out and 0, or 2 for more than 64, which leaves out as it was.
+// Returns 0 and writes the patterns of the centre and the scale of the residuals to out, or returns 2 for more than 64 and leaves every bit of out.
 #[no_mangle]
-pub extern "C" fn zaqnuti_centre(residuals: &[u64], out: &mut [f64; 2]) -> u8
-    ensures { λ r. ⌜ (r ≡ centreNumber (centreScaleOf (now (residuals .entry)))) × (now (out .exit) ≡ centreAfter (centreScaleOf (now (residuals .entry))) (now (out .entry))) ⌝ }
+pub extern "C" fn zaqnuti_centre(residuals: &[u64], out: &mut [u64; 2]) -> u8
+    ensures { λ r. ⌜ (let s = centreScaleOf (now (residuals .entry)) in (r ≡ centreNumber s) × (now (out .exit) ≡ centreAfter s (now (out .entry)))) ⌝ }
 {
     let answer = centre_scale(residuals);
     match answer {
         Centre::Of(c) => {
-            *out = [c.centre, c.scale];
+            *out = [pattern(c.centre), pattern(c.scale)];
             0
         }
         Centre::Refused(r) => r.number(),
@@ -60,7 +60,7 @@ pub extern "C" fn zaqnuti_elevation_sigma(elevation: f64, a: f64, b: f64) -> f64
     elevation_sigma(elevation, a, b)
 }
 
-// One round of the first `rows` rows of the columns: 0 and the step in dx, zeros beyond the unknowns; or 2, 4 or 10, which leave dx as it was.
+// Returns 0 and writes the patterns of the step of the first `rows` rows to dx, zeros beyond the unknowns; or returns 2, 4 or 10 and leaves every bit of dx.
 #[no_mangle]
 pub extern "C" fn zaqnuti_round(
     units: &[f64],
@@ -70,9 +70,10 @@ pub extern "C" fn zaqnuti_round(
     rows: usize,
     unknowns: usize,
     huber: f64,
-    dx: &mut [f64; 9],
+    dx: &mut [u64; 9],
 ) -> u8
-    ensures { λ r. ⌜ StepAnswers (columnStepOf (rowColumns (now (units .entry)) (now (clocks .entry)) (now (residuals .entry)) (now (sigmas .entry))) rows unknowns huber (now (dx .entry))) r (now (dx .exit)) ⌝ }
+    ensures { λ r. ⌜ (let c = rowColumns (now (units .entry)) (now (clocks .entry)) (now (residuals .entry)) (now (sigmas .entry)) in
+        StepAnswers (columnStepOf c rows unknowns huber) r (now (dx .entry)) (now (dx .exit))) ⌝ }
 {
     round_into(units, clocks, residuals, sigmas, rows, unknowns, huber, dx)
 }

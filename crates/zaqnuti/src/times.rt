@@ -26,7 +26,8 @@ pub extern "C" fn zaqnuti_time(week: u32, tow: f64, nanos: &mut u64) -> u8
 // The nanoseconds from the time `earlier` to `later` in nanos and 0, or 13, which leaves nanos as it was.
 #[no_mangle]
 pub extern "C" fn zaqnuti_nanos_since(later: u64, earlier: u64, nanos: &mut i64) -> u8
-    ensures { λ r. ⌜ (r ≡ nanosNumber (nanosSince (timeAt later) (timeAt earlier))) × (now (nanos .exit) ≡ nanosAfter (nanosSince (timeAt later) (timeAt earlier)) (now (nanos .entry))) ⌝ }
+    ensures { λ r. ⌜ (r ≡ nanosNumber (nanosSince (timeAt later) (timeAt earlier)))
+        × (now (nanos .exit) ≡ nanosAfter (nanosSince (timeAt later) (timeAt earlier)) (now (nanos .entry))) ⌝ }
 {
     let a = GpsTime { nanos: later };
     let b = GpsTime { nanos: earlier };
@@ -43,7 +44,8 @@ pub extern "C" fn zaqnuti_nanos_since(later: u64, earlier: u64, nanos: &mut i64)
 // The seconds from the time `earlier` to `later` in seconds and 0, or 13, which leaves seconds as it was.
 #[no_mangle]
 pub extern "C" fn zaqnuti_seconds_since(later: u64, earlier: u64, seconds: &mut u64) -> u8
-    ensures { λ r. ⌜ (r ≡ secondsNumber (secondsSince (timeAt later) (timeAt earlier))) × (now (seconds .exit) ≡ secondsAfter (secondsSince (timeAt later) (timeAt earlier)) (now (seconds .entry))) ⌝ }
+    ensures { λ r. ⌜ (r ≡ secondsNumber (secondsSince (timeAt later) (timeAt earlier)))
+        × (now (seconds .exit) ≡ secondsAfter (secondsSince (timeAt later) (timeAt earlier)) (now (seconds .entry))) ⌝ }
 {
     let a = GpsTime { nanos: later };
     let b = GpsTime { nanos: earlier };

@@ -1,30 +1,46 @@
-// Entry point of the track.
+// Entry point of the track. What a caller lends as doubles for the result and the work is taken as their patterns, so that a refusal is promised to leave every bit.
 ghost use Rattle.trajectory.specs.Input.{measured, trajectory};
 ghost use Rattle.zaqnuti.specs.Track.{settings, TrackCalled};
 use smooth::Settings;
 use smooth::smooth;
 
-// The track of n epochs in `result` and 0, or the number of the refusal.
-// ai, av and ag are the anchors' epoch indices, positions and sigmas, li, lv and lg the links' epoch indices, changes in position and sigmas.
+// Puts the track of some epochs into `result` and answers 0, or the number of the refusal.
 #[no_mangle]
 pub extern "C" fn zaqnuti_smooth(
-    n: usize,
+    epochs: usize,
     anchors: usize,
     links: usize,
-    ai: &[usize],
-    av: &[f64],
-    ag: &[f64],
-    li: &[usize],
-    lv: &[f64],
-    lg: &[f64],
+    anchor_epoch: &[usize],
+    anchor_position: &[f64],
+    anchor_sigma: &[f64],
+    link_epoch: &[usize],
+    link_change: &[f64],
+    link_sigma: &[f64],
     huber: f64,
     iterations: usize,
-    result: &mut [f64],
-    work: &mut [f64],
+    result: &mut [u64],
+    work: &mut [u64],
 ) -> u8
-    ensures { λ x. ⌜ TrackCalled (trajectory n (measured anchors (now (ai .entry)) (now (av .entry)) (now (ag .entry))) (measured links (now (li .entry)) (now (lv .entry)) (now (lg .entry)))) (settings huber iterations) (now (result .entry)) (now (work .entry)) x (now (result .exit)) (now (work .exit)) ⌝ }
+    ensures { λ x. ⌜ (
+        let a = measured anchors (now («anchor_epoch» .entry)) (now («anchor_position» .entry)) (now («anchor_sigma» .entry)) in
+        let l = measured links (now («link_epoch» .entry)) (now («link_change» .entry)) (now («link_sigma» .entry)) in
+        let s = settings huber iterations in
+        TrackCalled (trajectory epochs a l) s (now (result .entry)) (now (work .entry)) x (now (result .exit)) (now (work .exit))) ⌝ }
 {
     let set = Settings { huber, iterations };
-    let track = smooth(n, anchors, links, ai, av, ag, li, lv, lg, set, result, work);
+    let track = smooth(
+        epochs,
+        anchors,
+        links,
+        anchor_epoch,
+        anchor_position,
+        anchor_sigma,
+        link_epoch,
+        link_change,
+        link_sigma,
+        set,
+        result,
+        work,
+    );
     track.number()
 }

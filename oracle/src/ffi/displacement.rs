@@ -1,9 +1,10 @@
-//! The entry points of the displacement, by its interval, between two times and in the city profile.
+//! The entry points of the displacement, by its interval, between two times and in the city profile, and with its quality.
 
 use super::columns::{call, Columns};
 use drifters_gnss::tdcp::Carrier;
 use zaqnuti::sys::{
-    zaqnuti_city_displacement, zaqnuti_displacement, zaqnuti_displacement_between,
+    zaqnuti_city_displacement, zaqnuti_city_displacement_rated, zaqnuti_displacement,
+    zaqnuti_displacement_between, zaqnuti_displacement_rated,
 };
 
 /// An epoch of carriers as the library takes it: its columns, of which each may be longer or shorter
@@ -107,5 +108,38 @@ pub fn city_displacement(
             [current.columns.constellation], [current.svid], [current.band], [current.state],
             [current.columns.floats], current.columns.count,
             dt, chosen, receiver, settings, rounds, delta, counts,)
+    }
+}
+
+/// As `displacement`, with its quality; in the city profile where there is a band.
+#[inline]
+#[allow(clippy::too_many_arguments)]
+pub fn displacement_rated(
+    previous: &Carriers,
+    current: &Carriers,
+    (dt, chosen): (f64, Option<u32>),
+    receiver: &[f64; 3],
+    settings: &[f64; 5],
+    rounds: usize,
+    delta: &mut [f64; 3],
+    quality: &mut [f64; 2],
+    counts: &mut [usize; 2],
+) -> u8 {
+    // SAFETY: as there.
+    unsafe {
+        match chosen {
+            None => call!(zaqnuti_displacement_rated();
+                [previous.columns.constellation], [previous.svid], [previous.band], [previous.state],
+                [previous.columns.floats], previous.columns.count,
+                [current.columns.constellation], [current.svid], [current.band], [current.state],
+                [current.columns.floats], current.columns.count,
+                dt, receiver, settings, rounds, delta, quality, counts,),
+            Some(chosen) => call!(zaqnuti_city_displacement_rated();
+                [previous.columns.constellation], [previous.svid], [previous.band], [previous.state],
+                [previous.columns.floats], previous.columns.count,
+                [current.columns.constellation], [current.svid], [current.band], [current.state],
+                [current.columns.floats], current.columns.count,
+                dt, chosen, receiver, settings, rounds, delta, quality, counts,),
+        }
     }
 }

@@ -7,6 +7,7 @@ mod drives;
 mod fix;
 mod forget;
 mod line;
+mod mileages;
 mod pieces;
 mod rearrange;
 mod times;
@@ -27,6 +28,8 @@ pub const ENTRIES: &[Entry] = &[
     ("displacement", displacement::displacement),
     ("between", displacement::between),
     ("city", displacement::city),
+    ("rated", displacement::rated),
+    ("city_rated", displacement::city_rated),
     ("line", line::line),
     ("read_records", wire::read_records),
     ("write_records", wire::write_records),
@@ -41,6 +44,7 @@ pub const ENTRIES: &[Entry] = &[
     ("smooth", track::smooth),
     ("times", times::times),
     ("trip", trips::trip),
+    ("mileage", mileages::mileage),
     ("directions", directions::directions),
     ("drive", drives::drive),
     ("round", pieces::a_round),

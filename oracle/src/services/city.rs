@@ -20,7 +20,7 @@ pub const SERVICE: Service = Service {
 
 /// Most carriers of GPS and Galileo on one band, and now and then one of the two alone, one that the
 /// screen drops, or none on the band.
-fn of_the_city(random: &mut Random, mut displacement: Displacement) -> City {
+pub fn of_the_city(random: &mut Random, mut displacement: Displacement) -> City {
     let share = 1 + random.below(4);
     let gone = random.below(8);
     let lost = random.pick(&[1, 6]);

@@ -14,7 +14,9 @@ mod estimator;
 pub mod factor;
 mod fix;
 pub mod line;
+pub mod mileage;
 mod order;
+mod rated;
 pub mod rearrange;
 mod root;
 pub mod round;
@@ -73,6 +75,7 @@ pub const KINDS: &[(u64, &str, Make)] = &[
     (22, "between", between::vectors),
     (23, "widen", corrections::stored::widen),
     (27, "trip", trip::vectors),
+    (45, "mileage", mileage::vectors),
     (33, "directory", rearrange::directories),
     (34, "signals", rearrange::signals),
     (35, "forget", corrections::forget::vectors),
@@ -83,6 +86,7 @@ pub const KINDS: &[(u64, &str, Make)] = &[
     (28, "drive", drive::vectors),
     (38, "settings", drive::settings_vectors),
     (30, "city", city::vectors),
+    (44, "rated", rated::vectors),
 ];
 
 /// Every service, lowest first.
@@ -103,10 +107,13 @@ pub const SERVICES: &[Service] = &[
     directions::SERVICE,
     between::SERVICE,
     trip::SERVICE,
+    mileage::SERVICE,
     wire::SERVICE,
     wire_tdcp::SERVICE,
     drive::SERVICE,
     city::SERVICE,
+    rated::SERVICE,
+    rated::CITY,
     fix::SERVICE,
     top::DISPLACEMENT,
     top::FIX,

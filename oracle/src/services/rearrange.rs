@@ -93,8 +93,8 @@ pub fn filed(s: &Signals, t: &Table) -> Result<Table, u8> {
 
 /// The signals by the model, or the refusal.
 pub fn listed(t: &Table, into: &Signals) -> Result<Signals, u8> {
-    let room = t.capacity().min(into.shortest());
-    if t.m > room || t.n > room {
+    // The columns of signals need a place for each sample, and none for an entry.
+    if t.m.max(t.n) > t.capacity() || t.n > into.shortest() {
         return Err(2);
     }
     if !t.sound() {
@@ -228,6 +228,13 @@ fn table(random: &mut Random) -> (Signals, Table) {
     (s, t)
 }
 
+/// Now and then more entries than samples, up to the capacity or one above it.
+fn crowd(random: &mut Random, t: &mut Table) {
+    if random.below(16) == 0 {
+        t.m = t.n + 1 + random.place((t.capacity() + 1).saturating_sub(t.n).max(1));
+    }
+}
+
 fn compare(tally: &mut Tally, random: &mut Random, count: u64) {
     let mut numbers = [0u64; 3];
     for _ in 0..count / 2 {
@@ -250,6 +257,7 @@ fn compare(tally: &mut Tally, random: &mut Random, count: u64) {
         if want == 0 && random.below(3) == 0 {
             damage(random, &mut from);
         }
+        crowd(random, &mut from);
         let mut into = Signals::lent(lengths(random, from.n.min(2048)));
         let untouched = into.clone();
         let number = signals_of(&from, &mut into);
@@ -320,6 +328,7 @@ fn signals_case(random: &mut Random) -> Option<(u8, Case)> {
     if random.below(3) == 0 {
         damage(random, &mut t);
     }
+    crowd(random, &mut t);
     let into = Signals::lent(lengths(random, t.n));
     let mut given = samples(&t);
     given.extend([into.cs.len(), into.vs.len(), into.bs.len()].map(|length| length as u64));

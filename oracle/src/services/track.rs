@@ -277,9 +277,13 @@ fn epochs(random: &mut Random) -> usize {
     }
 }
 
-/// Floats of any bits.
+/// Floats of any bits, one in four a NaN of either sign, signaling or quiet, with any payload.
 fn lent(random: &mut Random, n: usize) -> Vec<f64> {
-    (0..n).map(|_| f64::from_bits(random.bits())).collect()
+    let mut next = || match random.below(4) {
+        0 => random.bits() | 0x7FF0_0000_0000_0001,
+        _ => random.bits(),
+    };
+    (0..n).map(|_| f64::from_bits(next())).collect()
 }
 
 fn compare(tally: &mut Tally, random: &mut Random, count: u64) {
@@ -353,20 +357,20 @@ fn compare(tally: &mut Tally, random: &mut Random, count: u64) {
 }
 
 /// A drive: an anchor an epoch, good to metres, and a link to the next, good to centimetres; one in twenty is wrong.
-fn drive(random: &mut Random, iterations: usize) -> Input {
+fn drive(random: &mut Random, n: usize, iterations: usize) -> Input {
     let mut input = Input {
-        n: MOST,
+        n,
         huber: 2.0,
         iterations,
         ..Input::default()
     };
-    for i in 0..MOST {
+    for i in 0..n {
         let slip = if random.below(20) == 0 { 100.0 } else { 1.0 };
         let noise = three(|r| r.unit() * 5.0 * slip, random);
         let position = [i as f64 + noise[0], noise[1], noise[2]];
         input.anchors.push(i, position, [5.0, 5.0, 8.0]);
     }
-    for i in 0..MOST - 1 {
+    for i in 0..n - 1 {
         let slip = if random.below(20) == 0 { 100.0 } else { 1.0 };
         let noise = three(|r| r.unit() * 0.01 * slip, random);
         let delta = [1.0 + noise[0], noise[1], noise[2]];
@@ -375,28 +379,33 @@ fn drive(random: &mut Random, iterations: usize) -> Input {
     input
 }
 
+/// The epochs of the rows of a benchmark. 1,024 is a power of two: columns of so many floats stand in the same cache sets, and 1,000 and 1,016 tell whether that costs.
+const LENGTHS: [usize; 5] = [64, 256, 1000, 1016, MOST];
+
 fn time(random: &mut Random) {
     for passes in [1, 6] {
-        let input = drive(random, passes);
-        let (anchors, links, settings) = input.rust();
-        let (mut result, mut work) = (vec![0.0; 3 * input.n], vec![0.0; input.need()]);
-        bench::row(
-            &format!("track {passes}"),
-            input.n,
-            1,
-            || {
-                black_box(ffi::track(black_box(&input), &mut result, &mut work));
-                black_box(&result);
-            },
-            || {
-                black_box(smooth(
-                    input.n,
-                    black_box(&anchors),
-                    black_box(&links),
-                    &settings,
-                ));
-            },
-        );
+        for n in LENGTHS {
+            let input = drive(random, n, passes);
+            let (anchors, links, settings) = input.rust();
+            let (mut result, mut work) = (vec![0.0; 3 * n], vec![0.0; input.need()]);
+            bench::row(
+                &format!("track {passes}"),
+                n,
+                1,
+                || {
+                    black_box(ffi::track(black_box(&input), &mut result, &mut work));
+                    black_box(&result);
+                },
+                || {
+                    black_box(smooth(
+                        n,
+                        black_box(&anchors),
+                        black_box(&links),
+                        &settings,
+                    ));
+                },
+            );
+        }
     }
 }
 

@@ -67,12 +67,11 @@ fn odometer(rate: u128, pulses: u128) -> u128 {
 
 /// Whether 16 lets a trip pass.
 pub fn is_sound(trip: &Words) -> bool {
-    let [rate, epochs, carrier, pulses, _, reached] = trip.map(u128::from);
+    let [rate, epochs, carrier, pulses, _, _] = trip.map(u128::from);
     (1..=65_535).contains(&rate)
         && epochs <= 65_535
         && carrier <= 1_000_000 * epochs
         && pulses <= 65_535 * epochs
-        && reached < 1 << 32
 }
 
 /// A trip just started, or 16.
@@ -157,7 +156,7 @@ fn about(random: &mut Random, x: f64) -> f64 {
 }
 
 /// A displacement: just at or beside whole millimetres on one axis, as 3, 4 and 5 are, at an edge, of a van, of any floats.
-fn displacement(random: &mut Random) -> [f64; 3] {
+pub fn displacement(random: &mut Random) -> [f64; 3] {
     let mut delta = [0.0; 3];
     match random.below(8) {
         0..=2 => {
@@ -204,7 +203,7 @@ pub fn pulses(random: &mut Random) -> u16 {
 }
 
 /// A number at a limit or beside it.
-fn at(random: &mut Random, limit: u64) -> u64 {
+pub fn at(random: &mut Random, limit: u64) -> u64 {
     limit.saturating_add_signed(i64::from(random.between(-1, 1)))
 }
 
@@ -433,8 +432,7 @@ fn rust_add(trip: &mut Words, delta: &[f64; 3], pulses: u16) -> u8 {
     let sound = rate.wrapping_sub(1) < 65_535
         && epochs <= FULL
         && carrier <= 1_000_000 * epochs
-        && count <= 65_535 * epochs
-        && reached < 1 << 32;
+        && count <= 65_535 * epochs;
     let measurable = delta.iter().all(|x| x.is_finite()) && long <= 1000.0;
     if !sound || epochs == FULL || !measurable {
         return 16;

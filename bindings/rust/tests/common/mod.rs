@@ -35,7 +35,8 @@ pub fn observations(n: usize) -> Vec<Observation> {
             band: 1,
             svid: i as u16,
             modelled: f64::NAN,
-            pseudorange: geometry(satellite, AT).expect("it is seen").1 + 40.0 * f64::from(constellation),
+            pseudorange: geometry(satellite, AT).expect("it is seen").1
+                + 40.0 * f64::from(constellation),
             satellite,
             elevation,
         }

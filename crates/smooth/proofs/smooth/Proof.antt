@@ -1,50 +1,62 @@
-use mathlib.Core.Path.{sym, _∙_}
-use borrow.Author.Tests.{not-true, not-false}
+use Rattle.smooth.proofs.Refusals.{few-passes, counted, valid}
+use Rattle.smooth.proofs.Answers.{too-many, bad-settings, bad-records, bad-track, fit-failed, found, records-first, records-second}
+use Rattle.smooth.proofs.Finite.{origin-small}
 use Rattle.smooth.proofs.Refusals.{counted, valid}
-use Rattle.smooth.proofs.Answers.{too-many, bad-settings, bad-records, bad-track, fit-failed, found}
+use Rattle.trajectory.specs.Input.{measured, trajectory}
+use borrow.Author.Tests.{not-true, not-false}
+use mathlib.Core.Bool.{false}
+use mathlib.Core.Path.{refl, sym, _∙_}
 use native.Mathlib.Omega.{arith}
 use borrow.Author.Needs.{needs}
 use Rattle.smooth.proofs.smooth.Statement.{statement}
 use Rattle.smooth.proofs.smooth.Tie as tie
 
-counts-requires : tie.Need-counts-requires
-counts-requires c κs = search needs
+fits-limits-requires : tie.Need-fits-limits-requires
+fits-limits-requires c κs = search needs
 
 returns : tie.Need-returns
-returns c = too-many _ _ _ _ _ (c .before .counts .ensures) (not-true _ (c .if1 .taken))
+returns c = too-many (trajectory (c .before .before .before .before .before .before .before .before .before .before .args .n) (measured (c .before .before .before .before .before .before .before .before .before .before .args .anchors) (c .before .before .before .before .before .before .before .before .before .before .args .anchor-epoch .now) (c .before .before .before .before .before .before .before .before .before .before .args .anchor-position .now) (c .before .before .before .before .before .before .before .before .before .before .args .anchor-sigma .now)) (measured (c .before .before .before .before .before .before .before .before .before .before .args .links) (c .before .before .before .before .before .before .before .before .before .before .args .link-epoch .now) (c .before .before .before .before .before .before .before .before .before .before .args .link-change .now) (c .before .before .before .before .before .before .before .before .before .before .args .link-sigma .now))) _ _ _ _ (c .before .fits-limits .ensures) (not-true _ (c .if1 .taken))
 
-allowed-requires : tie.Need-allowed-requires
-allowed-requires c κs = search needs
+allows-requires : tie.Need-allows-requires
+allows-requires c κs = search needs
 
 returns-2 : tie.Need-returns-2
-returns-2 c = bad-settings _ _ _ _ _ (c .before .before .before .counts .ensures) (not-false _ (c .before .before .if1 .left)) _ (c .before .allowed .ensures) (not-true _ (c .if2 .taken))
+returns-2 c = bad-settings (trajectory (c .before .before .before .before .before .before .before .before .before .before .before .before .args .n) (measured (c .before .before .before .before .before .before .before .before .before .before .before .before .args .anchors) (c .before .before .before .before .before .before .before .before .before .before .before .before .args .anchor-epoch .now) (c .before .before .before .before .before .before .before .before .before .before .before .before .args .anchor-position .now) (c .before .before .before .before .before .before .before .before .before .before .before .before .args .anchor-sigma .now)) (measured (c .before .before .before .before .before .before .before .before .before .before .before .before .args .links) (c .before .before .before .before .before .before .before .before .before .before .before .before .args .link-epoch .now) (c .before .before .before .before .before .before .before .before .before .before .before .before .args .link-change .now) (c .before .before .before .before .before .before .before .before .before .before .before .before .args .link-sigma .now))) _ _ _ _ (c .before .before .before .fits-limits .ensures) (not-false _ (c .before .before .if1 .left)) _ (c .before .allows .ensures) (not-true _ (c .if2 .taken))
 
-records-requires : tie.Need-records-requires
-records-requires c κs = let k = counted _ _ _ (sym (c .before .before .before .counts .ensures) ∙ not-false _ (c .before .before .if1 .left)) in (k .anchors .values, k .anchors .sigmas, k .links .values, k .links .sigmas)
+has-floats-in-range-requires : tie.Need-has-floats-in-range-requires
+has-floats-in-range-requires c κs = let k = counted (trajectory (c .before .before .before .before .before .before .before .before .before .before .before .before .args .n) (measured (c .before .before .before .before .before .before .before .before .before .before .before .before .args .anchors) (c .before .before .before .before .before .before .before .before .before .before .before .before .args .anchor-epoch .now) (c .before .before .before .before .before .before .before .before .before .before .before .before .args .anchor-position .now) (c .before .before .before .before .before .before .before .before .before .before .before .before .args .anchor-sigma .now)) (measured (c .before .before .before .before .before .before .before .before .before .before .before .before .args .links) (c .before .before .before .before .before .before .before .before .before .before .before .before .args .link-epoch .now) (c .before .before .before .before .before .before .before .before .before .before .before .before .args .link-change .now) (c .before .before .before .before .before .before .before .before .before .before .before .before .args .link-sigma .now))) _ _ (sym (c .before .before .before .fits-limits .ensures) ∙ not-false _ (c .before .before .if1 .left)) in (k .anchors .values, k .anchors .sigmas)
 
 returns-3 : tie.Need-returns-3
-returns-3 c = bad-records _ _ _ _ _ (c .before .before .before .before .before .counts .ensures) (not-false _ (c .before .before .before .before .if1 .left)) _ (c .before .before .before .allowed .ensures) (not-false _ (c .before .before .if2 .left)) _ (c .before .records .ensures) (not-true _ (c .if3 .taken))
+returns-3 c = bad-records (trajectory (c .before .before .before .before .before .before .before .before .before .before .before .before .before .before .args .n) (measured (c .before .before .before .before .before .before .before .before .before .before .before .before .before .before .args .anchors) (c .before .before .before .before .before .before .before .before .before .before .before .before .before .before .args .anchor-epoch .now) (c .before .before .before .before .before .before .before .before .before .before .before .before .before .before .args .anchor-position .now) (c .before .before .before .before .before .before .before .before .before .before .before .before .before .before .args .anchor-sigma .now)) (measured (c .before .before .before .before .before .before .before .before .before .before .before .before .before .before .args .links) (c .before .before .before .before .before .before .before .before .before .before .before .before .before .before .args .link-epoch .now) (c .before .before .before .before .before .before .before .before .before .before .before .before .before .before .args .link-change .now) (c .before .before .before .before .before .before .before .before .before .before .before .before .before .before .args .link-sigma .now))) _ _ _ _ (c .before .before .before .before .before .fits-limits .ensures) (not-false _ (c .before .before .before .before .if1 .left)) _ (c .before .before .before .allows .ensures) (not-false _ (c .before .before .if2 .left)) false (records-first (trajectory (c .before .before .before .before .before .before .before .before .before .before .before .before .before .before .args .n) (measured (c .before .before .before .before .before .before .before .before .before .before .before .before .before .before .args .anchors) (c .before .before .before .before .before .before .before .before .before .before .before .before .before .before .args .anchor-epoch .now) (c .before .before .before .before .before .before .before .before .before .before .before .before .before .before .args .anchor-position .now) (c .before .before .before .before .before .before .before .before .before .before .before .before .before .before .args .anchor-sigma .now)) (measured (c .before .before .before .before .before .before .before .before .before .before .before .before .before .before .args .links) (c .before .before .before .before .before .before .before .before .before .before .before .before .before .before .args .link-epoch .now) (c .before .before .before .before .before .before .before .before .before .before .before .before .before .before .args .link-change .now) (c .before .before .before .before .before .before .before .before .before .before .before .before .before .before .args .link-sigma .now))) _ (c .before .has-floats-in-range .ensures) (not-true _ (c .if3 .taken))) refl
 
-sound-requires : tie.Need-sound-requires
-sound-requires c κs = let k = counted _ _ _ (sym (c .before .before .before .before .before .counts .ensures) ∙ not-false _ (c .before .before .before .before .if1 .left)) in (k .anchors .indices, k .anchors .sigmas, k .links .indices, k .links .sigmas)
+has-floats-in-range-requires-2 : tie.Need-has-floats-in-range-requires-2
+has-floats-in-range-requires-2 c κs = let k = counted (trajectory (c .before .before .before .before .before .before .before .before .before .before .before .before .before .before .args .n) (measured (c .before .before .before .before .before .before .before .before .before .before .before .before .before .before .args .anchors) (c .before .before .before .before .before .before .before .before .before .before .before .before .before .before .args .anchor-epoch .now) (c .before .before .before .before .before .before .before .before .before .before .before .before .before .before .args .anchor-position .now) (c .before .before .before .before .before .before .before .before .before .before .before .before .before .before .args .anchor-sigma .now)) (measured (c .before .before .before .before .before .before .before .before .before .before .before .before .before .before .args .links) (c .before .before .before .before .before .before .before .before .before .before .before .before .before .before .args .link-epoch .now) (c .before .before .before .before .before .before .before .before .before .before .before .before .before .before .args .link-change .now) (c .before .before .before .before .before .before .before .before .before .before .before .before .before .before .args .link-sigma .now))) _ _ (sym (c .before .before .before .before .before .fits-limits .ensures) ∙ not-false _ (c .before .before .before .before .if1 .left)) in (k .links .values, k .links .sigmas)
 
 returns-4 : tie.Need-returns-4
-returns-4 c = bad-track _ _ _ _ _ (c .before .before .before .before .before .before .before .counts .ensures) (not-false _ (c .before .before .before .before .before .before .if1 .left)) _ (c .before .before .before .before .before .allowed .ensures) (not-false _ (c .before .before .before .before .if2 .left)) _ (c .before .before .before .records .ensures) (not-false _ (c .before .before .if3 .left)) _ (c .before .sound .ensures) (not-true _ (c .if4 .taken))
+returns-4 c = bad-records (trajectory (c .before .before .before .before .before .before .before .before .before .before .before .before .before .before .before .before .args .n) (measured (c .before .before .before .before .before .before .before .before .before .before .before .before .before .before .before .before .args .anchors) (c .before .before .before .before .before .before .before .before .before .before .before .before .before .before .before .before .args .anchor-epoch .now) (c .before .before .before .before .before .before .before .before .before .before .before .before .before .before .before .before .args .anchor-position .now) (c .before .before .before .before .before .before .before .before .before .before .before .before .before .before .before .before .args .anchor-sigma .now)) (measured (c .before .before .before .before .before .before .before .before .before .before .before .before .before .before .before .before .args .links) (c .before .before .before .before .before .before .before .before .before .before .before .before .before .before .before .before .args .link-epoch .now) (c .before .before .before .before .before .before .before .before .before .before .before .before .before .before .before .before .args .link-change .now) (c .before .before .before .before .before .before .before .before .before .before .before .before .before .before .before .before .args .link-sigma .now))) _ _ _ _ (c .before .before .before .before .before .before .before .fits-limits .ensures) (not-false _ (c .before .before .before .before .before .before .if1 .left)) _ (c .before .before .before .before .before .allows .ensures) (not-false _ (c .before .before .before .before .if2 .left)) _ (records-second (trajectory (c .before .before .before .before .before .before .before .before .before .before .before .before .before .before .before .before .args .n) (measured (c .before .before .before .before .before .before .before .before .before .before .before .before .before .before .before .before .args .anchors) (c .before .before .before .before .before .before .before .before .before .before .before .before .before .before .before .before .args .anchor-epoch .now) (c .before .before .before .before .before .before .before .before .before .before .before .before .before .before .before .before .args .anchor-position .now) (c .before .before .before .before .before .before .before .before .before .before .before .before .before .before .before .before .args .anchor-sigma .now)) (measured (c .before .before .before .before .before .before .before .before .before .before .before .before .before .before .before .before .args .links) (c .before .before .before .before .before .before .before .before .before .before .before .before .before .before .before .before .args .link-epoch .now) (c .before .before .before .before .before .before .before .before .before .before .before .before .before .before .before .before .args .link-change .now) (c .before .before .before .before .before .before .before .before .before .before .before .before .before .before .before .before .args .link-sigma .now))) _ _ (c .before .before .before .has-floats-in-range .ensures) (not-false _ (c .before .before .if3 .left)) (c .before .has-floats-in-range2 .ensures)) (not-true _ (c .if4 .taken))
+
+is-track-requires : tie.Need-is-track-requires
+is-track-requires c κs = let k = counted (trajectory (c .before .before .before .before .before .before .before .before .before .before .before .before .before .before .before .before .args .n) (measured (c .before .before .before .before .before .before .before .before .before .before .before .before .before .before .before .before .args .anchors) (c .before .before .before .before .before .before .before .before .before .before .before .before .before .before .before .before .args .anchor-epoch .now) (c .before .before .before .before .before .before .before .before .before .before .before .before .before .before .before .before .args .anchor-position .now) (c .before .before .before .before .before .before .before .before .before .before .before .before .before .before .before .before .args .anchor-sigma .now)) (measured (c .before .before .before .before .before .before .before .before .before .before .before .before .before .before .before .before .args .links) (c .before .before .before .before .before .before .before .before .before .before .before .before .before .before .before .before .args .link-epoch .now) (c .before .before .before .before .before .before .before .before .before .before .before .before .before .before .before .before .args .link-change .now) (c .before .before .before .before .before .before .before .before .before .before .before .before .before .before .before .before .args .link-sigma .now))) _ _ (sym (c .before .before .before .before .before .before .before .fits-limits .ensures) ∙ not-false _ (c .before .before .before .before .before .before .if1 .left)) in ((k .anchors .indices, k .anchors .sigmas), (k .links .indices, k .links .sigmas))
+
+returns-5 : tie.Need-returns-5
+returns-5 c = bad-track (trajectory (c .before .before .before .before .before .before .before .before .before .before .before .before .before .before .before .before .before .before .args .n) (measured (c .before .before .before .before .before .before .before .before .before .before .before .before .before .before .before .before .before .before .args .anchors) (c .before .before .before .before .before .before .before .before .before .before .before .before .before .before .before .before .before .before .args .anchor-epoch .now) (c .before .before .before .before .before .before .before .before .before .before .before .before .before .before .before .before .before .before .args .anchor-position .now) (c .before .before .before .before .before .before .before .before .before .before .before .before .before .before .before .before .before .before .args .anchor-sigma .now)) (measured (c .before .before .before .before .before .before .before .before .before .before .before .before .before .before .before .before .before .before .args .links) (c .before .before .before .before .before .before .before .before .before .before .before .before .before .before .before .before .before .before .args .link-epoch .now) (c .before .before .before .before .before .before .before .before .before .before .before .before .before .before .before .before .before .before .args .link-change .now) (c .before .before .before .before .before .before .before .before .before .before .before .before .before .before .before .before .before .before .args .link-sigma .now))) _ _ _ _ (c .before .before .before .before .before .before .before .before .before .fits-limits .ensures) (not-false _ (c .before .before .before .before .before .before .before .before .if1 .left)) _ (c .before .before .before .before .before .before .before .allows .ensures) (not-false _ (c .before .before .before .before .before .before .if2 .left)) _ (records-second (trajectory (c .before .before .before .before .before .before .before .before .before .before .before .before .before .before .before .before .before .before .args .n) (measured (c .before .before .before .before .before .before .before .before .before .before .before .before .before .before .before .before .before .before .args .anchors) (c .before .before .before .before .before .before .before .before .before .before .before .before .before .before .before .before .before .before .args .anchor-epoch .now) (c .before .before .before .before .before .before .before .before .before .before .before .before .before .before .before .before .before .before .args .anchor-position .now) (c .before .before .before .before .before .before .before .before .before .before .before .before .before .before .before .before .before .before .args .anchor-sigma .now)) (measured (c .before .before .before .before .before .before .before .before .before .before .before .before .before .before .before .before .before .before .args .links) (c .before .before .before .before .before .before .before .before .before .before .before .before .before .before .before .before .before .before .args .link-epoch .now) (c .before .before .before .before .before .before .before .before .before .before .before .before .before .before .before .before .before .before .args .link-change .now) (c .before .before .before .before .before .before .before .before .before .before .before .before .before .before .before .before .before .before .args .link-sigma .now))) _ _ (c .before .before .before .before .before .has-floats-in-range .ensures) (not-false _ (c .before .before .before .before .if3 .left)) (c .before .before .before .has-floats-in-range2 .ensures)) (not-false _ (c .before .before .if4 .left)) _ (c .before .is-track .ensures) (not-true _ (c .if5 .taken))
 
 fit-requires : tie.Need-fit-requires
-fit-requires c κs = let k = counted _ _ _ (sym (c .before .before .before .before .before .before .before .before .before .counts .ensures) ∙ not-false _ (c .before .before .before .before .before .before .before .before .if1 .left)) in ((k .work, k .result), valid _ _ _ k (sym (c .before .before .before .sound .ensures) ∙ not-false _ (c .before .before .if4 .left)))
+fit-requires c κs = let k = counted (trajectory (c .before .before .before .before .before .before .before .before .before .before .before .before .before .before .before .before .before .before .before .before .args .n) (measured (c .before .before .before .before .before .before .before .before .before .before .before .before .before .before .before .before .before .before .before .before .args .anchors) (c .before .before .before .before .before .before .before .before .before .before .before .before .before .before .before .before .before .before .before .before .args .anchor-epoch .now) (c .before .before .before .before .before .before .before .before .before .before .before .before .before .before .before .before .before .before .before .before .args .anchor-position .now) (c .before .before .before .before .before .before .before .before .before .before .before .before .before .before .before .before .before .before .before .before .args .anchor-sigma .now)) (measured (c .before .before .before .before .before .before .before .before .before .before .before .before .before .before .before .before .before .before .before .before .args .links) (c .before .before .before .before .before .before .before .before .before .before .before .before .before .before .before .before .before .before .before .before .args .link-epoch .now) (c .before .before .before .before .before .before .before .before .before .before .before .before .before .before .before .before .before .before .before .before .args .link-change .now) (c .before .before .before .before .before .before .before .before .before .before .before .before .before .before .before .before .before .before .before .before .args .link-sigma .now))) _ _ (sym (c .before .before .before .before .before .before .before .before .before .before .before .fits-limits .ensures) ∙ not-false _ (c .before .before .before .before .before .before .before .before .before .before .if1 .left)) in
+    let v = valid (trajectory (c .before .before .before .before .before .before .before .before .before .before .before .before .before .before .before .before .before .before .before .before .args .n) (measured (c .before .before .before .before .before .before .before .before .before .before .before .before .before .before .before .before .before .before .before .before .args .anchors) (c .before .before .before .before .before .before .before .before .before .before .before .before .before .before .before .before .before .before .before .before .args .anchor-epoch .now) (c .before .before .before .before .before .before .before .before .before .before .before .before .before .before .before .before .before .before .before .before .args .anchor-position .now) (c .before .before .before .before .before .before .before .before .before .before .before .before .before .before .before .before .before .before .before .before .args .anchor-sigma .now)) (measured (c .before .before .before .before .before .before .before .before .before .before .before .before .before .before .before .before .before .before .before .before .args .links) (c .before .before .before .before .before .before .before .before .before .before .before .before .before .before .before .before .before .before .before .before .args .link-epoch .now) (c .before .before .before .before .before .before .before .before .before .before .before .before .before .before .before .before .before .before .before .before .args .link-change .now) (c .before .before .before .before .before .before .before .before .before .before .before .before .before .before .before .before .before .before .before .before .args .link-sigma .now))) _ _ k (sym (c .before .before .before .is-track .ensures) ∙ not-false _ (c .before .before .if5 .left)) in
+    ((k .work, k .result, few-passes _ (sym (c .before .before .before .before .before .before .before .before .before .allows .ensures) ∙ not-false _ (c .before .before .before .before .before .before .before .before .if2 .left))), (v, origin-small (trajectory (c .before .before .before .before .before .before .before .before .before .before .before .before .before .before .before .before .before .before .before .before .args .n) (measured (c .before .before .before .before .before .before .before .before .before .before .before .before .before .before .before .before .before .before .before .before .args .anchors) (c .before .before .before .before .before .before .before .before .before .before .before .before .before .before .before .before .before .before .before .before .args .anchor-epoch .now) (c .before .before .before .before .before .before .before .before .before .before .before .before .before .before .before .before .before .before .before .before .args .anchor-position .now) (c .before .before .before .before .before .before .before .before .before .before .before .before .before .before .before .before .before .before .before .before .args .anchor-sigma .now)) (measured (c .before .before .before .before .before .before .before .before .before .before .before .before .before .before .before .before .before .before .before .before .args .links) (c .before .before .before .before .before .before .before .before .before .before .before .before .before .before .before .before .before .before .before .before .args .link-epoch .now) (c .before .before .before .before .before .before .before .before .before .before .before .before .before .before .before .before .before .before .before .before .args .link-change .now) (c .before .before .before .before .before .before .before .before .before .before .before .before .before .before .before .before .before .before .before .before .args .link-sigma .now))) (v .some) (sym (records-second (trajectory (c .before .before .before .before .before .before .before .before .before .before .before .before .before .before .before .before .before .before .before .before .args .n) (measured (c .before .before .before .before .before .before .before .before .before .before .before .before .before .before .before .before .before .before .before .before .args .anchors) (c .before .before .before .before .before .before .before .before .before .before .before .before .before .before .before .before .before .before .before .before .args .anchor-epoch .now) (c .before .before .before .before .before .before .before .before .before .before .before .before .before .before .before .before .before .before .before .before .args .anchor-position .now) (c .before .before .before .before .before .before .before .before .before .before .before .before .before .before .before .before .before .before .before .before .args .anchor-sigma .now)) (measured (c .before .before .before .before .before .before .before .before .before .before .before .before .before .before .before .before .before .before .before .before .args .links) (c .before .before .before .before .before .before .before .before .before .before .before .before .before .before .before .before .before .before .before .before .args .link-epoch .now) (c .before .before .before .before .before .before .before .before .before .before .before .before .before .before .before .before .before .before .before .before .args .link-change .now) (c .before .before .before .before .before .before .before .before .before .before .before .before .before .before .before .before .before .before .before .before .args .link-sigma .now))) _ _ (c .before .before .before .before .before .before .before .has-floats-in-range .ensures) (not-false _ (c .before .before .before .before .before .before .if3 .left)) (c .before .before .before .before .before .has-floats-in-range2 .ensures)) ∙ not-false _ (c .before .before .before .before .if4 .left))))
 
 mul-fill : tie.Need-mul-fill
-mul-fill c = let k = counted _ _ _ (sym (c .before .before .before .before .before .before .before .before .before .before .before .before .before .before .before .counts .ensures) ∙ not-false _ (c .before .before .before .before .before .before .before .before .before .before .before .before .before .before .if1 .left)) in omega (arith, k .epochs, k .anchors-few, k .links-few)
+mul-fill c = let k = counted (trajectory (c .before .before .before .before .before .before .before .before .before .before .before .before .before .before .before .before .before .before .before .before .before .before .before .before .before .before .args .n) (measured (c .before .before .before .before .before .before .before .before .before .before .before .before .before .before .before .before .before .before .before .before .before .before .before .before .before .before .args .anchors) (c .before .before .before .before .before .before .before .before .before .before .before .before .before .before .before .before .before .before .before .before .before .before .before .before .before .before .args .anchor-epoch .now) (c .before .before .before .before .before .before .before .before .before .before .before .before .before .before .before .before .before .before .before .before .before .before .before .before .before .before .args .anchor-position .now) (c .before .before .before .before .before .before .before .before .before .before .before .before .before .before .before .before .before .before .before .before .before .before .before .before .before .before .args .anchor-sigma .now)) (measured (c .before .before .before .before .before .before .before .before .before .before .before .before .before .before .before .before .before .before .before .before .before .before .before .before .before .before .args .links) (c .before .before .before .before .before .before .before .before .before .before .before .before .before .before .before .before .before .before .before .before .before .before .before .before .before .before .args .link-epoch .now) (c .before .before .before .before .before .before .before .before .before .before .before .before .before .before .before .before .before .before .before .before .before .before .before .before .before .before .args .link-change .now) (c .before .before .before .before .before .before .before .before .before .before .before .before .before .before .before .before .before .before .before .before .before .before .before .before .before .before .args .link-sigma .now))) _ _ (sym (c .before .before .before .before .before .before .before .before .before .before .before .before .before .before .before .before .before .fits-limits .ensures) ∙ not-false _ (c .before .before .before .before .before .before .before .before .before .before .before .before .before .before .before .before .if1 .left)) in omega (arith, k .epochs, k .anchors-few, k .links-few)
 
 add-fill : tie.Need-add-fill
-add-fill c = let k = counted _ _ _ (sym (c .before .before .before .before .before .before .before .before .before .before .before .before .before .before .before .counts .ensures) ∙ not-false _ (c .before .before .before .before .before .before .before .before .before .before .before .before .before .before .if1 .left)) in omega (arith, k .epochs, k .anchors-few, k .links-few)
+add-fill c = let k = counted (trajectory (c .before .before .before .before .before .before .before .before .before .before .before .before .before .before .before .before .before .before .before .before .before .before .before .before .before .before .args .n) (measured (c .before .before .before .before .before .before .before .before .before .before .before .before .before .before .before .before .before .before .before .before .before .before .before .before .before .before .args .anchors) (c .before .before .before .before .before .before .before .before .before .before .before .before .before .before .before .before .before .before .before .before .before .before .before .before .before .before .args .anchor-epoch .now) (c .before .before .before .before .before .before .before .before .before .before .before .before .before .before .before .before .before .before .before .before .before .before .before .before .before .before .args .anchor-position .now) (c .before .before .before .before .before .before .before .before .before .before .before .before .before .before .before .before .before .before .before .before .before .before .before .before .before .before .args .anchor-sigma .now)) (measured (c .before .before .before .before .before .before .before .before .before .before .before .before .before .before .before .before .before .before .before .before .before .before .before .before .before .before .args .links) (c .before .before .before .before .before .before .before .before .before .before .before .before .before .before .before .before .before .before .before .before .before .before .before .before .before .before .args .link-epoch .now) (c .before .before .before .before .before .before .before .before .before .before .before .before .before .before .before .before .before .before .before .before .before .before .before .before .before .before .args .link-change .now) (c .before .before .before .before .before .before .before .before .before .before .before .before .before .before .before .before .before .before .before .before .before .before .before .before .before .before .args .link-sigma .now))) _ _ (sym (c .before .before .before .before .before .before .before .before .before .before .before .before .before .before .before .before .before .fits-limits .ensures) ∙ not-false _ (c .before .before .before .before .before .before .before .before .before .before .before .before .before .before .before .before .if1 .left)) in omega (arith, k .epochs, k .anchors-few, k .links-few)
 
 add-fill-2 : tie.Need-add-fill-2
-add-fill-2 c = let k = counted _ _ _ (sym (c .before .before .before .before .before .before .before .before .before .before .before .before .before .before .before .counts .ensures) ∙ not-false _ (c .before .before .before .before .before .before .before .before .before .before .before .before .before .before .if1 .left)) in omega (arith, k .epochs, k .anchors-few, k .links-few)
+add-fill-2 c = let k = counted (trajectory (c .before .before .before .before .before .before .before .before .before .before .before .before .before .before .before .before .before .before .before .before .before .before .before .before .before .before .args .n) (measured (c .before .before .before .before .before .before .before .before .before .before .before .before .before .before .before .before .before .before .before .before .before .before .before .before .before .before .args .anchors) (c .before .before .before .before .before .before .before .before .before .before .before .before .before .before .before .before .before .before .before .before .before .before .before .before .before .before .args .anchor-epoch .now) (c .before .before .before .before .before .before .before .before .before .before .before .before .before .before .before .before .before .before .before .before .before .before .before .before .before .before .args .anchor-position .now) (c .before .before .before .before .before .before .before .before .before .before .before .before .before .before .before .before .before .before .before .before .before .before .before .before .before .before .args .anchor-sigma .now)) (measured (c .before .before .before .before .before .before .before .before .before .before .before .before .before .before .before .before .before .before .before .before .before .before .before .before .before .before .args .links) (c .before .before .before .before .before .before .before .before .before .before .before .before .before .before .before .before .before .before .before .before .before .before .before .before .before .before .args .link-epoch .now) (c .before .before .before .before .before .before .before .before .before .before .before .before .before .before .before .before .before .before .before .before .before .before .before .before .before .before .args .link-change .now) (c .before .before .before .before .before .before .before .before .before .before .before .before .before .before .before .before .before .before .before .before .before .before .before .before .before .before .args .link-sigma .now))) _ _ (sym (c .before .before .before .before .before .before .before .before .before .before .before .before .before .before .before .before .before .fits-limits .ensures) ∙ not-false _ (c .before .before .before .before .before .before .before .before .before .before .before .before .before .before .before .before .if1 .left)) in omega (arith, k .epochs, k .anchors-few, k .links-few)
 
 fill-requires : tie.Need-fill-requires
-fill-requires c κs = let k = counted _ _ _ (sym (c .before .before .before .before .before .before .before .before .before .before .before .before .before .before .before .counts .ensures) ∙ not-false _ (c .before .before .before .before .before .before .before .before .before .before .before .before .before .before .if1 .left)) in (omega arith, omega (arith, k .work, c .before .before .before .before .before .fit .kept .0))
+fill-requires c κs = let k = counted (trajectory (c .before .before .before .before .before .before .before .before .before .before .before .before .before .before .before .before .before .before .before .before .before .before .before .before .before .before .args .n) (measured (c .before .before .before .before .before .before .before .before .before .before .before .before .before .before .before .before .before .before .before .before .before .before .before .before .before .before .args .anchors) (c .before .before .before .before .before .before .before .before .before .before .before .before .before .before .before .before .before .before .before .before .before .before .before .before .before .before .args .anchor-epoch .now) (c .before .before .before .before .before .before .before .before .before .before .before .before .before .before .before .before .before .before .before .before .before .before .before .before .before .before .args .anchor-position .now) (c .before .before .before .before .before .before .before .before .before .before .before .before .before .before .before .before .before .before .before .before .before .before .before .before .before .before .args .anchor-sigma .now)) (measured (c .before .before .before .before .before .before .before .before .before .before .before .before .before .before .before .before .before .before .before .before .before .before .before .before .before .before .args .links) (c .before .before .before .before .before .before .before .before .before .before .before .before .before .before .before .before .before .before .before .before .before .before .before .before .before .before .args .link-epoch .now) (c .before .before .before .before .before .before .before .before .before .before .before .before .before .before .before .before .before .before .before .before .before .before .before .before .before .before .args .link-change .now) (c .before .before .before .before .before .before .before .before .before .before .before .before .before .before .before .before .before .before .before .before .before .before .before .before .before .before .args .link-sigma .now))) _ _ (sym (c .before .before .before .before .before .before .before .before .before .before .before .before .before .before .before .before .before .fits-limits .ensures) ∙ not-false _ (c .before .before .before .before .before .before .before .before .before .before .before .before .before .before .before .before .if1 .left)) in (omega arith, omega (arith, k .work, c .before .before .before .before .before .fit .kept .0))
 
 same-length : tie.Need-same-length
 same-length c = search needs
@@ -52,8 +64,9 @@ same-length c = search needs
 same-length-2 : tie.Need-same-length-2
 same-length-2 c = search needs
 
-returns-5 : tie.Need-returns-5
-returns-5 c = found _ _ _ _ _ (c .before .before .before .before .before .before .before .before .before .before .before .before .before .before .before .before .before .before .before .counts .ensures) (not-false _ (c .before .before .before .before .before .before .before .before .before .before .before .before .before .before .before .before .before .before .if1 .left)) _ (c .before .before .before .before .before .before .before .before .before .before .before .before .before .before .before .before .before .allowed .ensures) (not-false _ (c .before .before .before .before .before .before .before .before .before .before .before .before .before .before .before .before .if2 .left)) _ (c .before .before .before .before .before .before .before .before .before .before .before .before .before .before .before .records .ensures) (not-false _ (c .before .before .before .before .before .before .before .before .before .before .before .before .before .before .if3 .left)) _ (c .before .before .before .before .before .before .before .before .before .before .before .before .before .sound .ensures) (not-false _ (c .before .before .before .before .before .before .before .before .before .before .before .before .if4 .left)) _ _ _ _ (c .before .before .before .before .before .before .before .before .before .fit .ensures) (c .before .before .before .fill .ensures) (c .before .before .before .fill .kept .0 ∙ c .before .before .before .before .before .before .before .before .before .fit .kept .0) (c .before .before .before .before .before .before .before .before .before .fit .kept .1 .1 .1 .1 .1 .1 .1 .1 .1 .1 .1 .1 .0) (c .if5 .taken)
+returns-6 : tie.Need-returns-6
+returns-6 c = found (trajectory (c .before .before .before .before .before .before .before .before .before .before .before .before .before .before .before .before .before .before .before .before .before .before .before .before .before .before .before .before .before .before .args .n) (measured (c .before .before .before .before .before .before .before .before .before .before .before .before .before .before .before .before .before .before .before .before .before .before .before .before .before .before .before .before .before .before .args .anchors) (c .before .before .before .before .before .before .before .before .before .before .before .before .before .before .before .before .before .before .before .before .before .before .before .before .before .before .before .before .before .before .args .anchor-epoch .now) (c .before .before .before .before .before .before .before .before .before .before .before .before .before .before .before .before .before .before .before .before .before .before .before .before .before .before .before .before .before .before .args .anchor-position .now) (c .before .before .before .before .before .before .before .before .before .before .before .before .before .before .before .before .before .before .before .before .before .before .before .before .before .before .before .before .before .before .args .anchor-sigma .now)) (measured (c .before .before .before .before .before .before .before .before .before .before .before .before .before .before .before .before .before .before .before .before .before .before .before .before .before .before .before .before .before .before .args .links) (c .before .before .before .before .before .before .before .before .before .before .before .before .before .before .before .before .before .before .before .before .before .before .before .before .before .before .before .before .before .before .args .link-epoch .now) (c .before .before .before .before .before .before .before .before .before .before .before .before .before .before .before .before .before .before .before .before .before .before .before .before .before .before .before .before .before .before .args .link-change .now) (c .before .before .before .before .before .before .before .before .before .before .before .before .before .before .before .before .before .before .before .before .before .before .before .before .before .before .before .before .before .before .args .link-sigma .now))) _ _ _ _ (c .before .before .before .before .before .before .before .before .before .before .before .before .before .before .before .before .before .before .before .before .before .fits-limits .ensures) (not-false _ (c .before .before .before .before .before .before .before .before .before .before .before .before .before .before .before .before .before .before .before .before .if1 .left)) _ (c .before .before .before .before .before .before .before .before .before .before .before .before .before .before .before .before .before .before .before .allows .ensures) (not-false _ (c .before .before .before .before .before .before .before .before .before .before .before .before .before .before .before .before .before .before .if2 .left)) _ (records-second (trajectory (c .before .before .before .before .before .before .before .before .before .before .before .before .before .before .before .before .before .before .before .before .before .before .before .before .before .before .before .before .before .before .args .n) (measured (c .before .before .before .before .before .before .before .before .before .before .before .before .before .before .before .before .before .before .before .before .before .before .before .before .before .before .before .before .before .before .args .anchors) (c .before .before .before .before .before .before .before .before .before .before .before .before .before .before .before .before .before .before .before .before .before .before .before .before .before .before .before .before .before .before .args .anchor-epoch .now) (c .before .before .before .before .before .before .before .before .before .before .before .before .before .before .before .before .before .before .before .before .before .before .before .before .before .before .before .before .before .before .args .anchor-position .now) (c .before .before .before .before .before .before .before .before .before .before .before .before .before .before .before .before .before .before .before .before .before .before .before .before .before .before .before .before .before .before .args .anchor-sigma .now)) (measured (c .before .before .before .before .before .before .before .before .before .before .before .before .before .before .before .before .before .before .before .before .before .before .before .before .before .before .before .before .before .before .args .links) (c .before .before .before .before .before .before .before .before .before .before .before .before .before .before .before .before .before .before .before .before .before .before .before .before .before .before .before .before .before .before .args .link-epoch .now) (c .before .before .before .before .before .before .before .before .before .before .before .before .before .before .before .before .before .before .before .before .before .before .before .before .before .before .before .before .before .before .args .link-change .now) (c .before .before .before .before .before .before .before .before .before .before .before .before .before .before .before .before .before .before .before .before .before .before .before .before .before .before .before .before .before .before .args .link-sigma .now))) _ _ (c .before .before .before .before .before .before .before .before .before .before .before .before .before .before .before .before .before .has-floats-in-range .ensures) (not-false _ (c .before .before .before .before .before .before .before .before .before .before .before .before .before .before .before .before .if3 .left)) (c .before .before .before .before .before .before .before .before .before .before .before .before .before .before .before .has-floats-in-range2 .ensures)) (not-false _ (c .before .before .before .before .before .before .before .before .before .before .before .before .before .before .if4 .left)) _ (c .before .before .before .before .before .before .before .before .before .before .before .before .before .is-track .ensures) (not-false _ (c .before .before .before .before .before .before .before .before .before .before .before .before .if5 .left))
+    _ _ _ _ (c .before .before .before .before .before .before .before .before .before .fit .ensures) (c .before .before .before .fill .ensures) (c .before .before .before .fill .kept .0 ∙ c .before .before .before .before .before .before .before .before .before .fit .kept .0) (c .before .before .before .before .before .before .before .before .before .fit .kept .1 .1 .1 .1 .1 .1 .1 .1 .1 .1 .1 .0) (c .if6 .taken)
 
 same-length-3 : tie.Need-same-length-3
 same-length-3 c = search needs
@@ -61,21 +74,24 @@ same-length-3 c = search needs
 same-length-4 : tie.Need-same-length-4
 same-length-4 c = search needs
 
-returns-6 : tie.Need-returns-6
-returns-6 c = fit-failed _ _ _ _ _ (c .before .before .before .before .before .before .before .before .before .before .before .before .before .before .before .before .before .before .before .counts .ensures) (not-false _ (c .before .before .before .before .before .before .before .before .before .before .before .before .before .before .before .before .before .before .if1 .left)) _ (c .before .before .before .before .before .before .before .before .before .before .before .before .before .before .before .before .before .allowed .ensures) (not-false _ (c .before .before .before .before .before .before .before .before .before .before .before .before .before .before .before .before .if2 .left)) _ (c .before .before .before .before .before .before .before .before .before .before .before .before .before .before .before .records .ensures) (not-false _ (c .before .before .before .before .before .before .before .before .before .before .before .before .before .before .if3 .left)) _ (c .before .before .before .before .before .before .before .before .before .before .before .before .before .sound .ensures) (not-false _ (c .before .before .before .before .before .before .before .before .before .before .before .before .if4 .left)) _ _ _ _ (c .before .before .before .before .before .before .before .before .before .fit .ensures) (c .before .before .before .fill .ensures) (c .before .before .before .fill .kept .0 ∙ c .before .before .before .before .before .before .before .before .before .fit .kept .0) (c .before .before .before .before .before .before .before .before .before .fit .kept .1 .1 .1 .1 .1 .1 .1 .1 .1 .1 .1 .1 .0) (c .if5 .left)
+returns-7 : tie.Need-returns-7
+returns-7 c = fit-failed (trajectory (c .before .before .before .before .before .before .before .before .before .before .before .before .before .before .before .before .before .before .before .before .before .before .before .before .before .before .before .before .before .before .args .n) (measured (c .before .before .before .before .before .before .before .before .before .before .before .before .before .before .before .before .before .before .before .before .before .before .before .before .before .before .before .before .before .before .args .anchors) (c .before .before .before .before .before .before .before .before .before .before .before .before .before .before .before .before .before .before .before .before .before .before .before .before .before .before .before .before .before .before .args .anchor-epoch .now) (c .before .before .before .before .before .before .before .before .before .before .before .before .before .before .before .before .before .before .before .before .before .before .before .before .before .before .before .before .before .before .args .anchor-position .now) (c .before .before .before .before .before .before .before .before .before .before .before .before .before .before .before .before .before .before .before .before .before .before .before .before .before .before .before .before .before .before .args .anchor-sigma .now)) (measured (c .before .before .before .before .before .before .before .before .before .before .before .before .before .before .before .before .before .before .before .before .before .before .before .before .before .before .before .before .before .before .args .links) (c .before .before .before .before .before .before .before .before .before .before .before .before .before .before .before .before .before .before .before .before .before .before .before .before .before .before .before .before .before .before .args .link-epoch .now) (c .before .before .before .before .before .before .before .before .before .before .before .before .before .before .before .before .before .before .before .before .before .before .before .before .before .before .before .before .before .before .args .link-change .now) (c .before .before .before .before .before .before .before .before .before .before .before .before .before .before .before .before .before .before .before .before .before .before .before .before .before .before .before .before .before .before .args .link-sigma .now))) _ _ _ _ (c .before .before .before .before .before .before .before .before .before .before .before .before .before .before .before .before .before .before .before .before .before .fits-limits .ensures) (not-false _ (c .before .before .before .before .before .before .before .before .before .before .before .before .before .before .before .before .before .before .before .before .if1 .left)) _ (c .before .before .before .before .before .before .before .before .before .before .before .before .before .before .before .before .before .before .before .allows .ensures) (not-false _ (c .before .before .before .before .before .before .before .before .before .before .before .before .before .before .before .before .before .before .if2 .left)) _ (records-second (trajectory (c .before .before .before .before .before .before .before .before .before .before .before .before .before .before .before .before .before .before .before .before .before .before .before .before .before .before .before .before .before .before .args .n) (measured (c .before .before .before .before .before .before .before .before .before .before .before .before .before .before .before .before .before .before .before .before .before .before .before .before .before .before .before .before .before .before .args .anchors) (c .before .before .before .before .before .before .before .before .before .before .before .before .before .before .before .before .before .before .before .before .before .before .before .before .before .before .before .before .before .before .args .anchor-epoch .now) (c .before .before .before .before .before .before .before .before .before .before .before .before .before .before .before .before .before .before .before .before .before .before .before .before .before .before .before .before .before .before .args .anchor-position .now) (c .before .before .before .before .before .before .before .before .before .before .before .before .before .before .before .before .before .before .before .before .before .before .before .before .before .before .before .before .before .before .args .anchor-sigma .now)) (measured (c .before .before .before .before .before .before .before .before .before .before .before .before .before .before .before .before .before .before .before .before .before .before .before .before .before .before .before .before .before .before .args .links) (c .before .before .before .before .before .before .before .before .before .before .before .before .before .before .before .before .before .before .before .before .before .before .before .before .before .before .before .before .before .before .args .link-epoch .now) (c .before .before .before .before .before .before .before .before .before .before .before .before .before .before .before .before .before .before .before .before .before .before .before .before .before .before .before .before .before .before .args .link-change .now) (c .before .before .before .before .before .before .before .before .before .before .before .before .before .before .before .before .before .before .before .before .before .before .before .before .before .before .before .before .before .before .args .link-sigma .now))) _ _ (c .before .before .before .before .before .before .before .before .before .before .before .before .before .before .before .before .before .has-floats-in-range .ensures) (not-false _ (c .before .before .before .before .before .before .before .before .before .before .before .before .before .before .before .before .if3 .left)) (c .before .before .before .before .before .before .before .before .before .before .before .before .before .before .before .has-floats-in-range2 .ensures)) (not-false _ (c .before .before .before .before .before .before .before .before .before .before .before .before .before .before .if4 .left)) _ (c .before .before .before .before .before .before .before .before .before .before .before .before .before .is-track .ensures) (not-false _ (c .before .before .before .before .before .before .before .before .before .before .before .before .if5 .left))
+    _ _ _ _ (c .before .before .before .before .before .before .before .before .before .fit .ensures) (c .before .before .before .fill .ensures) (c .before .before .before .fill .kept .0 ∙ c .before .before .before .before .before .before .before .before .before .fit .kept .0) (c .before .before .before .before .before .before .before .before .before .fit .kept .1 .1 .1 .1 .1 .1 .1 .1 .1 .1 .1 .0) (c .if6 .left)
 
 pub smooth-spec : {M : Type 1} → statement M
 smooth-spec =
     tie.close
     (tie.spec
-    counts-requires
+    fits-limits-requires
     returns
-    allowed-requires
+    allows-requires
     returns-2
-    records-requires
+    has-floats-in-range-requires
     returns-3
-    sound-requires
+    has-floats-in-range-requires-2
     returns-4
+    is-track-requires
+    returns-5
     fit-requires
     mul-fill
     add-fill
@@ -83,7 +99,7 @@ smooth-spec =
     fill-requires
     same-length
     same-length-2
-    returns-5
+    returns-6
     same-length-3
     same-length-4
-    returns-6)
+    returns-7)

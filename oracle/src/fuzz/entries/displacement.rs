@@ -1,4 +1,4 @@
-//! The displacement, by its interval and between two times.
+//! The displacement, by its interval, between two times and with its quality.
 
 use super::times::nanos;
 use super::{column, count, floats, signal, sys};
@@ -6,8 +6,9 @@ use crate::estimate::{Between, City, Displacement};
 use crate::fuzz::lent::{Lender, Lent};
 use crate::fuzz::Bytes;
 use crate::random::Random;
+use crate::rated::Rated;
 use crate::sky::{self, Input};
-use drifters_gnss::tdcp::{self, Carrier};
+use drifters_gnss::tdcp::{self, Carrier, Delta};
 
 fn carrier(b: &mut Bytes) -> Carrier {
     let (constellation, svid) = signal(b);
@@ -145,9 +146,10 @@ impl Epoch {
 }
 
 /// Calls an entry point of the displacement on two epochs, with the interval or the times where it takes
-/// them, and holds the library to what is expected of the records that are counted.
+/// them, and holds the library to what is expected of the records that are counted: the displacement, and
+/// the quality where that is lent.
 macro_rules! compared {
-    ($b:ident, $input:ident, $entry:ident, $($apart:expr),+; $answer:expr) => {{
+    ($b:ident, $input:ident, $entry:ident, $($apart:expr),+; $($quality:ident)?; $answer:expr) => {{
         let mut lender = Lender::new();
         let p = Epoch::lend($b, &mut lender, &$input.previous);
         let c = Epoch::lend($b, &mut lender, &$input.current);
@@ -165,6 +167,7 @@ macro_rules! compared {
         let receiver = lender.lend(&receiver);
         let settings = lender.lend(&[set.screen, set.sigma_a, set.sigma_b, set.huber, set.mask]);
         let delta = lender.lend(&[f64::from_bits($b.u64()), f64::NAN, -0.0]);
+        $(let $quality = lender.lend(&[-0.0, f64::from_bits($b.u64())]);)?
         let counts = lender.lend(&[$b.u64() as usize, 77]);
         // SAFETY: each pointer leads to what its length or its type says.
         let number = unsafe {
@@ -196,6 +199,7 @@ macro_rules! compared {
                 settings.at().cast(),
                 set.iterations,
                 delta.at().cast(),
+                $($quality.at().cast(),)?
                 counts.at().cast(),
             )
         };
@@ -204,23 +208,30 @@ macro_rules! compared {
         receiver.kept();
         settings.kept();
         match expected {
-            Ok(d) => {
+            Ok((d, _figures)) => {
                 assert_eq!(number, 0);
                 delta.holds(&[d.delta.x, d.delta.y, d.delta.z]);
+                $($quality.holds(&_figures);)?
                 counts.holds(&[d.used, d.screened]);
             }
             Err(why) => {
                 assert_eq!(number, why);
                 delta.kept();
+                $($quality.kept();)?
                 counts.kept();
             }
         }
     }};
 }
 
+/// An answer without quality.
+fn plain(answer: Result<Delta, u8>) -> Result<Rated, u8> {
+    answer.map(|d| (d, [0.0; 2]))
+}
+
 pub fn displacement(b: &mut Bytes) {
     let mut input = displacement_input(b);
-    compared!(b, input, zaqnuti_displacement, input.dt; input.answer());
+    compared!(b, input, zaqnuti_displacement, input.dt;; plain(input.answer()));
 }
 
 pub fn city(b: &mut Bytes) {
@@ -230,8 +241,25 @@ pub fn city(b: &mut Bytes) {
         _ => b.u64() as u32,
     };
     let dt = input.dt;
-    compared!(b, input, zaqnuti_city_displacement, dt, band; {
-        City { displacement: input, band }.answer()
+    compared!(b, input, zaqnuti_city_displacement, dt, band;; {
+        plain(City { displacement: input, band }.answer())
+    });
+}
+
+pub fn rated(b: &mut Bytes) {
+    let mut input = displacement_input(b);
+    compared!(b, input, zaqnuti_displacement_rated, input.dt; quality; input.rated());
+}
+
+pub fn city_rated(b: &mut Bytes) {
+    let mut input = displacement_input(b);
+    let band = match b.byte() {
+        0..=199 => 1575,
+        _ => b.u64() as u32,
+    };
+    let dt = input.dt;
+    compared!(b, input, zaqnuti_city_displacement_rated, dt, band; quality; {
+        City { displacement: input, band }.rated()
     });
 }
 
@@ -242,7 +270,7 @@ pub fn between(b: &mut Bytes) {
         0..=99 => nanos(b),
         _ => before.wrapping_add((input.dt * 1e9) as u64),
     };
-    compared!(b, input, zaqnuti_displacement_between, before, now; {
-        Between::new(input, [before, now]).answer()
+    compared!(b, input, zaqnuti_displacement_between, before, now;; {
+        plain(Between::new(input, [before, now]).answer())
     });
 }

@@ -3,8 +3,9 @@
 use zaqnuti::Refusal;
 
 use crate::args::Args;
-use crate::fault::Run;
+use crate::fault::{self, Run};
 use crate::output::Output;
+use crate::tally::Tally;
 
 /// The options of every command that writes answers.
 pub const OPTIONS: [&str; 1] = ["-o"];
@@ -15,7 +16,10 @@ pub const FLAGS: [&str; 2] = ["--csv", "--ignore-unknown"];
 pub struct Answers {
     out: Output,
     csv: bool,
-    refused: bool,
+    told: u64,
+    refused: Tally,
+    /// Whether a call was refused that has no answer of its own.
+    aside: bool,
 }
 
 impl Answers {
@@ -28,7 +32,9 @@ impl Answers {
         Ok(Self {
             out,
             csv,
-            refused: false,
+            told: 0,
+            refused: Tally::default(),
+            aside: false,
         })
     }
 
@@ -38,18 +44,39 @@ impl Answers {
         words: impl FnOnce() -> String,
         csv: impl FnOnce() -> String,
     ) -> Run<()> {
+        self.told += 1;
         self.out.line(if self.csv { csv() } else { words() })
     }
 
-    /// Counts a refusal, and gives it in words.
+    /// Counts the refusal of an answer, and gives it in words.
     pub fn refused(&mut self, why: Refusal) -> String {
-        self.refused = true;
-        format!("refused by {}: {}", why.number(), why.why())
+        self.refused.add(why.number(), 1);
+        in_words(why)
     }
 
-    /// Ends the output, and tells whether every call was answered.
+    /// Tells on standard error of a refused call that has no answer of its own.
+    pub fn refused_aside(&mut self, what: &str, why: Refusal) {
+        self.aside = true;
+        fault::tell(&format!("{what}: {}", in_words(why)));
+    }
+
+    /// Ends the output, sums up the refusals, and tells whether every call was answered.
     pub fn close(self) -> Run<bool> {
         self.out.close()?;
-        Ok(!self.refused)
+        sum_up(&self.refused, self.told);
+        Ok(self.refused.total() == 0 && !self.aside)
+    }
+}
+
+/// A refusal in words.
+pub fn in_words(why: Refusal) -> String {
+    format!("refused by {}: {}", why.number(), why.why())
+}
+
+/// Says on standard error how many of the calls were refused, where some were.
+pub fn sum_up(refused: &Tally, all: u64) {
+    if refused.total() > 0 {
+        let (total, words) = (refused.total(), refused.words());
+        fault::tell(&format!("{total} of {all} refused: {words}"));
     }
 }

@@ -11,7 +11,7 @@ use crate::args::Args;
 use crate::csv::{Column, Table};
 use crate::decimal::{metres, written};
 use crate::epochs::{Epoch, Epochs, Time};
-use crate::fault::{self, said, Run};
+use crate::fault::{said, Run};
 
 pub const HELP: &str = "\
 zaqnuti corrections --base BASE.csv --base-at X,Y,Z [OPTIONS] [ROVER.csv]:
@@ -60,6 +60,15 @@ impl Signals {
         })
     }
 
+    /// The signal of a line, none where it has no satellite.
+    fn read_any(&self, table: &Table) -> Run<Option<(u8, u16, u32)>> {
+        let bare = |column| table.field(column).is_empty();
+        match bare(self.constellation) && bare(self.svid) {
+            true => Ok(None),
+            false => self.read(table).map(Some),
+        }
+    }
+
     fn read(&self, table: &Table) -> Run<(u8, u16, u32)> {
         let band = table.whole_or(self.band, 0)?;
         Ok((
@@ -70,9 +79,9 @@ impl Signals {
     }
 }
 
-/// A line of the rover: its signal, and its text to be given out again.
+/// A line of the rover: its signal, none where it has no satellite, and its text to be written again.
 struct Asked {
-    signal: (u8, u16, u32),
+    signal: Option<(u8, u16, u32)>,
     text: String,
 }
 
@@ -87,7 +96,7 @@ type Reader<R> = Box<dyn FnMut(&Table) -> Run<Option<R>>>;
 fn rover_reader(table: &Table) -> Run<Reader<Asked>> {
     let signals = Signals::of(table)?;
     Ok(Box::new(move |t| {
-        let (signal, text) = (signals.read(t)?, t.text().to_string());
+        let (signal, text) = (signals.read_any(t)?, t.text().to_string());
         Ok(Some(Asked { signal, text }))
     }))
 }
@@ -121,14 +130,14 @@ fn base_reader(table: &Table) -> Run<Reader<Measured>> {
 
 /// Epochs whose times go forward, some of them left out.
 struct Forward<R> {
-    epochs: Epochs<R, Reader<R>>,
+    epochs: Epochs<(), R>,
     every: usize,
     count: usize,
     last: Option<Time>,
 }
 
-impl<R> Forward<R> {
-    fn next(&mut self) -> Run<Option<Epoch<R>>> {
+impl<R: 'static> Forward<R> {
+    fn next(&mut self) -> Run<Option<Epoch<(), R>>> {
         loop {
             let Some(epoch) = self.epochs.next()? else {
                 return Ok(None);
@@ -211,7 +220,7 @@ fn settings(args: &Args) -> Run<Settings> {
 /// A run: the base's epochs still to come, and the table of those before.
 struct Work {
     base: Forward<Measured>,
-    next_base: Option<Epoch<Measured>>,
+    next_base: Option<Epoch<(), Measured>>,
     station: Station,
     answers: Answers,
 }
@@ -236,8 +245,8 @@ impl Work {
                 .station
                 .add_with_room(handed, rover.within(start) - gap);
             if let Err(why) = added {
-                let words = self.answers.refused(why);
-                fault::tell(&format!("the base's epoch {}: {words}", base.time));
+                let what = format!("the base's epoch {}", base.time);
+                self.answers.refused_aside(&what, why);
             }
             self.next_base = self.base.next()?;
         }
@@ -246,7 +255,7 @@ impl Work {
 
     /// Answers the lines of a rover's epoch; times count from the week of `start`, so that no
     /// week's end is seen.
-    fn answer(&mut self, epoch: &Epoch<Asked>, start: Time) -> Run<()> {
+    fn answer(&mut self, epoch: &Epoch<(), Asked>, start: Time) -> Run<()> {
         self.add_around(epoch.time, start)?;
         let tow = epoch.time.within(start);
         let signal = |(constellation, svid, band)| Signal {
@@ -255,19 +264,34 @@ impl Work {
             band,
             tow,
         };
-        let asked: Vec<Signal> = epoch.rows.iter().map(|a| signal(a.signal)).collect();
+        let asked = epoch.rows.iter().filter_map(|a| a.signal);
+        let asked: Vec<Signal> = asked.map(signal).collect();
         let each = match self.station.table.at_each(&asked) {
             Ok(each) => each,
             Err(why) => vec![Err(why); asked.len()],
         };
-        for (asked, found) in epoch.rows.iter().zip(each) {
-            self.tell(epoch.time, asked, found)?;
+        let mut each = each.into_iter();
+        for asked in &epoch.rows {
+            match asked.signal.and_then(|signal| Some((signal, each.next()?))) {
+                Some((signal, found)) => self.tell(epoch.time, signal, &asked.text, found)?,
+                // A line without a satellite has no correction.
+                None => self.answers.tell(
+                    || format!("{}: no satellite", epoch.time),
+                    || format!("{},,0", asked.text),
+                )?,
+            }
         }
         Ok(())
     }
 
-    fn tell(&mut self, time: Time, asked: &Asked, found: Result<f64, Refusal>) -> Run<()> {
-        let ((constellation, svid, _), text) = (asked.signal, &asked.text);
+    fn tell(
+        &mut self,
+        time: Time,
+        signal: (u8, u16, u32),
+        text: &str,
+        found: Result<f64, Refusal>,
+    ) -> Run<()> {
+        let (constellation, svid, _) = signal;
         match found {
             Ok(x) => self.answers.tell(
                 || format!("{time}, {constellation}/{svid}: {} m", metres(x)),
@@ -295,7 +319,7 @@ fn begin(args: &Args, header: &str) -> Run<Work> {
     }
     let read = base_reader(&table)?;
     let mut base = Forward {
-        epochs: Epochs::new(table, read)?,
+        epochs: Epochs::of_rows(table, read)?,
         every,
         count: 0,
         last: None,
@@ -326,7 +350,7 @@ pub fn run(words: &[String]) -> Run<bool> {
     let header = format!("{},correction,refusal", table.header());
     let read = rover_reader(&table)?;
     let mut rover = Forward {
-        epochs: Epochs::new(table, read)?,
+        epochs: Epochs::of_rows(table, read)?,
         every: 1,
         count: 0,
         last: None,

@@ -5,18 +5,13 @@ use std::io::{self, BufRead, BufReader, Read};
 use std::str::FromStr;
 use std::sync::atomic::{AtomicBool, Ordering};
 
-use crate::fault::{failed, said, Fault, Run};
+use crate::fault::{failed, said, warn, Fault, Run};
+use crate::files;
+use crate::names;
 use crate::progress::Progress;
 
 /// The longest line that is read, in bytes.
 const LONGEST: u64 = 65_536;
-
-/// Every column that a command reads or writes. A file may have those that a command has no use
-/// for; a name that is none of these is most likely misspelt.
-const KNOWN: &str = "week tow constellation svid band pseudorange carrier adr state \
-    x y z vx vy vz clock modelled ionosphere correction elevation rate rx ry rz \
-    dt dx dy dz north east down true_dx true_dy true_dz sigma_x sigma_y sigma_z \
-    pair line screen sigma_a sigma_b huber mask rounds used screened chi pdop refusal satellites";
 
 /// A column of a table by its place.
 #[derive(Clone, Copy)]
@@ -54,6 +49,7 @@ pub fn open(path: &str) -> Run<(String, Box<dyn BufRead>, Option<u64>)> {
     if about.is_dir() {
         return said(format!("{path}: is a folder"));
     }
+    files::read(path, &about)?;
     let size = about.is_file().then_some(about.len());
     Ok((path.into(), Box::new(BufReader::new(file)), size))
 }
@@ -93,9 +89,16 @@ impl Table {
             if self.header[..i].contains(name) {
                 return Err(self.fault(&format!("the column {name:?} stands twice")));
             }
-            if !strangers && !KNOWN.split(' ').any(|known| known == name) {
+            if names::is_known(name) {
+                continue;
+            }
+            if !strangers {
                 let hint = "see --help, or give --ignore-unknown";
                 return Err(self.fault(&format!("the column {name:?} is unknown; {hint}")));
+            }
+            if let Some((known, how)) = names::near(name) {
+                let at = format!("{}:1: the column {name:?} is not read", self.name);
+                warn(&format!("{at}; it differs from {known:?} {how}"));
             }
         }
         Ok(())
@@ -147,15 +150,23 @@ impl Table {
         }
         self.fields.clear();
         let mut start = 0;
-        for part in self.text.split(',') {
-            self.fields.push((start, start + part.len()));
-            start += part.len() + 1;
+        for (end, &byte) in self.text.as_bytes().iter().enumerate() {
+            if byte == b',' {
+                self.fields.push((start, end));
+                start = end + 1;
+            }
         }
+        self.fields.push((start, self.text.len()));
         if self.fields.len() == self.header.len() {
             return Ok(true);
         }
         let (have, want) = (self.fields.len(), self.header.len());
         Err(self.fault(&format!("{have} fields, the header has {want}")))
+    }
+
+    /// The number of the line that was read last.
+    pub fn line(&self) -> u64 {
+        self.lines
     }
 
     /// The name of the file, for messages.
@@ -204,7 +215,12 @@ impl Table {
     /// A field of the line that was read last, without spaces around it.
     pub fn field(&self, column: Column) -> &str {
         let (start, end) = self.fields[column.place];
-        self.text[start..end].trim()
+        let field = &self.text[start..end];
+        // Most fields have no space around them.
+        match field.as_bytes() {
+            [first, .., last] if first.is_ascii_graphic() && last.is_ascii_graphic() => field,
+            _ => field.trim(),
+        }
     }
 
     fn parsed<T: FromStr>(&self, column: Column, kind: &str) -> Run<T> {
@@ -243,9 +259,27 @@ impl Table {
         self.parsed(column, T::KIND)
     }
 
+    /// A whole number up to a bound.
+    pub fn whole_to(&self, column: Column, most: u64) -> Run<u64> {
+        let x = self.whole(column)?;
+        match x > most {
+            true => Err(self.fault_in(column, &format!("{x} is above {most}"))),
+            false => Ok(x),
+        }
+    }
+
     /// A whole number of a column that may not be there.
     pub fn whole_or<T: Whole>(&self, column: Option<Column>, without: T) -> Run<T> {
         column.map_or(Ok(without), |c| self.whole(c))
+    }
+}
+
+/// Checks that a text can be a field: quotes are not read, so it has no comma and no line's end.
+pub fn plain<'a>(name: &str, text: &'a str) -> Run<&'a str> {
+    let odd = |c: char| c == ',' || c == '"' || c.is_control();
+    match text.contains(odd) || text.trim() != text {
+        true => said(format!("{name}: {text:?} can't be a field of CSV")),
+        false => Ok(text),
     }
 }
 
@@ -265,6 +299,10 @@ impl Whole for u16 {
 
 impl Whole for u32 {
     const KIND: &'static str = "a whole number from 0 to 4294967295";
+}
+
+impl Whole for u64 {
+    const KIND: &'static str = "a whole number from 0 to 18446744073709551615";
 }
 
 impl Whole for i32 {

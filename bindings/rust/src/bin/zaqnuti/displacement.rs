@@ -6,9 +6,11 @@ use zaqnuti::{Ecef, Refusal};
 
 use crate::answer::{Answers, FLAGS, OPTIONS};
 use crate::args::Args;
+use crate::csv::plain;
 use crate::decimal::{metres, written};
-use crate::fault::Run;
-use crate::pairs::{Pair, Pairs, VALUED};
+use crate::fault::{warn, Run};
+use crate::pairs::{Pair, Pairs};
+use crate::series::VALUED;
 
 pub const HELP: &str = "\
 zaqnuti displacement [OPTIONS] [FILE..]: how far the receiver moved between two
@@ -49,10 +51,11 @@ fn way(moved: &Delta, ned: Option<Ned>) -> String {
     }
 }
 
-fn tell(answers: &mut Answers, pair: &Pair, compass: bool) -> Run<()> {
+/// Writes the answer of a pair; `file` begins a line of CSV.
+fn tell(answers: &mut Answers, file: &str, pair: &Pair, compass: bool) -> Run<()> {
     let start = || match pair.time {
-        Some(time) => format!("{},,{}", time.fields(), written(pair.dt)),
-        None => format!(",,{},{}", pair.name, written(pair.dt)),
+        Some(time) => format!("{file}{},,{}", time.fields(), written(pair.dt)),
+        None => format!("{file},,{},{}", pair.name, written(pair.dt)),
     };
     let name = &pair.name;
     match solve(pair, compass) {
@@ -89,12 +92,23 @@ pub fn run(words: &[String]) -> Run<bool> {
     let args = Args::parse(words, &[&VALUED[..], &OPTIONS].concat(), &flags)?;
     let compass = args.has(COMPASS);
     let more = if compass { ",north,east,down" } else { "" };
-    let header = format!("week,tow,pair,dt,dx,dy,dz,used,screened,refusal{more}");
+    let several = args.sources().len() > 1;
+    let first = if several { "file," } else { "" };
+    let header = format!("{first}week,tow,pair,dt,dx,dy,dz,used,screened,refusal{more}");
     let mut answers = Answers::open(&args, &header)?;
     for source in args.sources() {
         let mut pairs = Pairs::open(source, &args)?;
+        let file = match several && args.has("--csv") {
+            true => format!("{},", plain("file", source)?),
+            false => String::new(),
+        };
+        let mut some = false;
         while let Some(pair) = pairs.next()? {
-            tell(&mut answers, &pair, compass)?;
+            tell(&mut answers, &file, &pair, compass)?;
+            some = true;
+        }
+        if !some {
+            warn(&format!("{}: has no pair of epochs", pairs.name()));
         }
     }
     answers.close()

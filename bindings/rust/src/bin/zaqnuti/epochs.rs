@@ -37,6 +37,16 @@ impl Time {
         self.since(Self { tow: 0.0, ..other })
     }
 
+    /// The GPS week, where the file has one.
+    pub fn week(self) -> Option<u32> {
+        self.week
+    }
+
+    /// The second within the week.
+    pub fn tow(self) -> f64 {
+        self.tow
+    }
+
     /// By week, then by second.
     pub fn order(self, other: Self) -> Ordering {
         let weeks = self.week.cmp(&other.week);
@@ -68,7 +78,12 @@ pub struct Times {
 impl Times {
     /// Those of a table.
     pub fn of(table: &Table) -> Run<Self> {
-        let (week, tow) = (table.optional("week"), table.column("tow")?);
+        Self::named(table, "tow")
+    }
+
+    /// Those of a table whose time of week has another name.
+    pub fn named(table: &Table, tow: &'static str) -> Run<Self> {
+        let (week, tow) = (table.optional("week"), table.column(tow)?);
         Ok(Self { week, tow })
     }
 
@@ -86,64 +101,104 @@ impl Times {
             false => Err(table.fault_in(self.tow, "is not finite")),
         }
     }
+
+    /// Checks that the time of the line that was read last is after the time before it.
+    pub fn check_forward(&self, table: &Table, before: Time, now: Time) -> Run<()> {
+        if before.week.is_some() != now.week.is_some() {
+            let week = self.week.unwrap_or(self.tow);
+            return Err(table.fault_in(week, "is empty in some lines and not in others"));
+        }
+        match now.order(before) {
+            Ordering::Greater => Ok(()),
+            _ => Err(table.fault_in(self.tow, &format!("{now} is not after {before}"))),
+        }
+    }
 }
 
 /// The lines of one time.
-pub struct Epoch<R> {
+pub struct Epoch<H, R> {
     pub time: Time,
+    /// What is said of the whole epoch.
+    pub head: H,
     /// Its rows, at most one more than the library takes: that it refuses.
     pub rows: Vec<R>,
 }
 
+/// Reads what the first line of an epoch says of all of it.
+pub type ReadHead<H> = Box<dyn FnMut(&Table) -> Run<H>>;
+/// Reads the row of a line, none where it is left out; it may add to the head.
+pub type ReadRow<H, R> = Box<dyn FnMut(&Table, &mut H) -> Run<Option<R>>>;
+
 /// The epochs of a table, one after the other.
-pub struct Epochs<R, F: FnMut(&Table) -> Run<Option<R>>> {
+pub struct Epochs<H, R> {
     table: Table,
     times: Times,
-    read: F,
-    ahead: Option<(Time, Option<R>)>,
+    head: ReadHead<H>,
+    row: ReadRow<H, R>,
+    /// Whether a time that runs backwards is a fault.
+    pub forward: bool,
+    ahead: Option<(Time, H, Option<R>)>,
 }
 
-impl<R, F: FnMut(&Table) -> Run<Option<R>>> Epochs<R, F> {
-    /// The epochs of a table whose rows are read by a function; it gives none for a row that is
-    /// left out.
-    pub fn new(table: Table, read: F) -> Run<Self> {
+impl<R: 'static> Epochs<(), R> {
+    /// The epochs of a table that say nothing beside their rows.
+    pub fn of_rows(
+        table: Table,
+        mut read: impl FnMut(&Table) -> Run<Option<R>> + 'static,
+    ) -> Run<Self> {
+        let row = move |table: &Table, _: &mut ()| read(table);
+        Self::new(table, Box::new(|_| Ok(())), Box::new(row))
+    }
+}
+
+impl<H, R> Epochs<H, R> {
+    /// The epochs of a table, by how its lines are read.
+    pub fn new(table: Table, head: ReadHead<H>, row: ReadRow<H, R>) -> Run<Self> {
         let times = Times::of(&table)?;
         Ok(Self {
             table,
             times,
-            read,
+            head,
+            row,
+            forward: false,
             ahead: None,
         })
     }
 
-    fn row(&mut self) -> Run<Option<(Time, Option<R>)>> {
-        if !self.table.next()? {
-            return Ok(None);
-        }
-        let time = self.times.read(&self.table)?;
-        Ok(Some((time, (self.read)(&self.table)?)))
+    /// The start of an epoch at the line that was read last.
+    fn begin(&mut self, time: Time) -> Run<(Time, H, Option<R>)> {
+        let mut head = (self.head)(&self.table)?;
+        let first = (self.row)(&self.table, &mut head)?;
+        Ok((time, head, first))
     }
 
     /// The next epoch, none at the end of the file.
-    pub fn next(&mut self) -> Run<Option<Epoch<R>>> {
-        let first = match self.ahead.take() {
-            Some(ahead) => Some(ahead),
-            None => self.row()?,
+    pub fn next(&mut self) -> Run<Option<Epoch<H, R>>> {
+        let (time, mut head, first) = match self.ahead.take() {
+            Some(ahead) => ahead,
+            None if self.table.next()? => {
+                let time = self.times.read(&self.table)?;
+                self.begin(time)?
+            }
+            None => return Ok(None),
         };
-        let Some((time, first)) = first else {
-            return Ok(None);
-        };
-        let mut rows = Vec::from_iter(first);
-        while let Some((next, row)) = self.row()? {
+        let mut rows = Vec::with_capacity(16);
+        rows.extend(first);
+        while self.table.next()? {
+            let next = self.times.read(&self.table)?;
             if next != time {
-                self.ahead = Some((next, row));
+                if self.forward {
+                    self.times.check_forward(&self.table, time, next)?;
+                }
+                self.ahead = Some(self.begin(next)?);
                 break;
             }
+            let row = (self.row)(&self.table, &mut head)?;
             if rows.len() <= RECORDS {
                 rows.extend(row);
             }
         }
-        Ok(Some(Epoch { time, rows }))
+        Ok(Some(Epoch { time, head, rows }))
     }
 
     /// The table, for faults in the line that was read last.

@@ -28,5 +28,11 @@ pub fn failed(name: &str, e: &io::Error) -> Fault {
 
 /// Says something on standard error; the exit status tells it too where that can't be written.
 pub fn tell(what: &str) {
-    let _ = writeln!(io::stderr(), "zaqnuti: {what}");
+    // One write, so that lines of several writers do not mix.
+    let _ = io::stderr().write_all(format!("zaqnuti: {what}\n").as_bytes());
+}
+
+/// Says on standard error what may be wrong; the run goes on.
+pub fn warn(what: &str) {
+    tell(&format!("warning: {what}"));
 }

@@ -66,10 +66,24 @@ impl Columns {
         })
     }
 
-    /// The observation of a line, none where a correction is wanted and not there.
+    /// Whether a row has no satellite.
+    fn is_bare(&self, table: &Table) -> bool {
+        let [x, y, z] = self.place;
+        let fields = [
+            self.constellation,
+            self.pseudorange,
+            x,
+            y,
+            z,
+            self.elevation,
+        ];
+        fields.iter().all(|&column| table.field(column).is_empty())
+    }
+
+    /// The observation of a line, none where it has no satellite, or no correction where one is wanted.
     fn read(&self, table: &Table) -> Run<Option<Observation>> {
         let none = self.correction.is_some_and(|c| table.field(c).is_empty());
-        if none {
+        if none || self.is_bare(table) {
             return Ok(None);
         }
         let pseudorange = table.float(self.pseudorange)?;
@@ -138,7 +152,7 @@ pub fn run(words: &[String]) -> Run<bool> {
     for source in args.sources() {
         let table = Table::open(source, args.has("--ignore-unknown"))?;
         let columns = Columns::of(&table)?;
-        let mut epochs = Epochs::new(table, |t| columns.read(t))?;
+        let mut epochs = Epochs::of_rows(table, move |t| columns.read(t))?;
         while let Some(epoch) = epochs.next()? {
             tell(
                 &mut answers,

@@ -2,22 +2,45 @@
 
 mod answer;
 mod args;
+mod atmosphere;
+mod carriers;
+mod changes;
 mod corrections;
 mod csv;
 mod decimal;
+mod depots;
 mod displacement;
+mod drive;
 mod epochs;
 mod fault;
+mod fields;
+mod files;
 mod fix;
+mod fuel;
+mod intervals;
+mod jobs;
+mod labels;
+mod ledger;
 mod local;
+mod names;
+mod odometer;
+mod orbit;
 mod output;
+mod page;
 mod pairs;
 mod places;
 mod plot;
 mod progress;
+mod rank;
+mod rating;
+mod report;
+mod rinex;
+mod series;
 mod svg;
+mod tally;
 mod text;
 mod track;
+mod trip;
 
 use std::env;
 use std::process::ExitCode;
@@ -32,15 +55,19 @@ zaqnuti COMMAND [OPTIONS] [FILE..]: positioning from decimal CSV with a header l
   displacement   how far the receiver moved between two epochs of carrier phases
   corrections    the corrections of a base station, for each line of a rover
   track          the track that fits fixes and displacements
+  trip           the distance of each drive, by carrier phases and odometer
+  rank           fuel per kilometre of each depot, best first
   encode         CSV as texts of the program displacement
   decode         such texts as CSV
   plot           the path of a drive as a picture (SVG)
+  rinex          a receiver's own files as CSV for the commands above
 
   zaqnuti COMMAND --help   its columns and options
   zaqnuti --version
 
 Without a FILE, and for -, standard input is read. Exit status: 0 answered,
-1 some call was refused, 2 bad input, or something can't be read or written.
+1 some call was refused (trip: no epoch counted in a file; rank: a depot not
+ranked), 2 bad input, or something can't be read or written.
 ";
 
 const ENDING: &str = "
@@ -64,13 +91,26 @@ fn command(name: &str) -> Option<(Command, Vec<&'static str>)> {
         "fix" => (fix::run, vec![fix::HELP, ENDING]),
         "displacement" => (
             displacement::run,
-            vec![displacement::HELP, "\n", pairs::HELP, ENDING],
+            vec![
+                displacement::HELP,
+                "\n",
+                pairs::HELP,
+                "\n",
+                series::HELP,
+                ENDING,
+            ],
         ),
         "corrections" => (corrections::run, vec![corrections::HELP, ENDING]),
         "track" => (track::run, vec![track::HELP, ENDING]),
         "encode" => (text::encode, vec![text::ENCODE, SHORT_ENDING]),
         "decode" => (text::decode, vec![text::DECODE, SHORT_ENDING]),
+        "trip" => (
+            trip::run,
+            vec![trip::HELP, "\n", series::HELP, fields::ENDING],
+        ),
+        "rank" => (rank::run, vec![rank::HELP, fields::ENDING]),
         "plot" => (plot::run, vec![plot::HELP, SHORT_ENDING]),
+        "rinex" => (rinex::run, vec![rinex::HELP]),
         _ => return None,
     })
 }

@@ -6,6 +6,7 @@ use std::io::{self, BufWriter, Write};
 use std::path::{Path, PathBuf};
 
 use crate::fault::{failed, Run};
+use crate::files;
 
 /// Where answers go.
 pub struct Output {
@@ -44,6 +45,7 @@ impl Output {
         let (name, sink) = match path {
             None | Some("-") => ("standard output".into(), Sink::Stream(io::stdout())),
             Some(path) => {
+                files::written(path)?;
                 let sink = Self::file(Path::new(path));
                 (path.to_string(), sink.map_err(|e| failed(path, &e))?)
             }

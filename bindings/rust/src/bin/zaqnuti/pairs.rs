@@ -6,25 +6,13 @@ use zaqnuti::time::GpsTime;
 use zaqnuti::{Ecef, Refusal, RECORDS};
 
 use crate::args::Args;
+use crate::carriers::Columns;
 use crate::csv::{Column, Table};
-use crate::epochs::{Epoch, Epochs, Time};
+use crate::epochs::Time;
 use crate::fault::{said, Run};
-use crate::places::Places;
+use crate::series::{exact, settings, truth, Series, Sky, VALUED};
 
-/// The options of a series: the receiver's place and the settings.
-pub const VALUED: [&str; 9] = [
-    "--at",
-    "--fixes",
-    "--receiver",
-    "--screen",
-    "--sigma-a",
-    "--sigma-b",
-    "--huber",
-    "--mask",
-    "--rounds",
-];
-
-/// What is said of both forms and of the options.
+/// The columns of both forms, for help.
 pub const HELP: &str = "\
 A series: lines of the same week and tow that follow each other are an epoch, and
 each epoch is paired with the one before it.
@@ -50,17 +38,6 @@ Pairs, as `zaqnuti decode` writes them: a column line has S, P or C.
                  true_dx, true_dy, true_dz where they are known
   P, C           a carrier of the previous or the current epoch: constellation,
                  svid, band, adr, state, x, y, z of the satellite, elevation, rate
-
-Options of a series:
-  --at X,Y,Z          where the receiver is, m, through the whole series
-  --fixes FILE        where it is at each time, as `zaqnuti fix --csv` wrote it
-  --receiver KIND     phone or geodetic: the settings below [phone]
-  --screen M          pairs as far off the others are dropped, m [phone 0.5, geodetic 2]
-  --sigma-a M         sigma = a + b / sin(elevation), m [0.008]
-  --sigma-b M         [0.002]
-  --huber N           in robust sigmas [1.5]
-  --mask DEGREES      satellites below it are left out [10]
-  --rounds N          the most rounds, 0 to 50 [4]
 ";
 
 /// The most carriers of a pair that are kept: no text in the line form has more, and the library
@@ -113,104 +90,9 @@ impl Pair {
     }
 }
 
-/// Two times in whole nanoseconds, where both have a week.
-fn times(before: Time, now: Time) -> Option<Result<[GpsTime; 2], Refusal>> {
-    let (before, now) = (before.gps()?, now.gps()?);
-    Some(before.and_then(|before| Ok([before, now?])))
-}
-
-/// The columns of a carrier.
-struct Columns {
-    constellation: Column,
-    svid: Column,
-    band: Option<Column>,
-    phase: Phase,
-    state: Option<Column>,
-    place: [Column; 3],
-    elevation: Column,
-    rate: Column,
-}
-
-/// Where the accumulated delta range comes from.
-enum Phase {
-    Adr(Column),
-    Measured {
-        carrier: Column,
-        clock: Option<Column>,
-        modelled: Option<Column>,
-        ionosphere: Option<Column>,
-    },
-}
-
-impl Phase {
-    fn of(table: &Table) -> Run<Self> {
-        match (table.optional("adr"), table.optional("carrier")) {
-            (None, Some(carrier)) => Ok(Self::Measured {
-                carrier,
-                clock: table.optional("clock"),
-                modelled: table.optional("modelled"),
-                ionosphere: table.optional("ionosphere"),
-            }),
-            _ => table.column("adr").map(Self::Adr),
-        }
-    }
-
-    fn read(&self, table: &Table) -> Run<f64> {
-        match *self {
-            Self::Adr(adr) => table.float(adr),
-            Self::Measured {
-                carrier,
-                clock,
-                modelled,
-                ionosphere,
-            } => {
-                let (carrier, clock) = (table.float(carrier)?, table.float_or_0(clock)?);
-                let modelled = table.float_or_0(modelled)?;
-                // A carrier is ahead by as much as a code is behind, and modelled has it as behind.
-                let ionosphere = table.float_or_0(ionosphere)?;
-                Ok(carrier + clock - modelled + 2.0 * ionosphere)
-            }
-        }
-    }
-}
-
-impl Columns {
-    fn of(table: &Table) -> Run<Self> {
-        Ok(Self {
-            constellation: table.column("constellation")?,
-            svid: table.column("svid")?,
-            band: table.optional("band"),
-            phase: Phase::of(table)?,
-            state: table.optional("state"),
-            place: table.columns(["x", "y", "z"])?,
-            elevation: table.column("elevation")?,
-            rate: table.column("rate")?,
-        })
-    }
-
-    fn read(&self, table: &Table) -> Run<Carrier> {
-        Ok(Carrier {
-            constellation: table.whole(self.constellation)?,
-            svid: table.whole(self.svid)?,
-            band: table.whole_or(self.band, 0)?,
-            adr: self.phase.read(table)?,
-            state: table.whole_or(self.state, 1)?,
-            satellite: table.floats(self.place)?,
-            elevation: table.float(self.elevation)?,
-            rate: table.float(self.rate)?,
-        })
-    }
-}
-
-/// The truth of a line, none where its fields are empty.
-fn truth(table: &Table, columns: Option<[Column; 3]>) -> Run<Option<[f64; 3]>> {
-    let filled = columns.filter(|c| c.iter().any(|&c| !table.field(c).is_empty()));
-    filled.map(|c| table.floats(c)).transpose()
-}
-
 /// The pairs of a file.
 pub enum Pairs {
-    Series(Box<Series>),
+    Series(Box<Steps>),
     Lines(Box<Lines>),
 }
 
@@ -219,7 +101,13 @@ impl Pairs {
     pub fn open(source: &str, args: &Args) -> Run<Self> {
         let table = Table::open(source, args.has("--ignore-unknown"))?;
         if table.optional("line").is_none() {
-            return Ok(Self::Series(Box::new(Series::new(table, args)?)));
+            let series = Series::new(table, args, None, false)?;
+            let (set, before) = (settings(args)?, None);
+            return Ok(Self::Series(Box::new(Steps {
+                series,
+                set,
+                before,
+            })));
         }
         match VALUED.iter().find(|name| args.has(name)) {
             Some(name) => said(format!("{name}: the lines S of {} have it", table.name())),
@@ -230,7 +118,7 @@ impl Pairs {
     /// The name of the file, for messages.
     pub fn name(&self) -> &str {
         match self {
-            Self::Series(series) => series.epochs.table().name(),
+            Self::Series(steps) => steps.series.name(),
             Self::Lines(lines) => lines.table.name(),
         }
     }
@@ -238,96 +126,52 @@ impl Pairs {
     /// The next pair, none at the end of the file.
     pub fn next(&mut self) -> Run<Option<Pair>> {
         match self {
-            Self::Series(series) => series.next(),
+            Self::Series(steps) => steps.next(),
             Self::Lines(lines) => lines.next(),
         }
     }
 }
 
-/// A line of a series.
-#[derive(Clone, Copy)]
-struct Seen {
-    carrier: Carrier,
-    at: [f64; 3],
-    truth: Option<[f64; 3]>,
-}
-
-type Reader = Box<dyn FnMut(&Table) -> Run<Option<Seen>>>;
-
-/// A series of epochs.
-pub struct Series {
-    epochs: Epochs<Seen, Reader>,
-    places: Places,
+/// The epochs of a series, each paired with the one before it.
+pub struct Steps {
+    series: Series,
     set: Settings,
-    before: Option<Epoch<Seen>>,
+    before: Option<Sky>,
 }
 
-impl Series {
-    fn new(table: Table, args: &Args) -> Run<Self> {
-        let columns = Columns::of(&table)?;
-        let place = table.optionals(["rx", "ry", "rz"])?;
-        let known = table.optionals(["true_dx", "true_dy", "true_dz"])?;
-        let places = Places::of(args, &table)?;
-        let read: Reader = Box::new(move |t| {
-            Ok(Some(Seen {
-                carrier: columns.read(t)?,
-                at: place.map_or(Ok([0.0; 3]), |place| t.floats(place))?,
-                truth: truth(t, known)?,
-            }))
-        });
-        Ok(Self {
-            epochs: Epochs::new(table, read)?,
-            places,
-            set: settings(args)?,
-            before: None,
-        })
-    }
-
+impl Steps {
     fn next(&mut self) -> Run<Option<Pair>> {
         if self.before.is_none() {
-            self.before = self.epochs.next()?;
+            self.before = self.series.next()?;
         }
-        let Some(now) = self.epochs.next()? else {
+        let Some(now) = self.series.next()? else {
             return Ok(None);
         };
         let Some(before) = &self.before else {
             return Ok(None);
         };
-        let side = |side, epoch: &Epoch<Seen>| -> Vec<(Side, Carrier)> {
-            epoch.rows.iter().map(|s| (side, s.carrier)).collect()
-        };
-        let times = times(before.time, now.time);
-        let exact = times.and_then(|times| {
+        let times = exact(before.time, now.time);
+        let seconds = times.and_then(|times| {
             let [before, now] = times.ok()?;
             now.seconds_since(before).ok()
         });
+        let side = |side, epoch: &Sky| -> Vec<(Side, Carrier)> {
+            epoch.rows.iter().map(|c| (side, *c)).collect()
+        };
         let pair = Pair {
             name: now.time.to_string(),
             time: Some(now.time),
             times,
-            dt: exact.unwrap_or(now.time.since(before.time)),
-            at: self.places.at(before.time, before.rows[0].at)?,
+            dt: seconds.unwrap_or(now.time.since(before.time)),
+            at: self.series.place(before)?,
             set: self.set,
             carriers: [side(Side::Previous, before), side(Side::Current, &now)].concat(),
             over: before.rows.len().max(now.rows.len()) > RECORDS,
-            truth: now.rows[0].truth,
+            truth: now.head.truth,
         };
         self.before = Some(now);
         Ok(Some(pair))
     }
-}
-
-fn settings(args: &Args) -> Run<Settings> {
-    let kind = args.receiver(Settings::default(), Settings::geodetic())?;
-    Ok(Settings {
-        screen: args.float("--screen", kind.screen)?,
-        sigma_a: args.float("--sigma-a", kind.sigma_a)?,
-        sigma_b: args.float("--sigma-b", kind.sigma_b)?,
-        huber: args.float("--huber", kind.huber)?,
-        mask: args.float("--mask", kind.mask)?,
-        iterations: args.whole("--rounds", kind.iterations)?,
-        agreement: kind.agreement,
-    })
 }
 
 /// Lines S, P and C.

@@ -1,6 +1,7 @@
 //! Where the receiver is at each epoch of a series.
 
 use std::cmp::Ordering;
+use std::path::Path;
 
 use crate::args::Args;
 use crate::csv::{Column, Table};
@@ -23,13 +24,21 @@ impl Places {
         match (args.place("--at")?, args.value("--fixes")) {
             (Some(_), Some(_)) => said("--at and --fixes: only one of them is read"),
             (Some(at), None) => Ok(Self::One(at)),
-            (None, Some(path)) => Ok(Self::Fixes(Box::new(Fixes::open(path, args)?))),
+            (None, Some(path)) => {
+                let path = path.replace("{}", stem(series.name()));
+                Ok(Self::Fixes(Box::new(Fixes::open(&path, args)?)))
+            }
             (None, None) if series.optional("rx").is_some() => Ok(Self::Lines),
             (None, None) => said(format!(
                 "{}: has no columns rx, ry, rz; give --at X,Y,Z or --fixes FILE",
                 series.name()
             )),
         }
+    }
+
+    /// Whether the series' own rows give the places.
+    pub fn are_lines(&self) -> bool {
+        matches!(self, Self::Lines)
     }
 
     /// The place at a time, of which the series' own line says `line`.
@@ -40,6 +49,12 @@ impl Places {
             Self::Lines => Ok(line),
         }
     }
+}
+
+/// The name of a file without its folder and its ending.
+pub fn stem(path: &str) -> &str {
+    let stem = Path::new(path).file_stem().and_then(|s| s.to_str());
+    stem.unwrap_or(path)
 }
 
 /// The fixes of a file that `zaqnuti fix --csv` wrote, going forward.

@@ -2,12 +2,15 @@
 
 use std::path::Path;
 
+use crate::answer::sum_up;
 use crate::args::Args;
 use crate::fault::{said, Run};
 use crate::local::Plane;
 use crate::output::Output;
-use crate::pairs::{Pair, Pairs, VALUED};
+use crate::pairs::{Pair, Pairs};
+use crate::series::VALUED;
 use crate::svg::{Chart, Look, Series};
+use crate::tally::Tally;
 
 pub const HELP: &str = "\
 zaqnuti plot [OPTIONS] [FILE] -o PICTURE.svg: the path of a drive
@@ -30,6 +33,7 @@ struct Drive {
     parts: Vec<Vec<[f64; 2]>>,
     truth: Vec<[f64; 2]>,
     refused: Vec<[f64; 2]>,
+    tally: Tally,
     pairs: usize,
     /// The squares of the displacements' errors, and of how many.
     squares: (f64, usize),
@@ -49,6 +53,7 @@ impl Drive {
             parts: vec![vec![[0.0; 2]]],
             truth: Vec::new(),
             refused: Vec::new(),
+            tally: Tally::default(),
             pairs: 0,
             squares: (0.0, 0),
         }
@@ -66,7 +71,8 @@ impl Drive {
         }
         match pair.solve() {
             Ok(d) => self.go([d.delta.x, d.delta.y, d.delta.z], pair.truth),
-            Err(_) => {
+            Err(why) => {
+                self.tally.add(why.number(), 1);
                 if pair.truth.is_some() {
                     self.at = self.true_at;
                 }
@@ -135,7 +141,7 @@ pub fn run(words: &[String]) -> Run<bool> {
     let Some(drive) = drive else {
         return said(format!("{name}: has no pair of epochs"));
     };
-    let answered = drive.refused.is_empty();
+    let (tally, all) = (drive.tally.clone(), drive.pairs as u64);
     let file = Path::new(name).file_name().unwrap_or_default();
     let title = format!("Path of {}", file.to_string_lossy());
     let Some(text) = drive.chart(title).draw() else {
@@ -144,5 +150,6 @@ pub fn run(words: &[String]) -> Run<bool> {
     let mut out = Output::open(Some(picture))?;
     out.line(text.trim_end())?;
     out.close()?;
-    Ok(answered)
+    sum_up(&tally, all);
+    Ok(tally.total() == 0)
 }

@@ -10,8 +10,10 @@ use crate::args::Args;
 use crate::csv::open;
 use crate::decimal::{hexadecimal, read, written};
 use crate::fault::{failed, said, Fault, Run};
+use crate::files;
 use crate::output::Output;
-use crate::pairs::{Pair, Pairs, Side, VALUED};
+use crate::pairs::{Pair, Pairs, Side};
+use crate::series::VALUED;
 
 pub const ENCODE: &str = "\
 zaqnuti encode [OPTIONS] [FILE]: pairs of epochs as texts of the program displacement
@@ -214,6 +216,8 @@ type Truth = BTreeMap<String, String>;
 
 fn truth(path: &str) -> Run<Truth> {
     let text = std::fs::read_to_string(path).map_err(|e| failed(path, &e))?;
+    let about = std::fs::metadata(path).map_err(|e| failed(path, &e))?;
+    files::read(path, &about)?;
     let mut out = Truth::new();
     for (i, line) in text.lines().enumerate() {
         let words: Vec<&str> = line.split_whitespace().collect();

@@ -1,14 +1,14 @@
 //! `zaqnuti track`: the track that fits fixes and displacements.
 
 use zaqnuti::smooth::{smooth, Anchor, Link, Settings};
-use zaqnuti::{Vec3, EPOCHS};
+use zaqnuti::{Refusal, Vec3, EPOCHS};
 
 use crate::answer::{Answers, FLAGS, OPTIONS};
 use crate::args::Args;
 use crate::csv::{Column, Table};
 use crate::decimal::{metres, written};
 use crate::epochs::{Time, Times};
-use crate::fault::{said, Run};
+use crate::fault::{self, said, Run};
 
 pub const HELP: &str = "\
 zaqnuti track [OPTIONS] FILE..: the track that fits fixes and displacements
@@ -16,14 +16,14 @@ zaqnuti track [OPTIONS] FILE..: the track that fits fixes and displacements
 The header tells what a file has; the lines that `zaqnuti fix --csv` and
 `zaqnuti displacement --csv` write are read as they are.
   tow                time of week, s; week before it where there is one
-  x, y, z            a fix, m, or
+  x, y, z            a fix, m; in a recording with satellites rx, ry, rz; or
   dx, dy, dz, dt     a displacement that ends at tow and took dt seconds, m and s
   sigma_x, sigma_y, sigma_z
                      one-sigma of either, m, above 0 (or the options below)
   refusal            a line where it is not 0 is an epoch and nothing more
 
-Each time of a line is an epoch of the track, and a displacement leads from one
-epoch to the next.
+Each time of a line is an epoch of the track, at most 1,024 of them, and a
+displacement leads from one epoch to the next.
 
   --fix-sigma M           one-sigma of each fix by axis, m [1]
   --displacement-sigma M  of each displacement by axis, m [0.05]
@@ -49,17 +49,36 @@ struct Columns {
     sigma: Option<[Column; 3]>,
     refusal: Option<Column>,
     otherwise: f64,
+    /// Whether the lines of a time are satellites, which all have the one fix.
+    satellites: bool,
+}
+
+/// The columns of a fix: x, y, z belong to the satellites where a file has any.
+fn fix_columns(table: &Table, satellites: bool) -> Run<[&'static str; 3]> {
+    match table.optional("rx") {
+        Some(_) => Ok(["rx", "ry", "rz"]),
+        None if satellites => said(format!(
+            "{}:1: x, y, z are the satellites'; the columns rx, ry, rz of a fix are missing",
+            table.name()
+        )),
+        None => Ok(["x", "y", "z"]),
+    }
 }
 
 impl Columns {
     fn of(table: &Table, args: &Args) -> Run<Self> {
         let links = table.optional("dx").is_some();
+        let of_satellites = ["constellation", "svid", "elevation"];
+        let satellites = !links && of_satellites.iter().any(|n| table.optional(n).is_some());
         let (names, otherwise) = match links {
             true => (
                 ["dx", "dy", "dz"],
                 args.float("--displacement-sigma", 0.05)?,
             ),
-            false => (["x", "y", "z"], args.float("--fix-sigma", 1.0)?),
+            false => (
+                fix_columns(table, satellites)?,
+                args.float("--fix-sigma", 1.0)?,
+            ),
         };
         Ok(Self {
             times: Times::of(table)?,
@@ -68,12 +87,15 @@ impl Columns {
             sigma: table.optionals(["sigma_x", "sigma_y", "sigma_z"])?,
             refusal: table.optional("refusal"),
             otherwise,
+            satellites,
         })
     }
 
     fn read(&self, table: &Table) -> Run<(Time, Option<Said>)> {
         let time = self.times.read(table)?;
-        if table.whole_or(self.refusal, 0u8)? != 0 {
+        let bare = |c: &Column| table.field(*c).is_empty();
+        let tunnel = self.satellites && self.value.iter().all(bare);
+        if tunnel || table.whole_or(self.refusal, 0u8)? != 0 {
             return Ok((time, None));
         }
         let vector = |[x, y, z]: [f64; 3]| Vec3::new(x, y, z);
@@ -87,24 +109,42 @@ impl Columns {
     }
 }
 
-/// Every line of the files, by time.
-fn gathered(args: &Args) -> Run<Vec<(Time, Option<Said>)>> {
-    let mut lines = Vec::new();
-    for source in args.sources() {
-        let mut table = Table::open(source, args.has("--ignore-unknown"))?;
+/// The lines of the files.
+#[derive(Default)]
+struct Gathered {
+    /// By time, and of each file at most as many as a track has epochs, and one more.
+    lines: Vec<(Time, Option<Said>)>,
+    /// The epochs of the file with the most.
+    most: usize,
+}
+
+impl Gathered {
+    fn of(args: &Args) -> Run<Self> {
+        let mut gathered = Self::default();
+        for source in args.sources() {
+            gathered.read(Table::open(source, args.has("--ignore-unknown"))?, args)?;
+        }
+        gathered.lines.sort_by(|(a, _), (b, _)| a.order(*b));
+        Ok(gathered)
+    }
+
+    fn read(&mut self, mut table: Table, args: &Args) -> Run<()> {
         let columns = Columns::of(&table, args)?;
-        let mut room = EPOCHS + 1;
+        let (mut last, mut epochs, mut room) = (None, 0, EPOCHS + 1);
         while table.next()? {
             let line = columns.read(&table)?;
+            let same = last == Some(line.0);
+            last = Some(line.0);
+            epochs += usize::from(!same);
             // One more than the library takes is refused whatever follows.
-            if room > 0 {
-                lines.push(line);
+            if room > 0 && !(same && columns.satellites) {
+                self.lines.push(line);
                 room -= 1;
             }
         }
+        self.most = self.most.max(epochs);
+        Ok(())
     }
-    lines.sort_by(|(a, _), (b, _)| a.order(*b));
-    Ok(lines)
 }
 
 /// The epochs, and what is known of them.
@@ -158,6 +198,18 @@ impl Known {
     }
 }
 
+/// Answers a track of too many epochs.
+fn too_many(answers: &mut Answers, count: usize) -> Run<()> {
+    let why = Refusal::TooMany;
+    answers.refused(why);
+    let words = format!("{count} epochs; a track has at most {EPOCHS}");
+    fault::tell(&words);
+    answers.tell(
+        || format!("refused by {}: {words}", why.number()),
+        || format!(",,,,,{}", why.number()),
+    )
+}
+
 /// Answers the track; true where it is not refused.
 pub fn run(words: &[String]) -> Run<bool> {
     let args = Args::parse(words, &[&VALUED[..], &OPTIONS].concat(), &FLAGS)?;
@@ -166,8 +218,17 @@ pub fn run(words: &[String]) -> Run<bool> {
         huber: args.float("--huber", kind.huber)?,
         iterations: args.whole("--rounds", kind.iterations)?,
     };
-    let known = Known::of(gathered(&args)?)?;
+    let Gathered { lines, most } = Gathered::of(&args)?;
+    let known = match most > EPOCHS {
+        true => Known::default(),
+        false => Known::of(lines)?,
+    };
     let mut answers = Answers::open(&args, "week,tow,x,y,z,refusal")?;
+    let count = most.max(known.times.len());
+    if count > EPOCHS {
+        too_many(&mut answers, count)?;
+        return answers.close();
+    }
     match smooth(known.times.len(), &known.anchors, &known.links, &set) {
         Ok(track) => {
             for (time, p) in known.times.iter().zip(track) {

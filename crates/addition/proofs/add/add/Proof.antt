@@ -3,7 +3,7 @@ use native.Mathlib.Omega.{arith}
 use mathlib.Core.Path.{_≡_, sym, _∙_}
 use lib.ListN.{length}
 use Rattle.walk.proofs.Walk.{length-mapped}
-use Rattle.directory.specs.Directory.{blockCapacity, directoryIn, lentBlocks}
+use Rattle.directory.specs.Directory.{blockCapacity, directoryIn, floats, lentBlocks}
 use Rattle.addition.proofs.AddLaws.{add-passed, add-refused, passed, passed-fits, samples-left}
 use borrow.Author.Needs.{needs}
 use Rattle.addition.proofs.add.add.Statement.{statement}
@@ -24,18 +24,18 @@ enum-told c = search needs
 place-requires : tie.Need-place-requires
 place-requires c κs =
     let a = c .before .before .before .before .before .before .before .before .before .before .before .before .before .before .before .before .before .before .before .before .before .before .before .before .before .args in
-    let l = lentBlocks (a .dc .now) (a .dv .now) (a .db .now) (a .df .now) (a .dn .now) (a .ts .now) (a .xs .now) in
+    let l = lentBlocks (a .block-constellation .now) (a .block-svid .now) (a .block-band .now) (a .block-first .now) (a .block-samples .now) (floats (a .table-time .now)) (floats (a .table-metres .now)) in
     let e = sym (c .before .before .before .before .before .before .before .before .enum-told .given .1) ∙ c .before .before .before .before .before .before .before .before .before .before .tested .ensures in
-    let p = passed (a .m) (a .n) (blockCapacity l) (directoryIn (a .m) (a .n) l) (a .new) (sym e) in
-    ((p .few .new, p .every-ranged), passed-fits (a .m) (a .n) l (a .new) p)
+    let p = passed (a .blocks) (a .table-count) (blockCapacity l) (directoryIn (a .blocks) (a .table-count) l) (a .new) (sym e) in
+    ((p .few .new, p .every-ranged), passed-fits (a .blocks) (a .table-count) l (a .new) p)
 
 add-t45 : tie.Need-add-t45
 add-t45 c =
     let a = c .before .before .before .before .before .before .before .before .before .before .before .before .before .before .before .before .before .before .before .before .before .before .before .before .before .before .before .before .before .before .before .before .before .before .before .before .before .before .before .before .args in
-    let l = lentBlocks (a .dc .now) (a .dv .now) (a .db .now) (a .df .now) (a .dn .now) (a .ts .now) (a .xs .now) in
+    let l = lentBlocks (a .block-constellation .now) (a .block-svid .now) (a .block-band .now) (a .block-first .now) (a .block-samples .now) (floats (a .table-time .now)) (floats (a .table-metres .now)) in
     let e = sym (c .before .before .before .before .before .before .before .before .before .before .before .before .before .before .before .before .before .before .before .before .before .before .before .enum-told .given .1) ∙ c .before .before .before .before .before .before .before .before .before .before .before .before .before .before .before .before .before .before .before .before .before .before .before .before .before .tested .ensures in
-    let p = passed (a .m) (a .n) (blockCapacity l) (directoryIn (a .m) (a .n) l) (a .new) (sym e) in
-    let f = passed-fits (a .m) (a .n) l (a .new) p in
+    let p = passed (a .blocks) (a .table-count) (blockCapacity l) (directoryIn (a .blocks) (a .table-count) l) (a .new) (sym e) in
+    let f = passed-fits (a .blocks) (a .table-count) l (a .new) p in
     omega (arith, f .room)
 
 same-length : tie.Need-same-length
@@ -62,8 +62,8 @@ same-length-7 c = search needs
 returns : tie.Need-returns
 returns c =
     let a = c .before .before .before .before .before .before .before .before .before .before .before .before .before .before .before .before .before .before .args in
-    let l = lentBlocks (a .dc .now) (a .dv .now) (a .db .now) (a .df .now) (a .dn .now) (a .ts .now) (a .xs .now) in
-    add-refused (a .m) (a .n) (blockCapacity l) (directoryIn (a .m) (a .n) l) (a .new) l _ (sym (c .before .test .given .1) ∙ c .before .before .before .tested .ensures)
+    let l = lentBlocks (a .block-constellation .now) (a .block-svid .now) (a .block-band .now) (a .block-first .now) (a .block-samples .now) (floats (a .table-time .now)) (floats (a .table-metres .now)) in
+    add-refused (a .blocks) (a .table-count) (blockCapacity l) (directoryIn (a .blocks) (a .table-count) l) (a .new) l (a .table-time .now) (a .table-metres .now) _ (sym (c .before .test .given .1) ∙ c .before .before .before .tested .ensures)
 
 same-length-8 : tie.Need-same-length-8
 same-length-8 c = search needs
@@ -89,11 +89,11 @@ same-length-14 c = search needs
 returns-2 : tie.Need-returns-2
 returns-2 c =
     let a = c .before .before .before .before .before .before .before .before .before .before .before .before .before .before .before .before .before .before .before .before .before .before .before .before .before .before .before .before .before .before .before .before .before .before .before .before .before .before .before .before .args in
-    let l = lentBlocks (a .dc .now) (a .dv .now) (a .db .now) (a .df .now) (a .dn .now) (a .ts .now) (a .xs .now) in
+    let l = lentBlocks (a .block-constellation .now) (a .block-svid .now) (a .block-band .now) (a .block-first .now) (a .block-samples .now) (floats (a .table-time .now)) (floats (a .table-metres .now)) in
     let e = sym (c .before .before .before .before .before .before .before .before .before .before .before .before .before .before .before .before .before .before .before .before .before .before .before .enum-told .given .1) ∙ c .before .before .before .before .before .before .before .before .before .before .before .before .before .before .before .before .before .before .before .before .before .before .before .before .before .tested .ensures in
-    let p = passed (a .m) (a .n) (blockCapacity l) (directoryIn (a .m) (a .n) l) (a .new) (sym e) in
-    let f = passed-fits (a .m) (a .n) l (a .new) p in
-    add-passed (a .m) (a .n) (blockCapacity l) (directoryIn (a .m) (a .n) l) (a .new) l _ _ e (c .before .before .before .before .before .before .before .before .before .before .before .before .before .before .place .ensures .0) (samples-left (a .m) (a .n) l (a .new) f (p .few .new) (len (c .before .before .before .before .before .before .before .before .before .before .before .before .before .before .before .before .before .before .before .before .before .before .before .before .before .before .before .before .before .before .before .before .before .before .before .before .before .before .before .before))) (c .before .before .before .before .before .before .before .before .before .before .before .before .before .before .place .ensures .1)
+    let p = passed (a .blocks) (a .table-count) (blockCapacity l) (directoryIn (a .blocks) (a .table-count) l) (a .new) (sym e) in
+    let f = passed-fits (a .blocks) (a .table-count) l (a .new) p in
+    add-passed (a .blocks) (a .table-count) (blockCapacity l) (directoryIn (a .blocks) (a .table-count) l) (a .new) l (a .table-time .now) (a .table-metres .now) _ _ e (c .before .before .before .before .before .before .before .before .before .before .before .before .before .before .place .ensures .0) (samples-left (a .blocks) (a .table-count) l (a .new) f (p .few .new) (len (c .before .before .before .before .before .before .before .before .before .before .before .before .before .before .before .before .before .before .before .before .before .before .before .before .before .before .before .before .before .before .before .before .before .before .before .before .before .before .before .before))) (c .before .before .before .before .before .before .before .before .before .before .before .before .before .before .place .ensures .1 .0) (c .before .before .before .before .before .before .before .before .before .before .before .before .before .before .place .ensures .1 .1)
 
 pub add-spec : {M : Type 1} → statement M
 add-spec =

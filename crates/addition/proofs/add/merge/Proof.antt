@@ -4,8 +4,8 @@ use mathlib.Core.Path.{ap, _∙_}
 use lib.ListN.{length, take}
 use Rattle.table.specs.Table.{lent, tableOf}
 use Rattle.table.proofs.ColumnLaws.{rows-length}
-use Rattle.directory.specs.Directory.{readingRows}
-use Rattle.addition.proofs.PlaceLaws.{columns-all, count-fits, entries-all, signals-by, sizes, tiled-by}
+use Rattle.directory.specs.Directory.{floats, readingRows}
+use Rattle.addition.proofs.PlaceLaws.{columns-all, count-fits, entries-all, patterns-all, signals-by, sizes, tiled-by}
 use borrow.Author.Needs.{needs}
 use Rattle.addition.proofs.add.merge.Statement.{statement}
 use Rattle.addition.proofs.add.merge.Tie as tie
@@ -15,8 +15,8 @@ entries-after-requires c κs =
     let s = c .before .before .before .before .before .before .before .before .before .before .before .before .before .before .before .before .before in
     let a = s .args in
     let f = s .pre .0 in
-    let o = signals-by f (a .cs .now) (a .vs .now) (a .bs .now) (a .us .now) (a .ys .now) (s .pre .1 .0) (s .pre .1 .1) in
-    let z = rows-length (lent (a .cs .now) (a .vs .now) (a .bs .now) (a .us .now) (a .ys .now)) in
+    let o = signals-by f (a .new-constellation .now) (a .new-svid .now) (a .new-band .now) (a .new-time .now) (a .new-metres .now) (s .pre .1 .0) (s .pre .1 .1) in
+    let z = rows-length (lent (a .new-constellation .now) (a .new-svid .now) (a .new-band .now) (a .new-time .now) (a .new-metres .now)) in
     (tiled-by f, (omega (arith, f .few, f .room), (omega (arith, z, s .pre .1 .0), (omega (arith, z, s .pre .1 .0), omega (arith, z, s .pre .1 .0)))))
 
 merge-readings-requires : tie.Need-merge-readings-requires
@@ -30,13 +30,13 @@ merge-entries-requires c κs =
     let s = c .before .before .before .before .before .before .before .before .before .before .before .before .before .before .before .before .before .before .before .before .before .before .before .before .before .before .before .before .before .before .before .before .before .before .before in
     let a = s .args in
     let f = s .pre .0 in
-    let o = signals-by f (a .cs .now) (a .vs .now) (a .bs .now) (a .us .now) (a .ys .now) (s .pre .1 .0) (s .pre .1 .1) in
-    let z = rows-length (lent (a .cs .now) (a .vs .now) (a .bs .now) (a .us .now) (a .ys .now)) in
-    let q = c .before .before .before .before .before .before .before .before .before .before .before .before .before .before .before .before .before .entries-after .ensures (take (a .n) (readingRows (a .ts .now) (a .xs .now))) (tableOf (a .k) (lent (a .cs .now) (a .vs .now) (a .bs .now) (a .us .now) (a .ys .now))) (sizes f) o ∙ ap length (entries-all f (a .cs .now) (a .vs .now) (a .bs .now) (a .us .now) (a .ys .now) (s .pre .1 .0) (s .pre .1 .1)) in (
+    let o = signals-by f (a .new-constellation .now) (a .new-svid .now) (a .new-band .now) (a .new-time .now) (a .new-metres .now) (s .pre .1 .0) (s .pre .1 .1) in
+    let z = rows-length (lent (a .new-constellation .now) (a .new-svid .now) (a .new-band .now) (a .new-time .now) (a .new-metres .now)) in
+    let q = c .before .before .before .before .before .before .before .before .before .before .before .before .before .before .before .before .before .entries-after .ensures (take (a .table-count) (readingRows (floats (a .table-time .now)) (floats (a .table-metres .now)))) (tableOf (a .new-count) (lent (a .new-constellation .now) (a .new-svid .now) (a .new-band .now) (a .new-time .now) (a .new-metres .now))) (sizes f) o ∙ ap length (entries-all f (a .new-constellation .now) (a .new-svid .now) (a .new-band .now) (a .new-time .now) (a .new-metres .now) (s .pre .1 .0) (s .pre .1 .1)) in (
       tiled-by f,
       (
         (omega (arith, f .room), (omega (arith, z, s .pre .1 .0), (omega (arith, z, s .pre .1 .0), omega (arith, z, s .pre .1 .0)))),
-        (record { samples = (tableOf (a .k) (lent (a .cs .now) (a .vs .now) (a .bs .now) (a .us .now) (a .ys .now))); of = o }, (omega (arith, q, count-fits f (a .cs .now) (a .vs .now) (a .bs .now) (a .us .now) (a .ys .now) (s .pre .1 .0) (s .pre .1 .1), f .room-entries), c .before .before .before .before .before .before .before .before .before .before .before .before .before .before .before .before .before .entries-after .ensures)),
+        (record { samples = (tableOf (a .new-count) (lent (a .new-constellation .now) (a .new-svid .now) (a .new-band .now) (a .new-time .now) (a .new-metres .now))); of = o }, (omega (arith, q, count-fits f (a .new-constellation .now) (a .new-svid .now) (a .new-band .now) (a .new-time .now) (a .new-metres .now) (s .pre .1 .0) (s .pre .1 .1), f .room-entries), c .before .before .before .before .before .before .before .before .before .before .before .before .before .before .before .before .before .entries-after .ensures)),
       ),
     )
 
@@ -66,10 +66,10 @@ returns c =
     let s = c .before .before .before .before .before .before .before .before .before .before .before .before .before .before .before .before .before .before .before .before .before .before .before .before .before .before .before .before .before .before .before .before .before .before .before .before .before .before .before .before .before .before .before .before .before .before in
     let a = s .args in
     let f = s .pre .0 in
-    let o = signals-by f (a .cs .now) (a .vs .now) (a .bs .now) (a .us .now) (a .ys .now) (s .pre .1 .0) (s .pre .1 .1) in
-    let z = rows-length (lent (a .cs .now) (a .vs .now) (a .bs .now) (a .us .now) (a .ys .now)) in (
-      c .before .before .before .before .before .before .before .before .before .before .before .before .before .before .before .before .before .before .before .before .before .before .before .before .before .before .before .before .entries-after .ensures (take (a .n) (readingRows (a .ts .now) (a .xs .now))) (tableOf (a .k) (lent (a .cs .now) (a .vs .now) (a .bs .now) (a .us .now) (a .ys .now))) (sizes f) o ∙ ap length (entries-all f (a .cs .now) (a .vs .now) (a .bs .now) (a .us .now) (a .ys .now) (s .pre .1 .0) (s .pre .1 .1)),
-      columns-all f (a .cs .now) (a .vs .now) (a .bs .now) (a .us .now) (a .ys .now) (s .pre .1 .0) (s .pre .1 .1) (c .before .before .before .before .before .before .before .before .before .before .merge-entries .ensures (take (a .n) (readingRows (a .ts .now) (a .xs .now))) (tableOf (a .k) (lent (a .cs .now) (a .vs .now) (a .bs .now) (a .us .now) (a .ys .now))) (sizes f) o) (c .before .before .before .before .before .before .before .before .before .before .before .before .before .before .before .before .before .before .before .before .merge-readings .ensures),
+    let o = signals-by f (a .new-constellation .now) (a .new-svid .now) (a .new-band .now) (a .new-time .now) (a .new-metres .now) (s .pre .1 .0) (s .pre .1 .1) in
+    let z = rows-length (lent (a .new-constellation .now) (a .new-svid .now) (a .new-band .now) (a .new-time .now) (a .new-metres .now)) in (
+      c .before .before .before .before .before .before .before .before .before .before .before .before .before .before .before .before .before .before .before .before .before .before .before .before .before .before .before .before .entries-after .ensures (take (a .table-count) (readingRows (floats (a .table-time .now)) (floats (a .table-metres .now)))) (tableOf (a .new-count) (lent (a .new-constellation .now) (a .new-svid .now) (a .new-band .now) (a .new-time .now) (a .new-metres .now))) (sizes f) o ∙ ap length (entries-all f (a .new-constellation .now) (a .new-svid .now) (a .new-band .now) (a .new-time .now) (a .new-metres .now) (s .pre .1 .0) (s .pre .1 .1)),
+      (columns-all f (a .new-constellation .now) (a .new-svid .now) (a .new-band .now) (a .new-time .now) (a .new-metres .now) (s .pre .1 .0) (s .pre .1 .1) (c .before .before .before .before .before .before .before .before .before .before .merge-entries .ensures (take (a .table-count) (readingRows (floats (a .table-time .now)) (floats (a .table-metres .now)))) (tableOf (a .new-count) (lent (a .new-constellation .now) (a .new-svid .now) (a .new-band .now) (a .new-time .now) (a .new-metres .now))) (sizes f) o) (c .before .before .before .before .before .before .before .before .before .before .before .before .before .before .before .before .before .before .before .before .merge-readings .ensures .times-read) (c .before .before .before .before .before .before .before .before .before .before .before .before .before .before .before .before .before .before .before .before .merge-readings .ensures .corrections-read), patterns-all _ _ (c .before .before .before .before .before .before .before .before .before .before .before .before .before .before .before .before .before .before .before .before .merge-readings .ensures)),
     )
 
 pub merge-spec : {M : Type 1} → statement M

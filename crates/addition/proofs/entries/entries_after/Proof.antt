@@ -19,7 +19,7 @@ add-end : tie.Need-add-end Inv-loop μ-loop
 add-end c = omega (arith, c .before .before .before .before .before .before .before .before .pre .1 .0)
 
 loop-holds : tie.Need-loop-holds Inv-loop μ-loop
-loop-holds c = let s = c .before .before .before .before .before .before .before .before in counting-start (s .pre .0) (s .args .cs .now) (s .args .vs .now) (s .args .bs .now) (s .args .k)
+loop-holds c = let s = c .before .before .before .before .before .before .before .before in counting-start (s .pre .0) (s .args .new-constellation .now) (s .args .new-svid .now) (s .args .new-band .now) (s .args .new-count)
 
 last-of-requires : tie.Need-last-of-requires Inv-loop μ-loop
 last-of-requires c κs =
@@ -28,11 +28,11 @@ last-of-requires c κs =
     let h = c .before .loop in
     let t = s .pre .0 in
     let f = h .inv .old in
-    let p : take (h .i) (take (a .m) (entryRows (a .dc .now) (a .dv .now) (a .db .now) (a .df .now) (a .dn .now))) ≡ take (h .i) (entryRows (a .dc .now) (a .dv .now) (a .db .now) (a .df .now) (a .dn .now)) = take-take (h .i) (a .m) (entryRows (a .dc .now) (a .dv .now) (a .db .now) (a .df .now) (a .dn .now)) f in (
-      (omega (arith, f, t .few), rw p at (ascends-take 0 (take (a .m) (entryRows (a .dc .now) (a .dv .now) (a .db .now) (a .df .now) (a .dn .now))) (h .i) (t .ascending))),
+    let p : take (h .i) (take (a .blocks) (entryRows (a .block-constellation .now) (a .block-svid .now) (a .block-band .now) (a .block-first .now) (a .block-samples .now))) ≡ take (h .i) (entryRows (a .block-constellation .now) (a .block-svid .now) (a .block-band .now) (a .block-first .now) (a .block-samples .now)) = take-take (h .i) (a .blocks) (entryRows (a .block-constellation .now) (a .block-svid .now) (a .block-band .now) (a .block-first .now) (a .block-samples .now)) f in (
+      (omega (arith, f, t .few), rw p at (ascends-take 0 (take (a .blocks) (entryRows (a .block-constellation .now) (a .block-svid .now) (a .block-band .now) (a .block-first .now) (a .block-samples .now))) (h .i) (t .ascending))),
       (
         (c .loop-test .taken, (h .inv .tail, (omega (arith, h .inv .new), (omega (arith, h .inv .new), omega (arith, h .inv .new))))),
-        λ q. last-fits t (h .i) (h .j) (a .k) f (h .inv .new) (omega (arith, s .pre .1 .0)) q,
+        λ q. last-fits t (h .i) (h .j) (a .new-count) f (h .inv .new) (omega (arith, s .pre .1 .0)) q,
       ),
     )
 
@@ -48,7 +48,7 @@ loop-again c =
     let a = s .args in
     let h = c .before .before .loop in
     let t = s .pre .0 in
-    counting-turn t (a .cs .now) (a .vs .now) (a .bs .now) (a .k) (h .inv) (c .last-of .ensures) (sym (take-take (h .i) (a .m) (entryRows (a .dc .now) (a .dv .now) (a .db .now) (a .df .now) (a .dn .now)) (h .inv .old)))
+    counting-turn t (a .new-constellation .now) (a .new-svid .now) (a .new-band .now) (a .new-count) (h .inv) (c .last-of .ensures) (sym (take-take (h .i) (a .blocks) (entryRows (a .block-constellation .now) (a .block-svid .now) (a .block-band .now) (a .block-first .now) (a .block-samples .now)) (h .inv .old)))
 
 add-result : tie.Need-add-result Inv-loop μ-loop
 add-result c = omega (arith, c .before .loop .inv .few, c .before .before .before .before .before .before .before .before .before .before .pre .1 .0)
@@ -59,7 +59,7 @@ returns c =
     let a = s .args in
     let h = c .before .loop in
     let t = s .pre .0 in
-    counting-end t (a .cs .now) (a .vs .now) (a .bs .now) (a .k) (h .inv) (omega (arith, c .loop-test .left))
+    counting-end t (a .new-constellation .now) (a .new-svid .now) (a .new-band .now) (a .new-count) (h .inv) (omega (arith, c .loop-test .left))
 
 pub entries-after-spec : {M : Type 1} → statement M
 entries-after-spec =

@@ -19,7 +19,7 @@ add-end : tie.Need-add-end Inv-loop μ-loop
 add-end c = omega (arith, c .before .before .before .before .before .before .before .before .pre .1 .0 .0)
 
 loop-holds : tie.Need-loop-holds Inv-loop μ-loop
-loop-holds c = let s = c .before .before .before .before .before .before .before .before in placing-start (s .pre .0) (s .args .k) (s .args .count) (s .pre .1 .1 .1 .1)
+loop-holds c = let s = c .before .before .before .before .before .before .before .before in placing-start (s .pre .0) (s .args .new-count) (s .args .count) (s .pre .1 .1 .1 .1)
 
 last-of-requires : tie.Need-last-of-requires Inv-loop μ-loop
 last-of-requires c κs =
@@ -29,12 +29,12 @@ last-of-requires c κs =
     let t = s .pre .0 in
     let some = s .pre .1 .1 .0 in
     let f = h .inv .old in
-    let e = fronts t (a .k) (a .count) (h .inv) some in
-    let l = same-rows t (a .k) (a .count) (h .inv) some in (
-      (omega (arith, f, t .few, l), rw e (ascends-take 0 (take (a .m) (entryRows (a .dc .now) (a .dv .now) (a .db .now) (a .df .now) (a .dn .now))) (h .i) (t .ascending))),
+    let e = fronts t (a .new-count) (a .count) (h .inv) some in
+    let l = same-rows t (a .new-count) (a .count) (h .inv) some in (
+      (omega (arith, f, t .few, l), rw e (ascends-take 0 (take (a .blocks) (entryRows (a .block-constellation .now) (a .block-svid .now) (a .block-band .now) (a .block-first .now) (a .block-samples .now))) (h .i) (t .ascending))),
       (
         (c .before .before .before .before .before .loop-test .taken, (h .inv .tail, (omega (arith, h .inv .new), (omega (arith, h .inv .new), omega (arith, h .inv .new))))),
-        λ q. rw (same-f t (a .k) (a .count) (h .inv) some q, same-n t (a .k) (a .count) (h .inv) some q) (last-fits t (h .i) (h .j) (a .k) f (h .inv .new) (s .pre .1 .0 .0) q),
+        λ q. rw (same-f t (a .new-count) (a .count) (h .inv) some q, same-n t (a .new-count) (a .count) (h .inv) some q) (last-fits t (h .i) (h .j) (a .new-count) f (h .inv .new) (s .pre .1 .0 .0) q),
       ),
     )
 
@@ -45,108 +45,108 @@ sub-w c =
     let h = c .before .before .before .before .before .before .before .loop in
     let t = s .pre .0 in
     let some = s .pre .1 .1 .0 in
-    let room = room-of (a .count) (a .dc .now) (a .dv .now) (a .db .now) (a .df .now) (a .dn .now) (s .pre .1 .1 .1 .0) in
-    let e = fronts t (a .k) (a .count) (h .inv) some in
-    omega (arith, h .inv .high, room .in-dc, long-c t (a .k) (a .count) (h .inv) some, some-left t (a .k) (a .count) (h .inv) (c .last-of .ensures) e some)
+    let room = room-of (a .count) (a .block-constellation .now) (a .block-svid .now) (a .block-band .now) (a .block-first .now) (a .block-samples .now) (s .pre .1 .1 .1 .0) in
+    let e = fronts t (a .new-count) (a .count) (h .inv) some in
+    omega (arith, h .inv .high, room .in-dc, long-c t (a .new-count) (a .count) (h .inv) some, some-left t (a .new-count) (a .count) (h .inv) (c .last-of .ensures) e some)
 
-slice-write-dc : tie.Need-slice-write-dc Inv-loop μ-loop
-slice-write-dc c =
+slice-write-block-constellation : tie.Need-slice-write-block-constellation Inv-loop μ-loop
+slice-write-block-constellation c =
     let s = c .before .before .before .before .before .before .before .before .before .before .before .before .before .before .before .before in
     let a = s .args in
     let h = c .before .before .before .before .before .before .before .loop in
     let t = s .pre .0 in
     let some = s .pre .1 .1 .0 in
-    let room = room-of (a .count) (a .dc .now) (a .dv .now) (a .db .now) (a .df .now) (a .dn .now) (s .pre .1 .1 .1 .0) in
-    let e = fronts t (a .k) (a .count) (h .inv) some in
-    omega (arith, h .inv .high, room .in-dc, long-c t (a .k) (a .count) (h .inv) some, some-left t (a .k) (a .count) (h .inv) (c .last-of .ensures) e some)
+    let room = room-of (a .count) (a .block-constellation .now) (a .block-svid .now) (a .block-band .now) (a .block-first .now) (a .block-samples .now) (s .pre .1 .1 .1 .0) in
+    let e = fronts t (a .new-count) (a .count) (h .inv) some in
+    omega (arith, h .inv .high, room .in-dc, long-c t (a .new-count) (a .count) (h .inv) some, some-left t (a .new-count) (a .count) (h .inv) (c .last-of .ensures) e some)
 
-mul-dv : tie.Need-mul-dv Inv-loop μ-loop
-mul-dv c =
+mul-block-svid : tie.Need-mul-block-svid Inv-loop μ-loop
+mul-block-svid c =
     let s = c .before .before .before .before .before .before .before .before .before .before .before .before .before .before .before .before in
     let a = s .args in
     let h = c .before .before .before .before .before .before .before .loop in
     let t = s .pre .0 in
     let some = s .pre .1 .1 .0 in
-    let room = room-of (a .count) (a .dc .now) (a .dv .now) (a .db .now) (a .df .now) (a .dn .now) (s .pre .1 .1 .1 .0) in
-    let e = fronts t (a .k) (a .count) (h .inv) some in
-    omega (arith, h .inv .high, room .in-dv, long-v t (a .k) (a .count) (h .inv) some, some-left t (a .k) (a .count) (h .inv) (c .last-of .ensures) e some)
+    let room = room-of (a .count) (a .block-constellation .now) (a .block-svid .now) (a .block-band .now) (a .block-first .now) (a .block-samples .now) (s .pre .1 .1 .1 .0) in
+    let e = fronts t (a .new-count) (a .count) (h .inv) some in
+    omega (arith, h .inv .high, room .in-dv, long-v t (a .new-count) (a .count) (h .inv) some, some-left t (a .new-count) (a .count) (h .inv) (c .last-of .ensures) e some)
 
-slice-write-dv : tie.Need-slice-write-dv Inv-loop μ-loop
-slice-write-dv c =
+slice-write-block-svid : tie.Need-slice-write-block-svid Inv-loop μ-loop
+slice-write-block-svid c =
     let s = c .before .before .before .before .before .before .before .before .before .before .before .before .before .before .before .before in
     let a = s .args in
     let h = c .before .before .before .before .before .before .before .loop in
     let t = s .pre .0 in
     let some = s .pre .1 .1 .0 in
-    let room = room-of (a .count) (a .dc .now) (a .dv .now) (a .db .now) (a .df .now) (a .dn .now) (s .pre .1 .1 .1 .0) in
-    let e = fronts t (a .k) (a .count) (h .inv) some in
-    omega (arith, h .inv .high, room .in-dv, long-v t (a .k) (a .count) (h .inv) some, some-left t (a .k) (a .count) (h .inv) (c .last-of .ensures) e some)
+    let room = room-of (a .count) (a .block-constellation .now) (a .block-svid .now) (a .block-band .now) (a .block-first .now) (a .block-samples .now) (s .pre .1 .1 .1 .0) in
+    let e = fronts t (a .new-count) (a .count) (h .inv) some in
+    omega (arith, h .inv .high, room .in-dv, long-v t (a .new-count) (a .count) (h .inv) some, some-left t (a .new-count) (a .count) (h .inv) (c .last-of .ensures) e some)
 
-mul-db : tie.Need-mul-db Inv-loop μ-loop
-mul-db c =
+mul-block-band : tie.Need-mul-block-band Inv-loop μ-loop
+mul-block-band c =
     let s = c .before .before .before .before .before .before .before .before .before .before .before .before .before .before .before .before in
     let a = s .args in
     let h = c .before .before .before .before .before .before .before .loop in
     let t = s .pre .0 in
     let some = s .pre .1 .1 .0 in
-    let room = room-of (a .count) (a .dc .now) (a .dv .now) (a .db .now) (a .df .now) (a .dn .now) (s .pre .1 .1 .1 .0) in
-    let e = fronts t (a .k) (a .count) (h .inv) some in
-    omega (arith, h .inv .high, room .in-db, long-b t (a .k) (a .count) (h .inv) some, some-left t (a .k) (a .count) (h .inv) (c .last-of .ensures) e some)
+    let room = room-of (a .count) (a .block-constellation .now) (a .block-svid .now) (a .block-band .now) (a .block-first .now) (a .block-samples .now) (s .pre .1 .1 .1 .0) in
+    let e = fronts t (a .new-count) (a .count) (h .inv) some in
+    omega (arith, h .inv .high, room .in-db, long-b t (a .new-count) (a .count) (h .inv) some, some-left t (a .new-count) (a .count) (h .inv) (c .last-of .ensures) e some)
 
-slice-write-db : tie.Need-slice-write-db Inv-loop μ-loop
-slice-write-db c =
+slice-write-block-band : tie.Need-slice-write-block-band Inv-loop μ-loop
+slice-write-block-band c =
     let s = c .before .before .before .before .before .before .before .before .before .before .before .before .before .before .before .before in
     let a = s .args in
     let h = c .before .before .before .before .before .before .before .loop in
     let t = s .pre .0 in
     let some = s .pre .1 .1 .0 in
-    let room = room-of (a .count) (a .dc .now) (a .dv .now) (a .db .now) (a .df .now) (a .dn .now) (s .pre .1 .1 .1 .0) in
-    let e = fronts t (a .k) (a .count) (h .inv) some in
-    omega (arith, h .inv .high, room .in-db, long-b t (a .k) (a .count) (h .inv) some, some-left t (a .k) (a .count) (h .inv) (c .last-of .ensures) e some)
+    let room = room-of (a .count) (a .block-constellation .now) (a .block-svid .now) (a .block-band .now) (a .block-first .now) (a .block-samples .now) (s .pre .1 .1 .1 .0) in
+    let e = fronts t (a .new-count) (a .count) (h .inv) some in
+    omega (arith, h .inv .high, room .in-db, long-b t (a .new-count) (a .count) (h .inv) some, some-left t (a .new-count) (a .count) (h .inv) (c .last-of .ensures) e some)
 
-mul-df : tie.Need-mul-df Inv-loop μ-loop
-mul-df c =
+mul-block-first : tie.Need-mul-block-first Inv-loop μ-loop
+mul-block-first c =
     let s = c .before .before .before .before .before .before .before .before .before .before .before .before .before .before .before .before in
     let a = s .args in
     let h = c .before .before .before .before .before .before .before .loop in
     let t = s .pre .0 in
     let some = s .pre .1 .1 .0 in
-    let room = room-of (a .count) (a .dc .now) (a .dv .now) (a .db .now) (a .df .now) (a .dn .now) (s .pre .1 .1 .1 .0) in
-    let e = fronts t (a .k) (a .count) (h .inv) some in
-    omega (arith, h .inv .high, room .in-df, long-f t (a .k) (a .count) (h .inv) some, some-left t (a .k) (a .count) (h .inv) (c .last-of .ensures) e some)
+    let room = room-of (a .count) (a .block-constellation .now) (a .block-svid .now) (a .block-band .now) (a .block-first .now) (a .block-samples .now) (s .pre .1 .1 .1 .0) in
+    let e = fronts t (a .new-count) (a .count) (h .inv) some in
+    omega (arith, h .inv .high, room .in-df, long-f t (a .new-count) (a .count) (h .inv) some, some-left t (a .new-count) (a .count) (h .inv) (c .last-of .ensures) e some)
 
-slice-write-df : tie.Need-slice-write-df Inv-loop μ-loop
-slice-write-df c =
+slice-write-block-first : tie.Need-slice-write-block-first Inv-loop μ-loop
+slice-write-block-first c =
     let s = c .before .before .before .before .before .before .before .before .before .before .before .before .before .before .before .before in
     let a = s .args in
     let h = c .before .before .before .before .before .before .before .loop in
     let t = s .pre .0 in
     let some = s .pre .1 .1 .0 in
-    let room = room-of (a .count) (a .dc .now) (a .dv .now) (a .db .now) (a .df .now) (a .dn .now) (s .pre .1 .1 .1 .0) in
-    let e = fronts t (a .k) (a .count) (h .inv) some in
-    omega (arith, h .inv .high, room .in-df, long-f t (a .k) (a .count) (h .inv) some, some-left t (a .k) (a .count) (h .inv) (c .last-of .ensures) e some)
+    let room = room-of (a .count) (a .block-constellation .now) (a .block-svid .now) (a .block-band .now) (a .block-first .now) (a .block-samples .now) (s .pre .1 .1 .1 .0) in
+    let e = fronts t (a .new-count) (a .count) (h .inv) some in
+    omega (arith, h .inv .high, room .in-df, long-f t (a .new-count) (a .count) (h .inv) some, some-left t (a .new-count) (a .count) (h .inv) (c .last-of .ensures) e some)
 
-mul-dn : tie.Need-mul-dn Inv-loop μ-loop
-mul-dn c =
+mul-block-samples : tie.Need-mul-block-samples Inv-loop μ-loop
+mul-block-samples c =
     let s = c .before .before .before .before .before .before .before .before .before .before .before .before .before .before .before .before in
     let a = s .args in
     let h = c .before .before .before .before .before .before .before .loop in
     let t = s .pre .0 in
     let some = s .pre .1 .1 .0 in
-    let room = room-of (a .count) (a .dc .now) (a .dv .now) (a .db .now) (a .df .now) (a .dn .now) (s .pre .1 .1 .1 .0) in
-    let e = fronts t (a .k) (a .count) (h .inv) some in
-    omega (arith, h .inv .high, room .in-dn, long-n t (a .k) (a .count) (h .inv) some, some-left t (a .k) (a .count) (h .inv) (c .last-of .ensures) e some)
+    let room = room-of (a .count) (a .block-constellation .now) (a .block-svid .now) (a .block-band .now) (a .block-first .now) (a .block-samples .now) (s .pre .1 .1 .1 .0) in
+    let e = fronts t (a .new-count) (a .count) (h .inv) some in
+    omega (arith, h .inv .high, room .in-dn, long-n t (a .new-count) (a .count) (h .inv) some, some-left t (a .new-count) (a .count) (h .inv) (c .last-of .ensures) e some)
 
-slice-write-dn : tie.Need-slice-write-dn Inv-loop μ-loop
-slice-write-dn c =
+slice-write-block-samples : tie.Need-slice-write-block-samples Inv-loop μ-loop
+slice-write-block-samples c =
     let s = c .before .before .before .before .before .before .before .before .before .before .before .before .before .before .before .before in
     let a = s .args in
     let h = c .before .before .before .before .before .before .before .loop in
     let t = s .pre .0 in
     let some = s .pre .1 .1 .0 in
-    let room = room-of (a .count) (a .dc .now) (a .dv .now) (a .db .now) (a .df .now) (a .dn .now) (s .pre .1 .1 .1 .0) in
-    let e = fronts t (a .k) (a .count) (h .inv) some in
-    omega (arith, h .inv .high, room .in-dn, long-n t (a .k) (a .count) (h .inv) some, some-left t (a .k) (a .count) (h .inv) (c .last-of .ensures) e some)
+    let room = room-of (a .count) (a .block-constellation .now) (a .block-svid .now) (a .block-band .now) (a .block-first .now) (a .block-samples .now) (s .pre .1 .1 .1 .0) in
+    let e = fronts t (a .new-count) (a .count) (h .inv) some in
+    omega (arith, h .inv .high, room .in-dn, long-n t (a .new-count) (a .count) (h .inv) some, some-left t (a .new-count) (a .count) (h .inv) (c .last-of .ensures) e some)
 
 loop-less : tie.Need-loop-less Inv-loop μ-loop
 loop-less c = omega (arith, c .last-of .ensures .fewer)
@@ -158,7 +158,7 @@ loop-again c =
     let h = c .before .before .before .before .before .before .before .loop in
     let t = s .pre .0 in
     let some = s .pre .1 .1 .0 in
-    placing-turn t (a .k) (a .count) (h .inv) (c .last-of .ensures) (fronts t (a .k) (a .count) (h .inv) some) (s .pre .1 .1 .1 .0)
+    placing-turn t (a .new-count) (a .count) (h .inv) (c .last-of .ensures) (fronts t (a .new-count) (a .count) (h .inv) some) (s .pre .1 .1 .1 .0)
     (λ x. omega (arith, c .before .before .before .before .before .before .before .before .before .shared-slice-known2 .given x)) (λ x. omega (arith, c .before .before .before .before .before .before .before .before .shared-slice-known3 .given x)) (λ x. omega (arith, c .before .before .before .before .before .before .before .before .before .before .before .before .before .before .slice-known2 .given x)) (λ x. omega (arith, c .before .before .before .before .before .before .before .before .before .before .before .before .before .slice-known3 .given x))
 
 same-length : tie.Need-same-length Inv-loop μ-loop
@@ -168,7 +168,7 @@ same-length c =
     let h = c .before .loop in
     let t = s .pre .0 in
     let some = s .pre .1 .1 .0 in
-    long-c t (a .k) (a .count) (h .inv) some
+    long-c t (a .new-count) (a .count) (h .inv) some
 
 same-length-2 : tie.Need-same-length-2 Inv-loop μ-loop
 same-length-2 c =
@@ -177,7 +177,7 @@ same-length-2 c =
     let h = c .before .loop in
     let t = s .pre .0 in
     let some = s .pre .1 .1 .0 in
-    long-v t (a .k) (a .count) (h .inv) some
+    long-v t (a .new-count) (a .count) (h .inv) some
 
 same-length-3 : tie.Need-same-length-3 Inv-loop μ-loop
 same-length-3 c =
@@ -186,7 +186,7 @@ same-length-3 c =
     let h = c .before .loop in
     let t = s .pre .0 in
     let some = s .pre .1 .1 .0 in
-    long-b t (a .k) (a .count) (h .inv) some
+    long-b t (a .new-count) (a .count) (h .inv) some
 
 same-length-4 : tie.Need-same-length-4 Inv-loop μ-loop
 same-length-4 c =
@@ -195,7 +195,7 @@ same-length-4 c =
     let h = c .before .loop in
     let t = s .pre .0 in
     let some = s .pre .1 .1 .0 in
-    long-f t (a .k) (a .count) (h .inv) some
+    long-f t (a .new-count) (a .count) (h .inv) some
 
 same-length-5 : tie.Need-same-length-5 Inv-loop μ-loop
 same-length-5 c =
@@ -204,7 +204,7 @@ same-length-5 c =
     let h = c .before .loop in
     let t = s .pre .0 in
     let some = s .pre .1 .1 .0 in
-    long-n t (a .k) (a .count) (h .inv) some
+    long-n t (a .new-count) (a .count) (h .inv) some
 
 returns : tie.Need-returns Inv-loop μ-loop
 returns c =
@@ -213,7 +213,7 @@ returns c =
     let h = c .before .loop in
     let t = s .pre .0 in
     let some = s .pre .1 .1 .0 in
-    placing-end t (a .k) (a .count) (h .inv) (omega (arith, c .loop-test .left))
+    placing-end t (a .new-count) (a .count) (h .inv) (omega (arith, c .loop-test .left))
 
 pub merge-entries-spec : {M : Type 1} → statement M
 merge-entries-spec =
@@ -225,15 +225,15 @@ merge-entries-spec =
     loop-holds
     last-of-requires
     sub-w
-    slice-write-dc
-    mul-dv
-    slice-write-dv
-    mul-db
-    slice-write-db
-    mul-df
-    slice-write-df
-    mul-dn
-    slice-write-dn
+    slice-write-block-constellation
+    mul-block-svid
+    slice-write-block-svid
+    mul-block-band
+    slice-write-block-band
+    mul-block-first
+    slice-write-block-first
+    mul-block-samples
+    slice-write-block-samples
     loop-less
     loop-again
     same-length

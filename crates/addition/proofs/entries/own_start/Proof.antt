@@ -33,7 +33,7 @@ loop-less c = omega arith
 loop-again : tie.Need-loop-again Inv-loop μ-loop
 loop-again c =
     let a = c .before .before .before .before .before .before .before .args in
-    (omega arith, own-more (a .cs .now) (a .vs .now) (a .bs .now) (a .g) (c .before .before .before .loop .a) (a .j) (c .before .before .before .loop .inv .1) (c .before .before .loop-test .taken) (sym (c .before .signal-at .ensures .0) ∙ c .if1 .left))
+    (omega arith, own-more (a .new-constellation .now) (a .new-svid .now) (a .new-band .now) (a .g) (c .before .before .before .loop .a) (a .j) (c .before .before .before .loop .inv .1) (c .before .before .loop-test .taken) (sym (c .before .signal-at .ensures .0) ∙ c .if1 .left))
 
 returns-2 : tie.Need-returns-2 Inv-loop μ-loop
 returns-2 c = record { within = c .before .loop .inv .0; own = c .before .loop .inv .1; other = λ p e. absurd (omega (arith, c .loop-test .left)) }

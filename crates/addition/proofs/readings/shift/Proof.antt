@@ -1,13 +1,12 @@
 -- `addition::readings::shift` meets its contract. Assumes nothing.
 use mathlib.Core.Path.{refl}
 use native.Mathlib.Omega.{arith}
-use lib.Ieee.{nan}
 use Rattle.addition.proofs.FillLaws.{Shifting, shifting-turn, shifting-end}
 use Rattle.addition.proofs.readings.shift.Statement.{statement}
 use Rattle.addition.proofs.readings.shift.Tie as tie
 
 abbrev Inv-loop : tie.InvT-loop
-Inv-loop d₀ first count by c₀ d c = Shifting nan d₀ d first by count c
+Inv-loop d₀ first count by c₀ d c = Shifting 0 d₀ d first by count c
 
 abbrev μ-loop : tie.MeasureT-loop
 μ-loop d₀ first count by c₀ d c = c

@@ -16,22 +16,25 @@ abbrev μ-loop : tie.MeasureT-loop
 loop-holds : tie.Need-loop-holds Inv-loop μ-loop
 loop-holds c = record { from = omega arith; few = omega arith; later = λ x l m. absurd (omega arith) }
 
-sub-is-earlier : tie.Need-sub-is-earlier Inv-loop μ-loop
-sub-is-earlier c = omega arith
+sub-float : tie.Need-sub-float Inv-loop μ-loop
+sub-float c = omega arith
 
-mul-is-earlier : tie.Need-mul-is-earlier Inv-loop μ-loop
-mul-is-earlier c = search needs
+mul-float : tie.Need-mul-float Inv-loop μ-loop
+mul-float c = search needs
 
-shared-slice-read-is-earlier : tie.Need-shared-slice-read-is-earlier Inv-loop μ-loop
-shared-slice-read-is-earlier c = search needs
+shared-slice-read-float : tie.Need-shared-slice-read-float Inv-loop μ-loop
+shared-slice-read-float c = search needs
+
+float-requires : tie.Need-float-requires Inv-loop μ-loop
+float-requires c κs = search needs
 
 is-earlier-requires : tie.Need-is-earlier-requires Inv-loop μ-loop
 is-earlier-requires c κs = search needs
 
 returns : tie.Need-returns Inv-loop μ-loop
 returns c =
-    let h = c .before .before .before .before .loop in
-    record { from = h .inv .from; few = h .inv .few; later = h .inv .later; earlier = λ _. sym (c .before .is-earlier .ensures) ∙ not-true (c .before .is-earlier .result) (c .if1 .taken) }
+    let h = c .before .before .before .before .before .loop in
+    record { from = h .inv .from; few = h .inv .few; later = h .inv .later; earlier = λ _. sym (c .before .is-earlier .ensures ∙ rw (c .before .before .float .ensures)) ∙ not-true (c .before .is-earlier .result) (c .if1 .taken) }
 
 sub-p : tie.Need-sub-p Inv-loop μ-loop
 sub-p c = omega arith
@@ -40,7 +43,7 @@ loop-less : tie.Need-loop-less Inv-loop μ-loop
 loop-less c = omega arith
 
 loop-again : tie.Need-loop-again Inv-loop μ-loop
-loop-again c = staying-turn (c .before .before .before .before .loop .inv) (c .before .before .before .loop-test .taken) (sym (c .before .is-earlier .ensures) ∙ not-false (c .before .is-earlier .result) (c .if1 .left))
+loop-again c = staying-turn (c .before .before .before .before .before .loop .inv) (c .before .before .before .before .loop-test .taken) (sym (c .before .is-earlier .ensures ∙ rw (c .before .before .float .ensures)) ∙ not-false (c .before .is-earlier .result) (c .if1 .left))
 
 returns-2 : tie.Need-returns-2 Inv-loop μ-loop
 returns-2 c =
@@ -54,9 +57,10 @@ times-stay-spec =
     Inv-loop
     μ-loop
     loop-holds
-    sub-is-earlier
-    mul-is-earlier
-    shared-slice-read-is-earlier
+    sub-float
+    mul-float
+    shared-slice-read-float
+    float-requires
     is-earlier-requires
     returns
     sub-p

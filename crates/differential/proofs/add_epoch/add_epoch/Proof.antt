@@ -2,7 +2,7 @@
 use native.Mathlib.Omega.{arith}
 use mathlib.Core.Path.{refl, sym, ap, _∙_}
 use Prim.Native.Nat.{ℕ}
-use Rattle.directory.specs.Directory.{Blocks, blockCapacity, directoryIn, lentBlocks}
+use Rattle.directory.specs.Directory.{Blocks, blockCapacity, directoryIn, floats, lentBlocks}
 use Rattle.differential.specs.AddEpoch.{recordsTest}
 use Rattle.differential.proofs.TestLaws.{passed-records}
 use Rattle.differential.proofs.EpochLaws.{epoch-holds, placed-passed, placed-refused, told-nothing, told-same}
@@ -11,10 +11,10 @@ use Rattle.differential.proofs.add_epoch.add_epoch.Statement.{statement
 use Rattle.differential.proofs.add_epoch.add_epoch.Tie as tie
 
 abbrev blocks : tie.Start → Blocks
-blocks s = lentBlocks (s .args .dc .now) (s .args .dv .now) (s .args .db .now) (s .args .df .now) (s .args .dn .now) (s .args .ts .now) (s .args .xs .now)
+blocks s = lentBlocks (s .args .block-constellation .now) (s .args .block-svid .now) (s .args .block-band .now) (s .args .block-first .now) (s .args .block-samples .now) (floats (s .args .table-time .now)) (floats (s .args .table-metres .now))
 
-block-capacity-requires : tie.Need-block-capacity-requires
-block-capacity-requires c κs = search needs
+capacity-of-requires : tie.Need-capacity-of-requires
+capacity-of-requires c κs = search needs
 
 records-tested-requires : tie.Need-records-tested-requires
 records-tested-requires c κs = search needs
@@ -66,29 +66,29 @@ returns c =
     let s = t .before .before .before .before .before .before .before .before .before .before .before .before .before .before .before .before in
     let a = s .args in
     let l = blocks s in
-    let q = sym (c .before .test .given .1) ∙ t .records-tested .ensures ∙ ap (λ (k : ℕ). recordsTest (a .m) (a .n) k (a .epoch) (a .states) (a .base) (a .rover) (a .settings)) (t .before .block-capacity .ensures) in
-    told-nothing _ (a .m) (a .n) l (placed-refused (a .m) (a .n) (blockCapacity l) (directoryIn (a .m) (a .n) l) (a .epoch) (a .states) (a .base) (a .rover) (a .settings) _ q)
+    let q = sym (c .before .test .given .1) ∙ t .records-tested .ensures ∙ ap (λ (k : ℕ). recordsTest (a .blocks) (a .table-count) k (a .epoch) (a .states) (a .base) (a .rover) (a .settings)) (t .before .capacity-of .ensures) in
+    told-nothing _ (a .blocks) (a .table-count) l (a .table-time .now) (a .table-metres .now) (placed-refused (a .blocks) (a .table-count) (blockCapacity l) (directoryIn (a .blocks) (a .table-count) l) (a .epoch) (a .states) (a .base) (a .rover) (a .settings) _ q)
 
 same-length-8 : tie.Need-same-length-8
-same-length-8 c = c .before .before .before .before .before .before .before .before .before .before .before .before .before .dc .given
+same-length-8 c = c .before .before .before .before .before .before .before .before .before .before .before .before .before .block-constellation .given
 
 same-length-9 : tie.Need-same-length-9
-same-length-9 c = c .before .before .before .before .before .before .before .before .before .before .before .dv .given
+same-length-9 c = c .before .before .before .before .before .before .before .before .before .before .before .block-svid .given
 
 same-length-10 : tie.Need-same-length-10
-same-length-10 c = c .before .before .before .before .before .before .before .before .before .db .given
+same-length-10 c = c .before .before .before .before .before .before .before .before .before .block-band .given
 
 same-length-11 : tie.Need-same-length-11
-same-length-11 c = c .before .before .before .before .before .before .before .df .given
+same-length-11 c = c .before .before .before .before .before .before .before .block-first .given
 
 same-length-12 : tie.Need-same-length-12
-same-length-12 c = c .before .before .before .before .before .dn .given
+same-length-12 c = c .before .before .before .before .before .block-samples .given
 
 same-length-13 : tie.Need-same-length-13
-same-length-13 c = c .before .before .before .ts .given
+same-length-13 c = c .before .before .before .table-time .given
 
 same-length-14 : tie.Need-same-length-14
-same-length-14 c = c .before .xs .given
+same-length-14 c = c .before .table-metres .given
 
 returns-2 : tie.Need-returns-2
 returns-2 c =
@@ -98,15 +98,15 @@ returns-2 c =
     let s = t .before .before .before .before .before .before .before .before .before .before .before .before .before .before .before .before in
     let a = s .args in
     let l = blocks s in
-    let q = sym (v .before .before .before .enum-told .given .1) ∙ t .records-tested .ensures ∙ ap (λ (k : ℕ). recordsTest (a .m) (a .n) k (a .epoch) (a .states) (a .base) (a .rover) (a .settings)) (t .before .block-capacity .ensures) in
+    let q = sym (v .before .before .before .enum-told .given .1) ∙ t .records-tested .ensures ∙ ap (λ (k : ℕ). recordsTest (a .blocks) (a .table-count) k (a .epoch) (a .states) (a .base) (a .rover) (a .settings)) (t .before .capacity-of .ensures) in
     let h = epoch-holds (a .epoch) (a .states) (a .base) (a .rover) (a .settings) _ (v .before .before .states-count .ensures) _ (v .before .raws-of .ensures) _ (v .samples-of .ensures) in
-    told-same (placed-passed (a .m) (a .n) (blockCapacity l) (directoryIn (a .m) (a .n) l) (a .epoch) (a .states) (a .base) (a .rover) (a .settings) (passed-records _ _ _ _ _ _ _ _ q) _ h) (z .add .ensures)
+    told-same (a .table-time .now) (a .table-metres .now) _ _ (placed-passed (a .blocks) (a .table-count) (blockCapacity l) (directoryIn (a .blocks) (a .table-count) l) (a .epoch) (a .states) (a .base) (a .rover) (a .settings) (passed-records _ _ _ _ _ _ _ _ q) _ h) (z .add .ensures)
 
 pub add-epoch-spec : {M : Type 1} → statement M
 add-epoch-spec =
     tie.close
     (tie.spec
-    block-capacity-requires
+    capacity-of-requires
     records-tested-requires
     enum-known-test
     enum-told

@@ -32,13 +32,13 @@ returns-3 : tie.Need-returns-3
 returns-3 c = test-places _ _ _ _ _ _ _ _ _ (c .before .before .before .before .before .before .before .before .states-count .ensures) (c .before .before .before .before .before .before .before .if1 .left) (c .before .before .before .before .before .before .in-range .ensures) (c .before .before .before .before .before .in-range2 .ensures) (c .before .before .before .before .if2 .left) (c .before .before .before .place-in-range .ensures) (c .before .before .place-in-range2 .ensures) (c .before .in-range3 .ensures) (c .if3 .taken)
 
 ranges-in-range-requires : tie.Need-ranges-in-range-requires
-ranges-in-range-requires c κs = few-ranges (c .before .before .before .before .before .before .before .before .before .args .m) (c .before .before .before .before .before .before .before .before .before .args .n) (c .before .before .before .before .before .before .before .before .before .args .room) (c .before .before .before .before .before .before .before .before .before .args .epoch) (c .before .before .before .before .before .before .before .before .before .args .states) (c .before .before .before .before .before .before .before .before .before .args .base) (c .before .before .before .before .before .before .before .before .before .args .rover) (c .before .before .before .before .before .before .before .before .before .args .settings) _ (c .before .before .before .before .before .before .before .before .states-count .ensures) (c .before .before .before .before .before .before .before .if1 .left)
+ranges-in-range-requires c κs = few-ranges (c .before .before .before .before .before .before .before .before .before .args .blocks) (c .before .before .before .before .before .before .before .before .before .args .table-count) (c .before .before .before .before .before .before .before .before .before .args .room) (c .before .before .before .before .before .before .before .before .before .args .epoch) (c .before .before .before .before .before .before .before .before .before .args .states) (c .before .before .before .before .before .before .before .before .before .args .base) (c .before .before .before .before .before .before .before .before .before .args .rover) (c .before .before .before .before .before .before .before .before .before .args .settings) _ (c .before .before .before .before .before .before .before .before .states-count .ensures) (c .before .before .before .before .before .before .before .if1 .left)
 
 returns-4 : tie.Need-returns-4
 returns-4 c = test-ranges _ _ _ _ _ _ _ _ _ (c .before .before .before .before .before .before .before .before .before .before .states-count .ensures) (c .before .before .before .before .before .before .before .before .before .if1 .left) (c .before .before .before .before .before .before .before .before .in-range .ensures) (c .before .before .before .before .before .before .before .in-range2 .ensures) (c .before .before .before .before .before .before .if2 .left) (c .before .before .before .before .before .place-in-range .ensures) (c .before .before .before .before .place-in-range2 .ensures) (c .before .before .before .in-range3 .ensures) (c .before .before .if3 .left) (c .before .ranges-in-range .ensures) (c .if4 .taken)
 
 states-in-range-requires : tie.Need-states-in-range-requires
-states-in-range-requires c κs = few-states (c .before .before .before .before .before .before .before .before .before .before .before .args .m) (c .before .before .before .before .before .before .before .before .before .before .before .args .n) (c .before .before .before .before .before .before .before .before .before .before .before .args .room) (c .before .before .before .before .before .before .before .before .before .before .before .args .epoch) (c .before .before .before .before .before .before .before .before .before .before .before .args .states) (c .before .before .before .before .before .before .before .before .before .before .before .args .base) (c .before .before .before .before .before .before .before .before .before .before .before .args .rover) (c .before .before .before .before .before .before .before .before .before .before .before .args .settings) _ (c .before .before .before .before .before .before .before .before .before .before .states-count .ensures) (c .before .before .before .before .before .before .before .before .before .if1 .left)
+states-in-range-requires c κs = few-states (c .before .before .before .before .before .before .before .before .before .before .before .args .blocks) (c .before .before .before .before .before .before .before .before .before .before .before .args .table-count) (c .before .before .before .before .before .before .before .before .before .before .before .args .room) (c .before .before .before .before .before .before .before .before .before .before .before .args .epoch) (c .before .before .before .before .before .before .before .before .before .before .before .args .states) (c .before .before .before .before .before .before .before .before .before .before .before .args .base) (c .before .before .before .before .before .before .before .before .before .before .before .args .rover) (c .before .before .before .before .before .before .before .before .before .before .before .args .settings) _ (c .before .before .before .before .before .before .before .before .before .before .states-count .ensures) (c .before .before .before .before .before .before .before .before .before .if1 .left)
 
 returns-5 : tie.Need-returns-5
 returns-5 c = test-states _ _ _ _ _ _ _ _ _ (c .before .before .before .before .before .before .before .before .before .before .before .before .states-count .ensures) (c .before .before .before .before .before .before .before .before .before .before .before .if1 .left) (c .before .before .before .before .before .before .before .before .before .before .in-range .ensures) (c .before .before .before .before .before .before .before .before .before .in-range2 .ensures) (c .before .before .before .before .before .before .before .before .if2 .left) (c .before .before .before .before .before .before .before .place-in-range .ensures) (c .before .before .before .before .before .before .place-in-range2 .ensures) (c .before .before .before .before .before .in-range3 .ensures) (c .before .before .before .before .if3 .left) (c .before .before .before .ranges-in-range .ensures) (c .before .before .if4 .left) (c .before .states-in-range .ensures) (c .if5 .taken)

@@ -29,7 +29,7 @@ same-length-4 : tie.Need-same-length-4
 same-length-4 c = search needs
 
 returns : tie.Need-returns
-returns c = call-refused (c .before .before .before .before .before .before .before .before .before .before .before .before .forget .ensures .1) (c .before .before .answer .given .1) (c .number .ensures)
+returns c = (call-refused (c .before .before .before .before .before .before .before .before .before .before .before .before .forget .ensures .1 .0) (c .before .before .answer .given .1) (c .number .ensures), c .before .before .before .before .before .before .before .before .before .before .before .before .forget .ensures .1 .1)
 
 same-length-5 : tie.Need-same-length-5
 same-length-5 c = search needs
@@ -44,7 +44,7 @@ same-length-8 : tie.Need-same-length-8
 same-length-8 c = search needs
 
 returns-2 : tie.Need-returns-2
-returns-2 c = call-count (c .before .before .before .before .before .before .before .before .before .before .before .forget .ensures .1) (c .before .answer2 .given .1)
+returns-2 c = (call-count (c .before .before .before .before .before .before .before .before .before .before .before .forget .ensures .1 .0) (c .before .answer2 .given .1), c .before .before .before .before .before .before .before .before .before .before .before .forget .ensures .1 .1)
 
 pub forget-call-spec : {M : Type 1} → statement M
 forget-call-spec =

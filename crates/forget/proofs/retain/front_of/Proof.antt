@@ -1,13 +1,17 @@
 -- `forget::retain::front_of` meets its contract. Assumes nothing.
-use Prim.Native.Nat.{_-_}
+use Prim.Native.Nat.{_+_, _-_}
 use native.Mathlib.Omega.{arith}
 use borrow.Author.Tests.{not-true, not-false}
+use mathlib.Core.Path.{sym, ap, _∙_}
+use lib.Ieee.{Float, lt}
+use Rattle.directory.specs.Directory.{floats}
+use Rattle.directory.proofs.PatternLaws.{floats-at}
 use Rattle.forget.proofs.MoveLaws.{PassedFront, passed-none, passed-more, passed-stop, passed-all}
 use Rattle.forget.proofs.retain.front_of.Statement.{statement}
 use Rattle.forget.proofs.retain.front_of.Tie as tie
 
 abbrev Inv-loop : tie.InvT-loop
-Inv-loop ts first count time k₀ k = PassedFront ts first count time k
+Inv-loop ts first count time k₀ k = PassedFront (floats ts) first count time k
 
 abbrev μ-loop : tie.MeasureT-loop
 μ-loop ts first count time k₀ k = count - k
@@ -15,17 +19,24 @@ abbrev μ-loop : tie.MeasureT-loop
 loop-holds : tie.Need-loop-holds Inv-loop μ-loop
 loop-holds c = passed-none
 
-add-t : tie.Need-add-t Inv-loop μ-loop
-add-t c = omega arith
+add-number : tie.Need-add-number Inv-loop μ-loop
+add-number c = omega (arith, c .before .before .before .pre .inside)
 
-mul-t : tie.Need-mul-t Inv-loop μ-loop
-mul-t c = omega arith
+mul-number : tie.Need-mul-number Inv-loop μ-loop
+mul-number c = omega (arith, c .before .before .before .pre .inside)
 
-shared-slice-read-t : tie.Need-shared-slice-read-t Inv-loop μ-loop
-shared-slice-read-t c = omega arith
+shared-slice-read-number : tie.Need-shared-slice-read-number Inv-loop μ-loop
+shared-slice-read-number c = omega (arith, c .before .before .before .before .pre .inside)
+
+number-requires : tie.Need-number-requires Inv-loop μ-loop
+number-requires c κs = let s = c .before .before .before .before in s .pre .numbers _ (omega arith) (omega arith)
 
 returns : tie.Need-returns Inv-loop μ-loop
-returns c = passed-stop (c .before .before .before .loop .inv) (not-true _ (c .if1 .taken))
+returns c =
+    let s = c .before .before .before .before .before .before in
+    let h = c .before .before .before .before .loop in
+    let e = c .before .number .ensures ∙ sym (floats-at (s .args .table-time .now) (s .args .first + h .k) (omega (arith, c .before .before .before .loop-test .taken, s .pre .inside))) in
+    passed-stop (h .inv) (ap (λ (x : Float). lt x (s .args .time)) (sym e) ∙ not-true _ (c .if1 .taken))
 
 add-k : tie.Need-add-k Inv-loop μ-loop
 add-k c = omega arith
@@ -34,7 +45,11 @@ loop-less : tie.Need-loop-less Inv-loop μ-loop
 loop-less c = omega arith
 
 loop-again : tie.Need-loop-again Inv-loop μ-loop
-loop-again c = passed-more (c .before .before .before .loop .inv) (c .before .before .loop-test .taken) (not-false _ (c .if1 .left))
+loop-again c =
+    let s = c .before .before .before .before .before .before in
+    let h = c .before .before .before .before .loop in
+    let e = c .before .number .ensures ∙ sym (floats-at (s .args .table-time .now) (s .args .first + h .k) (omega (arith, c .before .before .before .loop-test .taken, s .pre .inside))) in
+    passed-more (h .inv) (c .before .before .before .loop-test .taken) (ap (λ (x : Float). lt x (s .args .time)) (sym e) ∙ not-false _ (c .if1 .left))
 
 returns-2 : tie.Need-returns-2 Inv-loop μ-loop
 returns-2 c = passed-all (c .before .loop .inv) (c .loop-test .left)
@@ -46,9 +61,10 @@ front-of-spec =
     Inv-loop
     μ-loop
     loop-holds
-    add-t
-    mul-t
-    shared-slice-read-t
+    add-number
+    mul-number
+    shared-slice-read-number
+    number-requires
     returns
     add-k
     loop-less

@@ -2,7 +2,6 @@
 use mathlib.Core.Path.{_≡_}
 use Prim.Native.Nat.{_-_, _≤_}
 use native.Mathlib.Omega.{arith}
-use lib.Ieee.{nan}
 use Rattle.forget.proofs.MoveLaws.{Moving, moving-start, moving-turn, moving-end}
 use Rattle.forget.proofs.retain.move_down.Statement.{statement}
 use Rattle.forget.proofs.retain.move_down.Tie as tie
@@ -34,23 +33,23 @@ mul-x c = omega (arith, c .before .before .loop .inv .1 .1 .long, c .before .bef
 slice-read-x : tie.Need-slice-read-x Inv-loop μ-loop
 slice-read-x c = omega (arith, c .before .before .before .loop .inv .1 .1 .long, c .before .before .before .before .pre)
 
-add-ts : tie.Need-add-ts Inv-loop μ-loop
-add-ts c = omega (arith, c .before .before .before .loop .inv .1 .0 .long, c .before .before .before .before .pre)
+add-table-time : tie.Need-add-table-time Inv-loop μ-loop
+add-table-time c = omega (arith, c .before .before .before .loop .inv .1 .0 .long, c .before .before .before .before .pre)
 
-mul-ts : tie.Need-mul-ts Inv-loop μ-loop
-mul-ts c = omega (arith, c .before .before .before .loop .inv .1 .0 .long, c .before .before .before .before .pre)
+mul-table-time : tie.Need-mul-table-time Inv-loop μ-loop
+mul-table-time c = omega (arith, c .before .before .before .loop .inv .1 .0 .long, c .before .before .before .before .pre)
 
-slice-write-ts : tie.Need-slice-write-ts Inv-loop μ-loop
-slice-write-ts c = omega (arith, c .before .before .before .loop .inv .1 .0 .long, c .before .before .before .before .pre)
+slice-write-table-time : tie.Need-slice-write-table-time Inv-loop μ-loop
+slice-write-table-time c = omega (arith, c .before .before .before .loop .inv .1 .0 .long, c .before .before .before .before .pre)
 
-add-xs : tie.Need-add-xs Inv-loop μ-loop
-add-xs c = omega (arith, c .before .before .before .loop .inv .1 .1 .long, c .before .before .before .before .pre)
+add-table-metres : tie.Need-add-table-metres Inv-loop μ-loop
+add-table-metres c = omega (arith, c .before .before .before .loop .inv .1 .1 .long, c .before .before .before .before .pre)
 
-mul-xs : tie.Need-mul-xs Inv-loop μ-loop
-mul-xs c = omega (arith, c .before .before .before .loop .inv .1 .1 .long, c .before .before .before .before .pre)
+mul-table-metres : tie.Need-mul-table-metres Inv-loop μ-loop
+mul-table-metres c = omega (arith, c .before .before .before .loop .inv .1 .1 .long, c .before .before .before .before .pre)
 
-slice-write-xs : tie.Need-slice-write-xs Inv-loop μ-loop
-slice-write-xs c = omega (arith, c .before .before .before .loop .inv .1 .1 .long, c .before .before .before .before .pre)
+slice-write-table-metres : tie.Need-slice-write-table-metres Inv-loop μ-loop
+slice-write-table-metres c = omega (arith, c .before .before .before .loop .inv .1 .1 .long, c .before .before .before .before .pre)
 
 add-i : tie.Need-add-i Inv-loop μ-loop
 add-i c = omega (arith, c .before .before .before .loop .inv .1 .0 .long, c .before .before .before .before .pre)
@@ -62,7 +61,7 @@ loop-again : tie.Need-loop-again Inv-loop μ-loop
 loop-again c =
     let s = c .before .before .before .before in
     let h = c .before .before .before .loop in
-    (omega arith, (moving-turn (h .inv .1 .0) nan (s .pre .0) (omega (arith, s .pre)), moving-turn (h .inv .1 .1) nan (s .pre .0) (omega (arith, s .pre))))
+    (omega arith, (moving-turn (h .inv .1 .0) 0 (s .pre .0) (omega (arith, s .pre)), moving-turn (h .inv .1 .1) 0 (s .pre .0) (omega (arith, s .pre))))
 
 same-length : tie.Need-same-length Inv-loop μ-loop
 same-length c = c .before .loop .inv .1 .0 .long
@@ -89,12 +88,12 @@ move-down-spec =
     add-x
     mul-x
     slice-read-x
-    add-ts
-    mul-ts
-    slice-write-ts
-    add-xs
-    mul-xs
-    slice-write-xs
+    add-table-time
+    mul-table-time
+    slice-write-table-time
+    add-table-metres
+    mul-table-metres
+    slice-write-table-metres
     add-i
     loop-less
     loop-again

@@ -1,4 +1,5 @@
 -- `query_calls::calls::query_call` meets its contract. Assumes nothing.
+use mathlib.Core.Path.{refl}
 use borrow.Author.Needs.{needs}
 use Rattle.query_calls.proofs.CallLaws.{one-refused, one-given, one-kept}
 use Rattle.query_calls.proofs.calls.query_call.Statement.{statement}
@@ -37,17 +38,14 @@ enum-told c = search needs
 array-read-number : tie.Need-array-read-number
 array-read-number c = search needs
 
-array-read-pattern : tie.Need-array-read-pattern
-array-read-pattern c = search needs
-
-pattern-requires : tie.Need-pattern-requires
-pattern-requires c κs = search needs
+array-read-metres : tie.Need-array-read-metres
+array-read-metres c = search needs
 
 returns : tie.Need-returns
 returns c = one-refused _ _ _ _ _ _ _ _ _ _ _ _ _ (c .before .before .answer .given .1) (c .number .ensures) (c .before .before .before .before .before .before .queries .ensures .0)
 
 returns-2 : tie.Need-returns-2
-returns-2 c = one-given _ _ _ _ _ _ _ _ _ _ _ _ _ (c .before .before .enum-told .given .1) (c .before .before .before .before .before .before .queries .ensures) _ (c .before .if1 .taken) (c .pattern .ensures)
+returns-2 c = one-given _ _ _ _ _ _ _ _ _ _ _ _ _ (c .before .enum-told .given .1) (c .before .before .before .before .before .queries .ensures) _ (c .if1 .taken) refl
 
 returns-3 : tie.Need-returns-3
 returns-3 c = one-kept _ _ _ _ _ _ _ _ _ _ _ _ _ (c .before .enum-told .given .1) (c .before .before .before .before .before .queries .ensures) _ (c .if1 .left)
@@ -67,8 +65,7 @@ query-call-spec =
     number-requires
     enum-told
     array-read-number
-    array-read-pattern
-    pattern-requires
+    array-read-metres
     returns
     returns-2
     returns-3)

@@ -48,14 +48,14 @@ number-of-requires c κs = search needs
 slice-write-numbers : tie.Need-slice-write-numbers Inv-loop μ-loop
 slice-write-numbers c = let l = not-short _ _ _ _ _ _ _ (c .before .before .before .before .before .before .before .before .before .before .before .before .before .before .before .before .before .before .before .before .before .pre .1) in let e = filling-numbers _ _ _ _ _ _ _ (c .before .before .before .before .before .before .before .loop .inv) in omega (arith, c .before .before .before .before .before .before .before .before .before .before .before .before .before .before .before .before .before .before .before .before .before, c .before .before .before .before .before .before .loop-test .taken, l .in-numbers, e)
 
-mul-metres-of : tie.Need-mul-metres-of Inv-loop μ-loop
-mul-metres-of c = let l = not-short _ _ _ _ _ _ _ (c .before .before .before .before .before .before .before .before .before .before .before .before .before .before .before .before .before .before .before .before .before .pre .1) in let e = filling-metres _ _ _ _ _ _ _ (c .before .before .before .before .before .before .before .loop .inv) in omega (arith, c .before .before .before .before .before .before .before .before .before .before .before .before .before .before .before .before .before .before .before .before .before, c .before .before .before .before .before .before .loop-test .taken, l .in-metres, e)
+mul-pattern-of : tie.Need-mul-pattern-of Inv-loop μ-loop
+mul-pattern-of c = let l = not-short _ _ _ _ _ _ _ (c .before .before .before .before .before .before .before .before .before .before .before .before .before .before .before .before .before .before .before .before .before .pre .1) in let e = filling-metres _ _ _ _ _ _ _ (c .before .before .before .before .before .before .before .loop .inv) in omega (arith, c .before .before .before .before .before .before .before .before .before .before .before .before .before .before .before .before .before .before .before .before .before, c .before .before .before .before .before .before .loop-test .taken, l .in-metres, e)
 
-slice-read-metres-of : tie.Need-slice-read-metres-of Inv-loop μ-loop
-slice-read-metres-of c = let l = not-short _ _ _ _ _ _ _ (c .before .before .before .before .before .before .before .before .before .before .before .before .before .before .before .before .before .before .before .before .before .before .pre .1) in let e = filling-metres _ _ _ _ _ _ _ (c .before .before .before .before .before .before .before .before .loop .inv) in omega (arith, c .before .before .before .before .before .before .before .before .before .before .before .before .before .before .before .before .before .before .before .before .before .before, c .before .before .before .before .before .before .before .loop-test .taken, l .in-metres, e)
+slice-read-pattern-of : tie.Need-slice-read-pattern-of Inv-loop μ-loop
+slice-read-pattern-of c = let l = not-short _ _ _ _ _ _ _ (c .before .before .before .before .before .before .before .before .before .before .before .before .before .before .before .before .before .before .before .before .before .before .pre .1) in let e = filling-metres _ _ _ _ _ _ _ (c .before .before .before .before .before .before .before .before .loop .inv) in omega (arith, c .before .before .before .before .before .before .before .before .before .before .before .before .before .before .before .before .before .before .before .before .before .before, c .before .before .before .before .before .before .before .loop-test .taken, l .in-metres, e)
 
-metres-of-requires : tie.Need-metres-of-requires Inv-loop μ-loop
-metres-of-requires c κs = search needs
+pattern-of-requires : tie.Need-pattern-of-requires Inv-loop μ-loop
+pattern-of-requires c κs = search needs
 
 mul-metres : tie.Need-mul-metres Inv-loop μ-loop
 mul-metres c = let l = not-short _ _ _ _ _ _ _ (c .before .before .before .before .before .before .before .before .before .before .before .before .before .before .before .before .before .before .before .before .before .before .before .pre .1) in let e = filling-metres _ _ _ _ _ _ _ (c .before .before .before .before .before .before .before .before .before .loop .inv) in omega (arith, c .before .before .before .before .before .before .before .before .before .before .before .before .before .before .before .before .before .before .before .before .before .before .before, c .before .before .before .before .before .before .before .before .loop-test .taken, l .in-metres, e)
@@ -70,7 +70,7 @@ loop-less : tie.Need-loop-less Inv-loop μ-loop
 loop-less c = omega (arith, c .before .before .before .before .before .before .before .before .loop-test .taken)
 
 loop-again : tie.Need-loop-again Inv-loop μ-loop
-loop-again c = filling-next _ _ _ _ _ _ _ (c .before .before .before .before .before .before .before .before .before .loop .inv) (c .before .before .before .before .before .before .before .before .loop-test .taken) _ _ _ (c .before .before .before .answer-of .ensures .0) (c .before .before .before .answer-of .ensures .1) (c .before .before .number-of .ensures) (c .metres-of .ensures)
+loop-again c = filling-next _ _ _ _ _ _ _ (c .before .before .before .before .before .before .before .before .before .loop .inv) (c .before .before .before .before .before .before .before .before .loop-test .taken) _ _ _ (c .before .before .before .answer-of .ensures .0) (c .before .before .before .answer-of .ensures .1) (c .before .before .number-of .ensures) (c .pattern-of .ensures)
 
 same-length : tie.Need-same-length Inv-loop μ-loop
 same-length c = filling-numbers _ _ _ _ _ _ _ (c .before .loop .inv)
@@ -98,9 +98,9 @@ fill-spec =
     answer-of-requires
     number-of-requires
     slice-write-numbers
-    mul-metres-of
-    slice-read-metres-of
-    metres-of-requires
+    mul-pattern-of
+    slice-read-pattern-of
+    pattern-of-requires
     mul-metres
     slice-write-metres
     add-i

@@ -37,7 +37,7 @@ returns-3 : tie.Need-returns-3
 returns-3 c = refused-reply _ _ _ (gap-out _ _ _ _ _ _ _ _ _ _ _ _ (rw (c .before .before .before .before .before .before .before .block-capacity .ensures) at (c .before .before .before .before .before .before .if1 .left)) (c .before .before .before .is-short .ensures) (c .before .before .if2 .left) (c .before .in-range .ensures) (c .if3 .taken))
 
 is-sound-directory-requires : tie.Need-is-sound-directory-requires
-is-sound-directory-requires c κs = let a = c .before .before .before .before .before .before .before .before .before .before .before .before .before .before .before .before .before .before .before .before .before .args in roomy (a .m) (a .n) (c .before .before .before .before .before .before .before .block-capacity .result) _ (c .before .before .before .before .before .before .before .block-capacity .ensures) (c .before .before .before .before .before .before .if1 .left)
+is-sound-directory-requires c κs = let a = c .before .before .before .before .before .before .before .before .before .before .before .before .before .before .before .before .before .before .before .before .before .args in roomy (a .blocks) (a .table-count) (c .before .before .before .before .before .before .before .block-capacity .result) _ (c .before .before .before .before .before .before .before .block-capacity .ensures) (c .before .before .before .before .before .before .if1 .left)
 
 same-length-5 : tie.Need-same-length-5
 same-length-5 c = search needs

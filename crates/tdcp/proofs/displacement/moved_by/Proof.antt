@@ -1,5 +1,5 @@
 -- `tdcp::displacement::moved_by` meets its contract. Assumes nothing.
-use mathlib.Core.Path.{_≡_, sym, _∙_}
+use mathlib.Core.Path.{_≡_, refl, sym, ap₂, _∙_}
 use native.Mathlib.Omega.{arith}
 use lib.ListN.{length, take, length-take}
 use lib.Seq.{length-take-le}
@@ -9,8 +9,11 @@ use Rattle.estimator.specs.declared.rules.Check.the-variants.{Passed}
 use Rattle.estimator.proofs.RulesLaws.{checked}
 use Rattle.tdcp.specs.Front.{sightRules}
 use Rattle.tdcp.proofs.SightLaws.{all-seen, one-unseen}
-use Rattle.tdcp.proofs.DisplacementCall.{refused-sights, no-more, refused-counts, few-clocks, over}
+use Rattle.tdcp.specs.Rows.{answerBy, qualityBy}
+use Rattle.tdcp.proofs.RatedLaws.{refused-as}
+use Rattle.tdcp.proofs.DisplacementCall.{refused-sights, no-more, refused-counts, few-clocks, over, quality-over}
 use borrow.Author.Needs.{needs}
+use Rattle.records.specs.City.{isCity}
 use Rattle.tdcp.proofs.displacement.moved_by.Statement.{statement}
 use Rattle.tdcp.proofs.displacement.moved_by.Tie as tie
 
@@ -26,7 +29,7 @@ keep-into-requires : tie.Need-keep-into-requires
 keep-into-requires c κs = search needs
 
 returns : tie.Need-returns
-returns c = let t = c .before .before .before .before .before .before .before .before in let s = t .args in refused-sights (s .city) (s .settings) (take (s .all .count) (s .all .pair)) (one-unseen _ (t .pre .1) (not-true (s .all .seen) (c .if1 .taken)))
+returns c = let t = c .before .before .before .before .before .before .before .before in let s = t .args in refused-as (s .wanted) (qualityBy (s .settings) (take (s .all .count) (s .all .pair))) (refused-sights (isCity (s .profile)) (s .settings) (take (s .all .count) (s .all .pair)) (one-unseen _ (t .pre .1) (not-true (s .all .seen) (c .if1 .taken))))
 
 array-share-prefix-constellation : tie.Need-array-share-prefix-constellation
 array-share-prefix-constellation c = search needs
@@ -53,7 +56,7 @@ enum-known-r : tie.Need-enum-known-r
 enum-known-r c = search needs
 
 returns-2 : tie.Need-returns-2
-returns-2 c = let t = c .before .before .before .before .before .before .before .before .before .before .before .before .before .before .before .before in let s = t .args in let k = c .before .before .before .before .before .before .before .before .before .keep-into .ensures in refused-counts (s .city) (s .settings) (take (s .all .count) (s .all .pair)) (s .all .count) (long t) (let-pass (c .before .before .before .before .before .before .before .before)) _ k (c .before .before .before .before .before .before .clocks-of .ensures) (c .before .before .before .before .is-uncertified .ensures) (sym (c .before .r .given .1) ∙ c .before .before .before .check-pairs .ensures)
+returns-2 c = let t = c .before .before .before .before .before .before .before .before .before .before .before .before .before .before .before .before in let s = t .args in let k = c .before .before .before .before .before .before .before .before .before .keep-into .ensures in refused-as (s .wanted) (qualityBy (s .settings) (take (s .all .count) (s .all .pair))) (refused-counts (isCity (s .profile)) (s .settings) (take (s .all .count) (s .all .pair)) (s .all .count) (long t) (let-pass (c .before .before .before .before .before .before .before .before)) _ k (c .before .before .before .before .before .before .clocks-of .ensures) (c .before .before .before .before .is-uncertified .ensures) (sym (c .before .r .given .1) ∙ c .before .before .before .check-pairs .ensures))
 
 enum-told : tie.Need-enum-told
 enum-told c = search needs
@@ -69,21 +72,21 @@ sub-moved-over c =
     let t = c .before .before .before .before .before .before .before .before .before .before .before .before .before .before .before .before .before .before .before .before .before in
     let s = t .args in
     let k = c .before .before .before .before .before .before .before .before .before .before .before .before .before .before .keep-into .ensures in
-    no-more (s .city) (s .settings) (take (s .all .count) (s .all .pair)) (s .all .count) (long t) (let-pass (c .before .before .before .before .before .before .before .before .before .before .before .before .before)) _ k (c .before .before .before .before .before .before .before .before .before .before .before .clocks-of .ensures) (c .before .before .before .before .before .before .before .before .before .is-uncertified .ensures)
+    no-more (isCity (s .profile)) (s .settings) (take (s .all .count) (s .all .pair)) (s .all .count) (long t) (let-pass (c .before .before .before .before .before .before .before .before .before .before .before .before .before)) _ k (c .before .before .before .before .before .before .before .before .before .before .before .clocks-of .ensures) (c .before .before .before .before .before .before .before .before .before .is-uncertified .ensures)
 
 moved-over-requires : tie.Need-moved-over-requires
 moved-over-requires c κs =
     let t = c .before .before .before .before .before .before .before .before .before .before .before .before .before .before .before .before .before .before .before .before .before in
     let s = t .args in
     let k = c .before .before .before .before .before .before .before .before .before .before .before .before .before .before .keep-into .ensures in
-    (simp length-take (omega (arith, k .room)), few-clocks (s .city) (s .settings) (take (s .all .count) (s .all .pair)) (s .all .count) (long t) (let-pass (c .before .before .before .before .before .before .before .before .before .before .before .before .before)) _ k (c .before .before .before .before .before .before .before .before .before .before .before .clocks-of .ensures) (c .before .before .before .before .before .before .before .before .before .is-uncertified .ensures) (sym (c .before .before .before .before .before .before .enum-told .given .1) ∙ c .before .before .before .before .before .before .before .before .check-pairs .ensures))
+    (simp length-take (omega (arith, k .room)), few-clocks (isCity (s .profile)) (s .settings) (take (s .all .count) (s .all .pair)) (s .all .count) (long t) (let-pass (c .before .before .before .before .before .before .before .before .before .before .before .before .before)) _ k (c .before .before .before .before .before .before .before .before .before .before .before .clocks-of .ensures) (c .before .before .before .before .before .before .before .before .before .is-uncertified .ensures) (sym (c .before .before .before .before .before .before .enum-told .given .1) ∙ c .before .before .before .before .before .before .before .before .check-pairs .ensures))
 
 returns-3 : tie.Need-returns-3
 returns-3 c =
     let t = c .before .before .before .before .before .before .before .before .before .before .before .before .before .before .before .before .before .before .before .before .before .before in
     let s = t .args in
     let k = c .before .before .before .before .before .before .before .before .before .before .before .before .before .before .before .keep-into .ensures in
-    over (s .city) (s .settings) (take (s .all .count) (s .all .pair)) (s .all .count) (long t) (let-pass (c .before .before .before .before .before .before .before .before .before .before .before .before .before .before)) _ k (c .before .before .before .before .before .before .before .before .before .before .before .before .clocks-of .ensures) (c .before .before .before .before .before .before .before .before .before .before .is-uncertified .ensures) (sym (c .before .before .before .before .before .before .before .enum-told .given .1) ∙ c .before .before .before .before .before .before .before .before .before .check-pairs .ensures) (c .moved-over .ensures)
+    c .moved-over .ensures ∙ ap₂ (answerBy (s .wanted)) (quality-over (isCity (s .profile)) (s .settings) (take (s .all .count) (s .all .pair)) (s .all .count) (long t) (let-pass (c .before .before .before .before .before .before .before .before .before .before .before .before .before .before)) _ k (c .before .before .before .before .before .before .before .before .before .before .before .before .clocks-of .ensures) (c .before .before .before .before .before .before .before .before .before .before .is-uncertified .ensures) (sym (c .before .before .before .before .before .before .before .enum-told .given .1) ∙ c .before .before .before .before .before .before .before .before .before .check-pairs .ensures)) (over (isCity (s .profile)) (s .settings) (take (s .all .count) (s .all .pair)) (s .all .count) (long t) (let-pass (c .before .before .before .before .before .before .before .before .before .before .before .before .before .before)) _ k (c .before .before .before .before .before .before .before .before .before .before .before .before .clocks-of .ensures) (c .before .before .before .before .before .before .before .before .before .before .is-uncertified .ensures) (sym (c .before .before .before .before .before .before .before .enum-told .given .1) ∙ c .before .before .before .before .before .before .before .before .before .check-pairs .ensures) refl)
 
 pub moved-by-spec : {M : Type 1} → statement M
 moved-by-spec =

@@ -1,11 +1,13 @@
 -- `tdcp::displacement::moved_over` meets its contract. Assumes nothing.
-use mathlib.Core.Path.{sym}
+use mathlib.Core.Path.{sym, _∙_}
 use mathlib.Core.List.{List}
 use lib.ListN.{length}
 use Rattle.walk.proofs.Walk.{places-length}
 use Rattle.records.specs.Kept.{pairIn, pairsIn}
 use Rattle.records.specs.declared.pair.Pair.{Pair}
+use Rattle.tdcp.specs.Rows.{qualityOver}
 use Rattle.tdcp.proofs.DisplacementCall.{over-refused, over-reached}
+use Rattle.tdcp.proofs.RatedLaws.{refused-as, moved-rated, moved-plain, quality-reached}
 use borrow.Author.Needs.{needs}
 use Rattle.tdcp.proofs.displacement.moved_over.Statement.{statement}
 use Rattle.tdcp.proofs.displacement.moved_over.Tie as tie
@@ -20,7 +22,10 @@ enum-known-r : tie.Need-enum-known-r
 enum-known-r c = search needs
 
 returns : tie.Need-returns
-returns c = let s = c .before .before .before .before .before .before in over-refused (s .args .settings) (s .args .k) (given s) (s .args .screened) (c .before .before .before .fit-pairs .ensures) (c .before .r .given .1)
+returns c =
+    let s = c .before .before .before .before .before .before in
+    let a = s .args in
+    refused-as (a .wanted) (qualityOver (a .settings) (a .k) (given s)) (over-refused (a .settings) (a .k) (given s) (a .screened) (c .before .before .before .fit-pairs .ensures) (c .before .r .given .1))
 
 enum-told : tie.Need-enum-told
 enum-told c = search needs
@@ -28,12 +33,55 @@ enum-told c = search needs
 moved-to-requires : tie.Need-moved-to-requires
 moved-to-requires c κs = search needs
 
+enum-known-moved : tie.Need-enum-known-moved
+enum-known-moved c = search needs
+
+enum-known-moved-2 : tie.Need-enum-known-moved-2
+enum-known-moved-2 c = search needs
+
+quality-at-requires : tie.Need-quality-at-requires
+quality-at-requires c κs = search needs
+
+rate-requires : tie.Need-rate-requires
+rate-requires c κs = search needs
+
 returns-2 : tie.Need-returns-2
 returns-2 c =
-    let s = c .before .before .before .before .before .before in
+    let s = c .before .before .before .before .before .before .before .before .before .before .before .before in
     let a = s .args in
     let many = sym (places-length (pairIn (a .x .now) (a .y .now) (a .z .now) (a .constellation .now) (a .elevation .now) (a .observed .now)) (length (a .observed .now))) in
-    over-reached (a .settings) (a .k) (given s) (a .screened) (c .before .before .before .fit-pairs .ensures) (c .before .enum-told .given .1) many (c .moved-to .ensures)
+    let m = over-reached (a .settings) (a .k) (given s) (a .screened) (c .before .before .before .before .before .before .before .before .before .fit-pairs .ensures) (c .before .before .before .before .before .before .before .enum-told .given .1) many (c .before .before .before .before .before .before .moved-to .ensures) in
+    moved-rated (c .before .before .if1 .taken) (sym (c .before .before .before .before .moved2 .given .1) ∙ m) (c .rate .ensures) (quality-reached (a .settings) (a .k) (given s) (c .before .before .before .before .before .before .before .before .before .fit-pairs .ensures) (c .before .quality-at .ensures))
+
+returns-3 : tie.Need-returns-3
+returns-3 c =
+    let s = c .before .before .before .before .before .before .before .before .before in
+    let a = s .args in
+    let many = sym (places-length (pairIn (a .x .now) (a .y .now) (a .z .now) (a .constellation .now) (a .elevation .now) (a .observed .now)) (length (a .observed .now))) in
+    let m = over-reached (a .settings) (a .k) (given s) (a .screened) (c .before .before .before .before .before .before .fit-pairs .ensures) (c .before .before .before .before .enum-told .given .1) many (c .before .before .before .moved-to .ensures) in
+    refused-as (a .wanted) (qualityOver (a .settings) (a .k) (given s)) (sym (c .before .moved .given .1) ∙ m)
+
+returns-4 : tie.Need-returns-4
+returns-4 c =
+    let s = c .before .before .before .before .before .before .before .before .before .before in
+    let a = s .args in
+    let many = sym (places-length (pairIn (a .x .now) (a .y .now) (a .z .now) (a .constellation .now) (a .elevation .now) (a .observed .now)) (length (a .observed .now))) in
+    let m = over-reached (a .settings) (a .k) (given s) (a .screened) (c .before .before .before .before .before .before .before .fit-pairs .ensures) (c .before .before .before .before .before .enum-told .given .1) many (c .before .before .before .before .moved-to .ensures) in
+    moved-plain (qualityOver (a .settings) (a .k) (given s)) (c .if1 .left) (sym (c .before .before .moved2 .given .1) ∙ m)
 
 pub moved-over-spec : {M : Type 1} → statement M
-moved-over-spec = tie.close (tie.spec fit-pairs-requires enum-known-r returns enum-told moved-to-requires returns-2)
+moved-over-spec =
+    tie.close
+    (tie.spec
+    fit-pairs-requires
+    enum-known-r
+    returns
+    enum-told
+    moved-to-requires
+    enum-known-moved
+    enum-known-moved-2
+    quality-at-requires
+    rate-requires
+    returns-2
+    returns-3
+    returns-4)

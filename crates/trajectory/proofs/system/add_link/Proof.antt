@@ -1,68 +1,75 @@
+use Rattle.trajectory.proofs.Links.{link-left, link-stored, five-numbers}
+use Rattle.trajectory.proofs.Anchors.{writable}
+use Rattle.tridiagonal.proofs.Cells.{readable}
+use borrow.Author.Tests.{not-true, not-false}
 use lib.ListN.{length-set}
 use native.Mathlib.Omega.{arith}
 use borrow.Author.Needs.{needs}
 use Rattle.trajectory.proofs.system.add_link.Statement.{statement}
 use Rattle.trajectory.proofs.system.add_link.Tie as tie
 
+mul-d : tie.Need-mul-d
+mul-d c = search needs
+
+slice-read-d : tie.Need-slice-read-d
+slice-read-d c = search needs
+
+float-from-bits-d : tie.Need-float-from-bits-d
+float-from-bits-d c = readable _ (c .before .pre .1 .first)
+
 add-u : tie.Need-add-u
 add-u c = search needs
 
-mul-m : tie.Need-mul-m
-mul-m c = search needs
+mul-u : tie.Need-mul-u
+mul-u c = search needs
 
-add-m : tie.Need-add-m
-add-m c = search needs
+slice-read-u : tie.Need-slice-read-u
+slice-read-u c = search needs
 
-add-k : tie.Need-add-k
-add-k c = search needs
+float-from-bits-u : tie.Need-float-from-bits-u
+float-from-bits-u c = readable _ (c .before .before .pre .1 .second)
 
-add-d0 : tie.Need-add-d0
-add-d0 c = search needs
+add-r : tie.Need-add-r
+add-r c = search needs
 
-mul-d0 : tie.Need-mul-d0
-mul-d0 c = search needs
+mul-r : tie.Need-mul-r
+mul-r c = search needs
 
-slice-read-d0 : tie.Need-slice-read-d0
-slice-read-d0 c = search needs
+slice-read-r : tie.Need-slice-read-r
+slice-read-r c = search needs
 
-add-d1 : tie.Need-add-d1
-add-d1 c = search needs
+float-from-bits-r : tie.Need-float-from-bits-r
+float-from-bits-r c = readable _ (c .before .before .before .pre .1 .third)
 
-mul-d1 : tie.Need-mul-d1
-mul-d1 c = search needs
+add-e : tie.Need-add-e
+add-e c = search needs
 
-slice-read-d1 : tie.Need-slice-read-d1
-slice-read-d1 c = search needs
+mul-e : tie.Need-mul-e
+mul-e c = search needs
 
-add-x : tie.Need-add-x
-add-x c = search needs
+slice-read-e : tie.Need-slice-read-e
+slice-read-e c = search needs
 
-mul-x : tie.Need-mul-x
-mul-x c = search needs
+float-from-bits-e : tie.Need-float-from-bits-e
+float-from-bits-e c = readable _ (c .before .before .before .before .pre .2 .first)
 
-slice-read-x : tie.Need-slice-read-x
-slice-read-x c = search needs
+add-q : tie.Need-add-q
+add-q c = search needs
 
-add-r0 : tie.Need-add-r0
-add-r0 c = search needs
+mul-q : tie.Need-mul-q
+mul-q c = search needs
 
-mul-r0 : tie.Need-mul-r0
-mul-r0 c = search needs
+slice-read-q : tie.Need-slice-read-q
+slice-read-q c = search needs
 
-slice-read-r0 : tie.Need-slice-read-r0
-slice-read-r0 c = search needs
+float-from-bits-q : tie.Need-float-from-bits-q
+float-from-bits-q c = readable _ (c .before .before .before .before .before .pre .2 .third)
 
-add-r1 : tie.Need-add-r1
-add-r1 c = search needs
+returns : tie.Need-returns
+returns c = link-left _ _ _ _ (not-true _ (c .if1 .taken))
 
-mul-r1 : tie.Need-mul-r1
-mul-r1 c = search needs
-
-slice-read-r1 : tie.Need-slice-read-r1
-slice-read-r1 c = search needs
-
-add-w : tie.Need-add-w
-add-w c = search needs
+float-to-bits-w : tie.Need-float-to-bits-w
+float-to-bits-w c = writable _ (five-numbers _ _ _ _ _ (not-false _ (c .if1 .left)) .one)
 
 mul-w : tie.Need-mul-w
 mul-w c = search needs
@@ -70,8 +77,11 @@ mul-w c = search needs
 slice-write-w : tie.Need-slice-write-w
 slice-write-w c = search needs
 
-add-w-2 : tie.Need-add-w-2
-add-w-2 c = search needs
+float-to-bits-w-2 : tie.Need-float-to-bits-w-2
+float-to-bits-w-2 c = writable _ (five-numbers _ _ _ _ _ (not-false _ (c .if1 .left)) .two)
+
+add-w : tie.Need-add-w
+add-w c = search needs
 
 mul-w-2 : tie.Need-mul-w-2
 mul-w-2 c = search needs
@@ -79,8 +89,11 @@ mul-w-2 c = search needs
 slice-write-w-2 : tie.Need-slice-write-w-2
 slice-write-w-2 c = simp length-set (omega arith)
 
-add-w-3 : tie.Need-add-w-3
-add-w-3 c = search needs
+float-to-bits-w-3 : tie.Need-float-to-bits-w-3
+float-to-bits-w-3 c = writable _ (five-numbers _ _ _ _ _ (not-false _ (c .if1 .left)) .three)
+
+add-w-2 : tie.Need-add-w-2
+add-w-2 c = search needs
 
 mul-w-3 : tie.Need-mul-w-3
 mul-w-3 c = search needs
@@ -88,8 +101,11 @@ mul-w-3 c = search needs
 slice-write-w-3 : tie.Need-slice-write-w-3
 slice-write-w-3 c = simp length-set (omega arith)
 
-add-w-4 : tie.Need-add-w-4
-add-w-4 c = search needs
+float-to-bits-w-4 : tie.Need-float-to-bits-w-4
+float-to-bits-w-4 c = writable _ (five-numbers _ _ _ _ _ (not-false _ (c .if1 .left)) .four)
+
+add-w-3 : tie.Need-add-w-3
+add-w-3 c = search needs
 
 mul-w-4 : tie.Need-mul-w-4
 mul-w-4 c = search needs
@@ -97,8 +113,11 @@ mul-w-4 c = search needs
 slice-write-w-4 : tie.Need-slice-write-w-4
 slice-write-w-4 c = simp length-set (omega arith)
 
-add-w-5 : tie.Need-add-w-5
-add-w-5 c = search needs
+float-to-bits-w-5 : tie.Need-float-to-bits-w-5
+float-to-bits-w-5 c = writable _ (five-numbers _ _ _ _ _ (not-false _ (c .if1 .left)) .five)
+
+add-w-4 : tie.Need-add-w-4
+add-w-4 c = search needs
 
 mul-w-5 : tie.Need-mul-w-5
 mul-w-5 c = search needs
@@ -109,46 +128,51 @@ slice-write-w-5 c = simp length-set (omega arith)
 same-length : tie.Need-same-length
 same-length c = search needs
 
-returns : tie.Need-returns
-returns c = search needs
+returns-2 : tie.Need-returns-2
+returns-2 c = link-stored _ _ _ _ (not-false _ (c .if1 .left))
 
 pub add-link-spec : {M : Type 1} → statement M
 add-link-spec =
     tie.close
     (tie.spec
+    mul-d
+    slice-read-d
+    float-from-bits-d
     add-u
-    mul-m
-    add-m
-    add-k
-    add-d0
-    mul-d0
-    slice-read-d0
-    add-d1
-    mul-d1
-    slice-read-d1
-    add-x
-    mul-x
-    slice-read-x
-    add-r0
-    mul-r0
-    slice-read-r0
-    add-r1
-    mul-r1
-    slice-read-r1
-    add-w
+    mul-u
+    slice-read-u
+    float-from-bits-u
+    add-r
+    mul-r
+    slice-read-r
+    float-from-bits-r
+    add-e
+    mul-e
+    slice-read-e
+    float-from-bits-e
+    add-q
+    mul-q
+    slice-read-q
+    float-from-bits-q
+    returns
+    float-to-bits-w
     mul-w
     slice-write-w
-    add-w-2
+    float-to-bits-w-2
+    add-w
     mul-w-2
     slice-write-w-2
-    add-w-3
+    float-to-bits-w-3
+    add-w-2
     mul-w-3
     slice-write-w-3
-    add-w-4
+    float-to-bits-w-4
+    add-w-3
     mul-w-4
     slice-write-w-4
-    add-w-5
+    float-to-bits-w-5
+    add-w-4
     mul-w-5
     slice-write-w-5
     same-length
-    returns)
+    returns-2)

@@ -18,7 +18,7 @@ use Rattle.records.specs.Screen.{centre, within, keptOf}
 use Rattle.tdcp.specs.Valid.{settingsPass, badInterval, epochRules, intervalRules, fewRules}
 use Rattle.tdcp.specs.Front.{sightRules, countRules, cityRules, pairRules}
 use Rattle.estimator.specs.Rounds.{fitFrom, finiteAt}
-use Rattle.tdcp.specs.Displacement.{fitOver, fitBy, endRules, movedBy, movedIn, displacementOf}
+use Rattle.tdcp.specs.Displacement.{fitOver, fitBy, endRules, movedBy, displacementOf}
 use Rattle.trials.specs.Carriers.{sixIn, usedOf}
 use borrow.Author.Needs.{needs}
 use Rattle.trials.proofs.carriers.states.Statement.{statement}
@@ -33,7 +33,7 @@ record Used : Type 0 where
   in-minus-1 : usedOf (displacementOf (sixIn (negsuc 0))) ≡ 0
 
 used : Used
-unfolding displacementOf movedIn movedBy endRules finiteAt fitBy fitOver fitFrom ruled every first collect abs inRange placeable isElevation soundCarrier unsigned bitSet usable same has appearing slotFrom clocksIn clocksOf pairOf firstPair pairAt pairsOf centre within keptOf settingsPass badInterval epochRules intervalRules fewRules rowRules pairRules sightRules countRules cityRules onReceiver sightOf gap along turned travelAngle travelSine travelCosine norm vec-minus rootOf sign exponent digits isNanPattern isQuiet payload payloadOrder unordered totalOrder patternOf insertBy sortedBy medianOf centreOf ofInt ofBits toBits neg add sub mul div le lt eq isNan
+unfolding displacementOf movedBy endRules finiteAt fitBy fitOver fitFrom ruled every first collect abs inRange placeable isElevation soundCarrier unsigned bitSet usable same has appearing slotFrom clocksIn clocksOf pairOf firstPair pairAt pairsOf centre within keptOf settingsPass badInterval epochRules intervalRules fewRules rowRules pairRules sightRules countRules cityRules onReceiver sightOf gap along turned travelAngle travelSine travelCosine norm vec-minus rootOf sign exponent digits isNanPattern isQuiet payload payloadOrder unordered totalOrder patternOf insertBy sortedBy medianOf centreOf ofInt ofBits toBits neg add sub mul div le lt eq isNan
 used = record { in-1 = refl; in-0 = refl; in-3 = refl; in-5 = refl; in-minus-1 = refl }
 
 used-in-requires : tie.Need-used-in-requires

@@ -2,7 +2,7 @@ use mathlib.Core.Path.{_≡_, refl, sym, ap, _∙_}
 use mathlib.Core.Bool.{Bool, true, false}
 use lib.Ieee.{Float, binary64, ofBits, ofInt, eq}
 use Rattle.exact.specs.Float.{whole}
-use Rattle.query.specs.Query.{queryOf}
+use Rattle.query.specs.Query.{queryIn}
 use Rattle.query.specs.declared.query.Correction.{Correction}
 use Rattle.query.specs.declared.query.Correction.the-variants.{Metres, Refused}
 use Rattle.trials.specs.Marked.{twoSamples}
@@ -23,8 +23,8 @@ two : test (Metres (whole 2)) ≡ true
 unfolding eq ofBits ofInt
 two = refl
 
-passes : test (queryOf 2 2 twoSamples (ofBits binary64 0x4056_8000_0000_0000) 1 5 1 (whole 15)) ≡ true
-passes = ap (λ (g : Float). test (queryOf 2 2 twoSamples g 1 5 1 (whole 15))) ninety ∙ ap test half-way ∙ two
+passes : test (queryIn 1 2 2 twoSamples (ofBits binary64 0x4056_8000_0000_0000) 1 5 1 (whole 15)) ≡ true
+passes = ap (λ (g : Float). test (queryIn 1 2 2 twoSamples g 1 5 1 (whole 15))) ninety ∙ ap test half-way ∙ two
 
 half-way-requires : tie.Need-half-way-requires
 half-way-requires c κs = search needs

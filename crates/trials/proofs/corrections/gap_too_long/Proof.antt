@@ -4,7 +4,7 @@ use lib.Dec.{eqb}
 use Rattle.numeric.specs.Refusal.{numberOf}
 use lib.Ieee.{Float, binary64, ofBits, ofInt}
 use Rattle.exact.specs.Float.{whole}
-use Rattle.query.specs.Query.{queryOf}
+use Rattle.query.specs.Query.{queryIn}
 use Rattle.query.specs.declared.query.Correction.{Correction}
 use Rattle.query.specs.declared.query.Correction.the-variants.{Metres, Refused}
 use Rattle.trials.specs.Marked.{twoSamples}
@@ -21,8 +21,8 @@ limit : ofBits binary64 0x4014_0000_0000_0000 ≡ whole 5
 unfolding ofBits ofInt
 limit = refl
 
-passes : test (queryOf 2 2 twoSamples (ofBits binary64 0x4014_0000_0000_0000) 1 5 1 (whole 15)) ≡ true
-passes = ap (λ (g : Float). test (queryOf 2 2 twoSamples g 1 5 1 (whole 15))) limit ∙ ap test gap-too-long
+passes : test (queryIn 1 2 2 twoSamples (ofBits binary64 0x4014_0000_0000_0000) 1 5 1 (whole 15)) ≡ true
+passes = ap (λ (g : Float). test (queryIn 1 2 2 twoSamples g 1 5 1 (whole 15))) limit ∙ ap test gap-too-long
 
 half-way-requires : tie.Need-half-way-requires
 half-way-requires c κs = search needs

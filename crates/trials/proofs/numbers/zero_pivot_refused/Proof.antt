@@ -1,3 +1,4 @@
+use mathlib.Core.Logic.{inl}
 use mathlib.Core.Path.{_≡_, sym, ap, _∙_}
 use mathlib.Core.List.{List}
 use lib.Ieee.{Float}
@@ -24,7 +25,7 @@ number (Refused r) = numberOf r
 
 -- the lent rows m are left
 left : (a m l : List (List Float)) → l ≡ rowsAfter (factorOf a) m → cell a 0 0 ≡ +0 → m ≡ l
-left a m l h e = sym (h ∙ ap (λ (z : Factored). rowsAfter z m) (zero-pivot a e))
+left a m l h e = sym (h ∙ ap (λ (z : Factored). rowsAfter z m) (zero-pivot a (inl e)))
 
 identity-requires : tie.Need-identity-requires
 identity-requires c κs = search needs
@@ -54,12 +55,12 @@ differ-requires : tie.Need-differ-requires
 differ-requires c κs = search needs
 
 returns : tie.Need-returns
-returns c = ap test (sym (c .enum-told .given .1) ∙ c .before .before .factor .ensures .0) ∙ ap (λ (z : Factored). test (factoringOf z)) (zero-pivot _ (rw (c .before .before .before .before .before .identity .ensures)))
+returns c = ap test (sym (c .enum-told .given .1) ∙ c .before .before .factor .ensures .0) ∙ ap (λ (z : Factored). test (factoringOf z)) (zero-pivot _ (inl (rw (c .before .before .before .before .before .identity .ensures))))
 
 returns-2 : tie.Need-returns-2
 returns-2 c =
     let i = c .before .before .before .before .before .before .before .before .identity .ensures in
-    let n = c .before .number .ensures ∙ ap number (sym (c .before .before .before .answer .given .1) ∙ c .before .before .before .before .before .factor .ensures .0) ∙ ap (λ (z : Factored). number (factoringOf z)) (zero-pivot _ (rw i)) in
+    let n = c .before .number .ensures ∙ ap number (sym (c .before .before .before .answer .given .1) ∙ c .before .before .before .before .before .factor .ensures .0) ∙ ap (λ (z : Factored). number (factoringOf z)) (zero-pivot _ (inl (rw i))) in
     rw (n, c .differ .ensures (left _ _ _ (c .before .before .before .before .before .factor .ensures .1) (rw i)))
 
 pub zero-pivot-refused-spec : {M : Type 1} → statement M

@@ -1,124 +1,85 @@
-use mathlib.Core.Path.{sym, _∙_, ap}
+use Rattle.tridiagonal.proofs.Elimination.{Eliminating, reached-none, eliminating-ends, eliminating-all, row-x-needs, row-y-needs, row-z-needs, eliminating-more, first-needs}
+use Rattle.tridiagonal.proofs.Cells.{kept-none}
 use Prim.Native.Nat.{_-_}
-use borrow.Author.Tests.{not-true, not-false}
-use Rattle.tridiagonal.specs.Tridiagonal.{vanishing}
-use Rattle.tridiagonal.proofs.Cells.{place}
-use Rattle.tridiagonal.proofs.Elimination.{Eliminating, eliminating-none, eliminating-more, row-x-stops, row-y-stops, row-z-stops, last-x-stops, last-y-stops, last-z-stops, eliminated-all}
+use mathlib.Core.Path.{refl}
 use native.Mathlib.Omega.{arith}
-use borrow.Author.Needs.{needs}
 use Rattle.tridiagonal.proofs.solve.eliminate.Statement.{statement}
 use Rattle.tridiagonal.proofs.solve.eliminate.Tie as tie
 
 abbrev Inv-loop : tie.InvT-loop
-Inv-loop w₀ n y z i₀ w i = Eliminating w₀ n i w
+Inv-loop w₀ n x₀ y₀ z₀ i₀ w x y z i = Eliminating w₀ n i w x y z
 
 abbrev μ-loop : tie.MeasureT-loop
-μ-loop w₀ n y z i₀ w i = n - i
+μ-loop w₀ n x₀ y₀ z₀ i₀ w x y z i = n - i
 
-mul-y : tie.Need-mul-y Inv-loop μ-loop
-mul-y c = omega arith
+first-row-requires : tie.Need-first-row-requires Inv-loop μ-loop
+first-row-requires c κs = (omega arith, first-needs _ _ _ _ refl (c .before .before .pre .0) (c .before .before .pre .2 .x))
 
-mul-z : tie.Need-mul-z Inv-loop μ-loop
-mul-z c = omega arith
+first-row-requires-2 : tie.Need-first-row-requires-2 Inv-loop μ-loop
+first-row-requires-2 c κs = (omega arith, first-needs _ _ _ _ refl (c .before .before .before .before .pre .0) (c .before .before .before .before .pre .2 .y))
+
+first-row-requires-3 : tie.Need-first-row-requires-3 Inv-loop μ-loop
+first-row-requires-3 c κs = (omega arith, first-needs _ _ _ _ refl (c .before .before .before .before .before .before .pre .0) (c .before .before .before .before .before .before .pre .2 .z))
 
 loop-holds : tie.Need-loop-holds Inv-loop μ-loop
-loop-holds c = eliminating-none _ _ (c .before .pre .0) (c .before .pre .1)
+loop-holds c = record {
+  inside = c .before .before .before .before .before .before .before .pre .0;
+  room = c .before .before .before .before .before .before .before .pre .1;
+  long = refl;
+  kept = kept-none _ _ _;
+  on-x = reached-none _ _ _ _ _ refl (c .before .before .before .before .first-row .ensures);
+  on-y = reached-none _ _ _ _ _ refl (c .before .before .first-row2 .ensures);
+  on-z = reached-none _ _ _ _ _ refl (c .first-row3 .ensures);
+}
 
-add-loop : tie.Need-add-loop Inv-loop μ-loop
-add-loop c = omega arith
-
-eliminate-row-requires : tie.Need-eliminate-row-requires Inv-loop μ-loop
-eliminate-row-requires c κs = (c .before .loop-test .taken, omega (arith, c .before .before .loop .inv .long, c .before .before .loop .inv .room))
+add-if2 : tie.Need-add-if2 Inv-loop μ-loop
+add-if2 c = omega arith
 
 same-length : tie.Need-same-length Inv-loop μ-loop
-same-length c = c .before .before .before .eliminate-row .kept .0 ∙ c .before .before .before .before .before .before .loop .inv .long
+same-length c = c .before .before .before .before .before .loop .inv .long
 
 returns : tie.Need-returns Inv-loop μ-loop
-returns c = row-x-stops _ _ _ _ (c .before .before .before .before .before .before .loop .inv) (c .before .before .before .before .before .loop-test .taken) _ _ (c .before .before .before .eliminate-row .ensures .0) (c .before .before .before .eliminate-row .ensures .1) (not-true _ (c .if1 .taken))
+returns c = eliminating-all _ _ _ _ _ _ _ (c .before .before .before .before .before .loop .inv) (c .before .if1 .taken) (c .if2 .taken)
+
+mul-at : tie.Need-mul-at Inv-loop μ-loop
+mul-at c = omega (arith, c .if2 .left, c .before .before .before .before .before .loop .inv .inside, c .before .before .before .before .before .loop .inv .room, c .before .before .before .before .before .before .before .before .before .before .before .before .before .fits)
+
+add-y-at : tie.Need-add-y-at Inv-loop μ-loop
+add-y-at c = omega (arith, c .if2 .left, c .before .before .before .before .before .loop .inv .inside, c .before .before .before .before .before .loop .inv .room, c .before .before .before .before .before .before .before .before .before .before .before .before .before .fits)
+
+add-z-at : tie.Need-add-z-at Inv-loop μ-loop
+add-z-at c = omega (arith, c .if2 .left, c .before .before .before .before .before .loop .inv .inside, c .before .before .before .before .before .loop .inv .room, c .before .before .before .before .before .before .before .before .before .before .before .before .before .fits)
+
+eliminate-row-requires : tie.Need-eliminate-row-requires Inv-loop μ-loop
+eliminate-row-requires c κs = (omega (arith, c .before .before .before .before .before .before .loop .inv .long, c .before .before .before .before .before .before .loop .inv .room, c .before .if2 .left), row-x-needs _ _ _ _ _ _ _ (c .before .before .before .before .before .before .loop .inv) (c .before .before .before .before .before .before .before .before .before .before .before .before .before .before .pre .2) (c .before .before .if1 .taken) (c .before .if2 .left) _ refl)
 
 eliminate-row-requires-2 : tie.Need-eliminate-row-requires-2 Inv-loop μ-loop
-eliminate-row-requires-2 c κs = (c .before .before .before .before .before .before .loop-test .taken, omega (arith, c .before .before .before .before .eliminate-row .kept .0, c .before .before .before .before .before .before .before .loop .inv .long, c .before .before .before .before .before .before .before .loop .inv .room))
-
-same-length-2 : tie.Need-same-length-2 Inv-loop μ-loop
-same-length-2 c = c .before .before .before .eliminate-row2 .kept .0 ∙ c .before .before .before .before .before .before .before .before .eliminate-row .kept .0 ∙ c .before .before .before .before .before .before .before .before .before .before .before .loop .inv .long
-
-returns-2 : tie.Need-returns-2 Inv-loop μ-loop
-returns-2 c = row-y-stops _ _ _ _ (c .before .before .before .before .before .before .before .before .before .before .before .loop .inv) (c .before .before .before .before .before .before .before .before .before .before .loop-test .taken) _ _ (c .before .before .before .before .before .before .before .before .eliminate-row .ensures .0) (c .before .before .before .before .before .before .before .before .eliminate-row .ensures .1) (not-false _ (c .before .before .before .before .before .if1 .left)) _ _ (c .before .before .before .eliminate-row2 .ensures .0) (c .before .before .before .eliminate-row2 .ensures .1) (not-true _ (c .if2 .taken))
+eliminate-row-requires-2 c κs = (
+  omega (arith, c .before .before .before .eliminate-row .kept .0, c .before .before .before .before .before .before .before .before .before .before .loop .inv .long, c .before .before .before .before .before .before .before .before .before .before .loop .inv .room, c .before .before .before .before .before .if2 .left),
+  row-y-needs _ _ _ _ _ _ _ (c .before .before .before .before .before .before .before .before .before .before .loop .inv) (c .before .before .before .before .before .before .before .before .before .before .before .before .before .before .before .before .before .before .pre .2) (c .before .before .before .before .before .before .if1 .taken) (c .before .before .before .before .before .if2 .left) _ refl _ _ (c .before .before .before .eliminate-row .ensures),
+)
 
 eliminate-row-requires-3 : tie.Need-eliminate-row-requires-3 Inv-loop μ-loop
-eliminate-row-requires-3 c κs = (c .before .before .before .before .before .before .before .before .before .before .before .loop-test .taken, omega (arith, c .before .before .before .before .eliminate-row2 .kept .0, c .before .before .before .before .before .before .before .before .before .eliminate-row .kept .0, c .before .before .before .before .before .before .before .before .before .before .before .before .loop .inv .long, c .before .before .before .before .before .before .before .before .before .before .before .before .loop .inv .room))
-
-same-length-3 : tie.Need-same-length-3 Inv-loop μ-loop
-same-length-3 c = c .before .before .before .eliminate-row3 .kept .0 ∙ c .before .before .before .before .before .before .before .before .eliminate-row2 .kept .0 ∙ c .before .before .before .before .before .before .before .before .before .before .before .before .before .eliminate-row .kept .0 ∙ c .before .before .before .before .before .before .before .before .before .before .before .before .before .before .before .before .loop .inv .long
-
-returns-3 : tie.Need-returns-3 Inv-loop μ-loop
-returns-3 c = row-z-stops _ _ _ _ (c .before .before .before .before .before .before .before .before .before .before .before .before .before .before .before .before .loop .inv) (c .before .before .before .before .before .before .before .before .before .before .before .before .before .before .before .loop-test .taken) _ _ (c .before .before .before .before .before .before .before .before .before .before .before .before .before .eliminate-row .ensures .0) (c .before .before .before .before .before .before .before .before .before .before .before .before .before .eliminate-row .ensures .1) (not-false _ (c .before .before .before .before .before .before .before .before .before .before .if1 .left)) _ _ (c .before .before .before .before .before .before .before .before .eliminate-row2 .ensures .0) (c .before .before .before .before .before .before .before .before .eliminate-row2 .ensures .1) (not-false _ (c .before .before .before .before .before .if2 .left)) _ _ (c .before .before .before .eliminate-row3 .ensures .0) (c .before .before .before .eliminate-row3 .ensures .1) (not-true _ (c .if3 .taken))
+eliminate-row-requires-3 c κs = (
+  omega (arith, c .before .before .before .eliminate-row2 .kept .0, c .before .before .before .before .before .before .before .eliminate-row .kept .0, c .before .before .before .before .before .before .before .before .before .before .before .before .before .before .loop .inv .long, c .before .before .before .before .before .before .before .before .before .before .before .before .before .before .loop .inv .room, c .before .before .before .before .before .before .before .before .before .if2 .left),
+  row-z-needs _ _ _ _ _ _ _ (c .before .before .before .before .before .before .before .before .before .before .before .before .before .before .loop .inv) (c .before .before .before .before .before .before .before .before .before .before .before .before .before .before .before .before .before .before .before .before .before .before .pre .2) (c .before .before .before .before .before .before .before .before .before .before .if1 .taken) (c .before .before .before .before .before .before .before .before .before .if2 .left) _ refl _ _ (c .before .before .before .before .before .before .before .eliminate-row .ensures) (c .before .before .before .before .before .before .before .eliminate-row .kept .0) _ _ (c .before .before .before .eliminate-row2 .ensures),
+)
 
 add-i : tie.Need-add-i Inv-loop μ-loop
-add-i c = omega arith
+add-i c = omega (arith, c .before .before .before .before .before .before .before .before .before .before .before .before .if2 .left, c .before .before .before .before .before .before .before .before .before .before .before .before .before .before .before .before .before .loop .inv .room, c .before .before .before .before .before .before .before .before .before .before .before .before .before .before .before .before .before .before .before .before .before .before .before .before .before .fits)
 
 loop-less : tie.Need-loop-less Inv-loop μ-loop
-loop-less c = omega arith
+loop-less c = omega (arith, c .before .before .before .before .before .before .before .before .before .before .before .before .if2 .left)
 
 loop-again : tie.Need-loop-again Inv-loop μ-loop
-loop-again c = eliminating-more _ _ _ _ (c .before .before .before .before .before .before .before .before .before .before .before .before .before .before .before .before .loop .inv) (c .before .before .before .before .before .before .before .before .before .before .before .before .before .before .before .loop-test .taken) _ _ (c .before .before .before .before .before .before .before .before .before .before .before .before .before .eliminate-row .ensures .0) (c .before .before .before .before .before .before .before .before .before .before .before .before .before .eliminate-row .ensures .1) (not-false _ (c .before .before .before .before .before .before .before .before .before .before .if1 .left)) _ _ (c .before .before .before .before .before .before .before .before .eliminate-row2 .ensures .0) (c .before .before .before .before .before .before .before .before .eliminate-row2 .ensures .1) (not-false _ (c .before .before .before .before .before .if2 .left)) _ _ (c .before .before .before .eliminate-row3 .ensures .0) (c .before .before .before .eliminate-row3 .ensures .1) (not-false _ (c .if3 .left)) (c .before .before .before .before .before .before .before .before .before .before .before .before .before .eliminate-row .kept .0) (c .before .before .before .before .before .before .before .before .eliminate-row2 .kept .0) (c .before .before .before .eliminate-row3 .kept .0)
+loop-again c = eliminating-more _ _ _ _ _ _ _ (c .before .before .before .before .before .before .before .before .before .before .before .before .before .before .before .before .before .loop .inv) (c .before .before .before .before .before .before .before .before .before .before .before .before .before .before .before .before .before .before .before .before .before .before .before .before .before .pre .2) (c .before .before .before .before .before .before .before .before .before .before .before .before .before .if1 .taken) (c .before .before .before .before .before .before .before .before .before .before .before .before .if2 .left) _ refl _ _ (c .before .before .before .before .before .before .before .before .before .before .eliminate-row .ensures) (c .before .before .before .before .before .before .before .before .before .before .eliminate-row .kept .0) _ _ (c .before .before .before .before .before .before .eliminate-row2 .ensures)
+    (c .before .before .before .before .before .before .eliminate-row2 .kept .0) _ _ (c .before .before .eliminate-row3 .ensures) (c .before .before .eliminate-row3 .kept .0)
 
-mul-vanishes : tie.Need-mul-vanishes Inv-loop μ-loop
-mul-vanishes c = omega arith
+same-length-2 : tie.Need-same-length-2 Inv-loop μ-loop
+same-length-2 c = c .before .before .before .before .loop .inv .long
 
-slice-read-vanishes : tie.Need-slice-read-vanishes Inv-loop μ-loop
-slice-read-vanishes c = omega (arith, c .before .before .loop .inv .long, c .before .before .loop .inv .room)
-
-vanishes-requires : tie.Need-vanishes-requires Inv-loop μ-loop
-vanishes-requires c κs = search needs
-
-same-length-4 : tie.Need-same-length-4 Inv-loop μ-loop
-same-length-4 c = c .before .before .before .before .loop .inv .long
-
-returns-4 : tie.Need-returns-4 Inv-loop μ-loop
-returns-4 c = last-x-stops _ _ _ _ (c .before .before .before .before .loop .inv) (ap vanishing (place (c .before .before .before .before .loop .w) _ _ (omega arith)) ∙ sym (c .before .vanishes .ensures) ∙ c .if4 .taken)
-
-add-vanishes : tie.Need-add-vanishes Inv-loop μ-loop
-add-vanishes c = omega arith
-
-mul-vanishes-2 : tie.Need-mul-vanishes-2 Inv-loop μ-loop
-mul-vanishes-2 c = omega arith
-
-slice-read-vanishes-2 : tie.Need-slice-read-vanishes-2 Inv-loop μ-loop
-slice-read-vanishes-2 c = omega (arith, c .before .before .before .before .before .loop .inv .long, c .before .before .before .before .before .loop .inv .room)
-
-vanishes-requires-2 : tie.Need-vanishes-requires-2 Inv-loop μ-loop
-vanishes-requires-2 c κs = search needs
-
-same-length-5 : tie.Need-same-length-5 Inv-loop μ-loop
-same-length-5 c = c .before .before .before .before .before .before .before .loop .inv .long
-
-returns-5 : tie.Need-returns-5 Inv-loop μ-loop
-returns-5 c = last-y-stops _ _ _ _ (c .before .before .before .before .before .before .before .loop .inv) (sym (c .before .vanishes2 .ensures) ∙ c .if5 .taken)
-
-add-vanishes-2 : tie.Need-add-vanishes-2 Inv-loop μ-loop
-add-vanishes-2 c = omega arith
-
-mul-vanishes-3 : tie.Need-mul-vanishes-3 Inv-loop μ-loop
-mul-vanishes-3 c = omega arith
-
-slice-read-vanishes-3 : tie.Need-slice-read-vanishes-3 Inv-loop μ-loop
-slice-read-vanishes-3 c = omega (arith, c .before .before .before .before .before .before .before .before .loop .inv .long, c .before .before .before .before .before .before .before .before .loop .inv .room)
-
-vanishes-requires-3 : tie.Need-vanishes-requires-3 Inv-loop μ-loop
-vanishes-requires-3 c κs = search needs
-
-same-length-6 : tie.Need-same-length-6 Inv-loop μ-loop
-same-length-6 c = c .before .before .before .before .before .before .before .before .before .before .loop .inv .long
-
-returns-6 : tie.Need-returns-6 Inv-loop μ-loop
-returns-6 c = last-z-stops _ _ _ _ (c .before .before .before .before .before .before .before .before .before .before .loop .inv) (sym (c .before .vanishes3 .ensures) ∙ c .if6 .taken)
-
-same-length-7 : tie.Need-same-length-7 Inv-loop μ-loop
-same-length-7 c = c .before .before .before .before .before .before .before .before .before .before .loop .inv .long
-
-returns-7 : tie.Need-returns-7 Inv-loop μ-loop
-returns-7 c = eliminated-all _ _ _ _ (c .before .before .before .before .before .before .before .before .before .before .loop .inv) (omega (arith, c .before .before .before .before .before .before .before .before .before .loop-test .left, c .before .before .before .before .before .before .before .before .before .before .loop .inv .inside)) (ap vanishing (place (c .before .before .before .before .before .before .before .before .before .before .loop .w) _ _ (omega arith)) ∙ sym (c .before .before .before .before .before .before .before .vanishes .ensures) ∙ c .before .before .before .before .before .before .if4 .left) (sym (c .before .before .before .before .vanishes2 .ensures) ∙ c .before .before .before .if5 .left) (sym (c .before .vanishes3 .ensures) ∙ c .if6 .left)
+returns-2 : tie.Need-returns-2 Inv-loop μ-loop
+returns-2 c = eliminating-ends _ _ _ _ _ _ _ (c .before .before .before .before .loop .inv) (c .if1 .left)
 
 pub eliminate-spec : {M : Type 1} → statement M
 eliminate-spec =
@@ -126,38 +87,21 @@ eliminate-spec =
     (tie.spec
     Inv-loop
     μ-loop
-    mul-y
-    mul-z
+    first-row-requires
+    first-row-requires-2
+    first-row-requires-3
     loop-holds
-    add-loop
-    eliminate-row-requires
+    add-if2
     same-length
     returns
+    mul-at
+    add-y-at
+    add-z-at
+    eliminate-row-requires
     eliminate-row-requires-2
-    same-length-2
-    returns-2
     eliminate-row-requires-3
-    same-length-3
-    returns-3
     add-i
     loop-less
     loop-again
-    mul-vanishes
-    slice-read-vanishes
-    vanishes-requires
-    same-length-4
-    returns-4
-    add-vanishes
-    mul-vanishes-2
-    slice-read-vanishes-2
-    vanishes-requires-2
-    same-length-5
-    returns-5
-    add-vanishes-2
-    mul-vanishes-3
-    slice-read-vanishes-3
-    vanishes-requires-3
-    same-length-6
-    returns-6
-    same-length-7
-    returns-7)
+    same-length-2
+    returns-2)

@@ -1,40 +1,15 @@
-use mathlib.Core.Path.{refl, sym, _∙_, ap}
-use mathlib.Core.Bool.{not}
+use Rattle.tridiagonal.proofs.Elimination.{pivot-writable, right-writable, row-ends, row-goes}
+use Rattle.tridiagonal.proofs.Cells.{readable}
+use borrow.Author.Tests.{not-true, not-false}
 use lib.ListN.{length-set}
+use mathlib.Core.Path.{refl, sym, _∙_}
 use native.Mathlib.Omega.{arith}
 use borrow.Author.Needs.{needs}
 use Rattle.tridiagonal.proofs.solve.eliminate_row.Statement.{statement}
 use Rattle.tridiagonal.proofs.solve.eliminate_row.Tie as tie
 
-add-p : tie.Need-add-p
-add-p c = search needs
-
-mul-p : tie.Need-mul-p
-mul-p c = search needs
-
-slice-read-p : tie.Need-slice-read-p
-slice-read-p c = search needs
-
-vanishes-requires : tie.Need-vanishes-requires
-vanishes-requires c κs = search needs
-
-returns : tie.Need-returns
-returns c = (sym (ap not (sym (c .before .vanishes .ensures) ∙ c .if1 .taken)), refl)
-
-add-k : tie.Need-add-k
-add-k c = search needs
-
-mul-m : tie.Need-mul-m
-mul-m c = search needs
-
-add-m : tie.Need-add-m
-add-m c = search needs
-
 add-u : tie.Need-add-u
 add-u c = search needs
-
-add-u-2 : tie.Need-add-u-2
-add-u-2 c = search needs
 
 mul-u : tie.Need-mul-u
 mul-u c = search needs
@@ -42,14 +17,8 @@ mul-u c = search needs
 slice-read-u : tie.Need-slice-read-u
 slice-read-u c = search needs
 
-add-q : tie.Need-add-q
-add-q c = search needs
-
-mul-q : tie.Need-mul-q
-mul-q c = search needs
-
-slice-read-q : tie.Need-slice-read-q
-slice-read-q c = search needs
+float-from-bits-u : tie.Need-float-from-bits-u
+float-from-bits-u c = readable _ (c .before .before .pre .1 .first)
 
 add-d : tie.Need-add-d
 add-d c = search needs
@@ -60,6 +29,9 @@ mul-d c = search needs
 slice-read-d : tie.Need-slice-read-d
 slice-read-d c = search needs
 
+float-from-bits-d : tie.Need-float-from-bits-d
+float-from-bits-d c = readable _ (c .before .before .before .pre .1 .second)
+
 add-r : tie.Need-add-r
 add-r c = search needs
 
@@ -69,6 +41,18 @@ mul-r c = search needs
 slice-read-r : tie.Need-slice-read-r
 slice-read-r c = search needs
 
+float-from-bits-r : tie.Need-float-from-bits-r
+float-from-bits-r c = readable _ (c .before .before .before .before .pre .1 .third)
+
+goes-on-requires : tie.Need-goes-on-requires
+goes-on-requires c κs = search needs
+
+returns : tie.Need-returns
+returns c = row-ends _ _ _ _ refl refl (c .before .goes-on .ensures) (not-true _ (c .if1 .taken))
+
+float-to-bits-w : tie.Need-float-to-bits-w
+float-to-bits-w c = pivot-writable _ _ _ (sym (c .before .goes-on .ensures) ∙ not-false _ (c .if1 .left))
+
 add-w : tie.Need-add-w
 add-w c = search needs
 
@@ -77,6 +61,9 @@ mul-w c = search needs
 
 slice-write-w : tie.Need-slice-write-w
 slice-write-w c = search needs
+
+float-to-bits-w-2 : tie.Need-float-to-bits-w-2
+float-to-bits-w-2 c = right-writable _ _ _ (sym (c .before .goes-on .ensures) ∙ not-false _ (c .if1 .left))
 
 add-w-2 : tie.Need-add-w-2
 add-w-2 c = search needs
@@ -91,36 +78,31 @@ same-length : tie.Need-same-length
 same-length c = search needs
 
 returns-2 : tie.Need-returns-2
-returns-2 c = (sym (ap not (sym (c .before .before .before .before .before .vanishes .ensures) ∙ c .before .before .before .before .if1 .left)), refl)
+returns-2 c = row-goes _ _ _ _ refl refl (c .before .goes-on .ensures) (not-false _ (c .if1 .left))
 
 pub eliminate-row-spec : {M : Type 1} → statement M
 eliminate-row-spec =
     tie.close
     (tie.spec
-    add-p
-    mul-p
-    slice-read-p
-    vanishes-requires
-    returns
-    add-k
-    mul-m
-    add-m
     add-u
-    add-u-2
     mul-u
     slice-read-u
-    add-q
-    mul-q
-    slice-read-q
+    float-from-bits-u
     add-d
     mul-d
     slice-read-d
+    float-from-bits-d
     add-r
     mul-r
     slice-read-r
+    float-from-bits-r
+    goes-on-requires
+    returns
+    float-to-bits-w
     add-w
     mul-w
     slice-write-w
+    float-to-bits-w-2
     add-w-2
     mul-w-2
     slice-write-w-2

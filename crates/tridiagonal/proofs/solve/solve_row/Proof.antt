@@ -1,25 +1,32 @@
-use borrow.Author.Tests.{lt-ltb, le-ltb}
+use Rattle.tridiagonal.proofs.Substitution.{row-left, row-stored}
+use Rattle.tridiagonal.proofs.Nan.{finite-writable}
+use Rattle.tridiagonal.proofs.Cells.{readable}
+use borrow.Author.Tests.{not-true, not-false}
+use mathlib.Core.Path.{sym, _∙_}
 use borrow.Author.Needs.{needs}
 use Rattle.tridiagonal.proofs.solve.solve_row.Statement.{statement}
 use Rattle.tridiagonal.proofs.solve.solve_row.Tie as tie
-
-mul-m : tie.Need-mul-m
-mul-m c = search needs
-
-add-m : tie.Need-add-m
-add-m c = search needs
-
-add-j : tie.Need-add-j
-add-j c = search needs
-
-add-d : tie.Need-add-d
-add-d c = search needs
 
 mul-d : tie.Need-mul-d
 mul-d c = search needs
 
 slice-read-d : tie.Need-slice-read-d
 slice-read-d c = search needs
+
+float-from-bits-d : tie.Need-float-from-bits-d
+float-from-bits-d c = readable _ (c .before .before .pre .1 .first)
+
+add-u : tie.Need-add-u
+add-u c = search needs
+
+mul-u : tie.Need-mul-u
+mul-u c = search needs
+
+slice-read-u : tie.Need-slice-read-u
+slice-read-u c = search needs
+
+float-from-bits-u : tie.Need-float-from-bits-u
+float-from-bits-u c = readable _ (c .before .before .before .pre .1 .second)
 
 add-r : tie.Need-add-r
 add-r c = search needs
@@ -30,26 +37,20 @@ mul-r c = search needs
 slice-read-r : tie.Need-slice-read-r
 slice-read-r c = search needs
 
-add-u : tie.Need-add-u
-add-u c = search needs
+float-from-bits-r : tie.Need-float-from-bits-r
+float-from-bits-r c = readable _ (c .before .before .before .before .pre .1 .third)
 
-add-u-2 : tie.Need-add-u-2
-add-u-2 c = search needs
+unknown-requires : tie.Need-unknown-requires
+unknown-requires c κs = search needs
 
-mul-u : tie.Need-mul-u
-mul-u c = search needs
+is-finite-requires : tie.Need-is-finite-requires
+is-finite-requires c κs = search needs
 
-slice-read-u : tie.Need-slice-read-u
-slice-read-u c = search needs
+returns : tie.Need-returns
+returns c = row-left _ _ _ _ _ (c .before .before .unknown .ensures) (sym (c .before .is-finite .ensures) ∙ not-true _ (c .if1 .taken))
 
-add-x : tie.Need-add-x
-add-x c = search needs
-
-mul-x : tie.Need-mul-x
-mul-x c = search needs
-
-slice-read-x : tie.Need-slice-read-x
-slice-read-x c = search needs
+float-to-bits-w : tie.Need-float-to-bits-w
+float-to-bits-w c = finite-writable _ (sym (c .before .is-finite .ensures) ∙ not-false _ (c .if1 .left))
 
 add-w : tie.Need-add-w
 add-w c = search needs
@@ -63,51 +64,30 @@ slice-write-w c = search needs
 same-length : tie.Need-same-length
 same-length c = search needs
 
-returns : tie.Need-returns
-returns c = rw (lt-ltb _ _ (c .before .before .if1 .taken))
-
-add-w-2 : tie.Need-add-w-2
-add-w-2 c = search needs
-
-mul-w-2 : tie.Need-mul-w-2
-mul-w-2 c = search needs
-
-slice-write-w-2 : tie.Need-slice-write-w-2
-slice-write-w-2 c = search needs
-
-same-length-2 : tie.Need-same-length-2
-same-length-2 c = search needs
-
 returns-2 : tie.Need-returns-2
-returns-2 c = rw (le-ltb _ _ (c .if1 .left))
+returns-2 c = row-stored _ _ _ _ _ (c .before .before .unknown .ensures) (sym (c .before .is-finite .ensures) ∙ not-false _ (c .if1 .left))
 
 pub solve-row-spec : {M : Type 1} → statement M
 solve-row-spec =
     tie.close
     (tie.spec
-    mul-m
-    add-m
-    add-j
-    add-d
     mul-d
     slice-read-d
+    float-from-bits-d
+    add-u
+    mul-u
+    slice-read-u
+    float-from-bits-u
     add-r
     mul-r
     slice-read-r
-    add-u
-    add-u-2
-    mul-u
-    slice-read-u
-    add-x
-    mul-x
-    slice-read-x
+    float-from-bits-r
+    unknown-requires
+    is-finite-requires
+    returns
+    float-to-bits-w
     add-w
     mul-w
     slice-write-w
     same-length
-    returns
-    add-w-2
-    mul-w-2
-    slice-write-w-2
-    same-length-2
     returns-2)

@@ -1,5 +1,5 @@
-use borrow.Author.Needs.{needs}
 use Rattle.tridiagonal.specs.Tridiagonal.{vanishing}
+use borrow.Author.Needs.{needs}
 use Rattle.tridiagonal.proofs.solve.vanishes.Statement.{statement}
 use Rattle.tridiagonal.proofs.solve.vanishes.Tie as tie
 

@@ -14,9 +14,6 @@ array-read-rate c = search needs
 array-read-epochs : tie.Need-array-read-epochs
 array-read-epochs c = search needs
 
-array-read-reached : tie.Need-array-read-reached
-array-read-reached c = search needs
-
 returns : tie.Need-returns
 unfolding heldOf tooWide
 returns c = rw (c .if1 .taken)
@@ -25,23 +22,23 @@ fits : (c : tie.Else1) → tooWide (c .before .args .t1) ≡ false
 unfolding tooWide
 fits c = c .if1 .left
 
-cast-t19 : tie.Need-cast-t19
-cast-t19 c = omega (arith, fields-fit _ (fits c))
+cast-t14 : tie.Need-cast-t14
+cast-t14 c = omega (arith, fields-fit _ (fits c))
 
-cast-t20 : tie.Need-cast-t20
-cast-t20 c = omega (arith, fields-fit _ (fits c))
+cast-t15 : tie.Need-cast-t15
+cast-t15 c = omega (arith, fields-fit _ (fits c))
 
-array-read-t8 : tie.Need-array-read-t8
-array-read-t8 c = search needs
+array-read-t7 : tie.Need-array-read-t7
+array-read-t7 c = search needs
 
-array-read-t25 : tie.Need-array-read-t25
-array-read-t25 c = search needs
+array-read-t20 : tie.Need-array-read-t20
+array-read-t20 c = search needs
 
-array-read-t28 : tie.Need-array-read-t28
-array-read-t28 c = search needs
+array-read-t23 : tie.Need-array-read-t23
+array-read-t23 c = search needs
 
-cast-t29 : tie.Need-cast-t29
-cast-t29 c = omega (arith, fields-fit _ (fits c))
+array-read-t26 : tie.Need-array-read-t26
+array-read-t26 c = search needs
 
 returns-2 : tie.Need-returns-2
 unfolding heldOf
@@ -53,12 +50,11 @@ held-spec =
     (tie.spec
     array-read-rate
     array-read-epochs
-    array-read-reached
     returns
-    cast-t19
-    cast-t20
-    array-read-t8
-    array-read-t25
-    array-read-t28
-    cast-t29
+    cast-t14
+    cast-t15
+    array-read-t7
+    array-read-t20
+    array-read-t23
+    array-read-t26
     returns-2)

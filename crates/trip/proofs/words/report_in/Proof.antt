@@ -17,14 +17,11 @@ number-requires c κs = search needs
 enum-known-answer-2 : tie.Need-enum-known-answer-2
 enum-known-answer-2 c = search needs
 
-cast-t8 : tie.Need-cast-t8
-cast-t8 c = search needs
-
 returns : tie.Need-returns
 returns c = let b = c .before .before in report-refused _ _ _ (c .number .ensures) (sym (b .answer .given .1) ∙ b .before .before .report-held .ensures)
 
 returns-2 : tie.Need-returns-2
-returns-2 c = let b = c .before .before .before in report-totals _ _ _ (sym (b .answer2 .given .1) ∙ b .before .before .report-held .ensures)
+returns-2 c = let b = c .before .before in report-totals _ _ _ (sym (b .answer2 .given .1) ∙ b .before .before .report-held .ensures)
 
 pub report-in-spec : {M : Type 1} → statement M
 report-in-spec =
@@ -34,6 +31,5 @@ report-in-spec =
     enum-known-answer
     number-requires
     enum-known-answer-2
-    cast-t8
     returns
     returns-2)

@@ -3,14 +3,14 @@ use mathlib.Core.Path.{refl, subst}
 use denote.Ref.{now}
 use borrow.Author.Needs.{needs}
 use Rattle.tdcp.specs.Displacement.{Promised}
-use Rattle.wire_tdcp.specs.Displacement.{Handed, handed, vectorOf, settingsOf, inputOf}
+use Rattle.wire_tdcp.specs.Displacement.{Handed, handed, inputOf}
 use Rattle.wire_tdcp.proofs.DisplacementLaws.{previous-broken, current-broken, previous-many, current-many, result-short, displacement-answers, result-is}
 use Rattle.wire_tdcp.proofs.displacement.displacement_records.Statement.{statement}
 use Rattle.wire_tdcp.proofs.displacement.displacement_records.Tie as tie
 
 -- what is handed over
 abbrev given : tie.Start → Handed
-given s = handed (now (s .args .previous)) (now (s .args .current)) (s .args .dt) (vectorOf (s .args .x) (s .args .y) (s .args .z)) (settingsOf (s .args .screen) (s .args .sigma-a) (s .args .sigma-b) (s .args .huber) (s .args .mask) (s .args .rounds))
+given s = handed (now (s .args .previous)) (now (s .args .current)) (s .args .dt) (s .args .receiver) (s .args .settings)
 
 number-requires : tie.Need-number-requires
 number-requires c κs = search needs

@@ -50,7 +50,7 @@ slice-aggregate-found-at c = sym (length-take-le _ _ ((c .before .before .before
 found-at-requires : tie.Need-found-at-requires
 found-at-requires c κs =
     let e = c .before .before .before .before .before .before .before .before .before .before .before .before .fit-rounds .ensures .ended _ (c .before .before .before .before .before .before .before .before .before .before .used .given .1) in
-    (simp length-take (omega (arith, e .few)), omega (arith, c .before .before .before .before .before .before .before .before .before .before .before .before .before .before .before .before .before .before .before .before .before .pre .1))
+    (simp length-take (omega (arith, e .few)), omega arith, omega (arith, c .before .before .before .before .before .before .before .before .before .before .before .before .before .before .before .before .before .before .before .before .before .pre .1))
 
 returns : tie.Need-returns
 returns c = let s = c .before .before .before .before .before .before .before .before .before .before .before .before in stopped-at (s .args .settings) (s .args .k) (os s) (s .args .guess) (c .before .before .before .fit-rounds .ensures .refused _ (c .before .r .given .1))

@@ -11,14 +11,14 @@ use Rattle.wls.proofs.fix.found_at.Tie as tie
 abbrev given : tie.Start → Columns
 given c = columns (c .args .x .now) (c .args .y .now) (c .args .z .now) (c .args .clock .now) (c .args .sigma .now) (c .args .residual .now)
 
-array-read-t18 : tie.Need-array-read-t18
-array-read-t18 c = search needs
+array-read-t16 : tie.Need-array-read-t16
+array-read-t16 c = search needs
 
-array-read-t21 : tie.Need-array-read-t21
-array-read-t21 c = search needs
+array-read-t19 : tie.Need-array-read-t19
+array-read-t19 c = search needs
 
-array-read-t24 : tie.Need-array-read-t24
-array-read-t24 c = search needs
+array-read-t22 : tie.Need-array-read-t22
+array-read-t22 c = search needs
 
 is-finite-requires : tie.Need-is-finite-requires
 is-finite-requires c κs = search needs
@@ -29,29 +29,29 @@ is-finite-requires-2 c κs = search needs
 is-finite-requires-3 : tie.Need-is-finite-requires-3
 is-finite-requires-3 c κs = search needs
 
-plain-matrix-requires : tie.Need-plain-matrix-requires
-plain-matrix-requires c κs = search needs
+dilution-of-requires : tie.Need-dilution-of-requires
+dilution-of-requires c κs = search needs
 
-factor-into-requires : tie.Need-factor-into-requires
-factor-into-requires c κs = search needs
-
-pdop-of-requires : tie.Need-pdop-of-requires
-pdop-of-requires c κs = search needs
+enum-known-pdop : tie.Need-enum-known-pdop
+enum-known-pdop c = search needs
 
 rated-requires : tie.Need-rated-requires
 rated-requires c κs = search needs
 
 returns : tie.Need-returns
 returns c =
-    let s = c .before .before .before .before .before .before .before .before .before .before .before .before .before .before in
-    let f = c .before .before .before .before .factor-into in
-    λ sights chi e. c .rated .ensures ∙ found-rated (s .args .n) (rowsIn (given s)) sights chi (s .args .t8) _ _ _ (c .before .before .before .before .before .before .before .before .before .before .before .before .is-finite .ensures) (c .before .before .before .before .before .before .before .before .before .before .before .is-finite2 .ensures) (c .before .before .before .before .before .before .before .before .before .before .is-finite3 .ensures) (c .before .before .before .before .before .before .before .before .before .if1 .taken) _ (c .before .before .before .before .before .before .before .plain-matrix .ensures) (f .result) (f .ensures .0) _ _ (f .ensures .1) (c .before .before .before .if2 .taken) _ (c .before .pdop-of .ensures) _ (sym (places-length (rowIn (given s)) (length (s .args .residual .now)))) e
+    let s = c .before .before .before .before .before .before .before .before .before .before in
+    let d = sym (c .before .before .pdop .given .1) ∙ c .before .before .before .before .dilution-of .ensures in
+    λ sights chi e. c .rated .ensures ∙ found-rated (s .args .n) (rowsIn (given s)) sights chi (s .args .t8) _ _ _ (c .before .before .before .before .before .before .before .before .is-finite .ensures) (c .before .before .before .before .before .before .before .is-finite2 .ensures) (c .before .before .before .before .before .before .is-finite3 .ensures) (c .before .before .before .before .before .if1 .taken) _ d _ (sym (places-length (rowIn (given s)) (length (s .args .residual .now)))) e
+
+enum-told : tie.Need-enum-told
+enum-told c = search needs
 
 returns-2 : tie.Need-returns-2
 returns-2 c =
-    let s = c .before .before .before .before .before .before .before .before .before .before .before in
-    let f = c .before .factor-into in
-    λ sights chi e. found-refused (s .args .n) (rowsIn (given s)) sights chi (s .args .t8) _ _ _ (c .before .before .before .before .before .before .before .before .before .is-finite .ensures) (c .before .before .before .before .before .before .before .before .is-finite2 .ensures) (c .before .before .before .before .before .before .before .is-finite3 .ensures) (c .before .before .before .before .before .before .if1 .taken) _ (c .before .before .before .before .plain-matrix .ensures) (f .result) (f .ensures .0) (c .if2 .left)
+    let s = c .before .before .before .before .before .before .before .before in
+    let d = sym (c .enum-told .given .1) ∙ c .before .before .dilution-of .ensures in
+    λ sights chi e. found-refused (s .args .n) (rowsIn (given s)) sights chi (s .args .t8) _ _ _ (c .before .before .before .before .before .before .is-finite .ensures) (c .before .before .before .before .before .is-finite2 .ensures) (c .before .before .before .before .is-finite3 .ensures) (c .before .before .before .if1 .taken) _ d
 
 returns-3 : tie.Need-returns-3
 returns-3 c =
@@ -62,16 +62,16 @@ pub found-at-spec : {M : Type 1} → statement M
 found-at-spec =
     tie.close
     (tie.spec
-    array-read-t18
-    array-read-t21
-    array-read-t24
+    array-read-t16
+    array-read-t19
+    array-read-t22
     is-finite-requires
     is-finite-requires-2
     is-finite-requires-3
-    plain-matrix-requires
-    factor-into-requires
-    pdop-of-requires
+    dilution-of-requires
+    enum-known-pdop
     rated-requires
     returns
+    enum-told
     returns-2
     returns-3)

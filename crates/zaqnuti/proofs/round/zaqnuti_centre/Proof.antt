@@ -1,7 +1,9 @@
+-- `zaqnuti::round::zaqnuti_centre` meets its contract. Assumes nothing.
 use mathlib.Core.Path.{sym, ap, _∙_}
 use borrow.Author.Needs.{needs}
 use Rattle.median.specs.declared.centre.Centre.{Centre}
-use Rattle.median.specs.Centre.{centreNumber, centreAfter}
+use Rattle.median.specs.Centre.{centreNumber}
+use Rattle.zaqnuti.specs.Numbers.{centreAfter}
 use Rattle.zaqnuti.proofs.round.zaqnuti_centre.Statement.{statement}
 use Rattle.zaqnuti.proofs.round.zaqnuti_centre.Tie as tie
 
@@ -11,6 +13,12 @@ centre-scale-requires c κs = search needs
 enum-known-answer : tie.Need-enum-known-answer
 enum-known-answer c = search needs
 
+pattern-requires : tie.Need-pattern-requires
+pattern-requires c κs = search needs
+
+pattern-requires-2 : tie.Need-pattern-requires-2
+pattern-requires-2 c κs = search needs
+
 enum-known-answer-2 : tie.Need-enum-known-answer-2
 enum-known-answer-2 c = search needs
 
@@ -19,8 +27,10 @@ number-requires c κs = search needs
 
 returns : tie.Need-returns
 returns c =
-    let e = sym (c .before .before .answer .given .1) ∙ c .before .before .before .before .centre-scale .ensures in
-    (ap centreNumber e, ap (λ (z : Centre). centreAfter z (c .before .before .before .before .before .before .args .out .now)) e)
+    let p = c .before in
+    let q = p .before .before .before in
+    let e = sym (q .answer .given .1) ∙ q .before .before .centre-scale .ensures in
+    (ap centreNumber e, rw (p .before .pattern .ensures, p .pattern2 .ensures) (ap (λ (z : Centre). centreAfter z (q .before .before .before .before .args .out .now)) e))
 
 returns-2 : tie.Need-returns-2
 returns-2 c =
@@ -33,6 +43,8 @@ zaqnuti-centre-spec =
     (tie.spec
     centre-scale-requires
     enum-known-answer
+    pattern-requires
+    pattern-requires-2
     enum-known-answer-2
     number-requires
     returns

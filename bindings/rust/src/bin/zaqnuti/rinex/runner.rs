@@ -1,0 +1,228 @@
+//! Turns epochs into lines of CSV.
+
+use crate::atmosphere::{Direction, Sky};
+use crate::orbit::LIGHT;
+
+use super::left::Left;
+use super::lock::{excess, rate, Locks, Passage, VALID};
+use super::navigation::Ephemerides;
+use super::observations::{Epoch, Observations, Signal};
+use super::place::{Models, Places, Sight};
+use super::signals::{Band, Satellite, System};
+use super::time::Moment;
+use super::written::{self, Carrier, Frame};
+
+/// The state of a run over one observation file.
+pub struct Runner {
+    bands: Vec<Band>,
+    ephemerides: Ephemerides,
+    models: Models,
+    places: Places,
+    locks: Locks,
+    /// The carriers of the last written epoch, by satellite and band.
+    passages: Vec<Option<Passage>>,
+    /// The last epoch, if some of its range rates need the next one.
+    pending: Option<Lines>,
+    sights: Vec<Sight>,
+    left: Left,
+    text: Vec<u8>,
+}
+
+/// The lines of an epoch.
+struct Lines {
+    time: Moment,
+    sky: Sky,
+    lines: Vec<(Sight, Carrier)>,
+}
+
+/// Returns a satellite's frequency channel: 0 except for GLONASS.
+fn channel(ephemerides: &Ephemerides, file: &Observations, of: Satellite) -> Option<i8> {
+    match of.system {
+        System::Glonass => {
+            let own = file.channel(of.number);
+            own.or_else(|| ephemerides.channel(of))
+        }
+        _ => Some(0),
+    }
+}
+
+impl Runner {
+    /// Starts a run; `told` is the receiver's position, if it is given.
+    pub fn new(
+        bands: Vec<Band>,
+        ephemerides: Ephemerides,
+        models: Models,
+        told: Option<[f64; 3]>,
+    ) -> Self {
+        Self {
+            models,
+            places: Places::new(told),
+            locks: Locks::new(bands.len()),
+            passages: vec![None; Satellite::PLACES * bands.len()],
+            pending: None,
+            sights: Vec::new(),
+            left: Left::default(),
+            text: Vec::new(),
+            bands,
+            ephemerides,
+        }
+    }
+
+    /// Tracks the carriers of an epoch, whether or not it will be written.
+    pub fn take(&mut self, file: &Observations, epoch: &Epoch) {
+        let channel = |of| channel(&self.ephemerides, file, of);
+        self.locks.take(epoch, &self.bands, channel);
+    }
+
+    /// Adds an epoch and returns the lines that are complete.
+    pub fn lines(&mut self, file: &Observations, epoch: &Epoch) -> &str {
+        self.text.clear();
+        self.left.epochs += 1;
+        let mut sights = std::mem::take(&mut self.sights);
+        sights.clear();
+        for signal in &epoch.signals {
+            sights.extend(self.sight(file, epoch.time, *signal));
+        }
+        if let Some(sky) = self.sky(file, epoch.time, &mut sights) {
+            self.epoch(epoch.time, sky, &sights);
+        }
+        self.sights = sights;
+        std::str::from_utf8(&self.text).unwrap_or_default()
+    }
+
+    /// Returns the remaining lines at the end.
+    pub fn rest(&mut self) -> &str {
+        self.text.clear();
+        if let Some(pending) = self.pending.take() {
+            self.write(&pending);
+        }
+        std::str::from_utf8(&self.text).unwrap_or_default()
+    }
+
+    /// Returns what was left out.
+    pub fn left(mut self) -> Left {
+        self.left.away = self.places.away;
+        self.left.jumps = self.locks.jumps();
+        self.left
+    }
+
+    /// Computes the satellite of a signal, if it has a usable ephemeris.
+    fn sight(&mut self, file: &Observations, time: Moment, signal: Signal) -> Option<Sight> {
+        let band = self.bands[signal.band];
+        let found = self.ephemerides.nearest(signal.satellite, &band, time);
+        let found = match found {
+            Ok(found) => found,
+            Err(lack) => {
+                self.left.lacks(lack);
+                return None;
+            }
+        };
+        let Some(channel) = channel(&self.ephemerides, file, signal.satellite) else {
+            self.left.unknown_channel();
+            return None;
+        };
+        let (state, clock) = found.at(time, signal.pseudorange);
+        Some(Sight {
+            signal,
+            band,
+            state,
+            clock: clock * LIGHT,
+            delay: found.delay(&band) * LIGHT,
+            channel,
+            to: Direction::default(),
+            ionosphere: 0.0,
+            troposphere: 0.0,
+        })
+    }
+
+    /// Finds the receiver's position; nothing if the epoch is left out.
+    fn sky(&mut self, file: &Observations, time: Moment, sights: &mut Vec<Sight>) -> Option<Sky> {
+        if sights.is_empty() {
+            self.left.empty();
+            return None;
+        }
+        let second = time.second_of_week();
+        let found = self.places.find(sights, file.place(), &self.models, second);
+        match found {
+            Ok((sky, off)) => {
+                self.left.off += off;
+                let some = !sights.is_empty();
+                if !some {
+                    self.left.empty();
+                }
+                some.then_some(sky)
+            }
+            Err(why) => {
+                self.left.nowhere(why);
+                None
+            }
+        }
+    }
+
+    /// Computes the lines of an epoch. Writes pending lines, and its own if they are complete.
+    fn epoch(&mut self, time: Moment, sky: Sky, sights: &[Sight]) {
+        let mut lines = Vec::with_capacity(sights.len());
+        for sight in sights {
+            lines.push((*sight, self.carrier(time, sight, &sky)));
+        }
+        self.locks.wrote();
+        if let Some(pending) = self.pending.take() {
+            self.write(&pending);
+        }
+        let whole = lines.iter().all(|(_, c)| c.known);
+        let epoch = Lines { time, sky, lines };
+        match whole {
+            true => self.write(&epoch),
+            false => self.pending = Some(epoch),
+        }
+    }
+
+    fn write(&mut self, epoch: &Lines) {
+        let frame = Frame::new(epoch.time, &epoch.sky);
+        for (sight, carrier) in &epoch.lines {
+            written::line(&mut self.text, &frame, sight, carrier);
+        }
+    }
+
+    /// Returns a signal's carrier with its range rate: from Doppler, or else from the phase.
+    fn carrier(&mut self, time: Moment, sight: &Sight, sky: &Sky) -> Carrier {
+        let (state, metres) = self.locks.state(&sight.signal);
+        let now = Passage {
+            time,
+            carrier: metres + sight.clock,
+            satellite: sight.state.place,
+        };
+        let place = sight.signal.satellite.place() * self.bands.len() + sight.signal.band;
+        let before = self.passages[place].filter(|_| state == VALID);
+        self.passages[place] = (state & VALID != 0).then_some(now);
+        let wavelength = sight.band.wavelength(sight.channel);
+        let (rate, known) = match (rate(&sight.signal, wavelength), before) {
+            (Some(rate), _) => (rate, true),
+            (None, None) => (sky.receding(&sight.state), state & VALID == 0),
+            (None, Some(before)) => {
+                let range = |x: [f64; 3]| sky.direction(x).range;
+                let more = excess(&before, &now, range);
+                self.tell_before(&sight.signal, more);
+                (sky.receding(&sight.state) + more, true)
+            }
+        };
+        Carrier {
+            metres,
+            state,
+            rate,
+            known,
+        }
+    }
+
+    /// Completes a range rate of the pending epoch.
+    fn tell_before(&mut self, signal: &Signal, more: f64) {
+        let same = |s: &Signal| (s.satellite, s.band) == (signal.satellite, signal.band);
+        let lines = self.pending.iter_mut().flat_map(|p| &mut p.lines);
+        for (sight, carrier) in lines {
+            if !carrier.known && same(&sight.signal) {
+                carrier.rate += more;
+                carrier.known = true;
+            }
+        }
+    }
+}

@@ -1,3 +1,0 @@
--- What the proofs of more than one function use, and the laws.
-pub mod FilterLaws
-pub mod CityLaws

@@ -1,2 +1,0 @@
-// The displacement of the city profile.
-pub mod city;

@@ -1,0 +1,13 @@
+-- The laws of the calls.
+pub mod NumberLaws
+pub mod ColumnLaws
+pub mod FormLaws
+pub mod StepLaws
+pub mod NarrowLaws
+pub mod PastLaws
+pub mod RunLaws
+pub mod DropLaws
+pub mod BuildLaws
+pub mod MarkLaws
+pub mod SameLaws
+pub mod WidenLaws

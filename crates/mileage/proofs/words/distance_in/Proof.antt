@@ -1,0 +1,39 @@
+-- `mileage::words::distance_in` meets its contract. Assumes nothing.
+use mathlib.Core.Path.{sym, _∙_}
+use Rattle.mileage.proofs.WordLaws.{distance-refused, distance-given}
+use borrow.Author.Needs.{needs}
+use Rattle.mileage.proofs.words.distance_in.Statement.{statement}
+use Rattle.mileage.proofs.words.distance_in.Tie as tie
+
+held-requires : tie.Need-held-requires
+held-requires c κs = search needs
+
+distance-requires : tie.Need-distance-requires
+distance-requires c κs = search needs
+
+enum-known-answer : tie.Need-enum-known-answer
+enum-known-answer c = search needs
+
+number-requires : tie.Need-number-requires
+number-requires c κs = search needs
+
+enum-known-answer-2 : tie.Need-enum-known-answer-2
+enum-known-answer-2 c = search needs
+
+returns : tie.Need-returns
+returns c = let b = c .before .before in let a = b .before .before in distance-refused _ _ _ (c .number .ensures) (sym (b .answer .given .1) ∙ (rw (a .before .held .ensures) at (a .distance .ensures)))
+
+returns-2 : tie.Need-returns-2
+returns-2 c = let b = c .before in let a = b .before .before in distance-given _ _ _ (sym (b .answer2 .given .1) ∙ (rw (a .before .held .ensures) at (a .distance .ensures)))
+
+pub distance-in-spec : {M : Type 1} → statement M
+distance-in-spec =
+    tie.close
+    (tie.spec
+    held-requires
+    distance-requires
+    enum-known-answer
+    number-requires
+    enum-known-answer-2
+    returns
+    returns-2)

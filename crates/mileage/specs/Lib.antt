@@ -1,0 +1,3 @@
+pub mod Rated
+pub mod Mileage
+pub mod Words

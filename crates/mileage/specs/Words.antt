@@ -1,0 +1,106 @@
+-- A mileage as ten words (docs/SCOPE.md, "Mileage"): the limit's bits, epochs, refused, set aside, counted millimetres, counted pulses, standing millimetres, all
+-- pulses, whether the last epoch had a pulse, and the last epoch's millimetres where it stands so far. What the calls on them answer, and what lent words hold
+-- afterwards. Definitions only.
+use Prim.Native.Nat.{ℕ}
+use mathlib.Core.List.{List, [], _∷_}
+use lib.ListN.{getD}
+use lib.Ieee.{Float, nan}
+use Rattle.exact.specs.Float.{bits}
+use Rattle.walk.specs.Walk.{fold}
+use Rattle.numeric.specs.Order.{patternOf}
+use Rattle.numeric.specs.Refusal.{numberOf}
+use Rattle.numeric.specs.Vec3.{vectorAt}
+use Rattle.mileage.specs.Mileage.{started, added, reported, distance, fuelled}
+use Rattle.mileage.specs.declared.mileage.Epoch.{Epoch}
+use Rattle.mileage.specs.declared.mileage.Mileage.{Mileage}
+use Rattle.mileage.specs.declared.mileage.Step.{Step}
+use Rattle.mileage.specs.declared.mileage.Step.the-variants as Step
+use Rattle.mileage.specs.declared.mileage.Reported.{Reported}
+use Rattle.mileage.specs.declared.mileage.Reported.the-variants as Reported
+use Rattle.mileage.specs.declared.mileage.Distance.{Distance}
+use Rattle.mileage.specs.declared.mileage.Distance.the-variants as Distance
+use Rattle.mileage.specs.declared.mileage.Fuel.{Fuel}
+use Rattle.mileage.specs.declared.mileage.Fuel.the-variants as Fuel
+
+-- ---- words and mileages, an epoch from what is lent
+
+abbrev pub mileageFrom : List ℕ → Mileage
+mileageFrom w =
+    record {
+      limit = bits (getD w 0 0);
+      epochs = getD w 1 0;
+      refused = getD w 2 0;
+      aside = getD w 3 0;
+      counted = getD w 4 0;
+      covered = getD w 5 0;
+      standing = getD w 6 0;
+      pulses = getD w 7 0;
+      moved = getD w 8 0;
+      waiting = getD w 9 0;
+    }
+
+abbrev pub wordsOf : Mileage → List ℕ
+wordsOf m =
+    patternOf (m .limit) ∷ m .epochs ∷ m .refused ∷ m .aside ∷ m .counted ∷ m .covered ∷ m .standing ∷ m .pulses ∷ m .moved ∷ m .waiting ∷ []
+
+abbrev pub epochOf : ℕ → List Float → List Float → ℕ → Epoch
+epochOf number delta quality pulses =
+    record { refused = number; displacement = vectorAt delta 0; chi = getD quality 0 nan; pdop = getD quality 1 nan; pulses = pulses }
+
+-- ---- the calls on the mileage that words hold
+
+abbrev pub addedWords : List ℕ → Epoch → Step
+addedWords w e = added (mileageFrom w) e
+
+abbrev pub reportedWords : List ℕ → Reported
+reportedWords w = reported (mileageFrom w)
+
+abbrev pub distanceWords : List ℕ → Distance
+distanceWords w = distance (mileageFrom w)
+
+abbrev pub fuelledWords : List ℕ → ℕ → Fuel
+fuelledWords w millilitres = fuelled (mileageFrom w) millilitres
+
+-- ---- the number, and what the lent words hold afterwards: a refusal changes nothing
+
+abbrev pub stepNumber : Step → ℕ
+stepNumber (Step.Refused r) = numberOf r
+stepNumber (Step.Goes m) = 0
+
+abbrev pub wordsAfter : Step → List ℕ → List ℕ
+wordsAfter (Step.Refused r) before = before
+wordsAfter (Step.Goes m) before = wordsOf m
+
+abbrev pub reportNumber : Reported → ℕ
+reportNumber (Reported.Refused r) = numberOf r
+reportNumber (Reported.Totals p) = 0
+
+abbrev pub reportAfter : Reported → List ℕ → List ℕ
+reportAfter (Reported.Refused r) before = before
+reportAfter (Reported.Totals p) before = p .epochs ∷ p .refused ∷ p .aside ∷ p .counted ∷ p .covered ∷ p .standing ∷ p .pulses ∷ []
+
+abbrev pub distanceNumber : Distance → ℕ
+distanceNumber (Distance.Refused r) = numberOf r
+distanceNumber (Distance.Millimetres d) = 0
+
+abbrev pub distanceAfter : Distance → ℕ → ℕ
+distanceAfter (Distance.Refused r) before = before
+distanceAfter (Distance.Millimetres d) before = d
+
+abbrev pub fuelNumber : Fuel → ℕ
+fuelNumber (Fuel.Refused r) = numberOf r
+fuelNumber (Fuel.PerKilometre m) = 0
+
+abbrev pub fuelAfter : Fuel → ℕ → ℕ
+fuelAfter (Fuel.Refused r) before = before
+fuelAfter (Fuel.PerKilometre m) before = m
+
+-- ---- calls one after the other
+
+-- the words that an addition leaves
+unfoldable pub wordsNext : List ℕ → Epoch → List ℕ
+wordsNext w e = wordsAfter (addedWords w e) w
+
+-- the words that a start in lent words w and then these additions leave
+unfoldable pub called : Float → List ℕ → List Epoch → List ℕ
+called limit w es = fold wordsNext (wordsAfter (started limit) w) es

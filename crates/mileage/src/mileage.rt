@@ -1,0 +1,247 @@
+// A mileage over at most 65,535 epochs: all pulses, and the millimetres and pulses of the epochs that count.
+ghost use mathlib.Core.Path.{_≡_};
+ghost use mathlib.Core.Bool.{true, cond};
+ghost use Prim.Native.Nat.{_≤_, _<_};
+ghost use Rattle.mileage.specs.Mileage as spec;
+use crate::rated::is_rated;
+use numeric::real::in_range;
+use numeric::refusal::Refusal;
+use numeric::vec3::Vec3;
+use trip::measure::Way;
+use trip::measure::way_of_square;
+
+// One epoch: the number that refused its displacement (0: none), the displacement in metres, its quality, and its odometer pulses.
+pub struct Epoch {
+    pub refused: u8,
+    pub displacement: Vec3,
+    pub chi: f64,
+    pub pdop: f64,
+    pub pulses: u16,
+}
+
+// The limit of the predicted error in metres; the epochs, and of them those refused and set aside; the millimetres and pulses of counted epochs; the
+// millimetres of standing ones without the last epoch's; all pulses; whether the last epoch had a pulse (1 or 0); and the last epoch's millimetres where it
+// stands so far.
+pub struct Mileage {
+    pub limit: f64,
+    pub epochs: u64,
+    pub refused: u64,
+    pub aside: u64,
+    pub counted: u64,
+    pub covered: u64,
+    pub standing: u64,
+    pub pulses: u64,
+    pub moved: u64,
+    pub waiting: u64,
+}
+
+// The epochs, those refused and set aside, the millimetres and pulses of counted epochs, the millimetres of standing ones, and all pulses.
+pub struct Report {
+    pub epochs: u64,
+    pub refused: u64,
+    pub aside: u64,
+    pub counted: u64,
+    pub covered: u64,
+    pub standing: u64,
+    pub pulses: u64,
+}
+
+pub enum Step {
+    Refused(Refusal),
+    Goes(Mileage),
+}
+
+pub enum Reported {
+    Refused(Refusal),
+    Totals(Report),
+}
+
+pub enum Distance {
+    Refused(Refusal),
+    Millimetres(u64),
+}
+
+pub enum Fuel {
+    Refused(Refusal),
+    PerKilometre(u64),
+}
+
+// n where the test holds, and otherwise 0.
+pub(crate) fn when(test: bool, n: u64) -> u64
+    ensures { λ r. ⌜ (r ≡ cond test n 0) × (r ≤ n) ⌝ }
+{
+    if test { n } else { 0 }
+}
+
+// Multiplies by pulses and divides by covered in 64 bits. Refuses a result above 2 ^ 63 - 1.
+pub(crate) fn scaled(counted: u64, pulses: u64, covered: u64) -> Distance
+    requires { ⌜ (0 < covered) × (covered ≤ pulses) × (pulses ≤ 4294836225) ⌝ }
+    ensures { λ r. ⌜ r ≡ spec.held (spec.scaled counted pulses covered) ⌝ }
+{
+    let whole = counted / covered;
+    let rest = counted % covered * pulses / covered;
+    if (9223372036854775807 - rest) / pulses < whole {
+        return Distance::Refused(Refusal::BadTrip);
+    }
+    Distance::Millimetres(whole * pulses + rest)
+}
+
+// The way of an accepted displacement. A refused one is not measured.
+pub(crate) fn way_for(refused: u8, displacement: Vec3) -> Way
+    ensures { λ r. ⌜ r ≡ spec.wayFor refused displacement ⌝ }
+{
+    if refused == 0 {
+        let d = displacement;
+        return way_of_square(d.x * d.x + d.y * d.y + d.z * d.z);
+    }
+    Way {
+        within: true,
+        millimetres: 0,
+    }
+}
+
+impl Mileage {
+    // Starts a mileage with this limit.
+    pub fn start(limit: f64) -> Step
+        ensures { λ r. ⌜ r ≡ spec.started limit ⌝ }
+    {
+        if in_range(limit) {
+            return Step::Goes(Mileage {
+                limit,
+                epochs: 0,
+                refused: 0,
+                aside: 0,
+                counted: 0,
+                covered: 0,
+                standing: 0,
+                pulses: 0,
+                moved: 0,
+                waiting: 0,
+            });
+        }
+        Step::Refused(Refusal::SettingOutOfRange)
+    }
+
+    // Checks rule 16 of a mileage handed in. Each test keeps the next from overflowing, and none fails in a drive, so that branches cost least.
+    pub fn is_sound(self) -> bool
+        ensures { λ r. ⌜ r ≡ spec.soundMileage self ⌝ }
+    {
+        let epochs = self.epochs;
+        if 65535 < epochs {
+            return false;
+        }
+        if epochs < self.refused {
+            return false;
+        }
+        if epochs - self.refused < self.aside {
+            return false;
+        }
+        let far = 1000000 * epochs;
+        if far < self.counted {
+            return false;
+        }
+        let rest = far - self.counted;
+        if rest < self.standing {
+            return false;
+        }
+        if rest - self.standing < self.waiting {
+            return false;
+        }
+        (self.pulses <= 65535 * epochs)
+            & (self.covered <= self.pulses)
+            & (self.moved <= 1)
+            & in_range(self.limit)
+    }
+
+    // The mileage after an epoch that is refused or not, of use or not, of so many millimetres and pulses.
+    pub(crate) fn grown(self, refused: bool, usable: bool, millimetres: u64, pulses: u64) -> Mileage
+        requires { ⌜ (spec.soundMileage self ≡ true) × (self .epochs < 65535) × (millimetres ≤ 1000000) × (pulses ≤ 65535) ⌝ }
+        ensures { λ r. ⌜ r ≡ spec.grown self refused usable millimetres pulses ⌝ }
+    {
+        let moves = 0 < pulses;
+        let near = (0 < self.moved) | moves;
+        let covered = when(usable & near, pulses);
+        Mileage {
+            limit: self.limit,
+            epochs: self.epochs + 1,
+            refused: self.refused + when(refused, 1),
+            aside: self.aside + when(!refused & !usable, 1),
+            counted: self.counted + when(moves, self.waiting) + when(usable & near, millimetres),
+            covered: self.covered + covered,
+            standing: self.standing + when(!moves, self.waiting),
+            pulses: self.pulses + pulses,
+            moved: when(moves, 1),
+            waiting: when(usable & !near, millimetres),
+        }
+    }
+
+    // Adds an epoch whose displacement is of this way.
+    pub(crate) fn add_way(self, way: Way, e: Epoch) -> Step
+        requires { ⌜ way ≡ spec.wayFor (e .refused) (e .displacement) ⌝ }
+        ensures { λ r. ⌜ r ≡ spec.added self e ⌝ }
+    {
+        if !(self.is_sound() & (self.epochs < 65535) & way.within) {
+            return Step::Refused(Refusal::BadTrip);
+        }
+        let refused = e.refused != 0;
+        let usable = !refused & is_rated(self.limit, e.chi, e.pdop);
+        let pulses = e.pulses as u64;
+        Step::Goes(self.grown(refused, usable, way.millimetres, pulses))
+    }
+
+    // Adds an epoch.
+    pub fn add(self, e: Epoch) -> Step
+        ensures { λ r. ⌜ r ≡ spec.added self e ⌝ }
+    {
+        let way = way_for(e.refused, e.displacement);
+        self.add_way(way, e)
+    }
+
+    // Reports the totals. The last epoch's millimetres count as standing where no pulse came so far.
+    pub fn report(self) -> Reported
+        ensures { λ r. ⌜ r ≡ spec.reported self ⌝ }
+    {
+        if !self.is_sound() {
+            return Reported::Refused(Refusal::BadTrip);
+        }
+        Reported::Totals(Report {
+            epochs: self.epochs,
+            refused: self.refused,
+            aside: self.aside,
+            counted: self.counted,
+            covered: self.covered,
+            standing: self.standing + self.waiting,
+            pulses: self.pulses,
+        })
+    }
+
+    // The distance in millimetres: those of counted epochs times all pulses by the pulses of counted epochs.
+    pub fn distance(self) -> Distance
+        ensures { λ r. ⌜ r ≡ spec.distance self ⌝ }
+    {
+        if !self.is_sound() {
+            return Distance::Refused(Refusal::BadTrip);
+        }
+        if self.covered == 0 {
+            return Distance::Refused(Refusal::NoDistance);
+        }
+        scaled(self.counted, self.pulses, self.covered)
+    }
+
+    // The millilitres for a kilometre of the distance.
+    pub fn fuel(self, millilitres: u32) -> Fuel
+        ensures { λ r. ⌜ r ≡ spec.fuelled self millilitres ⌝ }
+    {
+        let far = self.distance();
+        match far {
+            Distance::Refused(r) => Fuel::Refused(r),
+            Distance::Millimetres(d) => {
+                if d == 0 {
+                    Fuel::Refused(Refusal::NoDistance)
+                } else {
+                    Fuel::PerKilometre((millilitres as u64) * 1000000 / d)
+                }
+            }
+        }
+    }
+}

@@ -1,0 +1,2 @@
+-- The laws of signals.
+pub mod SignalLaws

@@ -1,0 +1,2 @@
+// A satellite's signal as one number.
+pub mod signal;

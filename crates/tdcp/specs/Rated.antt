@@ -1,0 +1,82 @@
+-- The displacement with the quality of its fit (docs/SCOPE.md, "Rated displacement"). Definitions only.
+use mathlib.Core.Path.{_≡_}
+use Prim.Native.Nat.{ℕ, _+_}
+use mathlib.Core.Bool.{true}
+use mathlib.Core.List.{List, [], _∷_, _++_, map}
+use lib.Dec.{T}
+use lib.Ieee.{Float}
+use lib.Ieee.Scale.{finite}
+use Rattle.walk.specs.Walk.{every}
+use Rattle.cholesky.specs.Factor.{zeros}
+use Rattle.numeric.specs.Refusal.{numberOf}
+use Rattle.clocks.specs.Clocks.{clocksOf}
+use Rattle.clocks.specs.declared.clocks.Clocks.{Clocks}
+use Rattle.records.specs.Screen.{constellations}
+use Rattle.records.specs.declared.pair.Pair.{Pair}
+use Rattle.estimator.specs.Rounds.{stateAfter}
+use Rattle.quality.specs.Quality.{qualityOf}
+use Rattle.quality.specs.declared.figures.Quality.{Quality}
+use Rattle.quality.specs.declared.figures.Quality.the-variants as Quality
+use Rattle.tdcp.specs.Displacement.{Input, rowAt, kept, fitOf, displacementOf, Accepted}
+use Rattle.tdcp.specs.declared.displacement.Settings.{Settings}
+use Rattle.tdcp.specs.declared.displacement.Delta.{Delta}
+use Rattle.tdcp.specs.declared.displacement.Displacement.{Displacement}
+use Rattle.tdcp.specs.declared.displacement.Displacement.the-variants as Displacement
+use Rattle.tdcp.specs.declared.displacement.RatedDelta.{RatedDelta}
+use Rattle.tdcp.specs.declared.displacement.Rated.{Rated}
+use Rattle.tdcp.specs.declared.displacement.Rated.the-variants.{Refused, Moved}
+
+-- chi and pdop of the rows of the pairs ps at the state x, with the clocks k
+unfoldable pub qualityAt : Settings → Clocks → List Pair → List Float → Quality
+qualityAt settings k ps x = qualityOf (3 + k .count) (map (rowAt settings k x) ps)
+
+-- the quality of a call's fit: of the kept pairs at the displacement that the rounds reach, with the final clocks; zero rounds leave both at zero
+unfoldable pub quality : Input → Quality
+quality i = qualityAt (i .settings) (clocksOf (constellations (kept i))) (kept i) (stateAfter (fitOf i .end) zeros)
+
+-- a displacement with its figures, or why these are refused
+abbrev pub rate : Delta → Quality → Rated
+rate d (Quality.Refused r) = Refused r
+rate d (Quality.Rated f) = Moved (record { moved = d; chi = f .chi; pdop = f .pdop })
+
+abbrev pub ratedBy : Quality → Displacement → Rated
+ratedBy q (Displacement.Refused r) = Refused r
+ratedBy q (Displacement.Moved d) = rate d q
+
+-- refused where the displacement is, by its number; then 10 and 14 of its quality
+unfoldable pub ratedOf : Input → Rated
+ratedOf i = ratedBy (quality i) (displacementOf i)
+
+-- ---- an answer in numbers: its number, which is 0 where it is accepted, its floats, its figures and its counts; a refusal has its number alone
+
+abbrev pub ratedNumber : Rated → ℕ
+ratedNumber (Refused r) = numberOf r
+ratedNumber (Moved d) = 0
+
+-- dx, dy, dz
+abbrev pub ratedFloats : Rated → List Float
+ratedFloats (Refused r) = []
+ratedFloats (Moved d) = d .moved .delta .x ∷ d .moved .delta .y ∷ d .moved .delta .z ∷ []
+
+-- chi, pdop
+abbrev pub ratedFigures : Rated → List Float
+ratedFigures (Refused r) = []
+ratedFigures (Moved d) = d .chi ∷ d .pdop ∷ []
+
+-- used, screened
+abbrev pub ratedCounts : Rated → List ℕ
+ratedCounts (Refused r) = []
+ratedCounts (Moved d) = d .moved .used ∷ d .moved .screened ∷ []
+
+-- ---- the promise of every rated call
+
+-- an accepted one has what an accepted displacement has, demand 3 of its rounds included, and two finite figures
+pub record RatedAccepted (i : Input) (d : RatedDelta) : Type 0 where
+  pub moved : Accepted i (d .moved)
+  pub chi-finite : T (finite (d .chi))
+  pub pdop-finite : T (finite (d .pdop))
+
+pub record RatedPromised (i : Input) (r : Rated) : Type 0 where
+  pub answer : r ≡ ratedOf i
+  pub given-finite : every finite (ratedFloats r ++ ratedFigures r) ≡ true
+  pub accepted : (d : RatedDelta) → r ≡ Moved d → RatedAccepted i d

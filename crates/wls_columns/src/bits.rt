@@ -1,0 +1,61 @@
+// The patterns of a factor and of a column, for memory that a caller lends as doubles.
+ghost use mathlib.Core.Path.{_≡_};
+ghost use mathlib.Core.List.{map};
+ghost use Prim.Native.Nat.{_<_};
+ghost use Rattle.numeric.specs.Order.{patternOf};
+ghost use Rattle.cholesky.specs.Factor.{row, factorOf};
+ghost use Rattle.cholesky.specs.Answer.{factoringOf};
+ghost use Rattle.wls_columns.specs.Bits.{patternsAfter, AllFinite};
+use cholesky::factor::Factoring;
+use cholesky::factor::factor_used;
+use numeric::order::pattern;
+use numeric::refusal::Refusal;
+
+// Returns the patterns of nine floats: of a NaN 7FF8000000000000.
+pub fn patterns(x: [f64; 9]) -> [u64; 9]
+    ensures { λ r. ⌜ r ≡ map patternOf x ⌝ }
+{
+    let mut r = [0u64; 9];
+    for k in 0..9 {
+        let p = pattern(x[k]);
+        r[k] = p;
+    }
+    r
+}
+
+// Returns the bits of row i of a matrix whose cells are finite: there is no NaN to test for.
+fn row_bits(i: usize, m: &[[f64; 9]; 9]) -> [u64; 9]
+    requires { ⌜ (i < 9) × AllFinite (now m) ⌝ }
+    ensures { λ r. ⌜ r ≡ map patternOf (row (now (m .entry)) i) ⌝ }
+{
+    let mut r = [0u64; 9];
+    for k in 0..9 {
+        let p = f64::to_bits(m[i][k]);
+        r[k] = p;
+    }
+    r
+}
+
+// Writes the patterns of the factor of a to l, or refuses and leaves l unchanged. Only the lower triangle of a is read. An accepted factor is finite.
+pub fn factor_patterns(a: &[[f64; 9]; 9], l: &mut [[u64; 9]; 9]) -> Factoring
+    ensures { λ r. ⌜ (let f = factorOf (now (a .entry)) in (r ≡ factoringOf f) × (now (l .exit) ≡ patternsAfter f (now (l .entry)))) ⌝ }
+{
+    let mut m = [[0.0; 9]; 9];
+    if factor_used(9, a, &mut m) {
+        let rows = [
+            row_bits(0, &m),
+            row_bits(1, &m),
+            row_bits(2, &m),
+            row_bits(3, &m),
+            row_bits(4, &m),
+            row_bits(5, &m),
+            row_bits(6, &m),
+            row_bits(7, &m),
+            row_bits(8, &m),
+        ];
+        *l = rows;
+        Factoring::Done
+    } else {
+        Factoring::Refused(Refusal::FitFailed)
+    }
+}

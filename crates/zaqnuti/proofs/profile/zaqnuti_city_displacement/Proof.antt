@@ -1,0 +1,17 @@
+-- `zaqnuti::profile::zaqnuti_city_displacement` meets its contract. Assumes nothing.
+use borrow.Author.Needs.{needs}
+use Rattle.tdcp_columns.proofs.AnswerLaws.{answers}
+use Rattle.zaqnuti.proofs.profile.zaqnuti_city_displacement.Statement.{statement}
+use Rattle.zaqnuti.proofs.profile.zaqnuti_city_displacement.Tie as tie
+
+columns-displaced-requires : tie.Need-columns-displaced-requires
+columns-displaced-requires c κs = search needs
+
+answer-into-requires : tie.Need-answer-into-requires
+answer-into-requires c κs = search needs
+
+returns : tie.Need-returns
+returns c = answers _ (c .before .before .before .columns-displaced .ensures) (c .answer-into .ensures)
+
+pub zaqnuti-city-displacement-spec : {M : Type 1} → statement M
+zaqnuti-city-displacement-spec = tie.close (tie.spec columns-displaced-requires answer-into-requires returns)
