@@ -3,3 +3,4 @@ pub mod FitLaws
 pub mod AnswerLaws
 pub mod AnswerValues
 pub mod RatedLaws
+pub mod CallLaws

@@ -1,0 +1,67 @@
+-- The calls on columns beside one another: the displacement between two times beside the one with their seconds. Assumes nothing.
+use mathlib.Core.Path.{_≡_, sym, ap, _∙_}
+use mathlib.Core.Bool.{true, false, cond, _&&_}
+use mathlib.Core.List.{List}
+use Prim.Native.Nat.{ℕ}
+use Rattle.numeric.specs.declared.vec3.Vec3.{Vec3}
+use Rattle.numeric.specs.declared.refusal.Refusal.the-variants.{TooMany, BadTime}
+use Rattle.time.specs.Time.{isDated, secondsAfter}
+use Rattle.time.specs.declared.time.GpsTime.{GpsTime}
+use Rattle.records.specs.Carriers.{CarrierColumns, epochOf}
+use Rattle.records.specs.declared.pair.Profile.{Profile}
+use Rattle.estimator.specs.Rules.{Rule, ruled}
+use Rattle.estimator.proofs.RulesLaws.{ruled-append}
+use Rattle.tdcp.specs.Valid.{epochRules, intervalRules}
+use Rattle.tdcp.specs.Displacement.{displacementOf}
+use Rattle.tdcp.specs.declared.displacement.Settings.{Settings}
+use Rattle.tdcp.specs.declared.displacement.Interval.{Interval}
+use Rattle.tdcp.specs.declared.displacement.Interval.the-variants as Interval
+use Rattle.tdcp.specs.declared.displacement.Displacement.{Displacement}
+use Rattle.tdcp.specs.declared.displacement.Displacement.the-variants.{Refused}
+use Rattle.tdcp.proofs.IntervalLaws.{at-dt}
+use Rattle.tdcp_columns.specs.Displacement.{Lent, lent, inputOf, isFit, columnsDisplaced, deltaAfter, countsAfter, Leaves, DisplacementAnswers}
+use Rattle.tdcp.specs.Displacement.{displacementNumber}
+
+-- the same number, and the same bits in the lent results
+pub record Alike (number number′ : ℕ) (delta delta′ counts counts′ : List ℕ) : Type 0 where
+  pub numbers : number ≡ number′
+  pub deltas : delta ≡ delta′
+  pub counted : counts ≡ counts′
+
+-- two calls whose displacements are one leave the same, from the same memory
+pub alike : (l m : Lent) {number number′ : ℕ} {delta₀ delta delta′ counts₀ counts counts′ : List ℕ} → columnsDisplaced l ≡ columnsDisplaced m
+    → DisplacementAnswers l number delta₀ delta counts₀ counts → DisplacementAnswers m number′ delta₀ delta′ counts₀ counts′ → Alike number number′ delta delta′ counts counts′
+alike l m {delta₀ = delta₀} {counts₀ = counts₀} e a b =
+    record {
+      numbers = a .leaves .number-is ∙ ap displacementNumber e ∙ sym (b .leaves .number-is);
+      deltas = a .leaves .delta-is ∙ ap (λ (d : Displacement). deltaAfter d delta₀) e ∙ sym (b .leaves .delta-is);
+      counted = a .leaves .counts-are ∙ ap (λ (d : Displacement). countsAfter d counts₀) e ∙ sym (b .leaves .counts-are);
+    }
+
+module _ (previous : CarrierColumns) (m : ℕ) (current : CarrierColumns) (n : ℕ) (s t : GpsTime) (receiver : Vec3) (settings : Settings) (profile : Profile) where
+  abbrev pub between : Lent
+  between = lent previous m current n (Interval.Between s t) receiver settings profile
+
+  abbrev pub apart : Lent
+  apart = lent previous m current n (Interval.Seconds (secondsAfter t s)) receiver settings profile
+
+  same-displacement : (isDated t && isDated s) ≡ true → columnsDisplaced between ≡ columnsDisplaced apart
+  unfolding columnsDisplaced
+  same-displacement e = rw (at-dt (epochOf previous m) (epochOf current n) s t receiver settings profile e)
+
+  -- with two valid times, the call with dt the seconds between them
+  pub between-apart : (isDated t && isDated s) ≡ true → {number number′ : ℕ} {delta₀ delta delta′ counts₀ counts counts′ : List ℕ}
+      → DisplacementAnswers between number delta₀ delta counts₀ counts → DisplacementAnswers apart number′ delta₀ delta′ counts₀ counts′ → Alike number number′ delta delta′ counts counts′
+  between-apart e a b = alike between apart (same-displacement e) a b
+
+  abbrev rules : List Rule
+  rules = epochRules (epochOf previous m) (epochOf current n) receiver settings
+
+  thirteen : (isDated t && isDated s) ≡ false → displacementOf (inputOf between) ≡ ruled Refused rules (Refused BadTime)
+  unfolding displacementOf intervalRules ruled
+  thirteen e = ruled-append Refused _ rules _ ∙ rw e
+
+  -- otherwise the number of 2 to 4 where one of them applies, and 13 where none does
+  pub between-refused : (isDated t && isDated s) ≡ false → columnsDisplaced between ≡ cond (isFit between) (ruled Refused rules (Refused BadTime)) (Refused TooMany)
+  unfolding columnsDisplaced
+  between-refused e = rw (thirteen e)
