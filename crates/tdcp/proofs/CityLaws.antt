@@ -2,7 +2,7 @@
 use mathlib.Core.Logic.{_⊎_, inl, inr}
 use mathlib.Core.Path.{_≡_, refl, sym, ap, ap₂, _∙_}
 use mathlib.Core.Bool.{Bool, true, false, not, cond, _&&_, _||_}
-use mathlib.Core.List.{List, [], _∷_}
+use mathlib.Core.List.{List, [], _∷_, _++_}
 use Prim.Native.Nat.{ℕ, _-_}
 use native.Mathlib.Omega.{arith}
 use lib.Dec.{ltb}
@@ -22,8 +22,8 @@ use Rattle.records.specs.declared.record.Epoch.{Epoch}
 use Rattle.records.specs.declared.pair.Pair.{Pair}
 use Rattle.estimator.specs.Rules.{Rule, ruled}
 use Rattle.estimator.specs.Rounds.{concluded}
-use Rattle.estimator.specs.declared.rules.Check.the-variants.{Passed}
-use Rattle.estimator.proofs.RulesLaws.{checked, ruled-append, passed-by, head-passed}
+use Rattle.estimator.specs.declared.rules.Check.the-variants.{Refused as Stops, Passed}
+use Rattle.estimator.proofs.RulesLaws.{checked, ruled-append, passed-by, head-passed, refused-by}
 use Rattle.tdcp.specs.Valid.{dtOf, settingsPass, epochRules, intervalRules}
 use Rattle.tdcp.specs.Front.{sightRules, countRules, cityRules, pairRules}
 use Rattle.tdcp.specs.Displacement.{Input, fitBy, pairs, deltaAt, endRules, movedBy, displacementOf}
@@ -131,3 +131,38 @@ module _ (band : ℕ) (i : Input) (e : Passed ≡ checked (epochRules (i .previo
       go : (moved true ≡ Refused NotCertified) ⊎ (moved true ≡ moved false) → (displacementOf (inCity band i) ≡ Refused NotCertified) ⊎ (displacementOf (inCity band i) ≡ displacementOf (left band i))
       go (inl h) = inl (city-is ∙ h)
       go (inr h) = inr (city-is ∙ h ∙ sym left-is)
+
+  -- ---- THE SAME, EXACTLY: behind 2 to 4, 20 where 5, 15 and 7 to 9 let what is left pass and its kept pairs lack GPS or Galileo, and everywhere else its displacement
+
+  abbrev ps : List Pair
+  ps = pairs (left band i)
+
+  -- 13 and 5, 15, 7 to 9, of what is left
+  abbrev pub earlier : List Rule
+  earlier = intervalRules (i .since) ++ (sightRules ps ++ countRules (i .settings) ps)
+
+  abbrev pub lacks : Bool
+  lacks = not (has (constellations (kept (i .settings) ps)) 1 && has (constellations (kept (i .settings) ps)) 6)
+
+  split : (city : Bool) → moved city ≡ ruled Refused earlier (ruled Refused (cityRules city (kept (i .settings) ps)) (fitted (i .settings) ps))
+  split city =
+      let end = ruled Refused (cityRules city (kept (i .settings) ps)) (fitted (i .settings) ps) in
+      ap (ruled Refused (intervalRules (i .since))) (parts (i .settings) ps city ∙ sym (ruled-append Refused end (sightRules ps) (countRules (i .settings) ps)))
+      ∙ sym (ruled-append Refused end (intervalRules (i .since)) (sightRules ps ++ countRules (i .settings) ps))
+
+  city-split : displacementOf (inCity band i) ≡ ruled Refused earlier (cond lacks (Refused NotCertified) (fitted (i .settings) ps))
+  unfolding cityRules ruled
+  city-split = city-is ∙ split true
+
+  left-split : displacementOf (left band i) ≡ ruled Refused earlier (fitted (i .settings) ps)
+  unfolding cityRules ruled
+  left-split = left-is ∙ split false
+
+  pub city-twenty : Passed ≡ checked earlier → lacks ≡ true → displacementOf (inCity band i) ≡ Refused NotCertified
+  city-twenty p q = city-split ∙ passed-by Refused _ earlier p ∙ rw q
+
+  pub city-general : lacks ≡ false → displacementOf (inCity band i) ≡ displacementOf (left band i)
+  city-general q = city-split ∙ rw q (sym left-split)
+
+  pub city-earlier : (r : Refusal) → Stops r ≡ checked earlier → (displacementOf (inCity band i) ≡ Refused r) × (displacementOf (left band i) ≡ Refused r)
+  city-earlier r p = (city-split ∙ sym (refused-by Refused _ earlier p), left-split ∙ sym (refused-by Refused _ earlier p))
