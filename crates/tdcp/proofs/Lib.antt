@@ -10,3 +10,4 @@ pub mod IntervalLaws
 pub mod FilterLaws
 pub mod CityLaws
 pub mod RatedLaws
+pub mod ElevationLaws
