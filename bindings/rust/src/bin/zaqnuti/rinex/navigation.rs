@@ -1,13 +1,14 @@
 //! RINEX navigation files, versions 2 and 3: ephemerides and Klobuchar parameters.
 
 use crate::atmosphere::Klobuchar;
-use crate::fault::Run;
+use crate::fault::{tell, Run};
 
 use super::ephemeris::Ephemeris;
+use super::grain;
 use super::head::{self, Version};
 use super::lines::Lines;
 use super::record::Record;
-use super::signals::{Band, Satellite, System};
+use super::signals::{Band, Satellite, System, SYSTEMS};
 use super::time::Moment;
 
 /// The greatest age of a usable ephemeris, before or after its reference time, s.
@@ -61,16 +62,38 @@ impl Ephemerides {
 
     fn add(&mut self, mut lines: Lines) -> Run<()> {
         let version = self.header(&mut lines)?;
+        let mut found = Vec::new();
         while lines.next()? {
             if lines.text().trim_ascii().is_empty() {
                 continue;
             }
             let record = Record::read(&mut lines, &version)?;
             if let Some((satellite, ephemeris)) = record.ephemeris(&version)? {
-                self.by_satellite[satellite.place()].push(ephemeris);
+                let odd = record.odd(satellite, &ephemeris);
+                found.push((satellite, ephemeris, odd, record.line()));
             }
         }
+        self.keep(found, lines.name());
         Ok(())
+    }
+
+    /// Keeps the ephemerides of a file, without those that were damaged.
+    fn keep(&mut self, found: Vec<(Satellite, Ephemeris, u64, u64)>, name: &str) {
+        let telling = SYSTEMS.map(|system| {
+            let own = found.iter().filter(|f| f.0.system == system);
+            grain::telling(own.map(|f| f.2))
+        });
+        let mut left = Vec::new();
+        for (satellite, ephemeris, odd, line) in found {
+            match odd & telling[satellite.system as usize] {
+                0 => self.by_satellite[satellite.place()].push(ephemeris),
+                _ => left.push(line),
+            }
+        }
+        if let Some(line) = left.first() {
+            let why = "left out, with numbers that no broadcast message has";
+            tell(&format!("{name}:{line}: {} records {why}", left.len()));
+        }
     }
 
     fn header(&mut self, lines: &mut Lines) -> Run<Version> {
@@ -106,7 +129,13 @@ impl Ephemerides {
             numbers[place] = Some([field(0)?, field(1)?, field(2)?, field(3)?]);
         }
         if let [Some([a, b, c, d]), Some([e, f, g, h])] = numbers {
-            self.klobuchar.get_or_insert([a, b, c, d, e, f, g, h]);
+            let numbers = [a, b, c, d, e, f, g, h];
+            // Those that were fitted to other data are no multiples at all.
+            if (1..=3).contains(&grain::odd_ionosphere(&numbers)) {
+                let why = "ionosphere parameters that no broadcast message has";
+                tell(&format!("{}: {why}", lines.name()));
+            }
+            self.klobuchar.get_or_insert(numbers);
         }
         Ok(version)
     }

@@ -244,6 +244,17 @@ fn middles(sights: &[Sight]) -> [Option<(f64, f64)>; 4] {
     })
 }
 
+/// Writes the residual of each pseudorange: what it misses its system's median by, NaN in a
+/// system without one. Returns the receiver's clock error, m.
+pub fn residuals(sights: &[Sight], out: &mut Vec<f64>) -> f64 {
+    let middles = middles(sights);
+    let middle = |s: &Sight| middles[s.band.system as usize].map(|(m, _)| m);
+    out.clear();
+    out.extend(sights.iter().map(|s| s.miss() - middle(s).unwrap_or(f64::NAN)));
+    let first = sights.iter().find_map(middle);
+    first.or_else(|| sights.first().map(Sight::miss)).unwrap_or(0.0)
+}
+
 /// Checks whether a pseudorange is an outlier.
 fn off(sight: &Sight, middles: &[Option<(f64, f64)>; 4]) -> bool {
     let middle = middles[sight.band.system as usize];
