@@ -206,10 +206,12 @@ fn packed_files_are_read() {
     let cut = file("cut.05o.gz", &bytes[..bytes.len() / 2]);
     let (status, why) = told(&[&cut, &both[1]]);
     assert_eq!(status, Some(2));
-    assert!(
-        why.contains("gzip can't decompress") || why.contains("ends within"),
-        "{why}"
-    );
+    let reasons = [
+        "gzip can't decompress",
+        "ends within",
+        "is not an observation",
+    ];
+    assert!(reasons.iter().any(|r| why.contains(r)), "{why}");
 }
 
 /// Runs on the edited recording of GEONET. Returns the status and the messages.

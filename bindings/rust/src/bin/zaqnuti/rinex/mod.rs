@@ -15,6 +15,7 @@ mod record;
 mod rhythm;
 mod runner;
 mod signals;
+mod stray;
 mod time;
 mod written;
 

@@ -57,7 +57,33 @@ impl Ephemerides {
         for list in &mut all.by_satellite {
             list.sort_by(|a, b| a.toe.since(b.toe).total_cmp(&0.0));
         }
+        all.agree();
         Ok(all)
+    }
+
+    /// Leaves out ephemerides that contradict those before and after them.
+    fn agree(&mut self) {
+        let mut left = 0;
+        for list in &mut self.by_satellite {
+            let pairs: Vec<Option<bool>> = list.windows(2).map(|w| w[0].agrees(&w[1])).collect();
+            let beside = |i: usize| {
+                let before = i.checked_sub(1).and_then(|b| pairs[b]);
+                [before, pairs.get(i).copied().flatten()]
+            };
+            let alone = |i: usize| beside(i).contains(&Some(false)) && !beside(i).contains(&Some(true));
+            let mut i = 0;
+            let before = list.len();
+            let bad: Vec<bool> = (0..before).map(alone).collect();
+            list.retain(|_| {
+                i += 1;
+                !bad[i - 1]
+            });
+            left += before - list.len();
+        }
+        if left > 0 {
+            let why = "left out, which contradict those before or after them";
+            tell(&format!("{left} ephemerides are {why}"));
+        }
     }
 
     fn add(&mut self, mut lines: Lines) -> Run<()> {

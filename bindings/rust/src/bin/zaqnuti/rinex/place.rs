@@ -9,6 +9,7 @@ use crate::orbit::State;
 use super::lock::median;
 use super::observations::Signal;
 use super::signals::{Band, SYSTEMS};
+use super::stray;
 
 /// The greatest distance of a fix from the header's position at which the latter is used, m.
 const NEAR: f64 = 20.0;
@@ -42,7 +43,7 @@ impl Sight {
     }
 
     /// Returns the corrected pseudorange minus the geometric range.
-    fn miss(&self) -> f64 {
+    pub fn miss(&self) -> f64 {
         self.range() - self.to.range
     }
 
@@ -145,6 +146,7 @@ impl Places {
             None if fixed.is_some() => return Err(Nowhere::Aloft),
             None => return Err(Nowhere::Unknown),
         };
+        let at = self.without_strays(sights, at, models, second);
         let near = header.filter(|h| apart(*h, at) <= NEAR);
         self.away += u64::from(header.is_some() && near.is_none());
         let sky = self.stay(near.unwrap_or(at), sights, models, second);
@@ -211,6 +213,26 @@ impl Places {
         again.filter(|a| ground(*a)).or(Some(at))
     }
 
+    /// Removes pseudoranges that contradict the position of the others, and repeats the fix.
+    fn without_strays(
+        &mut self,
+        sights: &mut Vec<Sight>,
+        mut at: [f64; 3],
+        models: &Models,
+        second: f64,
+    ) -> [f64; 3] {
+        for _ in 0..3 {
+            let Some(stray) = stray::worst(sights) else {
+                break;
+            };
+            sights.remove(stray);
+            let again = self.fix(sights, Some(at));
+            at = again.filter(|a| ground(*a)).unwrap_or(at);
+            self.stay(at, sights, models, second);
+        }
+        at
+    }
+
     /// Moves to a position and computes all directions.
     fn stay(&mut self, at: [f64; 3], sights: &mut [Sight], models: &Models, second: f64) -> Sky {
         let sky = match self.sky {
@@ -233,13 +255,18 @@ fn ground(place: [f64; 3]) -> bool {
 fn middles(sights: &[Sight]) -> [Option<(f64, f64)>; 4] {
     SYSTEMS.map(|system| {
         let own = sights.iter().filter(|s| s.band.system == system);
-        let mut all: Vec<f64> = own.map(Sight::miss).collect();
+        let (mut all, mut count) = ([0.0; RECORDS], 0);
+        for (a, sight) in all.iter_mut().zip(own) {
+            *a = sight.miss();
+            count += 1;
+        }
+        let all = &mut all[..count];
         if all.len() < 3 {
             return None;
         }
-        let middle = median(&mut all);
+        let middle = median(all);
         all.iter_mut().for_each(|m| *m = (*m - middle).abs());
-        let scale = 1.4826 * median(&mut all);
+        let scale = 1.4826 * median(all);
         Some((middle, (10.0 * scale).clamp(OFF.0, OFF.1)))
     })
 }

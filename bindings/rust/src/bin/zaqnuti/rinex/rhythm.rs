@@ -34,13 +34,16 @@ fn step(interval: f64) -> u32 {
     a
 }
 
-/// Returns the step of most intervals; none where fewer than half agree.
+/// Returns the step of most intervals; none where fewer than half have it.
 fn usual(times: &[Moment]) -> Option<f64> {
-    let steps: Vec<u32> = times.windows(2).map(|w| step(w[1].since(w[0]))).collect();
+    let intervals: Vec<f64> = times.windows(2).map(|w| w[1].since(w[0])).collect();
+    let steps: Vec<u32> = intervals.iter().map(|i| step(*i)).collect();
     let count = |s: u32| steps.iter().filter(|t| **t == s).count();
     let best = steps.iter().copied().max_by_key(|s| (count(*s), *s))?;
-    let clear = steps.len() >= 2 && 2 * count(best) >= steps.len();
-    clear.then_some(f64::from(best) / 100.0)
+    let step = f64::from(best) / 100.0;
+    let whole = intervals.iter().filter(|i| off(**i, step) <= 4.0 * STRAY);
+    let clear = steps.len() >= 2 && 2 * whole.count().min(count(best)) >= steps.len();
+    clear.then_some(step)
 }
 
 /// Returns how far a span is from whole steps, s.
@@ -116,7 +119,8 @@ mod tests {
         assert_eq!(step(&[0.0, 0.1, 0.2, 0.3]), Some(0.1));
         assert_eq!(step(&[0.0, 0.97, 2.0, 3.0, 4.0]), Some(1.0));
         assert_eq!(step(&[0.0, 1.5, 3.0]), Some(0.5));
-        assert_eq!(step(&[0.0, 0.71, 3.2, 3.25, 3.45]), None);
+        assert_eq!(step(&[0.0, 0.71, 3.21, 3.26, 3.46]), None);
+        assert_eq!(step(&[0.0, 0.714, 3.218, 5.923, 6.167]), None);
         assert_eq!(step(&[0.0, 1.0]), None);
     }
 
