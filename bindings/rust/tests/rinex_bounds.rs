@@ -81,10 +81,15 @@ impl Record {
         if self.name.starts_with('R') {
             return;
         }
-        let turn = if self.name.starts_with('C') { 7.292115e-5 } else { 7.2921151467e-5 };
+        let turn = if self.name.starts_with('C') {
+            7.292115e-5
+        } else {
+            7.2921151467e-5
+        };
         let old = self.numbers[11];
         self.numbers[11] = self.at.rem_euclid(WEEK) as f64;
-        self.numbers[13] = (self.numbers[13] + turn * (self.numbers[11] - old)) % std::f64::consts::TAU;
+        self.numbers[13] =
+            (self.numbers[13] + turn * (self.numbers[11] - old)) % std::f64::consts::TAU;
         let first = if self.name.starts_with('C') { 1_356 } else { 0 };
         self.numbers[21] = ((self.at.div_euclid(WEEK) - first) % 1024) as f64;
     }
@@ -94,7 +99,11 @@ impl Record {
         let n = &mut self.numbers;
         let (span, gps) = (later as f64, self.name.starts_with('G'));
         let gravity: f64 = if gps { 3.986005e14 } else { 3.986004418e14 };
-        let turn = if self.name.starts_with('C') { 7.292115e-5 } else { 7.2921151467e-5 };
+        let turn = if self.name.starts_with('C') {
+            7.292115e-5
+        } else {
+            7.2921151467e-5
+        };
         let pi = std::f64::consts::PI;
         let around = |x: f64| (x + pi).rem_euclid(2.0 * pi) - pi;
         n[0] += n[1] * span;
@@ -112,17 +121,28 @@ fn moved(name: &str, seconds: i64, both: bool) -> [String; 2] {
     let room = folder(name);
     let observations = fs::read_to_string(made.join("sky.obs")).unwrap();
     let mut out = String::new();
-    for line in observations.lines().filter(|l| !l.contains("TIME OF FIRST OBS")) {
+    for line in observations
+        .lines()
+        .filter(|l| !l.contains("TIME OF FIRST OBS"))
+    {
         match line.strip_prefix("> ") {
-            Some(rest) => out += &format!("> {}{}\n", date(second(&rest[..19]) + seconds), &rest[19..]),
+            Some(rest) => {
+                out += &format!("> {}{}\n", date(second(&rest[..19]) + seconds), &rest[19..])
+            }
             None => out += &format!("{line}\n"),
         }
     }
     let navigation = fs::read_to_string(made.join("sky.nav")).unwrap();
     let lines: Vec<&str> = navigation.lines().collect();
-    let head = lines.iter().position(|l| l.contains("END OF HEADER")).unwrap() + 1;
+    let head = lines
+        .iter()
+        .position(|l| l.contains("END OF HEADER"))
+        .unwrap()
+        + 1;
     let mut nav = lines[..head].join("\n") + "\n";
-    let starts: Vec<usize> = (head..lines.len()).filter(|i| !lines[*i].starts_with(' ')).collect();
+    let starts: Vec<usize> = (head..lines.len())
+        .filter(|i| !lines[*i].starts_with(' '))
+        .collect();
     for (i, start) in starts.iter().enumerate() {
         let end = starts.get(i + 1).copied().unwrap_or(lines.len());
         let mut record = Record::of(&lines[*start..end]);
@@ -143,10 +163,16 @@ fn moved(name: &str, seconds: i64, both: bool) -> [String; 2] {
 /// Returns some columns of the fixes of a recording without models, which depend on the hour.
 fn fixes([observations, navigation]: &[String; 2]) -> Vec<Vec<f64>> {
     let out = run(&["rinex", "--no-models", observations, navigation]);
-    assert_eq!((out.status.code(), text(&out.stderr).as_str()), (Some(0), ""));
+    assert_eq!(
+        (out.status.code(), text(&out.stderr).as_str()),
+        (Some(0), "")
+    );
     let fixed = fed(&["fix", "--receiver", "geodetic", "--csv"], &out.stdout);
     assert_eq!(fixed.status.code(), Some(0));
-    let moved = fed(&["displacement", "--receiver", "geodetic", "--csv"], &out.stdout);
+    let moved = fed(
+        &["displacement", "--receiver", "geodetic", "--csv"],
+        &out.stdout,
+    );
     assert_eq!(moved.status.code(), Some(0), "{}", text(&moved.stderr));
     assert_eq!(text(&moved.stdout).lines().count(), 8);
     let line = |l: &str| l.split(',').map(|f| f.parse().unwrap()).collect();
@@ -184,7 +210,10 @@ fn ephemerides_of_another_day_are_not_used() {
         let out = run(&["rinex", &observations, &navigation]);
         let why = text(&out.stderr);
         assert_eq!(out.status.code(), Some(2), "{days}: {why}");
-        assert!(why.contains("too old or too new") && why.contains("nothing to write"), "{why}");
+        assert!(
+            why.contains("too old or too new") && why.contains("nothing to write"),
+            "{why}"
+        );
     }
 }
 
@@ -193,27 +222,51 @@ fn mixed(name: &str, late: f64, walk: bool) -> (Option<i32>, String) {
     let hour = examples().join("geonet");
     let file = fs::read_to_string(hour.join("07590920.05o")).unwrap();
     let lines: Vec<&str> = file.lines().collect();
-    let head = lines.iter().position(|l| l.contains("END OF HEADER")).unwrap() + 1;
+    let head = lines
+        .iter()
+        .position(|l| l.contains("END OF HEADER"))
+        .unwrap()
+        + 1;
     let mut out = lines[..head].join("\n") + "\n";
-    let starts: Vec<usize> = (head..lines.len()).filter(|i| lines[*i].starts_with(" 05")).collect();
+    let starts: Vec<usize> = (head..lines.len())
+        .filter(|i| lines[*i].starts_with(" 05"))
+        .collect();
     for (i, start) in starts.iter().enumerate().take(40) {
         let epoch = &lines[*start..starts.get(i + 1).copied().unwrap_or(lines.len())];
         out += &(epoch.join("\n") + "\n");
         let second: f64 = epoch[0][15..26].trim().parse().unwrap();
-        let other = format!("{}{:11.7}{}", &epoch[0][..15], second + late, &epoch[0][26..]);
+        let other = format!(
+            "{}{:11.7}{}",
+            &epoch[0][..15],
+            second + late,
+            &epoch[0][26..]
+        );
         out += &(other + "\n");
         for line in &epoch[1..] {
             // The other antenna has its own ambiguities, and stands elsewhere.
             let phase: f64 = line[..14].trim().parse().unwrap_or(0.0);
             let code: f64 = line[16..30].trim().parse().unwrap_or(0.0);
-            let far = if walk { 100.0 * (code * 1e-7).sin() } else { 0.0 };
-            out += &format!("{:14.3}  {:14.3}{}\n", phase + code.rem_euclid(1e6), code + far, &line[30..]);
+            let far = if walk {
+                100.0 * (code * 1e-7).sin()
+            } else {
+                0.0
+            };
+            out += &format!(
+                "{:14.3}  {:14.3}{}\n",
+                phase + code.rem_euclid(1e6),
+                code + far,
+                &line[30..]
+            );
         }
     }
     let at = folder(name).join("mixed.05o");
     fs::write(&at, out).unwrap();
     let navigation = hour.join("07590920.05n");
-    let out = run(&["rinex", &at.display().to_string(), &navigation.display().to_string()]);
+    let out = run(&[
+        "rinex",
+        &at.display().to_string(),
+        &navigation.display().to_string(),
+    ]);
     (out.status.code(), text(&out.stderr))
 }
 
@@ -221,10 +274,16 @@ fn mixed(name: &str, late: f64, walk: bool) -> (Option<i32>, String) {
 fn two_antennas_in_one_file_are_told() {
     let (status, why) = mixed("same-time", 0.0, true);
     assert_eq!(status, Some(2));
-    assert!(why.contains(":27: the epoch is not later than the previous one"), "{why}");
+    assert!(
+        why.contains(":27: the epoch is not later than the previous one"),
+        "{why}"
+    );
     // Between the epochs of one antenna those of another: carriers and places jump.
     let (_, why) = mixed("between", 15.0, true);
-    assert!(why.contains("carriers jump") || why.contains("disagree"), "{why}");
+    assert!(
+        why.contains("carriers jump") || why.contains("disagree"),
+        "{why}"
+    );
     let (status, why) = mixed("near", 0.25, false);
     assert_ne!((status, why.as_str()), (Some(0), ""));
 }

@@ -57,7 +57,8 @@ fn answer(room: &Path, files: &[Vec<u8>]) -> Answer {
         let &[week, tow, x, y, z, ..] = numbers.as_slice() else {
             return None;
         };
-        line.ends_with(",0").then_some((week * 604_800.0 + tow, [x, y, z]))
+        line.ends_with(",0")
+            .then_some((week * 604_800.0 + tow, [x, y, z]))
     });
     Answer {
         status: lines.status.code(),
@@ -82,13 +83,24 @@ fn recordings(room: &Path) -> Vec<Recording> {
     let made = Path::new(env!("CARGO_MANIFEST_DIR")).join("tests/rinex");
     let hour = examples().join("geonet");
     let mut all = vec![
-        recording(room, "hour", &["o", "n"].map(|e| hour.join(format!("07590920.05{e}")))),
-        recording(room, "sky", &["obs", "nav"].map(|e| made.join(format!("sky.{e}")))),
+        recording(
+            room,
+            "hour",
+            &["o", "n"].map(|e| hour.join(format!("07590920.05{e}"))),
+        ),
+        recording(
+            room,
+            "sky",
+            &["obs", "nav"].map(|e| made.join(format!("sky.{e}"))),
+        ),
     ];
     let Ok(more) = std::env::var("RECORDINGS") else {
         return all;
     };
-    let mut names: Vec<PathBuf> = fs::read_dir(more).unwrap().map(|f| f.unwrap().path()).collect();
+    let mut names: Vec<PathBuf> = fs::read_dir(more)
+        .unwrap()
+        .map(|f| f.unwrap().path())
+        .collect();
     names.retain(|p| p.extension().is_some_and(|e| e == "obs") && p.with_extension("nav").exists());
     names.sort();
     for obs in names {
@@ -101,11 +113,16 @@ fn recordings(room: &Path) -> Vec<Recording> {
 /// Damages a file in one of eight ways. Returns what was done.
 fn damage(random: &mut Random, file: &mut Vec<u8>) -> String {
     let at = random.below(file.len());
-    let mut lines: Vec<Vec<u8>> = file.split_inclusive(|b| *b == b'\n').map(<[u8]>::to_vec).collect();
+    let mut lines: Vec<Vec<u8>> = file
+        .split_inclusive(|b| *b == b'\n')
+        .map(<[u8]>::to_vec)
+        .collect();
     let line = random.below(lines.len());
     match random.below(10) {
         0..=3 => {
-            let digit = (at..file.len()).find(|i| file[*i].is_ascii_digit()).unwrap_or(0);
+            let digit = (at..file.len())
+                .find(|i| file[*i].is_ascii_digit())
+                .unwrap_or(0);
             let new = b'0' + (file[digit].wrapping_sub(b'0') + 1 + random.below(9) as u8) % 10;
             file[digit] = new;
             return format!("digit at byte {digit} is {}", char::from(new));
@@ -142,8 +159,15 @@ fn damage(random: &mut Random, file: &mut Vec<u8>) -> String {
 /// Returns how far the fixes are from the sound ones that are nearest in time.
 fn moved(sound: &[Fix], found: &[Fix]) -> f64 {
     let apart = |(time, place): &Fix| {
-        let nearest = sound.iter().min_by(|a, b| (a.0 - time).abs().total_cmp(&(b.0 - time).abs()));
-        let squares = nearest.unwrap().1.iter().zip(place).map(|(a, b)| (a - b).powi(2));
+        let nearest = sound
+            .iter()
+            .min_by(|a, b| (a.0 - time).abs().total_cmp(&(b.0 - time).abs()));
+        let squares = nearest
+            .unwrap()
+            .1
+            .iter()
+            .zip(place)
+            .map(|(a, b)| (a - b).powi(2));
         squares.sum::<f64>().sqrt()
     };
     found.iter().map(apart).fold(0.0, f64::max)

@@ -142,7 +142,8 @@ impl Codes {
     /// Returns the noise and the limit at the zenith, from the jumps so far.
     fn limit(&mut self) -> (f64, f64) {
         self.sorted.clear();
-        self.sorted.extend(self.jumps.iter().flatten().map(|j| j.abs()));
+        self.sorted
+            .extend(self.jumps.iter().flatten().map(|j| j.abs()));
         if !self.sorted.is_empty() {
             let now = 1.4826 * median(&mut self.sorted);
             self.noise = Some(self.noise.map_or(now, |old| old + 0.1 * (now - old)));
@@ -189,5 +190,71 @@ impl Codes {
             }
             _ => None,
         };
+    }
+}
+
+#[cfg(test)]
+mod tests {
+    use super::super::place::tests::sights;
+    use super::*;
+
+    /// Runs over epochs of eight satellites whose pseudoranges have a noise of 0.1 m. `change` edits
+    /// pseudoranges, carriers and residuals. Returns what is found, with its epoch and satellite.
+    fn found(change: impl Fn(usize, &mut Sight, &mut f64, &mut f64)) -> Vec<(usize, usize, Jump)> {
+        let mut codes = Codes::new(1);
+        let mut out = Vec::new();
+        for epoch in 0..20 {
+            let mut all = sights(8);
+            let (mut carriers, mut residuals) = (Vec::new(), Vec::new());
+            for (i, sight) in all.iter_mut().enumerate() {
+                // Some noise without a pattern.
+                let noise = 0.1 * ((7 * i + 13 * epoch * epoch) as f64).sin();
+                let (mut metres, mut residual) = (sight.signal.pseudorange, noise);
+                sight.signal.pseudorange += noise;
+                change(epoch, sight, &mut metres, &mut residual);
+                let locked = epoch > 0;
+                carriers.push(Some(Held { metres, locked }));
+                residuals.push(residual);
+            }
+            let jumps = codes.check(&all, &carriers, &residuals);
+            let told = jumps.iter().enumerate();
+            out.extend(told.filter_map(|(i, jump)| Some((epoch, i, (*jump)?))));
+        }
+        out
+    }
+
+    /// Adds to the pseudorange of the fourth satellite in an epoch, and to its residual.
+    fn spike(at: usize, metres: f64) -> impl Fn(usize, &mut Sight, &mut f64, &mut f64) {
+        move |epoch, sight, _, residual| {
+            if epoch == at && sight.signal.satellite.number == 4 {
+                sight.signal.pseudorange += metres;
+                *residual += 0.6 * metres;
+            }
+        }
+    }
+
+    #[test]
+    fn a_pseudorange_that_jumps_is_left_out() {
+        assert_eq!(found(|_, _, _, _| {}), []);
+        assert_eq!(found(spike(9, 5.0)), [(9, 3, Jump::Pseudorange)]);
+        assert_eq!(found(spike(19, -5.0)), [(19, 3, Jump::Pseudorange)]);
+        // A smaller one is seen when it is back.
+        assert_eq!(found(spike(9, 0.95)), [(10, 3, Jump::Back)]);
+        // In the first epoch there is nothing to compare with.
+        assert_eq!(found(spike(0, 5.0)), [(1, 3, Jump::Either)]);
+    }
+
+    #[test]
+    fn a_carrier_that_jumps_is_told_once() {
+        let slip = |epoch: usize, sight: &mut Sight, metres: &mut f64, _: &mut f64| {
+            let own = epoch >= 9 && sight.signal.satellite.number == 4;
+            *metres += if own { 5.0 } else { 0.0 };
+        };
+        assert_eq!(found(slip), [(9, 3, Jump::Either)]);
+        // The receiver's clock moves all pseudoranges.
+        let clock = |epoch: usize, sight: &mut Sight, _: &mut f64, _: &mut f64| {
+            sight.signal.pseudorange += if epoch >= 9 { 3e5 } else { 0.0 };
+        };
+        assert_eq!(found(clock), []);
     }
 }

@@ -51,7 +51,10 @@ fn once(lines: &Lines, names: &mut Vec<Vec<u8>>, (from, to): (usize, usize)) -> 
     let name = lines.field(from, to).to_vec();
     match names.contains(&name) {
         true => Err(lines.fault("an observation type is listed twice")),
-        false => Ok(names.push(name)),
+        false => {
+            names.push(name);
+            Ok(())
+        }
     }
 }
 

@@ -76,7 +76,10 @@ impl Left {
             (self.missing, "without an ephemeris"),
             (self.old, "whose ephemerides are too old or too new"),
             (self.unhealthy, "of unhealthy satellites"),
-            (self.channel, "of an unknown or contradictory GLONASS channel"),
+            (
+                self.channel,
+                "of an unknown or contradictory GLONASS channel",
+            ),
             (self.unlisted, "of systems that the header does not list"),
             (self.off, "whose pseudoranges disagree with the others"),
         ]);

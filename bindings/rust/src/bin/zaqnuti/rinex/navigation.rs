@@ -70,7 +70,8 @@ impl Ephemerides {
                 let before = i.checked_sub(1).and_then(|b| pairs[b]);
                 [before, pairs.get(i).copied().flatten()]
             };
-            let alone = |i: usize| beside(i).contains(&Some(false)) && !beside(i).contains(&Some(true));
+            let alone =
+                |i: usize| beside(i).contains(&Some(false)) && !beside(i).contains(&Some(true));
             let mut i = 0;
             let before = list.len();
             let bad: Vec<bool> = (0..before).map(alone).collect();

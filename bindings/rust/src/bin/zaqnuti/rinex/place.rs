@@ -277,9 +277,15 @@ pub fn residuals(sights: &[Sight], out: &mut Vec<f64>) -> f64 {
     let middles = middles(sights);
     let middle = |s: &Sight| middles[s.band.system as usize].map(|(m, _)| m);
     out.clear();
-    out.extend(sights.iter().map(|s| s.miss() - middle(s).unwrap_or(f64::NAN)));
+    out.extend(
+        sights
+            .iter()
+            .map(|s| s.miss() - middle(s).unwrap_or(f64::NAN)),
+    );
     let first = sights.iter().find_map(middle);
-    first.or_else(|| sights.first().map(Sight::miss)).unwrap_or(0.0)
+    first
+        .or_else(|| sights.first().map(Sight::miss))
+        .unwrap_or(0.0)
 }
 
 /// Checks whether a pseudorange is an outlier.
@@ -302,4 +308,56 @@ fn screen(sights: &mut Vec<Sight>) -> u64 {
     let (before, middles) = (sights.len(), middles(sights));
     sights.retain(|s| !off(s, &middles));
     (before - sights.len()) as u64
+}
+
+#[cfg(test)]
+pub mod tests {
+    use super::super::signals::{Satellite, System};
+    use super::*;
+
+    /// Returns satellites all around whose pseudoranges meet at one place, with noise below 1 m.
+    pub fn sights(count: usize) -> Vec<Sight> {
+        let band = Band::of("G1").unwrap();
+        let place = [-3_976_219.508_2, 3_382_372.567_1, 3_652_512.984_9];
+        let sky = Sky::over(place);
+        let mut out = Vec::new();
+        for i in 0..400 {
+            let (a, b) = (2.399_963 * f64::from(i), 1.0 - f64::from(i) / 200.0);
+            let flat = (1.0 - b * b).sqrt();
+            let satellite = [flat * a.cos(), flat * a.sin(), b].map(|x| 2.66e7 * x);
+            let to = sky.direction(satellite);
+            if to.elevation.to_degrees() < 20.0 || i % 9 != 0 || out.len() == count {
+                continue;
+            }
+            let number = out.len() as u8 + 1;
+            let pseudorange = to.range + 0.5 * f64::from(i).sin();
+            out.push(Sight {
+                signal: Signal {
+                    satellite: Satellite {
+                        system: System::Gps,
+                        number,
+                    },
+                    band: 0,
+                    code: b'C',
+                    pseudorange,
+                    carrier: None,
+                    lost: 0,
+                    doppler: None,
+                },
+                band,
+                state: State {
+                    place: satellite,
+                    velocity: [0.0; 3],
+                },
+                clock: 0.0,
+                delay: 0.0,
+                channel: 0,
+                to,
+                ionosphere: 0.0,
+                troposphere: 0.0,
+            });
+        }
+        assert_eq!(out.len(), count);
+        out
+    }
 }

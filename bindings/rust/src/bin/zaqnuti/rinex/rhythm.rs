@@ -127,19 +127,32 @@ mod tests {
     #[test]
     fn receivers_keep_their_own_rhythm() {
         // Whole seconds of the receiver's clock, whatever that is.
-        let own: Vec<(f64, f64)> = (0..20).map(|i| (f64::from(i), 0.003 * f64::from(i))).collect();
+        let own: Vec<(f64, f64)> = (0..20)
+            .map(|i| (f64::from(i), 0.003 * f64::from(i)))
+            .collect();
         assert!(kept(&own).iter().all(|k| *k));
         // The millisecond that is nearest to whole seconds of GPS time, as GEONET's.
         let nearest = |i: i32| {
             let clock = -2.6e-4 + 4.2e-5 * f64::from(i);
             (30.0 * f64::from(i) + (clock * 1e3).round() / 1e3, clock)
         };
-        assert!(kept(&(0..200).map(nearest).collect::<Vec<_>>()).iter().all(|k| *k));
+        assert!(kept(&(0..200).map(nearest).collect::<Vec<_>>())
+            .iter()
+            .all(|k| *k));
         // A phone's time, which has no whole seconds and drifts.
         let phone = |i: i32| (0.441_952 + 1.000_012 * f64::from(i), 0.0);
-        assert!(kept(&(0..200).map(phone).collect::<Vec<_>>()).iter().all(|k| *k));
+        assert!(kept(&(0..200).map(phone).collect::<Vec<_>>())
+            .iter()
+            .all(|k| *k));
         // A gap, and the end of the week.
-        let gap = [604_790.0, 604_795.0, 604_796.0, 604_797.0, 1_204_800.0, 1_204_801.0];
+        let gap = [
+            604_790.0,
+            604_795.0,
+            604_796.0,
+            604_797.0,
+            1_204_800.0,
+            1_204_801.0,
+        ];
         assert!(kept(&gap.map(|t| (t, 0.0))).iter().all(|k| *k));
     }
 
@@ -147,7 +160,8 @@ mod tests {
     fn a_changed_digit_is_told() {
         for late in [0.9, 0.03, 0.008, 0.002, -0.01] {
             for at in [0, 1, 5, 12] {
-                let mut all: Vec<(f64, f64)> = (0..15).map(|i| (30.0 * f64::from(i), 2e-4)).collect();
+                let mut all: Vec<(f64, f64)> =
+                    (0..15).map(|i| (30.0 * f64::from(i), 2e-4)).collect();
                 all[at].0 += late;
                 let want: Vec<bool> = (0..15).map(|i| i != at).collect();
                 assert_eq!(kept(&all), want, "{late} {at}");

@@ -19,7 +19,11 @@ fn rows(sights: &[Sight]) -> (Vec<Row>, usize) {
     let mut clocks = [None; 4];
     let (mut rows, mut count) = (Vec::with_capacity(sights.len()), 3);
     let mut misses: Vec<f64> = sights.iter().map(Sight::miss).collect();
-    let middle = if misses.is_empty() { 0.0 } else { median(&mut misses) };
+    let middle = if misses.is_empty() {
+        0.0
+    } else {
+        median(&mut misses)
+    };
     for sight in sights {
         let clock = *clocks[sight.band.system as usize].get_or_insert_with(|| {
             count += 1;
@@ -122,4 +126,34 @@ pub fn worst(sights: &[Sight]) -> Option<usize> {
     // With few spare rows the others agree by chance.
     let sigmas = SIGMAS * (1.0 + 4.0 / spare as f64);
     (size > LEAST && taken.sqrt() > sigmas * sigma).then_some(index)
+}
+
+#[cfg(test)]
+mod tests {
+    use super::super::place::tests::sights;
+    use super::*;
+
+    #[test]
+    fn a_pseudorange_that_contradicts_the_others_is_found() {
+        for i in 0..9 {
+            let mut all = sights(9);
+            assert_eq!(worst(&all), None);
+            all[i].signal.pseudorange += 40.0;
+            assert_eq!(worst(&all), Some(i), "{i}");
+            all[i].signal.pseudorange -= 35.0;
+            assert_eq!(worst(&all), None);
+        }
+        // All alike are the receiver's clock.
+        let mut all = sights(9);
+        all.iter_mut().for_each(|s| s.signal.pseudorange += 4e5);
+        assert_eq!(worst(&all), None);
+    }
+
+    #[test]
+    fn few_can_not_outvote_one() {
+        let mut all = sights(6);
+        all[2].signal.pseudorange += 1e3;
+        assert_eq!(worst(&all), None);
+        assert_eq!(worst(&[]), None);
+    }
 }
