@@ -14,7 +14,7 @@ use Rattle.walk.specs.Walk.{collect}
 use Rattle.numeric.specs.Order.{patternOf}
 use Rattle.numeric.specs.Real.{abs}
 use Rattle.median.specs.Sorted.{medianOf}
-use Rattle.median.specs.Select.{Front}
+use Rattle.median.specs.Steps.{Front}
 use Rattle.table.specs.declared.sample.Sample.{Sample}
 use Rattle.differential.specs.Sample.{ofConstellation, group, patternsOf, clockOf, clockOrNan, kept, sampleOf, corrected, sampleAt}
 use Rattle.differential.specs.declared.raw.Raw.{Raw}

@@ -4,7 +4,7 @@ ghost use Prim.Native.Nat.{ℕ, _≤_, _<_};
 ghost use lib.Ieee.{nan};
 ghost use lib.ListN.{take, getD, length};
 ghost use Rattle.walk.specs.Walk.{Holds};
-ghost use Rattle.median.specs.Select.{Front};
+ghost use Rattle.median.specs.Steps.{Front};
 ghost use Rattle.differential.specs.Sample as spec;
 use crate::raw::Raws;
 use median::median::median;

@@ -13,15 +13,16 @@ use lib.Seq.{getD-set-same, getD-set-other}
 use lib.Ieee.{Float, nan, div, ofInt, ofBits}
 use Rattle.exact.specs.Float.{_⊕_, bits, decimal}
 use Rattle.cholesky.specs.Factor.{at}
-use Rattle.robust.specs.Round.{Round, Outcome, Refused, Solved}
-use Rattle.robust.specs.Solving.{Solving}
+use Rattle.robust.specs.Round.{Round, RoundOutcome, Refused, Solved}
+use Rattle.robust.specs.Steps.{Solving}
 use Rattle.normal.specs.declared.row.Row.{Row}
 use Rattle.robust.specs.declared.round.Stepping.{Stepping}
 use Rattle.robust.specs.declared.round.Stepping.the-variants as Stepping
 use Rattle.numeric.specs.declared.refusal.Refusal.{Refusal}
 use Rattle.estimator.specs.declared.rules.Check.the-variants as Check
 use Rattle.normal.proofs.NineLaws.{nine-is}
-use Rattle.estimator.specs.Rounds.{End, Stopped, Reached, Fit, moved, shortStep, after, fitFrom, lastRows, Ended}
+use Rattle.estimator.specs.Rounds.{End, Stopped, Reached, Fit, moved, shortStep, afterRound, fitFrom, lastRows}
+use Rattle.estimator.specs.Steps.{Ended}
 
 -- rounds above 50, which every estimator refuses alike, so that 51 stand for them all
 pub capped : {A : Type 0} (f : ℕ → A) {r : A} → ((k : ℕ) → 50 < k → f k ≡ r) → (rounds : ℕ) → f (min rounds 51) ≡ f rounds
@@ -69,7 +70,7 @@ pub past-end : (x : List Float) (s : ℕ) → length x ≡ 9 → 9 ≤ s → nan
 past-end x s e h = sym (List·getD-eq-default x nan (omega arith))
 
 -- ---- what is left of the fit f after i of at most `count` rounds, which led to the state x, the last of them with these rows
-module _ (roundAt : List Float → Outcome) (n : ℕ) (limit : Float) (count : ℕ) (f : Fit) where
+module _ (roundAt : List Float → RoundOutcome) (n : ℕ) (limit : Float) (count : ℕ) (f : Fit) where
   pub record Left (i : ℕ) (x : List Float) : Type 0 where
     pub end : fitFrom roundAt n limit (count - i) x .end ≡ f .end
 
@@ -97,18 +98,18 @@ module _ (roundAt : List Float → Outcome) (n : ℕ) (limit : Float) (count : �
       next : List Float → Fit
       next y = fitFrom roundAt n limit (count - (i + 1)) y
 
-      here : Left i x → after n limit x next (roundAt x) .end ≡ f .end
+      here : Left i x → afterRound n limit x next (roundAt x) .end ≡ f .end
       unfolding fitFrom next
       here l = let e : count - i ≡ suc (count - (i + 1)) = omega arith in rw e at (l .end)
 
-      here-rows : (rows : List Row) → LeftRows i x rows → lastRows rows (after n limit x next (roundAt x) .rounds) ≡ lastRows [] (f .rounds)
+      here-rows : (rows : List Row) → LeftRows i x rows → lastRows rows (afterRound n limit x next (roundAt x) .rounds) ≡ lastRows [] (f .rounds)
       unfolding fitFrom next
       here-rows rows l = let e : count - i ≡ suc (count - (i + 1)) = omega arith in rw e at (l .last)
 
       pub left-stopped : (r : Refusal) → a ≡ Stepping.Refused r → Left i x → Stopped r ≡ f .end
       left-stopped r t l = go (roundAt x) s (here l)
         where
-          go : (o : Outcome) → Solving o a before dx → after n limit x next o .end ≡ f .end → Stopped r ≡ f .end
+          go : (o : RoundOutcome) → Solving o a before dx → afterRound n limit x next o .end ≡ f .end → Stopped r ≡ f .end
           go (Refused q) s e = let w : a ≡ Stepping.Refused q = s .answer-is in let same : r ≡ q = cc in ap Stopped same ∙ e
           go (Solved q) s e = absurd (let w : a ≡ Stepping.Done = s .answer-is in let z : _≡_ {A = ℕ} 0 1 = cc in omega arith)
 
@@ -126,7 +127,7 @@ module _ (roundAt : List Float → Outcome) (n : ℕ) (limit : Float) (count : �
         pub left-stops : stop ≡ true → Left i x → Reached y ≡ f .end
         left-stops w l = go (roundAt x) s (here l)
           where
-            go : (o : Outcome) → Solving o a before dx → after n limit x next o .end ≡ f .end → Reached y ≡ f .end
+            go : (o : RoundOutcome) → Solving o a before dx → afterRound n limit x next o .end ≡ f .end → Reached y ≡ f .end
             go (Refused r) s e = never r s
             go (Solved r) s e = let q : shortStep limit (r .step) ≡ true = sym (is-short r s) ∙ w in ap Reached (there r s) ∙ (rw q at e)
 
@@ -134,7 +135,7 @@ module _ (roundAt : List Float → Outcome) (n : ℕ) (limit : Float) (count : �
         unfolding next
         left-goes w l = go (roundAt x) s (here l)
           where
-            go : (o : Outcome) → Solving o a before dx → after n limit x next o .end ≡ f .end → Left (i + 1) y
+            go : (o : RoundOutcome) → Solving o a before dx → afterRound n limit x next o .end ≡ f .end → Left (i + 1) y
             go (Refused r) s e = never r s
             go (Solved r) s e = let q : shortStep limit (r .step) ≡ false = sym (is-short r s) ∙ w in record { end = ap (λ (z : List Float). next z .end) (there r s) ∙ (rw q at e) }
 
@@ -144,7 +145,7 @@ module _ (roundAt : List Float → Outcome) (n : ℕ) (limit : Float) (count : �
           unfolding lastRows
           rows-stop w l = go (roundAt x) refl s (here-rows rows l)
             where
-              go : (o : Outcome) → roundAt x ≡ o → Solving o a before dx → lastRows rows (after n limit x next o .rounds) ≡ lastRows [] (f .rounds) → new ≡ lastRows [] (f .rounds)
+              go : (o : RoundOutcome) → roundAt x ≡ o → Solving o a before dx → lastRows rows (afterRound n limit x next o .rounds) ≡ lastRows [] (f .rounds) → new ≡ lastRows [] (f .rounds)
               go (Refused r) d s e = never r s
               go (Solved r) d s e = let q : shortStep limit (r .step) ≡ true = sym (is-short r s) ∙ w in sym (news r d) ∙ (rw q at e)
 
@@ -152,7 +153,7 @@ module _ (roundAt : List Float → Outcome) (n : ℕ) (limit : Float) (count : �
           unfolding lastRows next
           rows-go w l = go (roundAt x) refl s (here-rows rows l)
             where
-              go : (o : Outcome) → roundAt x ≡ o → Solving o a before dx → lastRows rows (after n limit x next o .rounds) ≡ lastRows [] (f .rounds) → LeftRows (i + 1) y new
+              go : (o : RoundOutcome) → roundAt x ≡ o → Solving o a before dx → lastRows rows (afterRound n limit x next o .rounds) ≡ lastRows [] (f .rounds) → LeftRows (i + 1) y new
               go (Refused r) d s e = never r s
               go (Solved r) d s e =
                   let q : shortStep limit (r .step) ≡ false = sym (is-short r s) ∙ w in
@@ -161,7 +162,7 @@ module _ (roundAt : List Float → Outcome) (n : ℕ) (limit : Float) (count : �
 
 -- the contract of a loop that lends x
 pub ended-stopped : (e : End) (x y : List Float) {r : Refusal} → y ≡ x → Stopped r ≡ e → Ended e (Check.Refused r) x y
-ended-stopped e x y {r} k h = subst (λ z. Ended z (Check.Refused r) x y) h (record { answer-is = refl; state-is = k })
+ended-stopped e x y {r} k h = subst (λ z. Ended z (Check.Refused r) x y) h (record { answer-is = refl; number-is = refl; state-is = k })
 
 pub ended-reached : (e : End) (x y : List Float) → Reached y ≡ e → Ended e Check.Passed x y
-ended-reached e x y h = subst (λ z. Ended z Check.Passed x y) h (record { answer-is = refl; state-is = refl })
+ended-reached e x y h = subst (λ z. Ended z Check.Passed x y) h (record { answer-is = refl; number-is = refl; state-is = refl })

@@ -18,11 +18,12 @@ use Rattle.walk.specs.Walk.{every}
 use Rattle.cholesky.specs.Factor.{at}
 use Rattle.numeric.specs.declared.refusal.Refusal.{Refusal}
 use Rattle.normal.specs.Nine.{nine}
-use Rattle.robust.specs.Round.{Round, Outcome, Refused, Solved}
+use Rattle.robust.specs.Round.{Round, RoundOutcome, Refused, Solved}
 use Rattle.normal.specs.declared.row.Row.{Row}
 use Rattle.normal.proofs.NineLaws.{nine-at}
 use Rattle.estimator.specs.Rules.{Rule}
-use Rattle.estimator.specs.Rounds.{End, Stopped, Reached, Fit, moved, shortStep, ended, begun, after, fitFrom, lastRows, finiteAt, concluded, Each}
+use Rattle.estimator.specs.Rounds.{End, Stopped, Reached, Fit, moved, shortStep, reachedAt, begun, afterRound, fitFrom, lastRows, finiteAt, concluded}
+use Rattle.median.specs.Sorted.{Each}
 use Rattle.estimator.specs.declared.rules.Check.the-variants.{Passed}
 use Rattle.estimator.proofs.RulesLaws.{checked, passed-of, passed-by}
 
@@ -34,13 +35,13 @@ moved-first n x dx h f =
     nine-at (λ i. cond (ltb i n) (at x i ⊕ at dx i) (at x i)) nan 0 (omega arith) ∙ ap (λ (b : Bool). cond b (at x 0 ⊕ at dx 0) (at x 0)) (is-true (ltb 0 n) (lt→ltb 0 n h)) in
     add-finite (at x 0) (at dx 0) (subst (λ (z : Float). T (finite z)) e f)
 
-module _ (P : Round → Type 0) (roundAt : List Float → Outcome) (n : ℕ) (limit : Float) (used : 0 < n)
+module _ (P : Round → Type 0) (roundAt : List Float → RoundOutcome) (n : ℕ) (limit : Float) (used : 0 < n)
     (one : (x : List Float) (r : Round) → roundAt x ≡ Solved r → T (finite (at (r .step) 0)) → P r) where
   -- what the end of a fit from x says of x and of the rounds
   abbrev Kept : List Float → Fit → Type 0
   Kept x f = (y : List Float) → f .end ≡ Reached y → T (finite (at y 0)) → T (finite (at x 0)) × Each P (f .rounds)
 
-  ended-kept : (x : List Float) → Kept x (ended x)
+  ended-kept : (x : List Float) → Kept x (reachedAt x)
   unfolding Each
   ended-kept x y e f = let q : x ≡ y = cc in (subst (λ (z : List Float). T (finite (at z 0))) (sym q) f, tt)
 
@@ -51,11 +52,11 @@ module _ (P : Round → Type 0) (roundAt : List Float → Outcome) (n : ℕ) (li
       let m = moved-first n x (r .step) used (h .0) in
       (m .0, (one x r d (m .1), h .1))
 
-  after-kept : (x : List Float) (next : List Float → Fit) → ((z : List Float) → Kept z (next z)) → (o : Outcome) → roundAt x ≡ o → Kept x (after n limit x next o)
+  after-kept : (x : List Float) (next : List Float → Fit) → ((z : List Float) → Kept z (next z)) → (o : RoundOutcome) → roundAt x ≡ o → Kept x (afterRound n limit x next o)
   after-kept x next h (Refused r) d = λ y e f. absurd (let z : _≡_ {A = ℕ} 0 1 = cc in omega arith)
-  after-kept x next h (Solved r) d = begun-kept x r (cond (shortStep limit (r .step)) (ended (moved n x (r .step))) (next (moved n x (r .step)))) d (pick (shortStep limit (r .step)))
+  after-kept x next h (Solved r) d = begun-kept x r (cond (shortStep limit (r .step)) (reachedAt (moved n x (r .step))) (next (moved n x (r .step)))) d (pick (shortStep limit (r .step)))
     where
-      pick : (b : Bool) → Kept (moved n x (r .step)) (cond b (ended (moved n x (r .step))) (next (moved n x (r .step))))
+      pick : (b : Bool) → Kept (moved n x (r .step)) (cond b (reachedAt (moved n x (r .step))) (next (moved n x (r .step))))
       pick true = ended-kept (moved n x (r .step))
       pick false = h (moved n x (r .step))
 
@@ -69,17 +70,17 @@ module _ (P : Round → Type 0) (roundAt : List Float → Outcome) (n : ℕ) (li
 
 -- ---- the last round's rows, where every round has as many
 
-module _ (roundAt : List Float → Outcome) (n : ℕ) (limit : Float) (L : ℕ) (one-long : (x : List Float) (r : Round) → roundAt x ≡ Solved r → length (r .rows) ≡ L) where
+module _ (roundAt : List Float → RoundOutcome) (n : ℕ) (limit : Float) (L : ℕ) (one-long : (x : List Float) (r : Round) → roundAt x ≡ Solved r → length (r .rows) ≡ L) where
   abbrev Long : (List Float → Fit) → Type 0
   Long next = (z : List Float) (rows : List Row) → length rows ≡ L → (y : List Float) → next z .end ≡ Reached y → length (lastRows rows (next z .rounds)) ≡ L
 
-  step-long : (x : List Float) (next : List Float → Fit) → Long next → (rows : List Row) (o : Outcome) → roundAt x ≡ o → (y : List Float) → after n limit x next o .end ≡ Reached y → length (lastRows rows (after n limit x next o .rounds)) ≡ L
+  step-long : (x : List Float) (next : List Float → Fit) → Long next → (rows : List Row) (o : RoundOutcome) → roundAt x ≡ o → (y : List Float) → afterRound n limit x next o .end ≡ Reached y → length (lastRows rows (afterRound n limit x next o .rounds)) ≡ L
   unfolding lastRows
   step-long x next ih rows (Refused r) d y h = absurd (let z : _≡_ {A = ℕ} 0 1 = cc in omega arith)
   step-long x next ih rows (Solved r) d y h = pick (shortStep limit (r .step)) h
     where
-      pick : (b : Bool) → cond b (ended (moved n x (r .step))) (next (moved n x (r .step))) .end ≡ Reached y
-          → length (lastRows (r .rows) (cond b (ended (moved n x (r .step))) (next (moved n x (r .step))) .rounds)) ≡ L
+      pick : (b : Bool) → cond b (reachedAt (moved n x (r .step))) (next (moved n x (r .step))) .end ≡ Reached y
+          → length (lastRows (r .rows) (cond b (reachedAt (moved n x (r .step))) (next (moved n x (r .step))) .rounds)) ≡ L
       pick true h = one-long x r d
       pick false h = ih (moved n x (r .step)) (r .rows) (one-long x r d) y h
 

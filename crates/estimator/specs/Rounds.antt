@@ -1,6 +1,5 @@
 -- The rounds of a fit (docs/SCOPE.md, "Their rounds"): the first begins where the reference begins, each later one with just what the one before left,
 -- and the last meets the stop or uses up the count. Definitions only.
-use mathlib.Core.Path.{_≡_}
 use Prim.Native.Nat.{ℕ, zero, suc}
 use mathlib.Core.Bool.{Bool, cond, _&&_}
 use mathlib.Core.List.{List, [], _∷_}
@@ -14,13 +13,11 @@ use Rattle.numeric.specs.Vec3.{vectorAt}
 use Rattle.numeric.specs.declared.vec3.Vec3.{Vec3}
 use Rattle.numeric.specs.declared.refusal.Refusal.{Refusal}
 use Rattle.normal.specs.Nine.{nine}
-use Rattle.robust.specs.Round.{Round, Outcome, Refused, Solved}
+use Rattle.robust.specs.Round.{Round, RoundOutcome, Refused, Solved}
 use Rattle.normal.specs.declared.row.Row.{Row}
 use Rattle.estimator.specs.Rules.{Rule, ruled}
-use Rattle.estimator.specs.declared.rules.Check.{Check}
-use Rattle.estimator.specs.declared.rules.Check.the-variants as Check
 
--- where the rounds end: in one that is refused, and why, or at the state x
+-- where the rounds end: in a refused round, or at the state x
 pub data End : Type 0 where
   Stopped : Refusal → End
   Reached : List Float → End
@@ -38,25 +35,25 @@ moved n x dx = nine (λ i. cond (ltb i n) (at x i ⊕ at dx i) (at x i))
 unfoldable pub shortStep : Float → List Float → Bool
 shortStep limit dx = lt (hypot (hypot (at dx 0) (at dx 1)) (at dx 2)) limit
 
--- no round more
-abbrev pub ended : List Float → Fit
-ended x = record { rounds = []; end = Reached x }
+-- no further round: the fit ends at x
+abbrev pub reachedAt : List Float → Fit
+reachedAt x = record { rounds = []; end = Reached x }
 
 -- the round r, and what follows it
 abbrev pub begun : Round → Fit → Fit
 begun r f = record { rounds = r ∷ f .rounds; end = f .end }
 
 -- after a round at the state x: the end, or what follows from where its step leads
-abbrev pub after : ℕ → Float → List Float → (List Float → Fit) → Outcome → Fit
-after n limit x next (Refused r) = record { rounds = []; end = Stopped r }
-after n limit x next (Solved r) =
+abbrev pub afterRound : ℕ → Float → List Float → (List Float → Fit) → RoundOutcome → Fit
+afterRound n limit x next (Refused r) = record { rounds = []; end = Stopped r }
+afterRound n limit x next (Solved r) =
     let y = moved n x (r .step) in
-    begun r (cond (shortStep limit (r .step)) (ended y) (next y))
+    begun r (cond (shortStep limit (r .step)) (reachedAt y) (next y))
 
 -- at most `count` rounds of n unknowns from the state x on; roundAt x is the round at x
-unfoldable pub fitFrom : (List Float → Outcome) → ℕ → Float → ℕ → List Float → Fit
-fitFrom roundAt n limit zero x = ended x
-fitFrom roundAt n limit (suc count) x = after n limit x (fitFrom roundAt n limit count) (roundAt x)
+unfoldable pub fitFrom : (List Float → RoundOutcome) → ℕ → Float → ℕ → List Float → Fit
+fitFrom roundAt n limit zero x = reachedAt x
+fitFrom roundAt n limit (suc count) x = afterRound n limit x (fitFrom roundAt n limit count) (roundAt x)
 
 -- the rows of the last round, or those given where there is none
 unfoldable pub lastRows : List Row → List Round → List Row
@@ -71,26 +68,12 @@ vector x = vectorAt x 0
 unfoldable pub finiteAt : List Float → Bool
 finiteAt x = finite (at x 0) && finite (at x 1) && finite (at x 2)
 
--- What a fit comes to: what `refused` gives of why a round is refused, or of the first rule on the state reached that applies, and else the answer there.
+-- The answer of a fit: the refusal of a round, or of the first rule that applies to the state reached, or the answer there.
 abbrev pub concluded : {A : Type 0} → (Refusal → A) → (List Float → List Rule) → (List Float → A) → End → A
 concluded refused rules answer (Stopped r) = refused r
 concluded refused rules answer (Reached x) = ruled refused (rules x) (answer x)
 
--- P holds of every round
-unfoldable pub Each : (Round → Type 0) → List Round → Type 0
-Each P [] = Unit
-Each P (r ∷ rs) = P r × Each P rs
-
--- ---- the code's end: its answer and the lent x, which is y afterwards
-
-abbrev pub checkOf : End → Check
-checkOf (Stopped r) = Check.Refused r
-checkOf (Reached z) = Check.Passed
-
+-- the state x afterwards: where the fit ends, or unchanged
 abbrev pub stateAfter : End → List Float → List Float
 stateAfter (Stopped r) x = x
 stateAfter (Reached z) x = z
-
-pub record Ended (e : End) (answer : Check) (x y : List Float) : Type 0 where
-  pub answer-is : answer ≡ checkOf e
-  pub state-is : y ≡ stateAfter e x

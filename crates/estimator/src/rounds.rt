@@ -17,21 +17,21 @@ pub fn move_by(n: usize, dx: [f64; 9], x: [f64; 9]) -> [f64; 9]
     y
 }
 
-// Whether the first three elements of a step are together shorter than the limit.
+// Checks that the first three elements of a step together are shorter than the limit.
 pub fn is_short(limit: f64, dx: [f64; 9]) -> bool
     ensures { λ r. ⌜ r ≡ spec.shortStep limit dx ⌝ }
 {
     hypot(hypot(dx[0], dx[1]), dx[2]) < limit
 }
 
-// Place s of the state, a NaN where there is none.
+// Returns place s of the state, a NaN where there is none.
 pub fn state_at(x: [f64; 9], s: usize) -> f64
     ensures { λ r. ⌜ r ≡ at x s ⌝ }
 {
     if s < 9 { x[s] } else { 0.0 / 0.0 }
 }
 
-// The rounds as an estimator takes them: from 51 on they are refused alike.
+// Returns the rounds as an estimator takes them: from 51 on they are refused alike.
 pub fn rounds_of(rounds: usize) -> u32
     ensures { λ r. ⌜ r ≡ min rounds 51 ⌝ }
 {

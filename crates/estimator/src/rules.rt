@@ -3,13 +3,13 @@ ghost use mathlib.Core.Path.{_≡_};
 ghost use Rattle.estimator.specs.Rules as spec;
 use numeric::refusal::Refusal;
 
-// What rules find, or rounds: the first refusal, or none.
+// The result of rules or rounds: the first refusal, or none.
 pub enum Check {
     Refused(Refusal),
     Passed,
 }
 
-// Rules 8 and 9.
+// Checks rules 8 and 9.
 pub fn check_rows(rows: usize, slots: usize) -> Check
     ensures { λ r. ⌜ r ≡ spec.ruled Check.Refused (spec.rowRules rows slots) Check.Passed ⌝ }
 {

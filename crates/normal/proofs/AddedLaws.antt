@@ -14,8 +14,8 @@ use Rattle.exact.specs.Float.{_⊕_, _⊗_, +0, 1·0}
 use Rattle.cholesky.specs.Factor.{at, cell}
 use Rattle.normal.specs.Nine.{nine, Square}
 use Rattle.normal.specs.Equations.{triangleOf}
-use Rattle.cholesky.specs.Columns.{store}
-use Rattle.normal.specs.Formed.{unused, times, sideAdded, rowAdded, triangleAdded}
+use Rattle.cholesky.specs.Steps.{store}
+use Rattle.normal.specs.Steps.{unused, times, sideAdded, rowAdded, triangleAdded}
 use Rattle.normal.proofs.NineLaws.{nine-at, nine-length, nine-is, cell-at, square-nine, square-is, put, square-put}
 
 -- ---- a list of nine whose first i places are what f gives, and the others what g gives

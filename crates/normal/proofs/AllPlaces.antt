@@ -20,7 +20,7 @@ use Rattle.median.specs.declared.centre.CentreScale.{CentreScale}
 use Rattle.normal.specs.Nine.{nine}
 use Rattle.normal.specs.Weight.{weight}
 use Rattle.normal.specs.Equations.{wide, triangleOf}
-use Rattle.normal.specs.Formed.{Formed, cornerPut, cornerSides}
+use Rattle.normal.specs.Steps.{Formed, cornerPut, cornerSides}
 use Rattle.numeric.proofs.Zeros.{isZero, zero-times}
 use Rattle.normal.proofs.Zeros.{times-zero, times-one}
 use Rattle.normal.specs.declared.row.Row.{Row}

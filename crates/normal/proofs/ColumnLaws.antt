@@ -9,12 +9,12 @@ use lib.Seq.{take-all, getD-take, length-take-le}
 use lib.Ieee.{Float, nan}
 use Rattle.walk.specs.Walk.{places}
 use Rattle.walk.proofs.Walk.{places-map, places-take, places-ext}
-use Rattle.normal.specs.Columns.{Columns, columns, rowIn, rowsIn}
+use Rattle.normal.specs.Columns.{RoundColumns, columns, rowIn, rowsIn}
 use Rattle.normal.specs.declared.row.Row.{Row}
 use Rattle.normal.proofs.Sums.{mapped-next}
 
 -- the residuals of the columns' rows
-pub residuals-of : (c : Columns) → map (λ (r : Row). r .residual) (rowsIn c) ≡ c .residual
+pub residuals-of : (c : RoundColumns) → map (λ (r : Row). r .residual) (rowsIn c) ≡ c .residual
 residuals-of c =
     places-map (λ (r : Row). r .residual) (rowIn c) (length (c .residual))
     ∙ places-take (c .residual) 0 (length (c .residual)) (omega arith) ∙ take-all (length (c .residual)) (c .residual) (omega arith)
@@ -47,7 +47,7 @@ module _ {A B : Type 0} (f : A → B) (xs : List A) where
 module _ {A : Type 0} (f : A → Row) (xs : List A) (d : A) (n : ℕ) (fits : n ≤ length xs) (few : n ≤ 64) (x y z : List Float) (clock : List ℕ) (sigma : List Float) (residual : List ℕ)
     (xs-are : take n x ≡ map (λ a. f a .unit .x) (take n xs)) (ys-are : take n y ≡ map (λ a. f a .unit .y) (take n xs)) (zs-are : take n z ≡ map (λ a. f a .unit .z) (take n xs))
     (clocks-are : take n clock ≡ map (λ a. f a .clock) (take n xs)) (sigmas-are : take n sigma ≡ map (λ a. f a .sigma) (take n xs)) (residuals-are : Column (λ a. f a .residual) xs n residual) where
-  abbrev all : Columns
+  abbrev all : RoundColumns
   all = columns x y z clock sigma (take n residual)
 
   row-is : (k : ℕ) → k < n → rowIn all k ≡ f (getD xs k d)

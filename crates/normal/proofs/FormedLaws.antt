@@ -14,7 +14,7 @@ use Rattle.median.specs.declared.centre.CentreScale.{CentreScale}
 use Rattle.normal.specs.Nine.{nine}
 use Rattle.normal.specs.Weight.{weight}
 use Rattle.normal.specs.Equations.{wide, total, cellOf, sideOf, triangleOf, matrixOf, rightOf}
-use Rattle.normal.specs.Formed.{Formed, times, sideAdded, triangleAdded}
+use Rattle.normal.specs.Steps.{Formed, times, sideAdded, triangleAdded}
 use Rattle.normal.specs.declared.row.Row.{Row}
 use Rattle.normal.proofs.NineLaws.{nine-at, cell-at}
 use Rattle.normal.proofs.AddedLaws.{times-at, triangle-more, inSides, side-more}

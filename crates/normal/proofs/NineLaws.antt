@@ -13,7 +13,7 @@ use lib.Seq.{getD-set-same, getD-set-other, ext-getD}
 use lib.Ieee.{Float, nan}
 use Rattle.cholesky.specs.Factor.{at, row, cell}
 use Rattle.normal.specs.Nine.{from, nine, Square}
-use Rattle.cholesky.specs.Columns.{store}
+use Rattle.cholesky.specs.Steps.{store}
 
 module _ {A : Type 0} where
   from-at : (f : ℕ → A) (d : A) (i n k : ℕ) → k < n → getD (from i n f) k d ≡ f (i + k)

@@ -17,7 +17,7 @@ use Rattle.median.specs.declared.centre.CentreScale.{CentreScale}
 use Rattle.normal.specs.Weight.{weight}
 use Rattle.normal.specs.Equations.{wide}
 use Rattle.normal.specs.Nine.{Square}
-use Rattle.normal.specs.Formed.{unused, raise, clockAdded, clockSide, noCorner, cornerAdded}
+use Rattle.normal.specs.Steps.{unused, raiseCell, clockAdded, clockSide, noCorner, cornerAdded}
 use Rattle.normal.specs.declared.row.Row.{Row}
 use Rattle.normal.specs.declared.equations.Corner.{Corner}
 use Rattle.normal.proofs.NineLaws.{cell-at, square-nine, square-store, cell-same, cell-other}
@@ -60,16 +60,16 @@ wide-none r p low pb n = sym (getD-set-other (plain r) (r .clock) p 1·0 nan n �
 -- ---- four sums of one row of a matrix, at 0, 1, 2 and at the diagonal
 module _ (a : List (List Float)) (s : Square a) (i : ℕ) (low : 3 ≤ i) (high : i < 9) (u v w d : Float) where
   abbrev pub one : List (List Float)
-  one = raise a i 0 u
+  one = raiseCell a i 0 u
 
   abbrev pub two : List (List Float)
-  two = raise one i 1 v
+  two = raiseCell one i 1 v
 
   abbrev pub three : List (List Float)
-  three = raise two i 2 w
+  three = raiseCell two i 2 w
 
   abbrev pub four : List (List Float)
-  four = raise three i i d
+  four = raiseCell three i i d
 
   square-1 : Square one
   square-1 = square-store a s i 0 _ high

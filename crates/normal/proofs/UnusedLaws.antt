@@ -12,8 +12,8 @@ use lib.Ieee.{Float, nan}
 use Rattle.exact.specs.Float.{+0, 1·0}
 use Rattle.cholesky.specs.Factor.{at, cell}
 use Rattle.normal.specs.Nine.{Square}
-use Rattle.cholesky.specs.Columns.{store}
-use Rattle.normal.specs.Formed.{unused}
+use Rattle.cholesky.specs.Steps.{store}
+use Rattle.normal.specs.Steps.{unused}
 use Rattle.normal.proofs.NineLaws.{square-is, square-store, cell-same, cell-other}
 
 -- the diagonal has 1 from n up to, not including, i

@@ -7,7 +7,7 @@ use Rattle.walk.specs.Walk.{places}
 use Rattle.normal.specs.declared.row.Row.{Row}
 
 -- the coordinates of the lines of sight, and the rows' other numbers
-pub record Columns : Type 0 where
+pub record RoundColumns : Type 0 where
   pub x : List Float
   pub y : List Float
   pub z : List Float
@@ -15,11 +15,11 @@ pub record Columns : Type 0 where
   pub sigma : List Float
   pub residual : List ℕ
 
-abbrev pub columns : List Float → List Float → List Float → List ℕ → List Float → List ℕ → Columns
+abbrev pub columns : List Float → List Float → List Float → List ℕ → List Float → List ℕ → RoundColumns
 columns x y z clock sigma residual = record { x = x; y = y; z = z; clock = clock; sigma = sigma; residual = residual }
 
 -- row k
-abbrev pub rowIn : Columns → ℕ → Row
+abbrev pub rowIn : RoundColumns → ℕ → Row
 rowIn c k =
     record {
       unit = record { x = getD (c .x) k nan; y = getD (c .y) k nan; z = getD (c .z) k nan };
@@ -29,5 +29,5 @@ rowIn c k =
     }
 
 -- as many rows as there are residuals
-abbrev pub rowsIn : Columns → List Row
+abbrev pub rowsIn : RoundColumns → List Row
 rowsIn c = places (rowIn c) (length (c .residual))

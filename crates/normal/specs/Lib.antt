@@ -2,4 +2,4 @@ pub mod Nine
 pub mod Weight
 pub mod Equations
 pub mod Columns
-pub mod Formed
+pub mod Steps

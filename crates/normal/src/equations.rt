@@ -5,7 +5,7 @@ ghost use Prim.Native.Nat.{_≤_, _<_};
 ghost use lib.ListN.{length};
 ghost use Rattle.normal.specs.Nine.{Square};
 ghost use Rattle.normal.specs.Weight as spec;
-ghost use Rattle.normal.specs.Formed as code;
+ghost use Rattle.normal.specs.Steps as code;
 ghost use Rattle.normal.specs.Columns.{columns, rowIn, rowsIn};
 use crate::row::Row;
 use crate::row::wide;
@@ -15,7 +15,7 @@ use numeric::order::float;
 use numeric::real::is_finite;
 use numeric::vec3::Vec3;
 
-// Makes a the matrix of n unknowns before any row is added: 1 on the diagonal of the unused ones.
+// Writes to a the matrix of n unknowns before any row is added: 1 on the diagonal of the unused ones.
 pub fn unused(n: usize, a: &mut [[f64; 9]; 9])
     ensures { λ _. ⌜ now (a .exit) ≡ code.unused n ⌝ }
 {
@@ -25,7 +25,7 @@ pub fn unused(n: usize, a: &mut [[f64; 9]; 9])
     }
 }
 
-// Row k of the columns.
+// Returns row k of the columns.
 pub fn row_at(
     x: &[f64; 64],
     y: &[f64; 64],
@@ -36,7 +36,8 @@ pub fn row_at(
     k: usize,
 ) -> Row
     requires { ⌜ (length (now residual) ≤ 64) × (k < length (now residual)) ⌝ }
-    ensures { λ r. ⌜ r ≡ rowIn (columns (now (x .entry)) (now (y .entry)) (now (z .entry)) (now (clock .entry)) (now (sigma .entry)) (now (residual .entry))) k ⌝ }
+    ensures { λ r. ⌜ (let rows = columns (now (x .entry)) (now (y .entry)) (now (z .entry)) (now (clock .entry)) (now (sigma .entry)) (now (residual .entry)) in
+        r ≡ rowIn rows k) ⌝ }
 {
     let u = x[k];
     let v = y[k];
@@ -52,7 +53,7 @@ pub fn row_at(
     }
 }
 
-// A row nine wide times its weight.
+// Returns a row nine wide times its weight.
 fn times(w: f64, e: &[f64; 9]) -> [f64; 9]
     ensures { λ r. ⌜ r ≡ code.times w (now (e .entry)) ⌝ }
 {
@@ -93,7 +94,7 @@ pub fn add_triangle(n: usize, t: &[f64; 9], e: &[f64; 9], a: &mut [[f64; 9]; 9])
     }
 }
 
-// Forms the normal equations in a and b, the matrix by its lower triangle: over every place of every row.
+// Forms the normal equations in a and b, the matrix by its lower triangle, over every place of every row.
 fn form(
     x: &[f64; 64],
     y: &[f64; 64],
@@ -108,7 +109,8 @@ fn form(
     b: &mut [f64; 9],
 )
     requires { ⌜ (length (now residual) ≤ 64) × (n ≤ 9) ⌝ }
-    ensures { λ _. ⌜ code.Formed (spec.weight c huber) (rowsIn (columns (now (x .entry)) (now (y .entry)) (now (z .entry)) (now (clock .entry)) (now (sigma .entry)) (now (residual .entry)))) n (now (a .exit)) (now (b .exit)) ⌝ }
+    ensures { λ _. ⌜ (let rows = columns (now (x .entry)) (now (y .entry)) (now (z .entry)) (now (clock .entry)) (now (sigma .entry)) (now (residual .entry)) in
+        code.Formed (spec.weight c huber) (rowsIn rows) n (now (a .exit)) (now (b .exit))) ⌝ }
 {
     unused(n, a);
     *b = [0.0; 9];
@@ -138,7 +140,7 @@ pub struct Corner {
     pub z: f64,
 }
 
-// No row has been added.
+// Returns the sums before any row is added.
 fn no_corner() -> Corner
     ensures { λ r. ⌜ r ≡ code.noCorner ⌝ }
 {
@@ -155,7 +157,7 @@ fn no_corner() -> Corner
     }
 }
 
-// One row more, by its weight, its line of sight and its residual.
+// Adds a row to the sums, given its weight, line of sight and residual.
 fn with_row(s: Corner, w: f64, unit: Vec3, d: f64) -> Corner
     ensures { λ r. ⌜ r ≡ code.cornerAdded s w unit d ⌝ }
 {
@@ -178,7 +180,7 @@ fn with_row(s: Corner, w: f64, unit: Vec3, d: f64) -> Corner
     }
 }
 
-// Adds a row's products at its clock, by t, the weight there: the clock's row of a, and its place of b.
+// Adds a row's products at its clock to the clock's row of a and its place of b; t is the weight there.
 fn add_clock(i: usize, t: f64, unit: Vec3, d: f64, a: &mut [[f64; 9]; 9], b: &mut [f64; 9])
     requires { ⌜ i < 9 ⌝ }
     ensures { λ _. ⌜ (now (a .exit) ≡ code.clockAdded i t unit (now (a .entry))) × (now (b .exit) ≡ code.clockSide i t d (now (b .entry))) ⌝ }
@@ -190,7 +192,7 @@ fn add_clock(i: usize, t: f64, unit: Vec3, d: f64, a: &mut [[f64; 9]; 9], b: &mu
     b[i] = b[i] + t * d;
 }
 
-// Writes the sums over the first three places to where they belong.
+// Writes the sums over the first three places to a and b.
 fn put_corner(s: Corner, a: &mut [[f64; 9]; 9], b: &mut [f64; 9])
     ensures { λ _. ⌜ (now (a .exit) ≡ code.cornerPut s (now (a .entry))) × (now (b .exit) ≡ code.cornerSides s (now (b .entry))) ⌝ }
 {
@@ -205,8 +207,8 @@ fn put_corner(s: Corner, a: &mut [[f64; 9]; 9], b: &mut [f64; 9])
     b[2] = s.z;
 }
 
-// Forms the normal equations over the places of a row that are not 0: x, y, z and the clock. What is 0 adds nothing where every number is finite.
-// False, with a and b of no use, where a clock is below 3 or at n or beyond, or a number is not finite.
+// Forms the normal equations over the places of a row that are not 0: x, y, z and the clock. Zeros add nothing where every number is finite.
+// Returns false, with a and b of no use, where a clock is below 3, at n or beyond, or a number is not finite.
 fn form_by_places(
     x: &[f64; 64],
     y: &[f64; 64],
@@ -221,7 +223,8 @@ fn form_by_places(
     b: &mut [f64; 9],
 ) -> bool
     requires { ⌜ (length (now residual) ≤ 64) × (n ≤ 9) ⌝ }
-    ensures { λ r. ⌜ (r ≡ true → code.Formed (spec.weight c huber) (rowsIn (columns (now (x .entry)) (now (y .entry)) (now (z .entry)) (now (clock .entry)) (now (sigma .entry)) (now (residual .entry)))) n (now (a .exit)) (now (b .exit))) ⌝ }
+    ensures { λ r. ⌜ (let rows = columns (now (x .entry)) (now (y .entry)) (now (z .entry)) (now (clock .entry)) (now (sigma .entry)) (now (residual .entry)) in
+        r ≡ true → code.Formed (spec.weight c huber) (rowsIn rows) n (now (a .exit)) (now (b .exit))) ⌝ }
 {
     if n < 3 {
         return false;
@@ -249,7 +252,7 @@ fn form_by_places(
     is_finite(s.xx) & is_finite(s.yy) & is_finite(s.zz) & is_finite(s.x)
 }
 
-// Forms the normal equations in a and b: over the places that are not 0, or over all where that will not do.
+// Forms the normal equations in a and b: over the places that are not 0, or over all where that is not enough.
 pub fn normal(
     x: &[f64; 64],
     y: &[f64; 64],
@@ -264,7 +267,8 @@ pub fn normal(
     b: &mut [f64; 9],
 )
     requires { ⌜ (length (now residual) ≤ 64) × (n ≤ 9) ⌝ }
-    ensures { λ _. ⌜ code.Formed (spec.weight c huber) (rowsIn (columns (now (x .entry)) (now (y .entry)) (now (z .entry)) (now (clock .entry)) (now (sigma .entry)) (now (residual .entry)))) n (now (a .exit)) (now (b .exit)) ⌝ }
+    ensures { λ _. ⌜ (let rows = columns (now (x .entry)) (now (y .entry)) (now (z .entry)) (now (clock .entry)) (now (sigma .entry)) (now (residual .entry)) in
+        code.Formed (spec.weight c huber) (rowsIn rows) n (now (a .exit)) (now (b .exit))) ⌝ }
 {
     if form_by_places(x, y, z, clock, sigma, residual, n, c, huber, a, b) {
         return;

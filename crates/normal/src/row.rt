@@ -11,13 +11,13 @@ pub struct Row {
     pub sigma: f64,
 }
 
-// The first `count` rows count.
+// An array of rows, of which the first `count` are used.
 pub struct Rows {
     pub count: usize,
     pub row: [Row; 64],
 }
 
-// Makes e the row nine wide: the line of sight, and 1 in the column of the clock.
+// Writes the row nine wide to e: the line of sight, and 1 in the column of the clock.
 pub fn wide(r: Row, e: &mut [f64; 9])
     ensures { λ _. ⌜ now (e .exit) ≡ spec.wide r ⌝ }
 {

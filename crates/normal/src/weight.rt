@@ -7,7 +7,7 @@ use numeric::order::float;
 use numeric::real::abs;
 use numeric::real::max;
 
-// Huber's factor: 1 up to the threshold, and less beyond it.
+// Returns Huber's factor: 1 up to the threshold, and less beyond it.
 pub fn damping(huber: f64, z: f64) -> f64
     ensures { λ r. ⌜ r ≡ spec.damping huber z ⌝ }
 {
@@ -18,7 +18,7 @@ pub fn damping(huber: f64, z: f64) -> f64
     }
 }
 
-// The damping of the residual's distance from the centre, over sigma squared.
+// Returns the damping of the residual's distance from the centre, divided by sigma squared.
 pub fn weight(c: CentreScale, huber: f64, r: Row) -> f64
     ensures { λ w. ⌜ w ≡ spec.weight c huber r ⌝ }
 {

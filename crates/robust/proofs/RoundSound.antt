@@ -12,8 +12,7 @@ use lib.Ieee.Bits.{ofBits-fits}
 use lib.Ieee.Scale.{finite}
 use Rattle.exact.specs.Float.{_⊕_, +0, 1·0}
 use Rattle.cholesky.specs.Factor.{at, Factored, Refused, Lower, factorOf}
-use Rattle.cholesky.specs.Sound.{Held}
-use Rattle.cholesky.proofs.SoundSystem.{sound}
+use Rattle.cholesky.proofs.SoundSystem.{Held, sound}
 use Rattle.median.specs.Centre.{centreAndScaleOf}
 use Rattle.normal.specs.Weight.{weight}
 use Rattle.normal.specs.Equations.{total, cellOf, sideOf, triangleOf, matrixOf, rightOf}

@@ -23,7 +23,8 @@ use Rattle.records.specs.Kept.{pairIn, pairsIn, Kept}
 use Rattle.estimator.specs.Rules.{Rule, rule, ruled}
 use Rattle.tdcp.specs.Valid.{dtOf, epochRules, givenRules, fewRules}
 use Rattle.tdcp.specs.Front.{sightRules, countRules, cityRules, pairRules}
-use Rattle.estimator.specs.Rounds.{End, Stopped, Reached, Fit, concluded, Ended, stateAfter}
+use Rattle.estimator.specs.Rounds.{End, Stopped, Reached, Fit, concluded, stateAfter}
+use Rattle.estimator.specs.Steps.{Ended}
 use Rattle.tdcp.specs.Displacement.{Input, fitOver, fitBy, fitOf, pairs, deltaAt, endRules, concludedAt, movedBy, displacementOf}
 use Rattle.tdcp.specs.Rated.{qualityAt, quality}
 use Rattle.tdcp.specs.Rows.{movedOver, answerBy, qualityOver, qualityBy, answerOf}

@@ -9,10 +9,10 @@ use lib.Ieee.{Float, nan}
 use Rattle.walk.proofs.Walk.{places-map, places-take, places-ext}
 use Rattle.walk.specs.Walk.{places}
 use Rattle.robust.specs.Round.{roundOf}
-use Rattle.normal.specs.Columns.{Columns, columns, rowsIn}
+use Rattle.normal.specs.Columns.{RoundColumns, columns, rowsIn}
 use Rattle.normal.specs.Columns as round
 use Rattle.normal.proofs.ColumnLaws.{filled-at}
-use Rattle.robust.specs.Solving.{Solving}
+use Rattle.robust.specs.Steps.{Solving}
 use Rattle.normal.specs.declared.row.Row.{Row}
 use Rattle.robust.specs.declared.round.Stepping.{Stepping}
 use Rattle.clocks.specs.declared.clocks.Clocks.{Clocks}
@@ -47,7 +47,7 @@ module _ (settings : Settings) (k : Clocks) (x y z : List Float) (constellation 
   abbrev pair : ℕ → Pair
   pair = pairIn x y z constellation elevation observed
 
-  abbrev all : Columns
+  abbrev all : RoundColumns
   all = columns x y z clock sigma (take (length observed) residual)
 
   row-is : (i : ℕ) → i < length observed → round.rowIn all i ≡ rowAt settings k s (pair i)

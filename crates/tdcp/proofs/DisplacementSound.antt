@@ -22,7 +22,8 @@ use Rattle.records.specs.Screen.{keptOf, constellations}
 use Rattle.clocks.specs.declared.clocks.Clocks.{Clocks}
 use Rattle.records.specs.declared.pair.Pair.{Pair}
 use Rattle.tdcp.specs.declared.displacement.Settings.{Settings}
-use Rattle.estimator.specs.Rounds.{concluded, Each}
+use Rattle.estimator.specs.Rounds.{concluded}
+use Rattle.median.specs.Sorted.{Each}
 use Rattle.tdcp.specs.Displacement.{Input, rowAt, roundAt, limit, fitOver, fitBy, pairs, kept, fitOf, roundsOf, deltaAt, endRules, movedBy, displacementOf, displacementFloats, Accepted, Promised}
 use Rattle.tdcp.specs.declared.displacement.Delta.{Delta}
 use Rattle.tdcp.specs.declared.displacement.Displacement.{Displacement}

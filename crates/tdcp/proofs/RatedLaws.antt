@@ -8,7 +8,7 @@ use Rattle.exact.specs.Float.{+0}
 use Rattle.normal.specs.declared.row.Row.{Row}
 use Rattle.cholesky.specs.Factor.{zeros}
 use Rattle.numeric.specs.declared.refusal.Refusal.{Refusal}
-use Rattle.estimator.specs.Rounds.{Ended}
+use Rattle.estimator.specs.Steps.{Ended}
 use Rattle.estimator.specs.declared.rules.Check.{Check}
 use Rattle.clocks.specs.declared.clocks.Clocks.{Clocks}
 use Rattle.records.specs.declared.pair.Pair.{Pair}

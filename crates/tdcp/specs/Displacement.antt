@@ -14,7 +14,7 @@ use Rattle.numeric.specs.Order.{patternOf}
 use Rattle.numeric.specs.Refusal.{numberOf}
 use Rattle.numeric.specs.declared.vec3.Vec3.{Vec3}
 use Rattle.numeric.specs.declared.refusal.Refusal.the-variants.{FitFailed}
-use Rattle.robust.specs.Round.{Round, Outcome, roundOf, SoundRound, FiniteResiduals}
+use Rattle.robust.specs.Round.{Round, RoundOutcome, roundOf, SoundRound, FiniteResiduals}
 use Rattle.robust.specs.Sigma.{elevationSigma}
 use Rattle.normal.specs.declared.row.Row.{Row}
 use Rattle.clocks.specs.Clocks.{slot, clocksOf}
@@ -33,7 +33,8 @@ use Rattle.records.specs.declared.pair.Profile.the-variants.{General}
 use Rattle.tdcp.specs.declared.displacement.Settings.{Settings}
 use Rattle.tdcp.specs.declared.displacement.Interval.{Interval}
 use Rattle.tdcp.specs.declared.displacement.Interval.the-variants as Interval
-use Rattle.estimator.specs.Rounds.{Fit, fitFrom, vector, finiteAt, concluded, Each}
+use Rattle.estimator.specs.Rounds.{Fit, fitFrom, vector, finiteAt, concluded}
+use Rattle.median.specs.Sorted.{Each}
 use Rattle.tdcp.specs.declared.displacement.Delta.{Delta}
 use Rattle.tdcp.specs.declared.displacement.Displacement.{Displacement}
 use Rattle.tdcp.specs.declared.displacement.Displacement.the-variants.{Refused, Moved}
@@ -75,7 +76,7 @@ abbrev pub rowAt : Settings → Clocks → List Float → Pair → Row
 rowAt settings k x p = rowWith (sigmaOf settings p) k x p
 
 -- the round at the state x over the pairs ps, with the clocks k
-unfoldable pub roundAt : Settings → Clocks → List Pair → List Float → Outcome
+unfoldable pub roundAt : Settings → Clocks → List Pair → List Float → RoundOutcome
 roundAt settings k ps x = roundOf (map (rowAt settings k x) ps) (3 + k .count) (settings .huber)
 
 -- stop below 1e-5 m

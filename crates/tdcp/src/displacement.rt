@@ -7,7 +7,7 @@ ghost use Rattle.walk.specs.Walk.{every};
 ghost use Rattle.records.specs.Signals.{epochIn, Fit};
 ghost use Rattle.records.specs.Kept.{pairsIn};
 ghost use Rattle.records.specs.Pair.{seen};
-ghost use Rattle.estimator.specs.Rounds.{Ended};
+ghost use Rattle.estimator.specs.Steps.{Ended};
 ghost use Rattle.tdcp.specs.Displacement as spec;
 ghost use Rattle.tdcp.specs.Rated as rated;
 ghost use Rattle.tdcp.specs.Rated.{qualityAt};

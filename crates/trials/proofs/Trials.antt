@@ -8,7 +8,7 @@ use lib.Ieee.{Float, add, sub, mul, div, lt, le, eq, isNan, ofInt, ofBits, toBit
 use Rattle.exact.specs.Float.{+0, bits}
 use Rattle.exact.specs.Products.{lessProducts}
 use Rattle.root.specs.Root.{rootOf}
-use Rattle.cholesky.specs.Factor.{cell, isPivot, withElement, below, pivotOf, rowOf, Refused, next, factorTo, factorOf}
+use Rattle.cholesky.specs.Factor.{cell, isPivot, withElement, below, pivotOf, rowOf, Refused, nextRow, factorTo, factorOf}
 use Rattle.exact.specs.Pattern.{sign}
 use Rattle.numeric.specs.Order.{totalOrder, patternOf}
 use Rattle.numeric.specs.Real.{abs, inRange}
@@ -49,7 +49,7 @@ unfolding fold given
 slots-five = refl
 
 pub identity-factors : m7
-unfolding factorOf factorTo next isPivot pivotOf rowOf below withElement lessProducts rootOf sub mul div lt ofBits
+unfolding factorOf factorTo nextRow isPivot pivotOf rowOf below withElement lessProducts rootOf sub mul div lt ofBits
 identity-factors = refl
 
 -- no zero is a pivot, and what is refused once stays refused

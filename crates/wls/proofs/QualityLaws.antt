@@ -25,7 +25,13 @@ use Rattle.records.proofs.RecordLaws.{blankObservation}
 use Rattle.quality.specs.Quality.{freedomOf, chiOf}
 use Rattle.quality.proofs.QualityLaws.{scaled}
 use Rattle.wls.specs.Fix.{sigmaOf, sightAt, residualAt, rowAt, chiAt}
+use Rattle.wls.specs.Steps.{chiFound, chiNumber, chiFloats, ChiAnswered}
+use Rattle.wls.specs.declared.chi.Chi.{Chi}
 use Rattle.wls.specs.declared.fix.Settings.{Settings}
+
+-- number and value follow the answer
+pub chi-answered : {settings : Settings} {k : Clocks} {os : List Observation} {x : List Float} {r : Chi} → r ≡ chiFound settings k os x → ChiAnswered settings k os x r
+chi-answered e = record { answer = e; number-is = ap chiNumber e; floats-are = ap chiFloats e }
 
 -- ---- the reduced chi-squared, of the observations' rows
 

@@ -24,7 +24,8 @@ use Rattle.records.proofs.RecordLaws.{blankObservation}
 use Rattle.estimator.specs.Rounds.{vector}
 use Rattle.estimator.specs.declared.rules.Check.the-variants.{Refused as Stops, Passed}
 use Rattle.estimator.proofs.RulesLaws.{checked}
-use Rattle.wls.specs.Fix.{sightAt, residualAt, sightRules, Long, Rowed}
+use Rattle.wls.specs.Fix.{sightAt, residualAt, sightRules}
+use Rattle.wls.specs.Steps.{Long, Rowed}
 use Rattle.wls.proofs.SightLaws.{Sights, sights-start, sights-end, sights-next, sights-stop}
 
 -- the first j of n rows at the state s: 15 lets each of them pass, and they stand in the columns

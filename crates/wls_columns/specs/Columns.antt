@@ -54,7 +54,7 @@ pub record ObservationColumns : Type 0 where
 abbrev pub observationColumns : List ℕ → List Float → ObservationColumns
 observationColumns constellation floats = record { constellation = constellation; floats = floats }
 
--- Observation i. A fix looks at no band, svid or `modelled`: they are 0.
+-- Observation i. A fix reads no band, svid or `modelled`: they are 0.
 unfoldable pub observationAt : ObservationColumns → ℕ → Observation
 observationAt c i =
     record {

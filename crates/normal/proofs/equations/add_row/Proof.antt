@@ -1,7 +1,7 @@
 -- `normal::equations::add_row` meets its contract. Assumes nothing.
 use Prim.Native.Nat.{_≤_, _-_}
 use mathlib.Core.Path.{_≡_}
-use Rattle.normal.specs.Formed.{rowAdded}
+use Rattle.normal.specs.Steps.{rowAdded}
 use Rattle.normal.proofs.AddedLaws.{row-start, row-next, row-end}
 use native.Mathlib.Omega.{arith}
 use Rattle.normal.proofs.equations.add_row.Statement.{statement}

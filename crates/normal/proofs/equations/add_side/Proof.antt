@@ -1,7 +1,7 @@
 -- `normal::equations::add_side` meets its contract. Assumes nothing.
 use Prim.Native.Nat.{_≤_, _-_}
 use mathlib.Core.Path.{_≡_}
-use Rattle.normal.specs.Formed.{sideAdded}
+use Rattle.normal.specs.Steps.{sideAdded}
 use Rattle.normal.proofs.AddedLaws.{side-start, side-next, side-end}
 use native.Mathlib.Omega.{arith}
 use Rattle.normal.proofs.equations.add_side.Statement.{statement}

@@ -1,7 +1,7 @@
 -- `normal::equations::add_triangle` meets its contract. Assumes nothing.
 use Prim.Native.Nat.{_≤_, _-_}
 use mathlib.Core.Path.{_≡_, _∙_}
-use Rattle.normal.specs.Formed.{triangleAdded}
+use Rattle.normal.specs.Steps.{triangleAdded}
 use Rattle.normal.proofs.AddedLaws.{triangle-start, triangle-next, triangle-end, triangle-square}
 use native.Mathlib.Omega.{arith}
 use Rattle.normal.proofs.equations.add_triangle.Statement.{statement}

@@ -45,7 +45,7 @@ returns c =
     let t = c .before .before .before .before .before in
     let s = t .before .before .before .before .before .before .before .before in
     let a = s .args in
-    quality-made (a .settings) (a .k) (given s) (a .at) (c .quality-of .ensures) (rows-in (a .settings) (a .k) (a .x .now) (a .y .now) (a .z .now) (a .constellation .now) (a .elevation .now) (a .observed .now) (s .pre .0) (a .at) (t .before .before .before .before .before .clocks-into .ensures) (t .before .before .before .sigmas-into .ensures) (t .residuals-at .ensures))
+    quality-made (a .settings) (a .k) (given s) (a .at) (c .quality-of .ensures .answer) (rows-in (a .settings) (a .k) (a .x .now) (a .y .now) (a .z .now) (a .constellation .now) (a .elevation .now) (a .observed .now) (s .pre .0) (a .at) (t .before .before .before .before .before .clocks-into .ensures) (t .before .before .before .sigmas-into .ensures) (t .residuals-at .ensures))
 
 pub quality-at-spec : {M : Type 1} → statement M
 quality-at-spec =

@@ -1,4 +1,4 @@
--- What the code of the normal equations has on the way, and what it leaves. Definitions only.
+-- The steps of forming the normal equations, and what they leave. Definitions only.
 use mathlib.Core.Path.{_≡_}
 use Prim.Native.Nat.{ℕ}
 use mathlib.Core.Bool.{cond, _&&_}
@@ -8,7 +8,7 @@ use lib.ListN.{set}
 use lib.Ieee.{Float}
 use Rattle.exact.specs.Float.{_⊕_, _⊗_, +0, 1·0}
 use Rattle.cholesky.specs.Factor.{at, cell}
-use Rattle.cholesky.specs.Columns.{store}
+use Rattle.cholesky.specs.Steps.{store}
 use Rattle.numeric.specs.declared.vec3.Vec3.{Vec3}
 use Rattle.normal.specs.Nine.{nine}
 use Rattle.normal.specs.Equations.{matrixOf, rightOf}
@@ -62,12 +62,12 @@ cornerAdded s w u d =
     }
 
 -- v added in row i and column j
-abbrev pub raise : List (List Float) → ℕ → ℕ → Float → List (List Float)
-raise a i j v = store a i j (cell a i j ⊕ v)
+abbrev pub raiseCell : List (List Float) → ℕ → ℕ → Float → List (List Float)
+raiseCell a i j v = store a i j (cell a i j ⊕ v)
 
 -- a row's products at its clock i, by t, the weight there: in the clock's row of the matrix, and in its place of the right side
 abbrev pub clockAdded : ℕ → Float → Vec3 → List (List Float) → List (List Float)
-clockAdded i t u a = raise (raise (raise (raise a i 0 (t ⊗ u .x)) i 1 (t ⊗ u .y)) i 2 (t ⊗ u .z)) i i (t ⊗ 1·0)
+clockAdded i t u a = raiseCell (raiseCell (raiseCell (raiseCell a i 0 (t ⊗ u .x)) i 1 (t ⊗ u .y)) i 2 (t ⊗ u .z)) i i (t ⊗ 1·0)
 
 abbrev pub clockSide : ℕ → Float → Float → List Float → List Float
 clockSide i t d b = set b i (at b i ⊕ t ⊗ d)

@@ -1,12 +1,12 @@
--- `wls_columns::fix::fix_from` meets its contract. Assumes nothing.
+-- `wls_columns::fix::columns_fix` meets its contract. Assumes nothing.
 use mathlib.Core.Path.{sym, _∙_}
 use borrow.Author.Tests.{not-true, not-false}
 use Rattle.numeric.specs.Vec3.{vectorAt}
 use Rattle.wls_columns.specs.Columns.{ObservationColumns, observationColumns}
 use Rattle.wls_columns.proofs.FixLaws.{fix-short, fix-fit}
 use borrow.Author.Needs.{needs}
-use Rattle.wls_columns.proofs.fix.fix_from.Statement.{statement}
-use Rattle.wls_columns.proofs.fix.fix_from.Tie as tie
+use Rattle.wls_columns.proofs.fix.columns_fix.Statement.{statement}
+use Rattle.wls_columns.proofs.fix.columns_fix.Tie as tie
 
 abbrev columns : tie.Start → ObservationColumns
 columns s = observationColumns (s .args .constellation .now) (s .args .floats .now)
@@ -39,5 +39,5 @@ returns-2 c =
     ∙ rw (c .before .before .vector .ensures, c .before .fix-settings .ensures)
     (fix-fit (columns s) (s .args .count) (vectorAt (s .args .guess .now) 0) (s .args .settings .now) (s .args .rounds) fits (c .before .before .before .observations-of .result) (not-false _ (c .before .before .before .before .if1 .left)) (c .before .before .before .observations-of .ensures))
 
-pub fix-from-spec : {M : Type 1} → statement M
-fix-from-spec = tie.close (tie.spec observations-fit-requires returns observations-of-requires vector-requires fix-settings-requires solve-full-requires returns-2)
+pub columns-fix-spec : {M : Type 1} → statement M
+columns-fix-spec = tie.close (tie.spec observations-fit-requires returns observations-of-requires vector-requires fix-settings-requires solve-full-requires returns-2)
