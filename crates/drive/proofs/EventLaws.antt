@@ -36,12 +36,12 @@ with-after t d (Step.Refused r) = refl
 with-after t d (Step.Goes u) = refl
 
 -- it leaves the trip that its epochs leave
-move-after : (t : Trip) (pulses : ℕ) (a : Displacement) → tripAfter t (travelBy (Step.Goes t) pulses a) ≡ fold after t (legsOf pulses a)
+pub move-after : (t : Trip) (pulses : ℕ) (a : Displacement) → tripAfter t (travelBy (Step.Goes t) pulses a) ≡ fold after t (legsOf pulses a)
 unfolding travelBy addedHeld legsOf fold after
 move-after t pulses (Still r) = refl
 move-after t pulses (Moved d) = with-after t d (added t (d .delta) pulses)
 
-fold-append : {S A : Type 0} (g : S → A → S) (s : S) (xs ys : List A) → fold g s (xs ++ ys) ≡ fold g (fold g s xs) ys
+pub fold-append : {S A : Type 0} (g : S → A → S) (s : S) (xs ys : List A) → fold g s (xs ++ ys) ≡ fold g (fold g s xs) ys
 unfolding fold
 fold-append g s [] ys = refl
 fold-append g s (x ∷ xs) ys = fold-append g (g s x) xs ys
@@ -93,7 +93,7 @@ events-from (epoch m pulses ∷ es) t s h n =
 events-from (change r ∷ es) t s h n =
     rw (change-taken t s r h) (events-from es t (changedTo s r) h n)
 
-legs-narrow : (es : List Event) (s : Settings) → every narrowEvent es ≡ true → every narrow (legsUnder s es) ≡ true
+pub legs-narrow : (es : List Event) (s : Settings) → every narrowEvent es ≡ true → every narrow (legsUnder s es) ≡ true
 unfolding every narrowEvent legsUnder
 legs-narrow [] s n = refl
 legs-narrow (epoch m pulses ∷ es) s n =

@@ -120,7 +120,7 @@ unfolding fold
 all-words [] t h = refl
 all-words (a ∷ calls) t h = rw (next-words t a h) (all-words calls (after t (legOf a)) (after-held t (legOf a) h))
 
-fold-held : (legs : List Leg) (t : Trip) → WordsHeld t → WordsHeld (fold after t legs)
+pub fold-held : (legs : List Leg) (t : Trip) → WordsHeld t → WordsHeld (fold after t legs)
 unfolding fold
 fold-held [] t h = h
 fold-held (l ∷ legs) t h = fold-held legs (after t l) (after-held t l h)
@@ -137,7 +137,7 @@ pub record Answers (rate : ℕ) (legs : List Leg) (words : List ℕ) : Type 0 wh
 
 -- a sound trip that is a list's and that words can hold answers from them
 module _ (rate : ℕ) (legs : List Leg) (h : WordsHeld (tripOf rate legs)) (s : soundTrip (tripOf rate legs) ≡ true) where
-  list-answers : Answers rate legs (wordsOf (tripOf rate legs))
+  pub list-answers : Answers rate legs (wordsOf (tripOf rate legs))
   unfolding reportedHeld fuelledHeld reported fuelled tripOf
   list-answers =
       record {
@@ -159,7 +159,7 @@ module _ (rate : ℕ) (legs : List Leg) (h : WordsHeld (tripOf rate legs)) (s : 
 -- For every rate from 1 to 65,535, whatever the words held before, and every list of additions with 16-bit pulses, refused ones included: the calls answer from
 -- the list of the epochs that count.
 module _ (rate : ℕ) (some : 0 < rate) (fits : rate ≤ 65535) (before : List ℕ) where
-  start-held : WordsHeld (tripOf rate [])
+  pub start-held : WordsHeld (tripOf rate [])
   unfolding tripOf
   start-held = record { rate = fits; epochs = lit≤ tt }
 
