@@ -1,5 +1,6 @@
 -- `trip::measure::way_of_square` meets its contract: what is seen without the root, or by the root. Assumes nothing.
 use mathlib.Core.Path.{_≡_, refl, sym, ap, _∙_, subst}
+use native.Mathlib.Omega.{arith}
 use lib.Dec.{T}
 use lib.Ieee.{binary64, fits, le, ofBits, ofInt}
 use borrow.Author.Needs.{needs}
@@ -21,7 +22,7 @@ float-to-bits-b : tie.Need-float-to-bits-b
 float-to-bits-b c = lt-number (c .before .before .args .square) _ (c .if2 .taken)
 
 guess-requires : tie.Need-guess-requires
-guess-requires c κs = let s = c .before .before in pattern-in (s .args .square) (held s) (c .before .if1 .taken) (c .if2 .taken) .1
+guess-requires c κs = let s = c .before .before in omega (arith, pattern-in (s .args .square) (held s) (c .before .if1 .taken) (c .if2 .taken) .1)
 
 is-certain-requires : tie.Need-is-certain-requires
 is-certain-requires c κs =
