@@ -8,10 +8,7 @@ use lib.Ieee.{Float}
 use Rattle.walk.specs.Walk.{collect}
 use Rattle.numeric.specs.Real.{inRange}
 use Rattle.numeric.specs.declared.refusal.Refusal.the-variants.{SettingOutOfRange, BadTrip, NoDistance}
-use Rattle.numeric.specs.Vec3.{norm}
-use Rattle.numeric.specs.declared.vec3.Vec3.{Vec3}
-use Rattle.trip.specs.Measure.{millimetresOf, measurable, wayOf}
-use Rattle.trip.specs.declared.measure.Way.{Way}
+use Rattle.trip.specs.Measure.{millimetresOf, measurable}
 use Rattle.mileage.specs.Rated.{rated}
 use Rattle.mileage.specs.declared.mileage.Epoch.{Epoch}
 use Rattle.mileage.specs.declared.mileage.Mileage.{Mileage}
@@ -163,10 +160,6 @@ grown m refused usable millimetres pulses =
 -- a refused displacement is not looked at; an accepted one has to be finite and not longer than 1,000 m
 unfoldable pub isTaken : Epoch → Bool
 isTaken e = isRefused e || measurable (e .displacement)
-
--- what an addition needs of its length
-unfoldable pub wayFor : ℕ → Vec3 → Way
-wayFor refused d = cond (eqb refused 0) (wayOf (norm d)) (record { within = true; millimetres = 0 })
 
 -- one epoch more; 16 for a mileage that is not sound, a full one, and an epoch that is not taken
 unfoldable pub added : Mileage → Epoch → Step

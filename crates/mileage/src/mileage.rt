@@ -1,13 +1,13 @@
 // A mileage over at most 65,535 epochs: all pulses, and the millimetres and pulses of the epochs that count.
 ghost use mathlib.Core.Path.{_≡_};
-ghost use mathlib.Core.Bool.{true, cond};
+ghost use mathlib.Core.Bool.{true, false, cond};
 ghost use Prim.Native.Nat.{_≤_, _<_};
 ghost use Rattle.mileage.specs.Mileage as spec;
+ghost use Rattle.mileage.specs.Steps.{wayFor};
 use crate::rated::is_rated;
 use numeric::real::in_range;
 use numeric::refusal::Refusal;
 use numeric::vec3::Vec3;
-use trip::measure::Way;
 use trip::measure::way_of_square;
 
 // One epoch: the number that refused its displacement (0: none), the displacement in metres, its quality, and its odometer pulses.
@@ -86,18 +86,15 @@ pub(crate) fn scaled(counted: u64, pulses: u64, covered: u64) -> Distance
     Distance::Millimetres(whole * pulses + rest)
 }
 
-// The way of an accepted displacement. A refused one is not measured.
-pub(crate) fn way_for(refused: u8, displacement: Vec3) -> Way
-    ensures { λ r. ⌜ r ≡ spec.wayFor refused displacement ⌝ }
+// Returns the way of an accepted displacement. A refused one is not measured.
+pub(crate) fn way_for(refused: u8, displacement: Vec3) -> u64
+    ensures { λ r. ⌜ r ≡ wayFor refused displacement ⌝ }
 {
     if refused == 0 {
         let d = displacement;
         return way_of_square(d.x * d.x + d.y * d.y + d.z * d.z);
     }
-    Way {
-        within: true,
-        millimetres: 0,
-    }
+    0
 }
 
 impl Mileage {
@@ -175,18 +172,40 @@ impl Mileage {
         }
     }
 
-    // Adds an epoch whose displacement is of this way.
-    pub(crate) fn add_way(self, way: Way, e: Epoch) -> Step
-        requires { ⌜ way ≡ spec.wayFor (e .refused) (e .displacement) ⌝ }
+    // The mileage after an epoch of so many millimetres and pulses that counts, as most do.
+    pub(crate) fn driven(self, millimetres: u64, pulses: u64) -> Mileage
+        requires { ⌜ (spec.soundMileage self ≡ true) × (self .epochs < 65535) × (millimetres ≤ 1000000) × (0 < pulses) × (pulses ≤ 65535) ⌝ }
+        ensures { λ r. ⌜ r ≡ spec.grown self false true millimetres pulses ⌝ }
+    {
+        Mileage {
+            limit: self.limit,
+            epochs: self.epochs + 1,
+            refused: self.refused,
+            aside: self.aside,
+            counted: self.counted + self.waiting + millimetres,
+            covered: self.covered + pulses,
+            standing: self.standing,
+            pulses: self.pulses + pulses,
+            moved: 1,
+            waiting: 0,
+        }
+    }
+
+    // Adds an epoch whose displacement is of this way. The usual case has a branch of its own.
+    pub(crate) fn add_way(self, way: u64, e: Epoch) -> Step
+        requires { ⌜ way ≡ wayFor (e .refused) (e .displacement) ⌝ }
         ensures { λ r. ⌜ r ≡ spec.added self e ⌝ }
     {
-        if !(self.is_sound() & (self.epochs < 65535) & way.within) {
+        if !(self.is_sound() & (self.epochs < 65535) & (way <= 1000000)) {
             return Step::Refused(Refusal::BadTrip);
         }
         let refused = e.refused != 0;
         let usable = !refused & is_rated(self.limit, e.chi, e.pdop);
         let pulses = e.pulses as u64;
-        Step::Goes(self.grown(refused, usable, way.millimetres, pulses))
+        if usable & (0 < pulses) {
+            return Step::Goes(self.driven(way, pulses));
+        }
+        Step::Goes(self.grown(refused, usable, way, pulses))
     }
 
     // Adds an epoch.

@@ -6,7 +6,7 @@ use Prim.Native.Nat.{ℕ, zero, suc, _+_, _-_, _≤_, _<_, max}
 use native.Mathlib.Nat.{le-refl, le-step}
 use native.Mathlib.Numerals.{add-one}
 use native.Mathlib.Omega.{arith}
-use lib.Dec.{ltb, eqb, lit≤}
+use lib.Dec.{leb, ltb, eqb, lit≤}
 use lib.ListN.{length, take, length-append}
 use lib.Seq.{take-append-le, take-all, take-nil}
 use borrow.Author.Tests.{lt-ltb, eq-eqb, ne-eqb, ltb-true, ltb-false}
@@ -17,8 +17,8 @@ use Rattle.walk.proofs.Walk.{and-both}
 use Rattle.numeric.specs.Vec3.{norm}
 use Rattle.numeric.specs.declared.vec3.Vec3.{Vec3}
 use Rattle.numeric.specs.declared.refusal.Refusal.the-variants.{BadTrip}
-use Rattle.trip.specs.Measure.{millimetresOf, measurable, wayOf}
-use Rattle.trip.specs.declared.measure.Way.{Way}
+use Rattle.trip.specs.Measure.{millimetresOf, measurable}
+use Rattle.trip.specs.Steps.{wayOf}
 use Rattle.trip.specs.Trip.{Leg, carrierOf, pulsesOf, odometer, apart, differenceAfter, greatest, firstWith, greatestOf, reachedOf, reportOf, tripOf, soundTrip, started, counted, added, reported, Adds, Reports, kept, after, measurables, counting, narrow}
 use Rattle.trip.specs.declared.trip.Trip.{Trip}
 use Rattle.trip.specs.declared.trip.Report.{Report}
@@ -26,7 +26,7 @@ use Rattle.trip.specs.declared.trip.Step.{Step}
 use Rattle.trip.specs.declared.trip.Step.the-variants.{Refused, Goes}
 use Rattle.trip.specs.declared.trip.Reported.{Reported}
 use Rattle.trip.specs.declared.trip.Reported.the-variants.{Refused as Unreported, Totals}
-use Rattle.trip.proofs.MeasureLaws.{by-length}
+use Rattle.trip.proofs.MeasureLaws.{by-length, way-within-is}
 use Rattle.trip.proofs.BoundsLaws.{bounded, after-sound}
 
 -- ---- the greatest of some numbers, and the first that reaches it
@@ -175,17 +175,16 @@ pub adds : (t : Trip) (l : Leg) {r : Step} → r ≡ added t (l .displacement) (
 adds t l e = record { is = e; of-list = λ legs h. e ∙ list-added t l legs h }
 
 -- the same from the way of the displacement, which alone decides
-module _ (t : Trip) (d : Vec3) (pulses : ℕ) {way : Way} (e : way ≡ wayOf (norm d)) where
-  within-is : way .within ≡ measurable d
-  unfolding wayOf
-  within-is = rw (by-length d, e)
+module _ (t : Trip) (d : Vec3) (pulses : ℕ) {way : ℕ} (e : way ≡ wayOf (norm d)) where
+  within-is : leb way 1000000 ≡ measurable d
+  within-is = rw (by-length d, e) (way-within-is d)
 
   -- more than 1,000 m
-  pub way-refused : way .within ≡ false → Refused BadTrip ≡ added t d pulses
+  pub way-refused : leb way 1000000 ≡ false → Refused BadTrip ≡ added t d pulses
   unfolding added
   way-refused h = rw (sym within-is ∙ h, and-false (soundTrip t && ltb (t .epochs) 65535))
 
-  module _ {s : Bool} (s-is : s ≡ soundTrip t) (w : way .within ≡ true) where
+  module _ {s : Bool} (s-is : s ≡ soundTrip t) (w : leb way 1000000 ≡ true) where
     test-is : (s && ltb (t .epochs) 65535) ≡ (soundTrip t && ltb (t .epochs) 65535 && measurable d)
     test-is = rw (sym within-is ∙ w, s-is) (sym (and-true (soundTrip t && ltb (t .epochs) 65535)))
 
@@ -194,10 +193,10 @@ module _ (t : Trip) (d : Vec3) (pulses : ℕ) {way : Way} (e : way ≡ wayOf (no
     unfolding added
     trip-refused h = rw (sym test-is ∙ h)
 
-    pub way-added : (s && ltb (t .epochs) 65535) ≡ true → Goes (counted t (way .millimetres) pulses) ≡ added t d pulses
+    pub way-added : (s && ltb (t .epochs) 65535) ≡ true → Goes (counted t way pulses) ≡ added t d pulses
     unfolding added millimetresOf wayOf
     way-added h =
-        let n : le (norm d) (whole 1000) ≡ true = sym (ap (λ (z : Way). z .within) e) ∙ w in
+        let n : le (norm d) (whole 1000) ≡ true = sym (way-within-is d) ∙ ap (λ (z : ℕ). leb z 1000000) (sym e) ∙ w in
         rw (sym test-is ∙ h, e, n)
 
 abbrev totals : Trip → ℕ → Report

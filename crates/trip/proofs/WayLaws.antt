@@ -25,7 +25,8 @@ use Rattle.root.proofs.RootLaws.{wide, Result, result, isqrt-floor, nearestRoot
 use Rattle.walk.proofs.Walk.{and-both}
 use Rattle.numeric.specs.Whole.{wholeTimes}
 use Rattle.numeric.proofs.OrderMagnitude.{unsigned, infinity, lt-bits, isNan-bits}
-use Rattle.trip.specs.Measure.{millimetres, wayOf}
+use Rattle.trip.specs.Measure.{millimetres}
+use Rattle.trip.specs.Steps.{wayOf}
 
 -- ---- whole numbers
 
@@ -126,7 +127,7 @@ module _ (v a : ℕ) (l : a * 2 ^ 1058 ≤ v) (h : v ≤ (a + 1) * 2 ^ 1058) (fe
       let u : m * up e * 2 ^ 1074 / down e ≡ v = ap (λ (z : ℕ). z / down e) (k .1) ∙ mul-div-cancel v (down-pos e) in
       ap (λ (z : ℕ). 1000 * z / 2 ^ 1074) u ∙ quotient v a (2 ^ 1058) (2 ^ 1074) unit-scale (pow-pos 1058) l h g
 
-  is-way : (r : Float) → HasValue r false v (2 ^ 1074) → a * 1000 % 65536 < 64536 → record { within = true; millimetres = a * 1000 / 65536 } ≡ wayOf r
+  is-way : (r : Float) → HasValue r false v (2 ^ 1074) → a * 1000 % 65536 < 64536 → a * 1000 / 65536 ≡ wayOf r
   unfolding wayOf
   is-way r k g = rw (is-within r k, is-millimetres r k g)
 
@@ -211,7 +212,7 @@ module _ (b : ℕ) (from : 0x3EB0_0000_0000_0000 ≤ b) (below : b < 0x412E_8480
           absurd (omega (arith, m, shifted (decLt (b / 2 ^ 52) 1042) h))
 
   seen : (a : ℕ) → a * a ≤ (b % 2 ^ 52 + 2 ^ 52) / 2 ^ (1043 - b / 2 ^ 52) → (b % 2 ^ 52 + 2 ^ 52) / 2 ^ (1043 - b / 2 ^ 52) ≤ a * a + 2 * a
-      → a * 1000 % 65536 < 64536 → record { within = true; millimetres = a * 1000 / 65536 } ≡ wayOf (rootOf (bits b))
+      → a * 1000 % 65536 < 64536 → a * 1000 / 65536 ≡ wayOf (rootOf (bits b))
   unfolding digits shift radicand wide-by
   seen a l h g =
       let e : digits * wide-by ≡ radicand = sym (mul-assoc digits (1 + exponent % 2) (2 ^ 52)) in
@@ -226,7 +227,7 @@ module _ (b : ℕ) (from : 0x3EB0_0000_0000_0000 ≤ b) (below : b < 0x412E_8480
   -- as the code tests it
   pub tested : (a : ℕ)
       → (let n = (b % 2 ^ 52 + 2 ^ 52) / 2 ^ (1043 - b / 2 ^ 52) in (leb (a * a) n && leb n (a * a + 2 * a) && ltb (a * 1000 % 65536) 64536) ≡ true)
-      → record { within = true; millimetres = a * 1000 / 65536 } ≡ wayOf (rootOf (bits b))
+      → a * 1000 / 65536 ≡ wayOf (rootOf (bits b))
   tested a e =
       let n = (b % 2 ^ 52 + 2 ^ 52) / 2 ^ (1043 - b / 2 ^ 52) in
       let p = and-both (leb (a * a) n && leb n (a * a + 2 * a)) (ltb (a * 1000 % 65536) 64536) e in
@@ -258,10 +259,10 @@ pattern-in x f p q =
 -- ---- the way of a length
 
 module _ (r : Float) where
-  pub way-within : le r (whole 1000) ≡ true → record { within = true; millimetres = millimetres r } ≡ wayOf r
+  pub way-within : le r (whole 1000) ≡ true → millimetres r ≡ wayOf r
   unfolding wayOf
   way-within h = rw h
 
-  pub way-beyond : le r (whole 1000) ≡ false → record { within = false; millimetres = 0 } ≡ wayOf r
+  pub way-beyond : le r (whole 1000) ≡ false → 1000001 ≡ wayOf r
   unfolding wayOf
   way-beyond h = rw h

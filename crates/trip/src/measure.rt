@@ -7,15 +7,10 @@ ghost use Rattle.exact.specs.Float.{+0, whole, bits};
 ghost use Rattle.root.specs.Root.{rootOf};
 ghost use Rattle.numeric.specs.Vec3.{norm};
 ghost use Rattle.trip.specs.Measure as spec;
+ghost use Rattle.trip.specs.Steps.{wayOf};
 use numeric::vec3::Vec3;
 use numeric::whole::whole_times;
 use root::sqrt::sqrt;
-
-// Whether a length is at most 1,000 m, and if so its whole millimetres.
-pub struct Way {
-    pub within: bool,
-    pub millimetres: u64,
-}
 
 // A length's whole millimetres. The product of the length and 1,000 as doubles would be rounded up across a whole millimetre for some lengths.
 pub(crate) fn millimetres(length: f64) -> u64
@@ -50,7 +45,7 @@ fn guess(b: u64) -> u64
 // millimetre lies above the first and up to the second.
 fn is_certain(b: u64, a: u64) -> bool
     requires { ⌜ (0x3EB0_0000_0000_0000 ≤ b) × (b < 0x412E_8480_0000_0000) × (a < 2 ^ 27) ⌝ }
-    ensures { λ r. ⌜ (r ≡ true → record { within = true; millimetres = a * 1000 / 65536 } ≡ spec.wayOf (rootOf (bits b))) ⌝ }
+    ensures { λ r. ⌜ (r ≡ true → a * 1000 / 65536 ≡ wayOf (rootOf (bits b))) ⌝ }
 {
     let e = b / 0x0010_0000_0000_0000;
     let m = b % 0x0010_0000_0000_0000 + 0x0010_0000_0000_0000;
@@ -59,38 +54,30 @@ fn is_certain(b: u64, a: u64) -> bool
     (square <= n) & (n <= square + 2 * a) & (a * 1000 % 65536 < 64536)
 }
 
-// The way of the length whose square is given. Most are seen without the root.
-pub fn way_of_square(square: f64) -> Way
-    ensures { λ r. ⌜ r ≡ spec.wayOf (rootOf square) ⌝ }
+// Returns the way of the length whose square is given: its whole millimetres, or 1,000,001 above 1,000 m. Most are seen without the root. It is short enough that a
+// compiler writes it out where it is called.
+pub fn way_of_square(square: f64) -> u64
+    ensures { λ r. ⌜ r ≡ wayOf (rootOf square) ⌝ }
 {
     if 9.5367431640625e-7 < square {
         if square < 1000000.0 {
             let b = f64::to_bits(square);
             let a = guess(b);
             if is_certain(b, a) {
-                return Way {
-                    within: true,
-                    millimetres: a * 1000 / 65536,
-                };
+                return a * 1000 / 65536;
             }
         }
     }
     let length = sqrt(square);
     if length <= 1000.0 {
-        return Way {
-            within: true,
-            millimetres: millimetres(length),
-        };
+        return millimetres(length);
     }
-    Way {
-        within: false,
-        millimetres: 0,
-    }
+    1000001
 }
 
-// The way of a displacement.
-pub(crate) fn way_of(d: Vec3) -> Way
-    ensures { λ r. ⌜ r ≡ spec.wayOf (norm d) ⌝ }
+// Returns the way of a displacement.
+pub(crate) fn way_of(d: Vec3) -> u64
+    ensures { λ r. ⌜ r ≡ wayOf (norm d) ⌝ }
 {
     way_of_square(d.x * d.x + d.y * d.y + d.z * d.z)
 }

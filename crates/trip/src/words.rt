@@ -1,12 +1,10 @@
 // A trip that the caller holds as six words: pulses per kilometre, epochs, carrier millimetres, pulses, greatest difference, its epoch.
 ghost use mathlib.Core.Path.{_≡_};
-ghost use Prim.Native.Nat.{_≤_};
 ghost use Rattle.numeric.specs.Vec3.{norm};
 ghost use Rattle.numeric.specs.declared.vec3.Vec3.{Vec3};
-ghost use Rattle.trip.specs.Measure.{wayOf};
+ghost use Rattle.trip.specs.Steps.{wayOf};
 ghost use Rattle.trip.specs.Trip.{started};
 ghost use Rattle.trip.specs.Words as spec;
-use crate::measure::Way;
 use crate::measure::way_of;
 use crate::trip::Fuel;
 use crate::trip::Reported;
@@ -49,8 +47,7 @@ pub fn words(t: Trip) -> [u64; 6]
 }
 
 // One epoch more for the trip that the words hold, of a displacement of this way.
-pub(crate) fn add_held(w: [u64; 6], way: Way, pulses: u16) -> Step
-    requires { ⌜ way .millimetres ≤ 1000000 ⌝ }
+pub(crate) fn add_held(w: [u64; 6], way: u64, pulses: u16) -> Step
     ensures { λ r. ⌜ ((d : Vec3) → way ≡ wayOf (norm d) → r ≡ spec.addedHeld (spec.heldOf w) d pulses) ⌝ }
 {
     let before = held(w);

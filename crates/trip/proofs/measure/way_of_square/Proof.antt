@@ -9,7 +9,7 @@ use Rattle.exact.specs.Float.{whole}
 use Rattle.root.specs.Root.{rootOf}
 use Rattle.root.proofs.Reading.{by-bits, lt-number}
 use Rattle.root.proofs.Theorems.{rootOf-root}
-use Rattle.trip.specs.Measure.{wayOf}
+use Rattle.trip.specs.Steps.{wayOf}
 use Rattle.trip.proofs.MeasureLaws.{root-from-zero}
 use Rattle.trip.proofs.WayLaws.{pattern-in, way-within, way-beyond}
 use Rattle.trip.proofs.measure.way_of_square.Statement.{statement}
@@ -31,8 +31,8 @@ is-certain-requires c κs =
     let p = pattern-in (s .args .square) (held s) (d .before .if1 .taken) (d .if2 .taken) in
     (p .0, p .1, c .guess .ensures)
 
-mul-t8 : tie.Need-mul-t8
-mul-t8 c = search needs
+mul-result : tie.Need-mul-result
+mul-result c = search needs
 
 returns : tie.Need-returns
 returns c =
@@ -65,7 +65,7 @@ way-of-square-spec =
     float-to-bits-b
     guess-requires
     is-certain-requires
-    mul-t8
+    mul-result
     returns
     sqrt-requires
     millimetres-requires
