@@ -54,10 +54,10 @@ fn is_certain(b: u64, a: u64) -> bool
     (square <= n) & (n <= square + 2 * a) & (a * 1000 % 65536 < 64536)
 }
 
-// Returns the way of the length whose square is given: its whole millimetres, or 1,000,001 above 1,000 m. Most are seen without the root. It is short enough that a
-// compiler writes it out where it is called.
-pub fn way_of_square(square: f64) -> u64
-    ensures { λ r. ⌜ r ≡ wayOf (rootOf square) ⌝ }
+// Returns the way of the length whose square is given where it is seen without the root, and 2 ^ 64 - 1 where it is not. It and `by_root` are short enough that a
+// compiler writes them out where they are called, which is once on the path of each entry point.
+fn seen(square: f64) -> u64
+    ensures { λ r. ⌜ (r < 0xFFFF_FFFF_FFFF_FFFF → r ≡ wayOf (rootOf square)) ⌝ }
 {
     if 9.5367431640625e-7 < square {
         if square < 1000000.0 {
@@ -68,6 +68,13 @@ pub fn way_of_square(square: f64) -> u64
             }
         }
     }
+    0xFFFF_FFFF_FFFF_FFFF
+}
+
+// Returns it by the root: the whole millimetres of the length, or 1,000,001 above 1,000 m.
+pub(crate) fn by_root(square: f64) -> u64
+    ensures { λ r. ⌜ r ≡ wayOf (rootOf square) ⌝ }
+{
     let length = sqrt(square);
     if length <= 1000.0 {
         return millimetres(length);
@@ -75,9 +82,25 @@ pub fn way_of_square(square: f64) -> u64
     1000001
 }
 
+// Returns the way of the length whose square is given.
+pub fn way_of_square(square: f64) -> u64
+    ensures { λ r. ⌜ r ≡ wayOf (rootOf square) ⌝ }
+{
+    let way = seen(square);
+    if way < 0xFFFF_FFFF_FFFF_FFFF {
+        return way;
+    }
+    by_root(square)
+}
+
 // Returns the way of a displacement.
 pub(crate) fn way_of(d: Vec3) -> u64
     ensures { λ r. ⌜ r ≡ wayOf (norm d) ⌝ }
 {
-    way_of_square(d.x * d.x + d.y * d.y + d.z * d.z)
+    let square = d.x * d.x + d.y * d.y + d.z * d.z;
+    let way = seen(square);
+    if way < 0xFFFF_FFFF_FFFF_FFFF {
+        return way;
+    }
+    by_root(square)
 }
