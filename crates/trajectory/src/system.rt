@@ -58,7 +58,8 @@ pub(crate) fn add_anchors(
     value: &[f64],
     sigma: &[f64],
 ) -> bool
-    requires { ⌜ (0 < count) × (n * 9 + count ≤ length (now w)) × Lent (measured count (now index) (now value) (now sigma)) n × Axes (λ t. NoNan (axisIn (now w) t) n) ⌝ }
+    requires { ⌜ (0 < count) × (n * 9 + count ≤ length (now w)) × Lent (measured count (now index) (now value) (now sigma)) n
+        × Axes (λ t. NoNan (axisIn (now w) t) n) ⌝ }
     ensures { λ r. ⌜ (
         let m = measured count (now (index .entry)) (now (value .entry)) (now (sigma .entry)) in
         AddDone (anchorChange m (λ j. floatAt (now (w .entry)) (n * 9 + j))) (now (w .entry)) n count r (now (w .exit))) ⌝ }
@@ -95,7 +96,8 @@ pub(crate) fn add_links(
     value: &[f64],
     sigma: &[f64],
 ) -> bool
-    requires { ⌜ (n * 9 + skip + count ≤ length (now w)) × Lent (measured count (now index) (now value) (now sigma)) (n - 1) × Axes (λ t. NoNan (axisIn (now w) t) n) ⌝ }
+    requires { ⌜ (n * 9 + skip + count ≤ length (now w)) × Lent (measured count (now index) (now value) (now sigma)) (n - 1)
+        × Axes (λ t. NoNan (axisIn (now w) t) n) ⌝ }
     ensures { λ r. ⌜ (
         let m = measured count (now (index .entry)) (now (value .entry)) (now (sigma .entry)) in
         AddDone (linkChange m (λ j. floatAt (now (w .entry)) (n * 9 + skip + j))) (now (w .entry)) n count r (now (w .exit))) ⌝ }
