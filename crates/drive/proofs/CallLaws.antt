@@ -23,7 +23,7 @@ use Rattle.tdcp.specs.declared.displacement.Settings.{Settings}
 use Rattle.tdcp.specs.declared.displacement.Displacement.{Displacement}
 use Rattle.tdcp.specs.declared.displacement.Displacement.the-variants.{Refused as Still}
 use Rattle.tdcp_columns.specs.Displacement.{columnsDisplaced, displacementSettings}
-use Rattle.trip.specs.Trip.{Leg, tripOf, soundTrip, started, after, counting}
+use Rattle.trip.specs.Trip.{Leg, tripOf, soundTrip, started, withLeg, counting}
 use Rattle.trip.specs.Words.{heldOf, wordsOf}
 use Rattle.trip.specs.declared.trip.Trip.{Trip}
 use Rattle.trip.specs.declared.trip.Step.{Step}
@@ -32,8 +32,8 @@ use Rattle.trip.proofs.TripLaws.{start-sound, trip-law, fold-sound}
 use Rattle.trip.proofs.HeldLaws.{WordsHeld, words-held, fold-held, start-held, Answers, list-answers}
 use Rattle.drive.specs.Drive as drive
 use Rattle.drive.specs.Drive.{underNew, drivenBy, tested, begunOf, travelBy, travelledOf}
-use Rattle.drive.specs.Events.{Event, epoch, change, inputOf, next, changedTo, inForce, legsOf, legsUnder, EachAccepted, narrowEvent}
-use Rattle.drive.specs.Lent.{floatsOf, DrivingAnswers, BegunAnswers, TravelAnswers, inForceAfter, roundsAfter, travelledBy, travelNumber, tripAfter, drivingNumber}
+use Rattle.drive.specs.Events.{TripEvent, epoch, change, moveInput, driveNext, changedTo, inForce, legsOf, legsUnder, EachAccepted, narrowEvent}
+use Rattle.drive.specs.Lent.{settingsFloats, DrivingAnswers, BegunAnswers, TravelAnswers, inForceAfter, roundsAfter, travelledBy, travelNumber, tripAfter, drivingNumber}
 use Rattle.drive.specs.Calls.{TripMemory, memoryOf, settingsIn, Ride, TripCall, travelCall, settingsCall, rideLent, travelIn, drivingIn, callNumber, memoryAfter, moveOf, callEvents, lendable}
 use Rattle.drive.specs.declared.drive.Drive.{Drive}
 use Rattle.drive.specs.declared.drive.Driving.{Driving}
@@ -90,24 +90,24 @@ module _ (t : Trip) (s : Settings) (held : WordsHeld t) (sound : soundTrip t ≡
 
   -- what a displacement leaves of the words is what its event leaves of the trip
   travel-words : (r : Ride) (pulses : ℕ) (b : Bool)
-      → tripAfter (travelBy (Step.Goes t) pulses (cond b (displacementOf (inputOf s (moveOf r))) (Still TooMany))) (wordsOf t)
-      ≡ wordsOf (fold after t (legsUnder s (cond b (epoch (moveOf r) pulses ∷ []) [])))
+      → tripAfter (travelBy (Step.Goes t) pulses (cond b (displacementOf (moveInput s (moveOf r))) (Still TooMany))) (wordsOf t)
+      ≡ wordsOf (fold withLeg t (legsUnder s (cond b (epoch (moveOf r) pulses ∷ []) [])))
   unfolding travelBy legsUnder fold
   travel-words r pulses false = refl
   travel-words r pulses true =
-      let a = displacementOf (inputOf s (moveOf r)) in
+      let a = displacementOf (moveInput s (moveOf r)) in
       rw (append-nil (legsOf pulses a)) (words-after (travelBy (Step.Goes t) pulses a) ∙ ap wordsOf (move-after t pulses a))
 
   -- new settings are taken where 3 lets them pass
   settings-memory : (r : Settings) (b : Bool)
       → (let d = cond b (drivenBy r (Step.Goes t)) (Driving.Refused SettingOutOfRange) in
-      record { words = wordsOf t; patterns = inForceAfter d (map patternOf (floatsOf s)); rounds = roundsAfter d (s .rounds) }) ≡ memoryOf t (cond b r s)
+      record { words = wordsOf t; patterns = inForceAfter d (map patternOf (settingsFloats s)); rounds = roundsAfter d (s .rounds) }) ≡ memoryOf t (cond b r s)
   unfolding memoryOf
   settings-memory r true = refl
   settings-memory r false = refl
 
   -- the memory that a call leaves is that of its event
-  call-next : (c : TripCall) → memoryAfter (memoryOf t s) c ≡ memoryOf (fold after t (legsUnder s (callEvents c))) (inForce s (callEvents c))
+  call-next : (c : TripCall) → memoryAfter (memoryOf t s) c ≡ memoryOf (fold withLeg t (legsUnder s (callEvents c))) (inForce s (callEvents c))
   unfolding memoryAfter memoryOf callEvents columnsDisplaced underNew tested legsUnder inForce fold
   call-next (travelCall r pulses) =
       let b = epochFits (r .previous) (r .previous-count) && epochFits (r .current) (r .current-count) in
@@ -150,7 +150,7 @@ calls-narrow (c ∷ calls) n =
     let b = and-both (lendable c) (every lendable calls) n in
     every-append narrowEvent (callEvents c) (collect callEvents calls) (call-narrow c (b .0)) (calls-narrow calls (b .1))
 
-force-split : (es fs : List Event) (s : Settings) → inForce s (es ++ fs) ≡ inForce (inForce s es) fs
+force-split : (es fs : List TripEvent) (s : Settings) → inForce s (es ++ fs) ≡ inForce (inForce s es) fs
 unfolding inForce
 force-split [] fs s = refl
 force-split (epoch m pulses ∷ es) fs s = force-split es fs s
@@ -158,7 +158,7 @@ force-split (change r ∷ es) fs s = force-split es fs (changedTo s r)
 
 -- the memory after the calls is that of their events
 calls-from : (calls : List TripCall) (t : Trip) (s : Settings) → WordsHeld t → soundTrip t ≡ true → Legible s → every lendable calls ≡ true
-    → fold memoryAfter (memoryOf t s) calls ≡ memoryOf (fold after t (legsUnder s (collect callEvents calls))) (inForce s (collect callEvents calls))
+    → fold memoryAfter (memoryOf t s) calls ≡ memoryOf (fold withLeg t (legsUnder s (collect callEvents calls))) (inForce s (collect callEvents calls))
 unfolding fold every collect legsUnder inForce
 calls-from [] t s h k l n = refl
 calls-from (c ∷ calls) t s h k l n =
@@ -166,8 +166,8 @@ calls-from (c ∷ calls) t s h k l n =
     let es = callEvents c in
     let fs = collect callEvents calls in
     let legs = legsUnder s es in
-    rw (call-next t s h k l c, legs-split es fs s, force-split es fs s, fold-append after t legs (legsUnder (inForce s es) fs))
-    (calls-from calls (fold after t legs) (inForce s es) (fold-held legs t h) (fold-sound legs t k (legs-narrow es s (call-narrow c (b .0)))) (call-legible c s (b .0) l) (b .1))
+    rw (call-next t s h k l c, legs-split es fs s, force-split es fs s, fold-append withLeg t legs (legsUnder (inForce s es) fs))
+    (calls-from calls (fold withLeg t legs) (inForce s es) (fold-held legs t h) (fold-sound legs t k (legs-narrow es s (call-narrow c (b .0)))) (call-legible c s (b .0) l) (b .1))
 
 -- ---- a trip begun
 
@@ -185,9 +185,9 @@ begun-accepted s rate e = go (settingsPass s) refl (ltb 0 rate) refl e
 -- What memory holds after the calls, by their events: the words, the report and the fuel are those of the displacements that count, each worked out under the
 -- settings in force at it; the patterns and the rounds are those of the settings in force at the end, and a displacement reads these; each accepted displacement has
 -- what every accepted one has with its own settings.
-pub record CallsLeave (rate : ℕ) (s : Settings) (es : List Event) (m : TripMemory) : Type 0 where
+pub record CallsLeave (rate : ℕ) (s : Settings) (es : List TripEvent) (m : TripMemory) : Type 0 where
   pub answers : Answers rate (counting (legsUnder s es)) (m .words)
-  pub patterns-are : m .patterns ≡ map patternOf (floatsOf (inForce s es))
+  pub patterns-are : m .patterns ≡ map patternOf (settingsFloats (inForce s es))
   pub rounds-are : m .rounds ≡ inForce s es .rounds
   pub settings-read : settingsIn m ≡ inForce s es
   pub accepted : EachAccepted s es
@@ -199,7 +199,7 @@ forced-legible (c ∷ calls) s l n =
     let b = and-both (lendable c) (every lendable calls) n in
     rw (force-split (callEvents c) (collect callEvents calls) s) (forced-legible calls (inForce s (callEvents c)) (call-legible c s (b .0) l) (b .1))
 
-list-leaves : (rate : ℕ) (s : Settings) (es : List Event) → WordsHeld (tripOf rate (counting (legsUnder s es))) → soundTrip (tripOf rate (counting (legsUnder s es))) ≡ true
+list-leaves : (rate : ℕ) (s : Settings) (es : List TripEvent) → WordsHeld (tripOf rate (counting (legsUnder s es))) → soundTrip (tripOf rate (counting (legsUnder s es))) ≡ true
     → Legible (inForce s es) → CallsLeave rate s es (memoryOf (tripOf rate (counting (legsUnder s es))) (inForce s es))
 unfolding memoryOf
 list-leaves rate s es h k l =
@@ -225,7 +225,7 @@ drive-calls f rounds rate {trip₀} {trip} {force₀} {force} {rounds₀} {n} fi
     let es = collect callEvents calls in
     let legs = legsUnder s es in
     let k = legs-narrow es s (calls-narrow calls h) in
-    let e : fold after (tripOf rate []) legs ≡ tripOf rate (counting legs) = trip-law rate legs (a .1) k in
+    let e : fold withLeg (tripOf rate []) legs ≡ tripOf rate (counting legs) = trip-law rate legs (a .1) k in
     let held : WordsHeld (tripOf rate (counting legs)) = subst WordsHeld e (fold-held legs (tripOf rate []) (start-held rate (a .1) fits₀ [])) in
     let sound : soundTrip (tripOf rate (counting legs)) ≡ true = subst (λ (t : Trip). soundTrip t ≡ true) e (fold-sound legs (tripOf rate []) (start-sound rate (a .1)) k) in
     rw (start, calls-from calls (tripOf rate []) s (start-held rate (a .1) fits₀ []) (start-sound rate (a .1)) (legible f rounds lent₀) h, e)

@@ -16,8 +16,8 @@ use Rattle.tdcp_columns.specs.Displacement.{Lent, lent, columnsDisplaced, displ
 use Rattle.trip.specs.Words.{heldOf, wordsOf}
 use Rattle.trip.specs.declared.trip.Trip.{Trip}
 use Rattle.drive.specs.Drive.{underNew, tested}
-use Rattle.drive.specs.Events.{Move, Event, epoch, change}
-use Rattle.drive.specs.Lent.{floatsOf, drivingNumber, inForceAfter, roundsAfter, travelledBy, travelNumber, tripAfter}
+use Rattle.drive.specs.Events.{Move, TripEvent, epoch, change}
+use Rattle.drive.specs.Lent.{settingsFloats, drivingNumber, inForceAfter, roundsAfter, travelledBy, travelNumber, tripAfter}
 use Rattle.drive.specs.declared.drive.Driving.{Driving}
 use Rattle.drive.specs.declared.drive.Travel.{Travel}
 
@@ -31,7 +31,7 @@ pub record TripMemory : Type 0 where
 
 -- that of a trip and its settings
 unfoldable pub memoryOf : Trip → Settings → TripMemory
-memoryOf t s = record { words = wordsOf t; patterns = map patternOf (floatsOf s); rounds = s .rounds }
+memoryOf t s = record { words = wordsOf t; patterns = map patternOf (settingsFloats s); rounds = s .rounds }
 
 -- the settings that a displacement reads there: the floats whose bits the patterns are
 unfoldable pub settingsIn : TripMemory → Settings
@@ -86,7 +86,7 @@ moveOf r =
     }
 
 -- the event that a call is: none where a column is too short or there are more than 64 carriers, which 2 turns back
-unfoldable pub callEvents : TripCall → List Event
+unfoldable pub callEvents : TripCall → List TripEvent
 callEvents (travelCall r pulses) = cond (epochFits (r .previous) (r .previous-count) && epochFits (r .current) (r .current-count)) (epoch (moveOf r) pulses ∷ []) []
 callEvents (settingsCall s rounds) = change (displacementSettings s rounds) ∷ []
 

@@ -21,7 +21,7 @@ use trip::words::words;
 
 // The patterns of the five floats.
 fn patterns_of(s: Settings) -> [u64; 5]
-    ensures { λ r. ⌜ r ≡ map patternOf (spec.floatsOf s) ⌝ }
+    ensures { λ r. ⌜ r ≡ map patternOf (spec.settingsFloats s) ⌝ }
 {
     let a = pattern(s.screen);
     let b = pattern(s.sigma_a);

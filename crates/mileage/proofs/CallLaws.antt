@@ -17,7 +17,7 @@ use Rattle.trip.specs.Measure.{millimetresOf}
 use Rattle.trip.specs.Steps.{wayOf}
 use Rattle.trip.proofs.MeasureLaws.{by-length, way-within-is}
 use Rattle.mileage.specs.Rated.{rated}
-use Rattle.mileage.specs.Mileage.{isRefused, isUsable, lengthOf, isTaken, soundMileage, grown, added, scaled, held, fuelOver}
+use Rattle.mileage.specs.Mileage.{isRefused, isUsable, lengthOf, isTaken, soundMileage, grown, mileageAdded, scaled, distanceHeld, fuelOver}
 use Rattle.mileage.specs.Steps.{wayFor}
 use Rattle.mileage.specs.declared.mileage.Epoch.{Epoch}
 use Rattle.mileage.specs.declared.mileage.Mileage.{Mileage}
@@ -73,8 +73,8 @@ module _ (e : Epoch) {way : ℕ} (way-is : way ≡ wayFor (e .refused) (e .displ
     test-is : (s && ltb (m .epochs) 65535 && leb way 1000000) ≡ (soundMileage m && ltb (m .epochs) 65535 && isTaken e)
     test-is = rw (s-is, way-taken)
 
-    pub add-refused : (s && ltb (m .epochs) 65535 && leb way 1000000) ≡ false → Refused BadTrip ≡ added m e
-    unfolding added
+    pub add-refused : (s && ltb (m .epochs) 65535 && leb way 1000000) ≡ false → Refused BadTrip ≡ mileageAdded m e
+    unfolding mileageAdded
     add-refused h = rw (sym test-is ∙ h)
 
     -- what an accepted addition tells
@@ -90,15 +90,15 @@ module _ (e : Epoch) {way : ℕ} (way-is : way ≡ wayFor (e .refused) (e .displ
         record { is-sound = sym s-is ∙ q .0; room = q .1; within = p .1 }
 
     pub add-goes : {u : Bool} → u ≡ rated (m .limit) (e .chi) (e .pdop) → (s && ltb (m .epochs) 65535 && leb way 1000000) ≡ true
-        → Goes (grown m (not (eqb (e .refused) 0)) (not (not (eqb (e .refused) 0)) && u) way (e .pulses)) ≡ added m e
-    unfolding added isRefused isUsable
+        → Goes (grown m (not (eqb (e .refused) 0)) (not (not (eqb (e .refused) 0)) && u) way (e .pulses)) ≡ mileageAdded m e
+    unfolding mileageAdded isRefused isUsable
     add-goes u-is h =
         rw (u-is, sym test-is ∙ h)
         (ap Goes (unused m (not (eqb (e .refused) 0)) (isUsable (m .limit) e) way (millimetresOf (e .displacement)) (e .pulses) (way-length (accepted h .within) (m .limit))))
 
     -- an epoch of use with a pulse
     pub add-driven : {u : Bool} → u ≡ rated (m .limit) (e .chi) (e .pdop) → (s && ltb (m .epochs) 65535 && leb way 1000000) ≡ true
-        → (not (not (eqb (e .refused) 0)) && u && ltb 0 (e .pulses)) ≡ true → Goes (grown m false true way (e .pulses)) ≡ added m e
+        → (not (not (eqb (e .refused) 0)) && u && ltb 0 (e .pulses)) ≡ true → Goes (grown m false true way (e .pulses)) ≡ mileageAdded m e
     add-driven {u} u-is h d =
         let p = and-both (not (not (eqb (e .refused) 0)) && u) (ltb 0 (e .pulses)) d .0 in
         let q : not (eqb (e .refused) 0) ≡ false = not-true _ (and-both (not (not (eqb (e .refused) 0))) u p .0) in
@@ -123,16 +123,16 @@ module _ (a b c : ℕ) (pos : 0 < c) (few : c ≤ b) (small : b ≤ 4294836225) 
   pub fits : a / c ≤ (9223372036854775807 - a % c * b / c) / b → a / c * b ≤ 9223372036854775807 - a % c * b / c
   fits h = let p : 0 < b = omega arith in le-div-iff-mul-le p .0 h
 
-  pub too-far : (9223372036854775807 - a % c * b / c) / b < a / c → Unmeasured BadTrip ≡ held (scaled a b c)
-  unfolding held scaled
+  pub too-far : (9223372036854775807 - a % c * b / c) / b < a / c → Unmeasured BadTrip ≡ distanceHeld (scaled a b c)
+  unfolding distanceHeld scaled
   too-far h =
       let p : 0 < b = omega arith in
       let g : 9223372036854775807 - a % c * b / c < a / c * b = div-lt-iff-lt-mul p .0 h in
       let k : 2 ^ 63 ≤ a * b / c = omega (arith, split a b c pos, g, rest-small) in
       rw (le-ltb (a * b / c) (2 ^ 63) k)
 
-  pub near : a / c ≤ (9223372036854775807 - a % c * b / c) / b → Millimetres (a / c * b + a % c * b / c) ≡ held (scaled a b c)
-  unfolding held scaled
+  pub near : a / c ≤ (9223372036854775807 - a % c * b / c) / b → Millimetres (a / c * b + a % c * b / c) ≡ distanceHeld (scaled a b c)
+  unfolding distanceHeld scaled
   near h =
       let k : a * b / c < 2 ^ 63 = omega (arith, split a b c pos, fits h, rest-small) in
       rw (lt-ltb (a * b / c) (2 ^ 63) k) (ap Millimetres (sym (split a b c pos)))

@@ -76,7 +76,7 @@ pub(crate) fn when(test: bool, n: u64) -> u64
 // Multiplies by pulses and divides by covered in 64 bits. Refuses a result above 2 ^ 63 - 1.
 pub(crate) fn scaled(counted: u64, pulses: u64, covered: u64) -> Distance
     requires { ⌜ (0 < covered) × (covered ≤ pulses) × (pulses ≤ 4294836225) ⌝ }
-    ensures { λ r. ⌜ r ≡ spec.held (spec.scaled counted pulses covered) ⌝ }
+    ensures { λ r. ⌜ r ≡ spec.distanceHeld (spec.scaled counted pulses covered) ⌝ }
 {
     let whole = counted / covered;
     let rest = counted % covered * pulses / covered;
@@ -100,7 +100,7 @@ pub(crate) fn way_for(refused: u8, displacement: Vec3) -> u64
 impl Mileage {
     // Starts a mileage with this limit.
     pub fn start(limit: f64) -> Step
-        ensures { λ r. ⌜ r ≡ spec.started limit ⌝ }
+        ensures { λ r. ⌜ r ≡ spec.mileageStarted limit ⌝ }
     {
         if in_range(limit) {
             return Step::Goes(Mileage {
@@ -194,7 +194,7 @@ impl Mileage {
     // Adds an epoch whose displacement is of this way. The usual case has a branch of its own.
     pub(crate) fn add_way(self, way: u64, e: Epoch) -> Step
         requires { ⌜ way ≡ wayFor (e .refused) (e .displacement) ⌝ }
-        ensures { λ r. ⌜ r ≡ spec.added self e ⌝ }
+        ensures { λ r. ⌜ r ≡ spec.mileageAdded self e ⌝ }
     {
         if !(self.is_sound() & (self.epochs < 65535) & (way <= 1000000)) {
             return Step::Refused(Refusal::BadTrip);
@@ -210,7 +210,7 @@ impl Mileage {
 
     // Adds an epoch.
     pub fn add(self, e: Epoch) -> Step
-        ensures { λ r. ⌜ r ≡ spec.added self e ⌝ }
+        ensures { λ r. ⌜ r ≡ spec.mileageAdded self e ⌝ }
     {
         let way = way_for(e.refused, e.displacement);
         self.add_way(way, e)
@@ -218,7 +218,7 @@ impl Mileage {
 
     // Reports the totals. The last epoch's millimetres count as standing where no pulse came so far.
     pub fn report(self) -> Reported
-        ensures { λ r. ⌜ r ≡ spec.reported self ⌝ }
+        ensures { λ r. ⌜ r ≡ spec.mileageReported self ⌝ }
     {
         if !self.is_sound() {
             return Reported::Refused(Refusal::BadTrip);
@@ -236,7 +236,7 @@ impl Mileage {
 
     // The distance in millimetres: those of counted epochs times all pulses by the pulses of counted epochs.
     pub fn distance(self) -> Distance
-        ensures { λ r. ⌜ r ≡ spec.distance self ⌝ }
+        ensures { λ r. ⌜ r ≡ spec.mileageDistance self ⌝ }
     {
         if !self.is_sound() {
             return Distance::Refused(Refusal::BadTrip);
@@ -249,7 +249,7 @@ impl Mileage {
 
     // The millilitres for a kilometre of the distance.
     pub fn fuel(self, millilitres: u32) -> Fuel
-        ensures { λ r. ⌜ r ≡ spec.fuelled self millilitres ⌝ }
+        ensures { λ r. ⌜ r ≡ spec.mileageFuelled self millilitres ⌝ }
     {
         let far = self.distance();
         match far {

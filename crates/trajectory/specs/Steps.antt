@@ -9,7 +9,7 @@ use lib.ListN.{length, set}
 use lib.Ieee.{Float, isNan}
 use Rattle.exact.specs.Float.{_⊕_, _⊖_}
 use Rattle.numeric.specs.Order.{patternOf}
-use Rattle.tridiagonal.specs.Rows.{floatAt, cell, axisIn, Axes, SameOutside}
+use Rattle.tridiagonal.specs.Rows.{floatAt, rowCell, axisIn, Axes, SameOutside}
 use Rattle.tridiagonal.specs.Tridiagonal.{solution}
 use Rattle.tridiagonal.specs.Steps.{Alike, NoNan, Spoilt}
 use Rattle.trajectory.specs.Input.{Measured, Trajectory, indexAt}
@@ -71,4 +71,4 @@ scalesIn p w = record { anchors = λ j. floatAt w (p .n * 9 + j); links = λ j. 
 pub record PassDone (p : Trajectory) (w : List ℕ) (ok : Bool) (w' : List ℕ) : Type 0 where
   pub kept : SameOutside 0 (p .n * 9) w w'
   pub answer : ok ≡ passes p (scalesIn p w)
-  pub solutions : ok ≡ true → Axes (λ t. (k : ℕ) → k < p .n → cell w' (6 + t) k ≡ solution (equationsOf p (scalesIn p w) t) (p .n) k)
+  pub solutions : ok ≡ true → Axes (λ t. (k : ℕ) → k < p .n → rowCell w' (6 + t) k ≡ solution (equationsOf p (scalesIn p w) t) (p .n) k)

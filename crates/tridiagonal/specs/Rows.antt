@@ -13,12 +13,12 @@ abbrev pub floatAt : List ℕ → ℕ → Float
 floatAt w k = bits (getD w k 0)
 
 -- the float at place s of the nine of row k
-abbrev pub cell : List ℕ → ℕ → ℕ → Float
-cell w s k = floatAt w (k * 9 + s)
+abbrev pub rowCell : List ℕ → ℕ → ℕ → Float
+rowCell w s k = floatAt w (k * 9 + s)
 
 -- The equations of axis t (0 is x, 1 is y, 2 is z): each row holds three diagonals, then three upper diagonals, then three right sides.
 abbrev pub axisIn : List ℕ → ℕ → Equations
-axisIn w t = record { diagonal = cell w t; upper = cell w (3 + t); right = cell w (6 + t) }
+axisIn w t = record { diagonal = rowCell w t; upper = rowCell w (3 + t); right = rowCell w (6 + t) }
 
 -- P holds of x, y and z
 pub record Axes (P : ℕ → Type 0) : Type 0 where

@@ -9,7 +9,7 @@ use lib.Ieee.{Float, isNan}
 use lib.Ieee.Scale.{finite}
 use Rattle.exact.specs.Float.{_⊖_, _⊗_, _⊘_}
 use Rattle.numeric.specs.Order.{patternOf}
-use Rattle.tridiagonal.specs.Rows.{floatAt, cell, axisIn, Axes, onAxes, SameOutside}
+use Rattle.tridiagonal.specs.Rows.{floatAt, rowCell, axisIn, Axes, onAxes, SameOutside}
 use Rattle.tridiagonal.specs.Tridiagonal.{Equations, eachBelow, eliminated, back, solution, axisSolved, goesOn, goodRow}
 use Rattle.tridiagonal.specs.declared.solve.Row.{Row}
 
@@ -77,10 +77,10 @@ pub record Eliminated (w : List ℕ) (n : ℕ) (ok : Bool) (w' : List ℕ) : Typ
 pub record Substituted (w : List ℕ) (n : ℕ) (ok : Bool) (w' : List ℕ) : Type 0 where
   pub kept : SameOutside 0 (n * 9) w w'
   pub answer : ok ≡ onAxes (λ t. eachBelow (λ k. finite (back (axisIn w t) (n - 1) (n - 1 - k))) n)
-  pub unknowns : ok ≡ true → Axes (λ t. (k : ℕ) → k < n → cell w' (6 + t) k ≡ back (axisIn w t) (n - 1) (n - 1 - k))
+  pub unknowns : ok ≡ true → Axes (λ t. (k : ℕ) → k < n → rowCell w' (6 + t) k ≡ back (axisIn w t) (n - 1) (n - 1 - k))
 
 -- The two together: true where each axis is solved, and then the solutions stand in place of the right sides.
 pub record Solved (w : List ℕ) (n : ℕ) (ok : Bool) (w' : List ℕ) : Type 0 where
   pub kept : SameOutside 0 (n * 9) w w'
   pub answer : ok ≡ allSolved w n
-  pub solutions : ok ≡ true → Axes (λ t. (k : ℕ) → k < n → cell w' (6 + t) k ≡ solution (axisIn w t) n k)
+  pub solutions : ok ≡ true → Axes (λ t. (k : ℕ) → k < n → rowCell w' (6 + t) k ≡ solution (axisIn w t) n k)

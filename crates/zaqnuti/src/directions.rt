@@ -1,5 +1,5 @@
 // Entry point of a displacement as north, east, down.
-ghost use Rattle.frames.specs.Lent.{Answered};
+ghost use Rattle.frames.specs.Lent.{DirectionAnswered};
 use frames::lent::ned_into;
 
 // The displacement at the position along north, east and down in ned and 0, or 19, which leaves ned as it was.
@@ -9,7 +9,7 @@ pub extern "C" fn zaqnuti_north_east_down(
     displacement: &[f64; 3],
     ned: &mut [u64; 3],
 ) -> u8
-    ensures { λ r. ⌜ Answered (now (position .entry)) (now (displacement .entry)) r (now (ned .entry)) (now (ned .exit)) ⌝ }
+    ensures { λ r. ⌜ DirectionAnswered (now (position .entry)) (now (displacement .entry)) r (now (ned .entry)) (now (ned .exit)) ⌝ }
 {
     ned_into(position, displacement, ned)
 }
