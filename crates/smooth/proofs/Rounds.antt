@@ -16,8 +16,9 @@ use Rattle.exact.specs.Float.{_⊕_, bits}
 use Rattle.numeric.specs.Order.{patternOf}
 use Rattle.numeric.specs.Real.{inRange}
 use Rattle.numeric.proofs.OrderLaws.{pattern-back}
-use Rattle.tridiagonal.specs.Rows.{floatAt, rowCell, SameOutside, Filled}
+use Rattle.tridiagonal.specs.Rows.{floatAt, rowCell, SameOutside}
 use Rattle.tridiagonal.specs.Tridiagonal.{solution}
+use Rattle.tridiagonal.specs.Steps.{Filled}
 use Rattle.tridiagonal.proofs.Cells.{place, same-float, hit, miss, miss2, miss3, kept-none, kept-then}
 use Rattle.tridiagonal.proofs.Nan.{finite-number}
 use Rattle.trajectory.specs.Input.{Measured, Trajectory, trackOrigin, workNeed}

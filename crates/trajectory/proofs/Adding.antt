@@ -11,15 +11,15 @@ use lib.ListN.{length}
 use lib.Ieee.{Float, isNan}
 use Rattle.exact.specs.Float.{_⊕_, _⊖_}
 use Rattle.tridiagonal.specs.Rows.{axisIn, Axes, SameOutside}
-use Rattle.tridiagonal.specs.Tridiagonal.{Equations}
-use Rattle.tridiagonal.specs.Steps.{Alike, NoNan, Spoilt}
+use Rattle.tridiagonal.specs.Tridiagonal.{Equations, NoNan, Spoilt}
+use Rattle.tridiagonal.specs.Steps.{Alike}
 use Rattle.tridiagonal.proofs.EachBelow.{left-true, right-true, who-fails}
 use Rattle.tridiagonal.proofs.Cells.{kept-none, kept-then}
 use Rattle.tridiagonal.proofs.Axes.{Beside, beside, Touched}
 use Rattle.tridiagonal.proofs.Nan.{IsNan, add-nan, sub-nan}
 use Rattle.trajectory.specs.Input.{Measured, indexAt}
-use Rattle.trajectory.specs.Equations.{changed, raisedAt, lower, trackWeight, nextAt, anchorPull, linkPull, Change, anchorChange, linkChange, changedBy}
-use Rattle.trajectory.specs.Steps.{Added, AddDone}
+use Rattle.trajectory.specs.Equations.{changed, raisedAt, lower, trackWeight, nextAt, anchorPull, linkPull}
+use Rattle.trajectory.specs.Steps.{Added, AddDone, Change, anchorChange, linkChange, changedBy}
 use Rattle.trajectory.proofs.Changed.{changed-none}
 
 -- ---- a NaN stays

@@ -19,8 +19,8 @@ use Rattle.tridiagonal.proofs.Cells.{same-float, float-place, float-hit, float-
 use Rattle.tridiagonal.proofs.Axes.{touched-none, touched-diagonal, touched-right, touched-if, taken}
 use Rattle.tridiagonal.proofs.Nan.{which-fails, un-not}
 use Rattle.trajectory.specs.Input.{Measured, indexAt}
-use Rattle.trajectory.specs.Equations.{trackWeight, anchorPull, anchorChange, changedBy}
-use Rattle.trajectory.specs.Steps.{number, AnchorAdded, AddDone}
+use Rattle.trajectory.specs.Equations.{trackWeight, anchorPull}
+use Rattle.trajectory.specs.Steps.{number, AnchorAdded, AddDone, anchorChange, changedBy}
 use Rattle.trajectory.proofs.Changed.{changed-next, raise-next}
 use Rattle.trajectory.proofs.Adding.{AxisAdded, Step, Adding, anchors-steady, y-next, z-next, adding-ends, adding-more}
 

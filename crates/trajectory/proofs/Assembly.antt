@@ -7,14 +7,14 @@ use Prim.Native.Nat.{ℕ, zero, suc, _+_, _*_, _<_}
 use native.Mathlib.Omega.{arith}
 use lib.Ieee.{Float, isNan, ofBits}
 use Rattle.exact.specs.Float.{+0, bits}
-use Rattle.tridiagonal.specs.Rows.{floatAt, rowCell, axisIn, Filled}
-use Rattle.tridiagonal.specs.Tridiagonal.{Equations}
-use Rattle.tridiagonal.specs.Steps.{Alike, NoNan, Spoilt}
+use Rattle.tridiagonal.specs.Rows.{floatAt, rowCell, axisIn}
+use Rattle.tridiagonal.specs.Tridiagonal.{Equations, NoNan, Spoilt}
+use Rattle.tridiagonal.specs.Steps.{Alike, Filled}
 use Rattle.tridiagonal.proofs.Cells.{same-float}
 use Rattle.tridiagonal.proofs.Alike.{alike-then}
 use Rattle.trajectory.specs.Input.{Measured, Trajectory, indexAt}
-use Rattle.trajectory.specs.Equations.{changed, raisedAt, lower, noEquations, Scales, trackWeight, anchorPull, linkDiagonal, linkRight, anchorChange, linkChange, changedBy, diagonal, upper, right, equationsOf}
-use Rattle.trajectory.specs.Steps.{scalesIn}
+use Rattle.trajectory.specs.Equations.{changed, raisedAt, lower, noEquations, Scales, trackWeight, anchorPull, linkDiagonal, linkRight, diagonal, upper, right, equationsOf}
+use Rattle.trajectory.specs.Steps.{scalesIn, anchorChange, linkChange, changedBy}
 use Rattle.trajectory.proofs.Changed.{changed-same}
 use Rattle.trajectory.proofs.Adding.{links-steady, changed-keeps}
 

@@ -13,14 +13,15 @@ use Rattle.exact.specs.Float.{_⊕_, _⊖_, _⊗_, _⊘_}
 use Rattle.numeric.specs.Order.{patternOf}
 use Rattle.numeric.proofs.OrderLaws.{pattern-bits}
 use Rattle.tridiagonal.specs.Rows.{floatAt, rowCell, axisIn}
-use Rattle.tridiagonal.specs.Steps.{Alike, NumbersAt, Spoilt}
+use Rattle.tridiagonal.specs.Steps.{Alike, NumbersAt}
+use Rattle.tridiagonal.specs.Tridiagonal.{Spoilt}
 use Rattle.tridiagonal.proofs.EachBelow.{left-true, right-true}
 use Rattle.tridiagonal.proofs.Cells.{same-float, float-place, float-hit, float-miss, float-miss2, float-miss3, number-set, update}
 use Rattle.tridiagonal.proofs.Axes.{touched-none, touched-diagonal, touched-upper, touched-right, touched-if, taken}
 use Rattle.tridiagonal.proofs.Nan.{IsNan, which-fails, un-not}
 use Rattle.trajectory.specs.Input.{Measured, indexAt}
-use Rattle.trajectory.specs.Equations.{trackWeight, linkPull, linkChange, changedBy}
-use Rattle.trajectory.specs.Steps.{number, LinkAdded, AddDone}
+use Rattle.trajectory.specs.Equations.{trackWeight, linkPull}
+use Rattle.trajectory.specs.Steps.{number, LinkAdded, AddDone, linkChange, changedBy}
 use Rattle.trajectory.proofs.Changed.{lower-next, both-next, across-next}
 use Rattle.trajectory.proofs.Adding.{AxisAdded, Step, Adding, links-steady, y-next, z-next, adding-ends, adding-more}
 use Rattle.trajectory.proofs.Anchors.{not-number, self-equal}

@@ -49,35 +49,6 @@ linkDiagonal m scale t j k x = raisedAt (nextAt m) (trackWeight m scale t) j k (
 abbrev pub linkRight : Measured → (ℕ → Float) → ℕ → ℕ → ℕ → Float → Float
 linkRight m scale t j k x = raisedAt (nextAt m) (linkPull m scale t) j k (lower (indexAt m) (linkPull m scale t) j k x)
 
--- how each measurement in turn changes the rows of axis t
-pub record Change : Type 0 where
-  pub diagonal : (t : ℕ) → (j k : ℕ) → Float → Float
-  pub upper : (t : ℕ) → (j k : ℕ) → Float → Float
-  pub right : (t : ℕ) → (j k : ℕ) → Float → Float
-
--- an anchor leaves the upper diagonal as it is
-abbrev pub anchorChange : Measured → (ℕ → Float) → Change
-anchorChange m scale = record {
-  diagonal = λ t. raisedAt (indexAt m) (trackWeight m scale t);
-  upper = λ t j k x. x;
-  right = λ t. raisedAt (indexAt m) (anchorPull m scale t);
-}
-
-abbrev pub linkChange : Measured → (ℕ → Float) → Change
-linkChange m scale = record {
-  diagonal = linkDiagonal m scale;
-  upper = λ t. lower (indexAt m) (trackWeight m scale t);
-  right = linkRight m scale;
-}
-
--- the equations of axis t once the first j measurements have changed those of e
-abbrev pub changedBy : Change → Equations → (t j : ℕ) → Equations
-changedBy c e t j = record {
-  diagonal = changed (c .diagonal t) (e .diagonal) j;
-  upper = changed (c .upper t) (e .upper) j;
-  right = changed (c .right t) (e .right) j;
-}
-
 -- ---- the three columns of axis t: the anchors in turn, then the links in turn
 
 unfoldable pub diagonal : Trajectory → Scales → ℕ → ℕ → Float

@@ -4,10 +4,10 @@ ghost use Prim.Native.Nat.{_+_, _-_, _*_, _<_, _≤_};
 ghost use lib.ListN.{length};
 ghost use Rattle.exact.specs.Float.{_⊗_, _⊘_};
 ghost use Rattle.tridiagonal.specs.Rows.{Axes, axisIn, floatAt};
-ghost use Rattle.tridiagonal.specs.Steps.{NoNan, NumbersAt};
+ghost use Rattle.tridiagonal.specs.Steps.{NumbersAt};
+ghost use Rattle.tridiagonal.specs.Tridiagonal.{NoNan};
 ghost use Rattle.trajectory.specs.Input.{measured};
-ghost use Rattle.trajectory.specs.Equations.{anchorChange, linkChange};
-ghost use Rattle.trajectory.specs.Steps.{Lent, AnchorAdded, LinkAdded, AddDone};
+ghost use Rattle.trajectory.specs.Steps.{Lent, AnchorAdded, LinkAdded, AddDone, anchorChange, linkChange};
 use numeric::order::float;
 
 // Adds an anchor to the row of one axis whose diagonal stands at `at`: its scale c, sigma s and place v from the origin. False where a NaN would be stored.

@@ -16,7 +16,8 @@ use Rattle.numeric.specs.Order.{patternOf}
 use Rattle.numeric.proofs.OrderLaws.{pattern-back}
 use lib.Ieee.{Float, isNan, nanBits, binary64, fits}
 use borrow.Author.Tests.{eqb-true, eqb-false}
-use Rattle.tridiagonal.specs.Rows.{floatAt, rowCell, SameOutside, Filled}
+use Rattle.tridiagonal.specs.Rows.{floatAt, rowCell, SameOutside}
+use Rattle.tridiagonal.specs.Steps.{Filled}
 
 -- equal places
 pub place : (xs : List ℕ) (i k : ℕ) → i ≡ k → getD xs i 0 ≡ getD xs k 0

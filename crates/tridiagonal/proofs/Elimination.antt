@@ -15,8 +15,8 @@ use Rattle.exact.specs.Float.{_⊖_, _⊗_, _⊘_, +0}
 use Rattle.numeric.specs.Order.{patternOf}
 use Rattle.numeric.proofs.OrderLaws.{pattern-bits}
 use Rattle.tridiagonal.specs.Rows.{floatAt, rowCell, axisIn, Axes, SameOutside}
-use Rattle.tridiagonal.specs.Tridiagonal.{Equations, pivot, reduced, vanishing, axisSolved, goesOn, goodRow}
-use Rattle.tridiagonal.specs.Steps.{NoNan, NumbersAt, FirstRow, RowEliminated, Left, Eliminated}
+use Rattle.tridiagonal.specs.Tridiagonal.{Equations, pivot, reduced, vanishing, axisSolved, NoNan}
+use Rattle.tridiagonal.specs.Steps.{NumbersAt, FirstRow, RowEliminated, Left, Eliminated, goesOn, goodRow}
 use Rattle.tridiagonal.specs.declared.solve.Row.{Row}
 use Rattle.tridiagonal.proofs.EachBelow.{each-of, left-true, right-true, first-fails, second-fails, third-fails, who-fails}
 use Rattle.tridiagonal.proofs.Cells.{grown, kept-then, float-place, float-hit, float-miss}

@@ -1,12 +1,12 @@
 -- Rows of nine patterns in a lent list, and what a step leaves of a list, place by place. Definitions only.
 use mathlib.Core.Path.{_≡_}
 use mathlib.Core.List.{List}
-use mathlib.Core.Bool.{Bool, _&&_}
+use mathlib.Core.Bool.{Bool, true, _&&_}
 use Prim.Native.Nat.{ℕ, _+_, _*_, _≤_, _<_}
 use lib.ListN.{getD}
 use lib.Ieee.{Float}
 use Rattle.exact.specs.Float.{bits}
-use Rattle.tridiagonal.specs.Tridiagonal.{Equations}
+use Rattle.tridiagonal.specs.Tridiagonal.{Equations, solution, axisSolved}
 
 -- the float whose pattern stands at a place
 abbrev pub floatAt : List ℕ → ℕ → Float
@@ -35,7 +35,14 @@ pub record SameOutside (lo hi : ℕ) (w w' : List ℕ) : Type 0 where
   pub low : (k : ℕ) → k < lo → getD w' k 0 ≡ getD w k 0
   pub high : (k : ℕ) → hi ≤ k → getD w' k 0 ≡ getD w k 0
 
--- w' is w, with v at each place from lo up to hi
-pub record Filled (lo hi v : ℕ) (w w' : List ℕ) : Type 0 where
-  pub kept : SameOutside lo hi w w'
-  pub filled : (k : ℕ) → lo ≤ k → k < hi → getD w' k 0 ≡ v
+-- ---- the three axes solved
+
+-- each of them is solved
+abbrev pub allSolved : List ℕ → ℕ → Bool
+allSolved w n = onAxes (λ t. axisSolved (axisIn w t) n)
+
+-- The elimination and the back substitution: true where each axis is solved, and then the solutions stand in place of the right sides.
+pub record Solved (w : List ℕ) (n : ℕ) (ok : Bool) (w' : List ℕ) : Type 0 where
+  pub kept : SameOutside 0 (n * 9) w w'
+  pub answer : ok ≡ allSolved w n
+  pub solutions : ok ≡ true → Axes (λ t. (k : ℕ) → k < n → rowCell w' (6 + t) k ≡ solution (axisIn w t) n k)
