@@ -85,7 +85,7 @@ moveOf r =
       receiver = vectorAt (r .receiver) 0;
     }
 
--- the event that a call is: none where a column is too short or there are more than 64 carriers, which 2 turns back
+-- the event that a call is: none where a column is too short or there are more than 64 carriers, which 2 refuses
 unfoldable pub callEvents : TripCall → List TripEvent
 callEvents (travelCall r pulses) = cond (epochFits (r .previous) (r .previous-count) && epochFits (r .current) (r .current-count)) (epoch (moveOf r) pulses ∷ []) []
 callEvents (settingsCall s rounds) = change (displacementSettings s rounds) ∷ []

@@ -12,7 +12,7 @@ use numeric::vec3::Vec3;
 use numeric::whole::whole_times;
 use root::sqrt::sqrt;
 
-// A length's whole millimetres. The product of the length and 1,000 as doubles would be rounded up across a whole millimetre for some lengths.
+// Returns a length's whole millimetres. The product of the length and 1,000 as doubles would be rounded up across a whole millimetre for some lengths.
 pub(crate) fn millimetres(length: f64) -> u64
     requires { ⌜ (le +0 length ≡ true) × (le length (whole 1000) ≡ true) ⌝ }
     ensures { λ r. ⌜ r ≡ spec.millimetres length ⌝ }
@@ -41,7 +41,7 @@ fn guess(b: u64) -> u64
     f64::to_bits(u) % 0x0800_0000
 }
 
-// Whether the root of the float whose bits are b is certain to have the millimetres of a units of 2 ^ -16: the root lies from a units to a + 1, and no whole
+// Checks that the root of the float whose bits are b is certain to have the millimetres of a units of 2 ^ -16: the root lies from a units to a + 1, and no whole
 // millimetre lies above the first and up to the second.
 fn is_certain(b: u64, a: u64) -> bool
     requires { ⌜ (0x3EB0_0000_0000_0000 ≤ b) × (b < 0x412E_8480_0000_0000) × (a < 2 ^ 27) ⌝ }

@@ -2,7 +2,7 @@
 ghost use Rattle.frames.specs.Lent.{DirectionAnswered};
 use frames::lent::ned_into;
 
-// The displacement at the position along north, east and down in ned and 0, or 19, which leaves ned as it was.
+// Writes the displacement at the position along north, east and down to `ned` and returns 0. On refusal, returns 19 and changes nothing.
 #[no_mangle]
 pub extern "C" fn zaqnuti_north_east_down(
     position: &[f64; 3],
