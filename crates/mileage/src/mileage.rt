@@ -172,10 +172,10 @@ impl Mileage {
         }
     }
 
-    // The mileage after an epoch of so many millimetres and pulses that counts, as most do.
-    pub(crate) fn driven(self, millimetres: u64, pulses: u64) -> Mileage
-        requires { ⌜ (spec.soundMileage self ≡ true) × (self .epochs < 65535) × (millimetres ≤ 1000000) × (0 < pulses) × (pulses ≤ 65535) ⌝ }
-        ensures { λ r. ⌜ r ≡ spec.grown self false true millimetres pulses ⌝ }
+    // Returns the mileage after an epoch of so many millimetres and pulses that counts, as most do.
+    pub(crate) fn driven(self, millimetres: u64, more: u64) -> Mileage
+        requires { ⌜ (spec.soundMileage self ≡ true) × (self .epochs < 65535) × (millimetres ≤ 1000000) × (0 < more) × (more ≤ 65535) ⌝ }
+        ensures { λ r. ⌜ r ≡ spec.grown self false true millimetres more ⌝ }
     {
         Mileage {
             limit: self.limit,
@@ -183,9 +183,9 @@ impl Mileage {
             refused: self.refused,
             aside: self.aside,
             counted: self.counted + self.waiting + millimetres,
-            covered: self.covered + pulses,
+            covered: self.covered + more,
             standing: self.standing,
-            pulses: self.pulses + pulses,
+            pulses: self.pulses + more,
             moved: 1,
             waiting: 0,
         }

@@ -22,7 +22,7 @@ add-t8 : tie.Need-add-t8
 add-t8 c = let a = c .before .before .before .before in omega (arith, bounds (a .args .self) (a .pre .0))
 
 returns : tie.Need-returns
-returns c = let a = c .before .before .before .before in driven-is (a .args .self) (a .args .millimetres) (a .args .pulses) (a .pre .3)
+returns c = let a = c .before .before .before .before in driven-is (a .args .self) (a .args .millimetres) (a .args .more) (a .pre .3)
 
 pub driven-spec : {M : Type 1} → statement M
 driven-spec = tie.close (tie.spec add-t4 add-t5 add-t6 add-t7 add-t8 returns)
