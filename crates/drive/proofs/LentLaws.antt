@@ -10,7 +10,7 @@ use Rattle.drive.specs.Drive.{underNew}
 use Rattle.tdcp_columns.specs.Displacement.{displacementSettings, Lent, columnsDisplaced, ColumnsPromised}
 use Rattle.estimator.proofs.RoundsLaws.{capped}
 use Rattle.tdcp_columns.proofs.AnswerLaws.{columns-accepted}
-use Rattle.drive.specs.Lent.{drivingNumber, inForceAfter, roundsAfter, startedAfter, DrivingAnswers, BegunAnswers, travelledBy, travelNumber, tripAfter, deltaAfter, countsAfter, TravelLeaves, TravelAnswers}
+use Rattle.drive.specs.Lent.{drivingNumber, inForceAfter, roundsAfter, startedAfter, DrivingAnswers, BegunAnswers, travelledBy, travelNumber, tripAfter, travelDeltaAfter, travelCountsAfter, TravelLeaves, TravelAnswers}
 use Rattle.drive.specs.declared.drive.Driving.{Driving}
 use Rattle.drive.specs.declared.drive.Driving.the-variants as Driving
 use Rattle.drive.specs.declared.drive.Travel.{Travel}
@@ -38,13 +38,13 @@ pub begun-answers : {d q : Driving} {number : ℕ} {trip₀ trip force₀ force 
 begun-answers {trip₀ = trip₀} e a h = record { trip-is = a ∙ ap (λ (z : Driving). startedAfter z trip₀) e; others = h }
 
 pub travel-leaves : {t q : Travel} {number : ℕ} {trip₀ trip delta₀ delta counts₀ counts : List ℕ} → q ≡ t
-    → number ≡ travelNumber q → trip ≡ tripAfter q trip₀ → delta ≡ deltaAfter q delta₀ → counts ≡ countsAfter q counts₀ → TravelLeaves t number trip₀ trip delta₀ delta counts₀ counts
+    → number ≡ travelNumber q → trip ≡ tripAfter q trip₀ → delta ≡ travelDeltaAfter q delta₀ → counts ≡ travelCountsAfter q counts₀ → TravelLeaves t number trip₀ trip delta₀ delta counts₀ counts
 travel-leaves {trip₀ = trip₀} {delta₀ = delta₀} {counts₀ = counts₀} e a b c d =
     record {
       number-is = a ∙ ap travelNumber e;
       trip-is = b ∙ ap (λ (z : Travel). tripAfter z trip₀) e;
-      delta-is = c ∙ ap (λ (z : Travel). deltaAfter z delta₀) e;
-      counts-are = d ∙ ap (λ (z : Travel). countsAfter z counts₀) e;
+      delta-is = c ∙ ap (λ (z : Travel). travelDeltaAfter z delta₀) e;
+      counts-are = d ∙ ap (λ (z : Travel). travelCountsAfter z counts₀) e;
     }
 
 -- what is left of the displacement q of what is lent

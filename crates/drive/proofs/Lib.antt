@@ -3,3 +3,4 @@ pub mod DriveLaws
 pub mod EventLaws
 pub mod LentLaws
 pub mod SixteenLaws
+pub mod CallLaws

@@ -24,20 +24,20 @@ pub record Move : Type 0 where
   pub dt : Float
   pub receiver : Vec3
 
-abbrev pub inputOf : Settings → Move → Input
-inputOf s m = general (m .previous) (m .current) (m .dt) (m .receiver) s
+abbrev pub moveInput : Settings → Move → Input
+moveInput s m = general (m .previous) (m .current) (m .dt) (m .receiver) s
 
 -- a pair of epochs with its pulses, or new settings
-pub data Event : Type 0 where
-  epoch : Move → ℕ → Event
-  change : Settings → Event
+pub data TripEvent : Type 0 where
+  epoch : Move → ℕ → TripEvent
+  change : Settings → TripEvent
 
 -- ---- calls one after the other
 
 -- what an event leaves
-unfoldable pub next : Drive → Event → Drive
-next v (epoch m pulses) = record { trip = tripAfter (v .trip) (travelledOf (v .trip) (inputOf (v .settings) m) pulses); settings = v .settings }
-next v (change s) = driveAfter v (changedOf v s)
+unfoldable pub driveNext : Drive → TripEvent → Drive
+driveNext v (epoch m pulses) = record { trip = tripAfter (v .trip) (travelledOf (v .trip) (moveInput (v .settings) m) pulses); settings = v .settings }
+driveNext v (change s) = driveAfter v (changedOf v s)
 
 -- ---- the list of epochs
 
@@ -46,7 +46,7 @@ abbrev pub changedTo : Settings → Settings → Settings
 changedTo s r = cond (settingsPass r) r s
 
 -- those in force after the events, from the settings s on
-unfoldable pub inForce : Settings → List Event → Settings
+unfoldable pub inForce : Settings → List TripEvent → Settings
 inForce s [] = s
 inForce s (epoch m pulses ∷ es) = inForce s es
 inForce s (change r ∷ es) = inForce (changedTo s r) es
@@ -57,18 +57,18 @@ legsOf pulses (Refused r) = []
 legsOf pulses (Moved d) = record { displacement = d .delta; pulses = pulses } ∷ []
 
 -- the displacements, each worked out under the settings in force, with their pulses
-unfoldable pub legsUnder : Settings → List Event → List Leg
+unfoldable pub legsUnder : Settings → List TripEvent → List Leg
 legsUnder s [] = []
-legsUnder s (epoch m pulses ∷ es) = legsOf pulses (displacementOf (inputOf s m)) ++ legsUnder s es
+legsUnder s (epoch m pulses ∷ es) = legsOf pulses (displacementOf (moveInput s m)) ++ legsUnder s es
 legsUnder s (change r ∷ es) = legsUnder (changedTo s r) es
 
 -- each accepted displacement has what every accepted one has with its own settings, demand 3 of every round included
-unfoldable pub EachAccepted : Settings → List Event → Type 0
+unfoldable pub EachAccepted : Settings → List TripEvent → Type 0
 EachAccepted s [] = Unit
-EachAccepted s (epoch m pulses ∷ es) = ((d : Delta) → displacementOf (inputOf s m) ≡ Moved d → Accepted (inputOf s m) d) × EachAccepted s es
+EachAccepted s (epoch m pulses ∷ es) = ((d : Delta) → displacementOf (moveInput s m) ≡ Moved d → Accepted (moveInput s m) d) × EachAccepted s es
 EachAccepted s (change r ∷ es) = EachAccepted (changedTo s r) es
 
 -- pulses per epoch are 16-bit
-unfoldable pub narrowEvent : Event → Bool
+unfoldable pub narrowEvent : TripEvent → Bool
 narrowEvent (epoch m pulses) = leb pulses 65535
 narrowEvent (change s) = true

@@ -20,8 +20,8 @@ use Rattle.drive.specs.declared.drive.Travel.the-variants as Travel
 
 -- ---- the five floats of settings (screen, sigma_a, sigma_b, huber, mask)
 
-abbrev pub floatsOf : Settings → List Float
-floatsOf s = s .screen ∷ s .«sigma_a» ∷ s .«sigma_b» ∷ s .huber ∷ s .mask ∷ []
+abbrev pub settingsFloats : Settings → List Float
+settingsFloats s = s .screen ∷ s .«sigma_a» ∷ s .«sigma_b» ∷ s .huber ∷ s .mask ∷ []
 
 -- ---- beginning, and new settings
 
@@ -32,7 +32,7 @@ drivingNumber (Driving.Goes v) = 0
 -- the patterns of the settings in force, and their rounds
 abbrev pub inForceAfter : Driving → List ℕ → List ℕ
 inForceAfter (Driving.Refused r) before = before
-inForceAfter (Driving.Goes v) before = map patternOf (floatsOf (v .settings))
+inForceAfter (Driving.Goes v) before = map patternOf (settingsFloats (v .settings))
 
 abbrev pub roundsAfter : Driving → ℕ → ℕ
 roundsAfter (Driving.Refused r) before = before
@@ -67,20 +67,20 @@ tripAfter (Travel.Refused r) before = before
 tripAfter (Travel.Goes w) before = wordsOf (w .trip)
 
 -- the patterns of the displacement in metres, and how many pairs were used and screened out
-abbrev pub deltaAfter : Travel → List ℕ → List ℕ
-deltaAfter (Travel.Refused r) before = before
-deltaAfter (Travel.Goes w) before = map patternOf (displacementFloats (Displacement.Moved (w .moved)))
+abbrev pub travelDeltaAfter : Travel → List ℕ → List ℕ
+travelDeltaAfter (Travel.Refused r) before = before
+travelDeltaAfter (Travel.Goes w) before = map patternOf (displacementFloats (Displacement.Moved (w .moved)))
 
-abbrev pub countsAfter : Travel → List ℕ → List ℕ
-countsAfter (Travel.Refused r) before = before
-countsAfter (Travel.Goes w) before = displacementCounts (Displacement.Moved (w .moved))
+abbrev pub travelCountsAfter : Travel → List ℕ → List ℕ
+travelCountsAfter (Travel.Refused r) before = before
+travelCountsAfter (Travel.Goes w) before = displacementCounts (Displacement.Moved (w .moved))
 
 -- the number and what is lent afterwards are those of t
 pub record TravelLeaves (t : Travel) (number : ℕ) (trip₀ trip delta₀ delta counts₀ counts : List ℕ) : Type 0 where
   pub number-is : number ≡ travelNumber t
   pub trip-is : trip ≡ tripAfter t trip₀
-  pub delta-is : delta ≡ deltaAfter t delta₀
-  pub counts-are : counts ≡ countsAfter t counts₀
+  pub delta-is : delta ≡ travelDeltaAfter t delta₀
+  pub counts-are : counts ≡ travelCountsAfter t counts₀
 
 -- They are those of the trip with the displacement of what is lent. An accepted one has what every accepted displacement has with its own settings, demand 3 of every
 -- round included.

@@ -38,7 +38,7 @@ pub enum Travel {
     Goes(Travelled),
 }
 
-// The trip that was held, with a displacement where there is one: its number comes before 16.
+// Adds a displacement, where there is one, to the trip that was held. Its number comes before 16.
 pub(crate) fn travel_by(held: Step, answer: Displacement, pulses: u16) -> Travel
     ensures { λ r. ⌜ r ≡ spec.travelBy held pulses answer ⌝ }
 {
@@ -58,7 +58,7 @@ pub(crate) fn travel_by(held: Step, answer: Displacement, pulses: u16) -> Travel
     }
 }
 
-// The trip that was held, where 16 lets it pass.
+// Checks rule 16 of the trip that was held.
 pub(crate) fn tested(held: Step) -> Step
     ensures { λ r. ⌜ r ≡ spec.tested held ⌝ }
 {
@@ -74,7 +74,7 @@ pub(crate) fn tested(held: Step) -> Step
     }
 }
 
-// The trip with these settings: 3, then the trip's 16.
+// Returns the trip with these settings, or 3, or else the trip's 16.
 pub(crate) fn under_new(settings: Settings, trip: Step) -> Driving
     ensures { λ r. ⌜ r ≡ spec.underNew settings trip ⌝ }
 {
@@ -88,14 +88,14 @@ pub(crate) fn under_new(settings: Settings, trip: Step) -> Driving
 }
 
 impl Drive {
-    // A trip with these settings and so many pulses per kilometre.
+    // Starts a trip with these settings and so many pulses per kilometre.
     pub fn begin(settings: Settings, rate: u16) -> Driving
         ensures { λ r. ⌜ r ≡ spec.begunOf settings rate ⌝ }
     {
         under_new(settings, Trip::start(rate))
     }
 
-    // The same trip with new settings.
+    // Puts new settings in force.
     pub fn change(self, settings: Settings) -> Driving
         ensures { λ r. ⌜ r ≡ spec.changedOf self settings ⌝ }
     {
@@ -103,7 +103,7 @@ impl Drive {
         under_new(settings, tested(Step::Goes(trip)))
     }
 
-    // The displacement between two epochs under the settings in force, added to the trip with its pulses.
+    // Works the displacement between two epochs out under the settings in force and adds it to the trip with its pulses.
     pub fn travel(
         self,
         previous: Epoch,
@@ -120,7 +120,7 @@ impl Drive {
         travel_by(Step::Goes(trip), answer, pulses)
     }
 
-    // Both totals of the trip, and how far they were apart.
+    // Reports both totals of the trip and how far they were apart.
     pub fn report(self) -> Reported
         ensures { λ r. ⌜ Reports (self .trip) r ⌝ }
     {
@@ -128,7 +128,7 @@ impl Drive {
         trip.report()
     }
 
-    // The millilitres for a kilometre of its carrier distance.
+    // Returns the millilitres for a kilometre of its carrier distance.
     pub fn fuel(self, millilitres: u32) -> Fuel
         ensures { λ r. ⌜ r ≡ fuelled (self .trip) millilitres ⌝ }
     {

@@ -19,9 +19,9 @@ use tdcp_columns::settings::displacement_settings;
 use trip::words::held;
 use trip::words::words;
 
-// The patterns of the five floats.
+// Returns the patterns of the five floats.
 fn patterns_of(s: Settings) -> [u64; 5]
-    ensures { λ r. ⌜ r ≡ map patternOf (spec.floatsOf s) ⌝ }
+    ensures { λ r. ⌜ r ≡ map patternOf (spec.settingsFloats s) ⌝ }
 {
     let a = pattern(s.screen);
     let b = pattern(s.sigma_a);
@@ -31,7 +31,7 @@ fn patterns_of(s: Settings) -> [u64; 5]
     [a, b, c, d, e]
 }
 
-// A trip just started in the lent words, its settings in force in the lent floats and rounds, and 0; or 3 or 16, which leave all of them as they were.
+// Starts a trip in the lent words, puts its settings in force in the lent patterns and rounds, and returns 0. On refusal, returns 3 or 16 and changes nothing.
 pub fn begin_into(
     settings: &[f64; 5],
     rounds: usize,
@@ -59,7 +59,7 @@ pub fn begin_into(
     }
 }
 
-// New settings in force in the lent floats and rounds, and 0; or 3 or 16, which leave them as they were.
+// Puts new settings in force in the lent patterns and rounds and returns 0. On refusal, returns 3 or 16 and changes nothing.
 pub fn change_into(
     trip: &[u64; 6],
     settings: &[f64; 5],
@@ -84,8 +84,8 @@ pub fn change_into(
     }
 }
 
-// The displacement `moved`, added to the lent words with its pulses: 0, the displacement in metres in delta and how many pairs were used and screened out in counts; or
-// the refusal's number, which leaves all of them as they were.
+// Adds the displacement `moved` with its pulses to the trip in the lent words, writes it in metres to `delta` and how many pairs were used and screened out to
+// `counts`, and returns 0. On refusal, returns its number and changes nothing.
 pub fn travel_into(
     trip: &mut [u64; 6],
     moved: Displacement,

@@ -11,7 +11,7 @@ use lib.Ieee.Scale.{finite}
 use Rattle.numeric.specs.Refusal.{numberOf}
 use Rattle.numeric.specs.declared.refusal.Refusal.{Refusal}
 use Rattle.numeric.specs.declared.refusal.Refusal.the-variants.{TooMany, SettingOutOfRange, RecordOutOfRange, BadTrack, FitFailed}
-use Rattle.tridiagonal.specs.Rows.{Filled}
+use Rattle.tridiagonal.specs.Steps.{Filled}
 use Rattle.tridiagonal.proofs.Cells.{fill-list}
 use Rattle.trajectory.specs.Input.{Trajectory, workNeed}
 use Rattle.trajectory.specs.Pass.{passes, fitOf}

@@ -11,7 +11,7 @@ use lib.Ieee.Fits.{div-fits}
 use Rattle.numeric.specs.Real.{inRange}
 use Rattle.tridiagonal.specs.Tridiagonal.{Equations, eachBelow, eliminated, solvable, back, solution, held, finiteSolution, axisSolved}
 use Rattle.tridiagonal.proofs.EachBelow.{left-true, right-true, each-at}
-use Rattle.trajectory.specs.Input.{Trajectory, origin}
+use Rattle.trajectory.specs.Input.{Trajectory, trackOrigin}
 use Rattle.trajectory.specs.Equations.{Scales, equationsOf}
 use Rattle.trajectory.specs.Pass.{passes, fitOf}
 use Rattle.smooth.specs.Track.{scalesOf, ones, refined, smoothed}
@@ -59,11 +59,11 @@ solution-finite p s h t l k g =
     let C = finiteSolution e (p .n) in
     each-at (λ k. finite (solution e (p .n) k)) (p .n) (right-true B C (right-true A (B && C) (axis-of p s h t l))) k g
 
-module _ (p : Trajectory) (small-origin : (t : ℕ) → t < 3 → inRange (origin (p .anchors) t) ≡ true) where
+module _ (p : Trajectory) (small-origin : (t : ℕ) → t < 3 → inRange (trackOrigin (p .anchors) t) ≡ true) where
   pub pass-finite : (s : Scales) → passes p s ≡ true → (t : ℕ) → t < 3 → (k : ℕ) → k < p .n → finite (fitOf p s t k) ≡ true
   unfolding fitOf
   pass-finite s h t l k g =
-      add-finite (solution (equationsOf p s t) (p .n) k) (origin (p .anchors) t) (solution-fits (equationsOf p s t) (p .n) k) (solution-finite p s h t l k g) (small-origin t l)
+      add-finite (solution (equationsOf p s t) (p .n) k) (trackOrigin (p .anchors) t) (solution-fits (equationsOf p s t) (p .n) k) (solution-finite p s h t l k g) (small-origin t l)
 
   refined-finite : (h : Float) (r : ℕ) (f : ℕ → ℕ → Float) → ((t : ℕ) → t < 3 → (k : ℕ) → k < p .n → finite (f t k) ≡ true) → (t : ℕ) → t < 3 → (k : ℕ) → k < p .n → finite (refined p h r f t k) ≡ true
   unfolding refined
@@ -76,7 +76,7 @@ module _ (p : Trajectory) (small-origin : (t : ℕ) → t < 3 → inRange (origi
   smoothed-finite h its e = refined-finite h (its - 1) (fitOf p ones) (pass-finite ones e)
 
 -- the origin is one of the anchors' floats
-pub origin-small : (p : Trajectory) → 0 < p .anchors .count → recordsOk p ≡ true → (t : ℕ) → t < 3 → inRange (origin (p .anchors) t) ≡ true
+pub origin-small : (p : Trajectory) → 0 < p .anchors .count → recordsOk p ≡ true → (t : ℕ) → t < 3 → inRange (trackOrigin (p .anchors) t) ≡ true
 unfolding recordsOk
 origin-small p h e t l =
     let A = eachBelow (λ k. inRange (getD (p .anchors .value) k nan)) (p .anchors .count * 3) in

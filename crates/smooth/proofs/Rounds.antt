@@ -16,11 +16,12 @@ use Rattle.exact.specs.Float.{_⊕_, bits}
 use Rattle.numeric.specs.Order.{patternOf}
 use Rattle.numeric.specs.Real.{inRange}
 use Rattle.numeric.proofs.OrderLaws.{pattern-back}
-use Rattle.tridiagonal.specs.Rows.{floatAt, cell, SameOutside, Filled}
+use Rattle.tridiagonal.specs.Rows.{floatAt, rowCell, SameOutside}
 use Rattle.tridiagonal.specs.Tridiagonal.{solution}
+use Rattle.tridiagonal.specs.Steps.{Filled}
 use Rattle.tridiagonal.proofs.Cells.{place, same-float, hit, miss, miss2, miss3, kept-none, kept-then}
 use Rattle.tridiagonal.proofs.Nan.{finite-number}
-use Rattle.trajectory.specs.Input.{Measured, Trajectory, origin, workNeed}
+use Rattle.trajectory.specs.Input.{Measured, Trajectory, trackOrigin, workNeed}
 use Rattle.trajectory.specs.Equations.{Scales, equationsOf}
 use Rattle.trajectory.specs.Pass.{passes, fitOf}
 use Rattle.trajectory.specs.Steps.{Lent, Valid, scalesIn, PassDone}
@@ -39,9 +40,9 @@ module _ (w : List ℕ) (x y z : Float) (r₀ : List ℕ) where
   last-of : (j k : ℕ) {A : Type 0} → j < k + 1 → (j ≡ k → A) → (j < k → A) → A
   last-of j k h f g = ⊎-elim (λ e. f (omega arith)) (λ l. g (omega arith)) (eq-or-lt-of-le h)
 
-  module _ (k : ℕ) (r : List ℕ) (room : k * 3 + 2 < length r) (a b c : ℕ) (ea : a ≡ patternOf (cell w 6 k ⊕ x)) (eb : b ≡ patternOf (cell w 7 k ⊕ y)) (ec : c ≡ patternOf (cell w 8 k ⊕ z)) where
-    moved : (s j : ℕ) (o : Float) → j ≡ k → patternOf (cell w s k ⊕ o) ≡ patternOf (cell w s j ⊕ o)
-    moved s j o e = ap (λ (i : ℕ). patternOf (cell w s i ⊕ o)) (sym e)
+  module _ (k : ℕ) (r : List ℕ) (room : k * 3 + 2 < length r) (a b c : ℕ) (ea : a ≡ patternOf (rowCell w 6 k ⊕ x)) (eb : b ≡ patternOf (rowCell w 7 k ⊕ y)) (ec : c ≡ patternOf (rowCell w 8 k ⊕ z)) where
+    moved : (s j : ℕ) (o : Float) → j ≡ k → patternOf (rowCell w s k ⊕ o) ≡ patternOf (rowCell w s j ⊕ o)
+    moved s j o e = ap (λ (i : ℕ). patternOf (rowCell w s i ⊕ o)) (sym e)
 
     pub published-more : Published w k x y z r₀ r → Published w (k + 1) x y z r₀ (set (set (set r (k * 3) a) (k * 3 + 1) b) (k * 3 + 2) c)
     published-more s =
@@ -121,9 +122,9 @@ module _ (p : Trajectory) (s : Scales) (w w' : List ℕ) (ok : Bool) (d : PassDo
       }
 
   module _ (y : ok ≡ true) (r r' : List ℕ) (q : Published w' (p .n) (getD (p .anchors .value) 0 nan) (getD (p .anchors .value) 1 nan) (getD (p .anchors .value) 2 nan) r r') where
-    shifted : (t k : ℕ) (x : Float) → x ≡ solution (equationsOf p (scalesIn p w) t) (p .n) k → patternOf (x ⊕ origin (p .anchors) t) ≡ patternOf (fitOf p s t k)
+    shifted : (t k : ℕ) (x : Float) → x ≡ solution (equationsOf p (scalesIn p w) t) (p .n) k → patternOf (x ⊕ trackOrigin (p .anchors) t) ≡ patternOf (fitOf p s t k)
     unfolding fitOf
-    shifted t k x g = ap patternOf (ap (λ (y : Float). y ⊕ origin (p .anchors) t) g ∙ fit-same p (scalesIn p w) s (e .anchors) (e .links) t k)
+    shifted t k x g = ap patternOf (ap (λ (y : Float). y ⊕ trackOrigin (p .anchors) t) g ∙ fit-same p (scalesIn p w) s (e .anchors) (e .links) t k)
 
     pub published-fit : Tabulated r' (p .n) (fitOf p s)
     published-fit =
@@ -214,7 +215,7 @@ fit-from p h its w₀ w w' r ok r' f d = record {
   no-same = d .no-same;
 }
 
-module _ (p : Trajectory) (v : Valid p) (small : (t : ℕ) → t < 3 → inRange (origin (p .anchors) t) ≡ true) (h : Float) (its : ℕ) (w₀ r₀ w r : List ℕ) (done : ℕ) (s : Fitting p h its w₀ r₀ w r done) (ok : Bool) (w1 : List ℕ) (d : PassDone p w ok w1) where
+module _ (p : Trajectory) (v : Valid p) (small : (t : ℕ) → t < 3 → inRange (trackOrigin (p .anchors) t) ≡ true) (h : Float) (its : ℕ) (w₀ r₀ w r : List ℕ) (done : ℕ) (s : Fitting p h its w₀ r₀ w r done) (ok : Bool) (w1 : List ℕ) (d : PassDone p w ok w1) where
   work-then : SameOutside 0 (workNeed p) w₀ w1
   work-then = record { low = λ k g. absurd (omega arith); high = λ k g. d .kept .high k (omega arith) ∙ s .work-kept .high k g }
 

@@ -80,9 +80,9 @@ trackOf p s r w =
     (unless (trackOk p) BadTrack (unless (passes p ones) FitFailed (Points (points (smoothed p (s .huber) (s .iterations)) (p .n)))))))
 
 -- the answer's enum, without the points, which stand in the result
-abbrev pub answerOf : Tracked → Track
-answerOf (Refused x) = Track.Refused x
-answerOf (Points ps) = Track.Smoothed
+abbrev pub trackAnswer : Tracked → Track
+trackAnswer (Refused x) = Track.Refused x
+trackAnswer (Points ps) = Track.Smoothed
 
 -- what an answer is outside: 0, or the number of the refusal
 abbrev pub trackNumber : Track → ℕ
@@ -94,9 +94,9 @@ trackNumber Track.Smoothed = 0
 -- Both are lists of patterns, so that what is said of them is said of every bit.
 
 -- the result holds the patterns of the track, or what it held; beyond the track it is as it was
-abbrev pub resultAfter : Tracked → List ℕ → List ℕ
-resultAfter (Refused x) r = r
-resultAfter (Points ps) r = map patternOf ps ++ drop (length ps) r
+abbrev pub trackResultAfter : Tracked → List ℕ → List ℕ
+trackResultAfter (Refused x) r = r
+trackResultAfter (Points ps) r = map patternOf ps ++ drop (length ps) r
 
 -- zero bits in the needed part
 abbrev pub cleared : ℕ → List ℕ → List ℕ
@@ -110,8 +110,8 @@ workAfter need (Points ps) w = cleared need w
 -- What the call answers and leaves. Every coordinate of a track is finite, and the track is the fit of the last good pass.
 -- Each pass whose track is given out or reweighted from meets its equations as closely as docs/SCOPE.md, "Track", says, on every axis and in every row.
 pub record Called (p : Trajectory) (s : Settings) (r w : List ℕ) (x : Track) (r' w' : List ℕ) : Type 0 where
-  pub answer : x ≡ answerOf (trackOf p s (length r) (length w))
-  pub result : r' ≡ resultAfter (trackOf p s (length r) (length w)) r
+  pub answer : x ≡ trackAnswer (trackOf p s (length r) (length w))
+  pub result : r' ≡ trackResultAfter (trackOf p s (length r) (length w)) r
   pub work : w' ≡ workAfter (workNeed p) (trackOf p s (length r) (length w)) w
   pub all-finite : (ps : List Float) → trackOf p s (length r) (length w) ≡ Points ps → (k : ℕ) → k < length ps → finite (getD ps k nan) ≡ true
   pub last-given : (ps : List Float) → trackOf p s (length r) (length w) ≡ Points ps → ps ≡ points (fitOf p (lastPass ones (goodPasses p (s .huber) (s .iterations)))) (p .n)

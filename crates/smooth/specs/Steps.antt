@@ -11,7 +11,7 @@ use Rattle.exact.specs.Float.{_⊕_, +0}
 use Rattle.root.specs.Root.{rootOf}
 use Rattle.numeric.specs.Order.{patternOf}
 use Rattle.numeric.specs.Real.{inRange}
-use Rattle.tridiagonal.specs.Rows.{floatAt, cell, SameOutside}
+use Rattle.tridiagonal.specs.Rows.{floatAt, rowCell, SameOutside}
 use Rattle.trajectory.specs.Input.{Trajectory, workNeed}
 use Rattle.trajectory.specs.Pass.{passes}
 use Rattle.smooth.specs.Track.{anchorScale, linkScale, ones, smoothed}
@@ -41,9 +41,9 @@ pub record Reweighed (p : Trajectory) (h : Float) (r w w' : List ℕ) : Type 0 w
 
 -- the unknowns in n rows are finite
 pub record FiniteCells (w : List ℕ) (n : ℕ) : Type 0 where
-  pub xs : (k : ℕ) → k < n → finite (cell w 6 k) ≡ true
-  pub ys : (k : ℕ) → k < n → finite (cell w 7 k) ≡ true
-  pub zs : (k : ℕ) → k < n → finite (cell w 8 k) ≡ true
+  pub xs : (k : ℕ) → k < n → finite (rowCell w 6 k) ≡ true
+  pub ys : (k : ℕ) → k < n → finite (rowCell w 7 k) ≡ true
+  pub zs : (k : ℕ) → k < n → finite (rowCell w 8 k) ≡ true
 
 pub record SmallOrigin (x y z : Float) : Type 0 where
   pub on-x : inRange x ≡ true
@@ -59,9 +59,9 @@ pub record Tabulated (r : List ℕ) (n : ℕ) (f : ℕ → ℕ → Float) : Type
 -- the unknowns of the first m epochs, with the origin added to each, in the result
 pub record Published (w : List ℕ) (m : ℕ) (x y z : Float) (r r' : List ℕ) : Type 0 where
   pub kept : SameOutside 0 (m * 3) r r'
-  pub xs : (k : ℕ) → k < m → getD r' (k * 3) 0 ≡ patternOf (cell w 6 k ⊕ x)
-  pub ys : (k : ℕ) → k < m → getD r' (k * 3 + 1) 0 ≡ patternOf (cell w 7 k ⊕ y)
-  pub zs : (k : ℕ) → k < m → getD r' (k * 3 + 2) 0 ≡ patternOf (cell w 8 k ⊕ z)
+  pub xs : (k : ℕ) → k < m → getD r' (k * 3) 0 ≡ patternOf (rowCell w 6 k ⊕ x)
+  pub ys : (k : ℕ) → k < m → getD r' (k * 3 + 1) 0 ≡ patternOf (rowCell w 7 k ⊕ y)
+  pub zs : (k : ℕ) → k < m → getD r' (k * 3 + 2) 0 ≡ patternOf (rowCell w 8 k ⊕ z)
 
 -- The track, or a first pass that failed and r as it was.
 pub record FitDone (p : Trajectory) (h : Float) (iterations : ℕ) (w w' r : List ℕ) (ok : Bool) (r' : List ℕ) : Type 0 where

@@ -7,7 +7,7 @@ ghost use lib.Ieee.Scale.{finite};
 ghost use Rattle.exact.specs.Float.{_⊕_, bits};
 ghost use Rattle.numeric.specs.Order.{patternOf};
 ghost use Rattle.numeric.specs.Real.{inRange};
-ghost use Rattle.trajectory.specs.Input.{measured, trajectory, origin};
+ghost use Rattle.trajectory.specs.Input.{measured, trajectory, trackOrigin};
 ghost use Rattle.trajectory.specs.Steps.{Valid};
 ghost use Rattle.smooth.specs.Steps.{FiniteCells, SmallOrigin, Published, Reweighed, Tabulated, Numbers, FitDone};
 use crate::Settings;
@@ -112,7 +112,7 @@ pub(crate) fn fit(
     requires { ⌜ (
         let a = measured anchors (now «anchor_epoch») (now «anchor_position») (now «anchor_sigma») in
         let l = measured links (now «link_epoch») (now «link_change») (now «link_sigma») in
-        Valid (trajectory n a l) × ((t : ℕ) → t < 3 → inRange (origin a t) ≡ true)) ⌝ }
+        Valid (trajectory n a l) × ((t : ℕ) → t < 3 → inRange (trackOrigin a t) ≡ true)) ⌝ }
     ensures { λ ok. ⌜ (
         let a = measured anchors (now («anchor_epoch» .entry)) (now («anchor_position» .entry)) (now («anchor_sigma» .entry)) in
         let l = measured links (now («link_epoch» .entry)) (now («link_change» .entry)) (now («link_sigma» .entry)) in

@@ -6,7 +6,7 @@ use lib.Ieee.Fits.{cond-fits, add-fits, sub-fits}
 use Rattle.exact.specs.Float.{_⊕_, _⊖_}
 use Rattle.tridiagonal.proofs.RowAccuracy.{Fitting, rows-accurate}
 use Rattle.trajectory.specs.Input.{Trajectory, indexAt}
-use Rattle.trajectory.specs.Equations.{changed, raise, lower, zeros, Scales, weight, nextAt, anchorPull, linkPull, linkDiagonal, linkRight, diagonal, upper, right, equationsOf}
+use Rattle.trajectory.specs.Equations.{changed, raisedAt, lower, noEquations, Scales, trackWeight, nextAt, anchorPull, linkPull, linkDiagonal, linkRight, diagonal, upper, right, equationsOf}
 use Rattle.trajectory.specs.Pass.{PassAccurate}
 
 -- every float of a column fits
@@ -18,13 +18,13 @@ unfolding changed
 changed-fits step c f g zero k = g k
 changed-fits step c f g (suc j) k = f j k (changed step c j k) (changed-fits step c f g j k)
 
-raise-fits : (row : ℕ → ℕ) (amount : ℕ → Float) (j k : ℕ) (x : Float) → Fit x → Fit (raise row amount j k x)
+raise-fits : (row : ℕ → ℕ) (amount : ℕ → Float) (j k : ℕ) (x : Float) → Fit x → Fit (raisedAt row amount j k x)
 raise-fits row amount j k x f = cond-fits binary64 (eqb (row j) k) (x ⊕ amount j) x (add-fits binary64 x (amount j)) f
 
 lower-fits : (row : ℕ → ℕ) (amount : ℕ → Float) (j k : ℕ) (x : Float) → Fit x → Fit (lower row amount j k x)
 lower-fits row amount j k x f = cond-fits binary64 (eqb (row j) k) (x ⊖ amount j) x (sub-fits binary64 x (amount j)) f
 
-zeros-fit : (k : ℕ) → Fit (zeros k)
+zeros-fit : (k : ℕ) → Fit (noEquations k)
 unfolding ofBits fits
 zeros-fit k = tt
 
@@ -32,20 +32,20 @@ module _ (p : Trajectory) (s : Scales) (t : ℕ) where
   diagonal-fits : (k : ℕ) → Fit (diagonal p s t k)
   unfolding diagonal
   diagonal-fits k =
-      changed-fits (linkDiagonal (p .links) (s .links) t) (changed (raise (indexAt (p .anchors)) (weight (p .anchors) (s .anchors) t)) zeros (p .anchors .count))
-      (λ j k x f. raise-fits (nextAt (p .links)) (weight (p .links) (s .links) t) j k (raise (indexAt (p .links)) (weight (p .links) (s .links) t) j k x) (raise-fits (indexAt (p .links)) (weight (p .links) (s .links) t) j k x f))
-      (changed-fits (raise (indexAt (p .anchors)) (weight (p .anchors) (s .anchors) t)) zeros (raise-fits (indexAt (p .anchors)) (weight (p .anchors) (s .anchors) t)) zeros-fit (p .anchors .count)) (p .links .count) k
+      changed-fits (linkDiagonal (p .links) (s .links) t) (changed (raisedAt (indexAt (p .anchors)) (trackWeight (p .anchors) (s .anchors) t)) noEquations (p .anchors .count))
+      (λ j k x f. raise-fits (nextAt (p .links)) (trackWeight (p .links) (s .links) t) j k (raisedAt (indexAt (p .links)) (trackWeight (p .links) (s .links) t) j k x) (raise-fits (indexAt (p .links)) (trackWeight (p .links) (s .links) t) j k x f))
+      (changed-fits (raisedAt (indexAt (p .anchors)) (trackWeight (p .anchors) (s .anchors) t)) noEquations (raise-fits (indexAt (p .anchors)) (trackWeight (p .anchors) (s .anchors) t)) zeros-fit (p .anchors .count)) (p .links .count) k
 
   upper-fits : (k : ℕ) → Fit (upper p s t k)
   unfolding upper
-  upper-fits k = changed-fits (lower (indexAt (p .links)) (weight (p .links) (s .links) t)) zeros (lower-fits (indexAt (p .links)) (weight (p .links) (s .links) t)) zeros-fit (p .links .count) k
+  upper-fits k = changed-fits (lower (indexAt (p .links)) (trackWeight (p .links) (s .links) t)) noEquations (lower-fits (indexAt (p .links)) (trackWeight (p .links) (s .links) t)) zeros-fit (p .links .count) k
 
   right-fits : (k : ℕ) → Fit (right p s t k)
   unfolding right
   right-fits k =
-      changed-fits (linkRight (p .links) (s .links) t) (changed (raise (indexAt (p .anchors)) (anchorPull (p .anchors) (s .anchors) t)) zeros (p .anchors .count))
+      changed-fits (linkRight (p .links) (s .links) t) (changed (raisedAt (indexAt (p .anchors)) (anchorPull (p .anchors) (s .anchors) t)) noEquations (p .anchors .count))
       (λ j k x f. raise-fits (nextAt (p .links)) (linkPull (p .links) (s .links) t) j k (lower (indexAt (p .links)) (linkPull (p .links) (s .links) t) j k x) (lower-fits (indexAt (p .links)) (linkPull (p .links) (s .links) t) j k x f))
-      (changed-fits (raise (indexAt (p .anchors)) (anchorPull (p .anchors) (s .anchors) t)) zeros (raise-fits (indexAt (p .anchors)) (anchorPull (p .anchors) (s .anchors) t)) zeros-fit (p .anchors .count)) (p .links .count) k
+      (changed-fits (raisedAt (indexAt (p .anchors)) (anchorPull (p .anchors) (s .anchors) t)) noEquations (raise-fits (indexAt (p .anchors)) (anchorPull (p .anchors) (s .anchors) t)) zeros-fit (p .anchors .count)) (p .links .count) k
 
   fitting : (n : ℕ) → Fitting (equationsOf p s t) n
   fitting n = record { diagonal-fits = λ i h. diagonal-fits i; upper-fits = λ i h. upper-fits i; right-fits = λ i h. right-fits i }

@@ -11,15 +11,15 @@ use lib.ListN.{length}
 use lib.Ieee.{Float, isNan}
 use Rattle.exact.specs.Float.{_⊕_, _⊖_}
 use Rattle.tridiagonal.specs.Rows.{axisIn, Axes, SameOutside}
-use Rattle.tridiagonal.specs.Tridiagonal.{Equations}
-use Rattle.tridiagonal.specs.Steps.{Alike, NoNan, Spoilt}
+use Rattle.tridiagonal.specs.Tridiagonal.{Equations, NoNan, Spoilt}
+use Rattle.tridiagonal.specs.Steps.{Alike}
 use Rattle.tridiagonal.proofs.EachBelow.{left-true, right-true, who-fails}
 use Rattle.tridiagonal.proofs.Cells.{kept-none, kept-then}
 use Rattle.tridiagonal.proofs.Axes.{Beside, beside, Touched}
 use Rattle.tridiagonal.proofs.Nan.{IsNan, add-nan, sub-nan}
 use Rattle.trajectory.specs.Input.{Measured, indexAt}
-use Rattle.trajectory.specs.Equations.{changed, raise, lower, weight, nextAt, anchorPull, linkPull, Change, anchorChange, linkChange, changedBy}
-use Rattle.trajectory.specs.Steps.{Added, AddDone}
+use Rattle.trajectory.specs.Equations.{changed, raisedAt, lower, trackWeight, nextAt, anchorPull, linkPull}
+use Rattle.trajectory.specs.Steps.{Added, AddDone, Change, anchorChange, linkChange, changedBy}
 use Rattle.trajectory.proofs.Changed.{changed-none}
 
 -- ---- a NaN stays
@@ -34,7 +34,7 @@ pick : (b : Bool) (x y : Float) → IsNan x → IsNan y → IsNan (cond b x y)
 pick true x y f g = f
 pick false x y f g = g
 
-raise-nan : (row : ℕ → ℕ) (amount : ℕ → Float) (j k : ℕ) (x : Float) → IsNan x → IsNan (raise row amount j k x)
+raise-nan : (row : ℕ → ℕ) (amount : ℕ → Float) (j k : ℕ) (x : Float) → IsNan x → IsNan (raisedAt row amount j k x)
 raise-nan row amount j k x h = pick (eqb (row j) k) (x ⊕ amount j) x (add-nan x (amount j) h) h
 
 lower-nan : (row : ℕ → ℕ) (amount : ℕ → Float) (j k : ℕ) (x : Float) → IsNan x → IsNan (lower row amount j k x)
@@ -42,15 +42,15 @@ lower-nan row amount j k x h = pick (eqb (row j) k) (x ⊖ amount j) x (sub-nan 
 
 pub anchors-steady : (m : Measured) (scale : ℕ → Float) → Steady (anchorChange m scale)
 anchors-steady m scale = record {
-  diagonal = λ t. raise-nan (indexAt m) (weight m scale t);
+  diagonal = λ t. raise-nan (indexAt m) (trackWeight m scale t);
   upper = λ t j k x h. h;
   right = λ t. raise-nan (indexAt m) (anchorPull m scale t);
 }
 
 pub links-steady : (m : Measured) (scale : ℕ → Float) → Steady (linkChange m scale)
 links-steady m scale = record {
-  diagonal = λ t j k x h. raise-nan (nextAt m) (weight m scale t) j k _ (raise-nan (indexAt m) (weight m scale t) j k x h);
-  upper = λ t. lower-nan (indexAt m) (weight m scale t);
+  diagonal = λ t j k x h. raise-nan (nextAt m) (trackWeight m scale t) j k _ (raise-nan (indexAt m) (trackWeight m scale t) j k x h);
+  upper = λ t. lower-nan (indexAt m) (trackWeight m scale t);
   right = λ t j k x h. raise-nan (nextAt m) (linkPull m scale t) j k _ (lower-nan (indexAt m) (linkPull m scale t) j k x h);
 }
 

@@ -12,15 +12,15 @@ use lib.Ieee.Fits.{add-fits}
 use Rattle.exact.specs.Float.{_⊕_, _⊖_, _⊗_, _⊘_}
 use Rattle.numeric.specs.Order.{patternOf}
 use Rattle.numeric.proofs.OrderLaws.{pattern-bits, isNan-differs}
-use Rattle.tridiagonal.specs.Rows.{floatAt, cell, axisIn}
+use Rattle.tridiagonal.specs.Rows.{floatAt, rowCell, axisIn}
 use Rattle.tridiagonal.specs.Steps.{Alike, NumbersAt}
 use Rattle.tridiagonal.proofs.EachBelow.{left-true, right-true}
 use Rattle.tridiagonal.proofs.Cells.{same-float, float-place, float-hit, float-miss, number-set, update}
 use Rattle.tridiagonal.proofs.Axes.{touched-none, touched-diagonal, touched-right, touched-if, taken}
 use Rattle.tridiagonal.proofs.Nan.{which-fails, un-not}
 use Rattle.trajectory.specs.Input.{Measured, indexAt}
-use Rattle.trajectory.specs.Equations.{weight, anchorPull, anchorChange, changedBy}
-use Rattle.trajectory.specs.Steps.{number, AnchorAdded, AddDone}
+use Rattle.trajectory.specs.Equations.{trackWeight, anchorPull}
+use Rattle.trajectory.specs.Steps.{number, AnchorAdded, AddDone, anchorChange, changedBy}
 use Rattle.trajectory.proofs.Changed.{changed-next, raise-next}
 use Rattle.trajectory.proofs.Adding.{AxisAdded, Step, Adding, anchors-steady, y-next, z-next, adding-ends, adding-more}
 
@@ -66,7 +66,7 @@ module _ (w : List ℕ) (at : ℕ) (a b : Float) where
 -- ---- what it does to its axis
 
 module _ (w₀ : List ℕ) (n : ℕ) (m : Measured) (scale : ℕ → Float) (j t i : ℕ) (w : List ℕ) (at : ℕ) (a b : Float) (place : at ≡ i * 9 + t) (small : t < 3) (inside : i < n) (room : n * 9 ≤ length w) (ei : i ≡ indexAt m j)
-    (ea : a ≡ weight m scale t j) (eb : b ≡ anchorPull m scale t j) (s : AxisAdded (anchorChange m scale) w₀ n t j w) where
+    (ea : a ≡ trackWeight m scale t j) (eb : b ≡ anchorPull m scale t j) (s : AxisAdded (anchorChange m scale) w₀ n t j w) where
   abbrev d : Float
   d = floatAt w at ⊕ a
 
@@ -83,12 +83,12 @@ module _ (w₀ : List ℕ) (n : ℕ) (m : Measured) (scale : ℕ → Float) (j t
   stored-same = record {
     diagonal = λ k h. float-miss w1 (at + 6) (k * 9 + t) (patternOf r) (omega arith)
         ∙ update w at t i k d (λ x. x ⊕ a) (omega arith) place (omega arith) (add-fits binary64 _ _) refl
-        ∙ raise-next (indexAt m) (weight m scale t) (cell w₀ t) j k i a _ ei ea (s .same .diagonal k h);
+        ∙ raise-next (indexAt m) (trackWeight m scale t) (rowCell w₀ t) j k i a _ ei ea (s .same .diagonal k h);
     upper = λ k h. float-miss w1 (at + 6) (k * 9 + (3 + t)) (patternOf r) (omega arith) ∙ float-miss w at (k * 9 + (3 + t)) (patternOf d) (omega arith)
-        ∙ changed-next (λ j k x. x) (cell w₀ (3 + t)) j k _ (s .same .upper k h);
+        ∙ changed-next (λ j k x. x) (rowCell w₀ (3 + t)) j k _ (s .same .upper k h);
     right = λ k h. update w1 (at + 6) (6 + t) i k r (λ x. x ⊕ b) (omega arith) (omega arith) (simp length-set (omega arith)) (add-fits binary64 _ _)
         (ap (λ (x : Float). x ⊕ b) (sym (float-miss w at (at + 6) (patternOf d) (omega arith))))
-        ∙ raise-next (indexAt m) (anchorPull m scale t) (cell w₀ (6 + t)) j k i b _ ei eb (float-miss w at (k * 9 + (6 + t)) (patternOf d) (omega arith) ∙ s .same .right k h);
+        ∙ raise-next (indexAt m) (anchorPull m scale t) (rowCell w₀ (6 + t)) j k i b _ ei eb (float-miss w at (k * 9 + (6 + t)) (patternOf d) (omega arith) ∙ s .same .right k h);
   }
 
   stored-number : (k : ℕ) → isNan d ≡ false → isNan r ≡ false → isNan (floatAt w k) ≡ false → isNan (floatAt w2 k) ≡ false
@@ -127,7 +127,7 @@ module _ (w₀ : List ℕ) (n : ℕ) (m : Measured) (scale : ℕ → Float) (j t
   }
 
 -- an anchor's weight and pull, from what its columns hold
-pub anchor-weight : (m : Measured) (scale : ℕ → Float) (t j q : ℕ) (c : Float) → c ≡ scale j → q ≡ j * 3 + t → (let g = getD (m .sigma) q nan in c ⊘ (g ⊗ g) ≡ weight m scale t j)
+pub anchor-weight : (m : Measured) (scale : ℕ → Float) (t j q : ℕ) (c : Float) → c ≡ scale j → q ≡ j * 3 + t → (let g = getD (m .sigma) q nan in c ⊘ (g ⊗ g) ≡ trackWeight m scale t j)
 anchor-weight m scale t j q c ec eq = rw (ec, eq)
 
 pub anchor-pull : (m : Measured) (scale : ℕ → Float) (t j q o : ℕ) (c : Float) → c ≡ scale j → q ≡ j * 3 + t → o ≡ 0 * 3 + t
@@ -150,7 +150,7 @@ module _ (w₀ : List ℕ) (n : ℕ) (m : Measured) (j : ℕ) (w : List ℕ) (s 
   scale-is : c ≡ scale j
   scale-is = ec ∙ same-float w₀ w (n * 9 + j) (s .kept .high (n * 9 + j) (omega arith))
 
-  weight-is : (t q : ℕ) → q ≡ j * 3 + t → a q ≡ weight m scale t j
+  weight-is : (t q : ℕ) → q ≡ j * 3 + t → a q ≡ trackWeight m scale t j
   weight-is t q e = anchor-weight m scale t j q c scale-is e
 
   pull-is : (t q : ℕ) → q ≡ j * 3 + t → b q t ≡ anchorPull m scale t j

@@ -12,15 +12,16 @@ use lib.Ieee.Fits.{add-fits, sub-fits}
 use Rattle.exact.specs.Float.{_⊕_, _⊖_, _⊗_, _⊘_}
 use Rattle.numeric.specs.Order.{patternOf}
 use Rattle.numeric.proofs.OrderLaws.{pattern-bits}
-use Rattle.tridiagonal.specs.Rows.{floatAt, cell, axisIn}
-use Rattle.tridiagonal.specs.Steps.{Alike, NumbersAt, Spoilt}
+use Rattle.tridiagonal.specs.Rows.{floatAt, rowCell, axisIn}
+use Rattle.tridiagonal.specs.Steps.{Alike, NumbersAt}
+use Rattle.tridiagonal.specs.Tridiagonal.{Spoilt}
 use Rattle.tridiagonal.proofs.EachBelow.{left-true, right-true}
 use Rattle.tridiagonal.proofs.Cells.{same-float, float-place, float-hit, float-miss, float-miss2, float-miss3, number-set, update}
 use Rattle.tridiagonal.proofs.Axes.{touched-none, touched-diagonal, touched-upper, touched-right, touched-if, taken}
 use Rattle.tridiagonal.proofs.Nan.{IsNan, which-fails, un-not}
 use Rattle.trajectory.specs.Input.{Measured, indexAt}
-use Rattle.trajectory.specs.Equations.{weight, linkPull, linkChange, changedBy}
-use Rattle.trajectory.specs.Steps.{number, LinkAdded, AddDone}
+use Rattle.trajectory.specs.Equations.{trackWeight, linkPull}
+use Rattle.trajectory.specs.Steps.{number, LinkAdded, AddDone, linkChange, changedBy}
 use Rattle.trajectory.proofs.Changed.{lower-next, both-next, across-next}
 use Rattle.trajectory.proofs.Adding.{AxisAdded, Step, Adding, links-steady, y-next, z-next, adding-ends, adding-more}
 use Rattle.trajectory.proofs.Anchors.{not-number, self-equal}
@@ -76,7 +77,7 @@ module _ (w : List ℕ) (at : ℕ) (a b : Float) where
 -- ---- what it does to its axis
 
 module _ (w₀ : List ℕ) (n : ℕ) (m : Measured) (scale : ℕ → Float) (j t i : ℕ) (w : List ℕ) (at : ℕ) (a b : Float) (place : at ≡ i * 9 + t) (small : t < 3) (inside : i + 1 < n) (room : n * 9 ≤ length w) (ei : i ≡ indexAt m j)
-    (ea : a ≡ weight m scale t j) (eb : b ≡ linkPull m scale t j) (s : AxisAdded (linkChange m scale) w₀ n t j w) where
+    (ea : a ≡ trackWeight m scale t j) (eb : b ≡ linkPull m scale t j) (s : AxisAdded (linkChange m scale) w₀ n t j w) where
   abbrev d : Float
   d = floatAt w at ⊕ a
 
@@ -114,18 +115,18 @@ module _ (w₀ : List ℕ) (n : ℕ) (m : Measured) (scale : ℕ → Float) (j t
         (ap (λ (x : Float). x ⊕ a) (sym (float-miss3 w at (at + 3) (at + 6) (at + 9) _ _ _ (omega arith) (omega arith) (omega arith))))
         ∙ ap (λ (x : Float). cond (eqb (i + 1) k) (x ⊕ a) x)
         (float-miss2 w1 (at + 3) (at + 6) (k * 9 + t) _ _ (omega arith) (omega arith) ∙ update w at t i k d (λ x. x ⊕ a) (omega arith) place (omega arith) (add-fits binary64 _ _) refl)
-        ∙ both-next (indexAt m) (weight m scale t) (cell w₀ t) j k i a _ ei ea (s .same .diagonal k h);
+        ∙ both-next (indexAt m) (trackWeight m scale t) (rowCell w₀ t) j k i a _ ei ea (s .same .diagonal k h);
     upper = λ k h. float-miss3 w2 (at + 6) (at + 9) (at + 15) (k * 9 + (3 + t)) _ _ _ (omega arith) (omega arith) (omega arith)
         ∙ update w1 (at + 3) (3 + t) i k u (λ x. x ⊖ a) (omega arith) (omega arith) (simp length-set (omega arith)) (sub-fits binary64 _ _)
         (ap (λ (x : Float). x ⊖ a) (sym (float-miss w at (at + 3) (patternOf d) (omega arith))))
-        ∙ lower-next (indexAt m) (weight m scale t) (cell w₀ (3 + t)) j k i a _ ei ea (float-miss w at (k * 9 + (3 + t)) (patternOf d) (omega arith) ∙ s .same .upper k h);
+        ∙ lower-next (indexAt m) (trackWeight m scale t) (rowCell w₀ (3 + t)) j k i a _ ei ea (float-miss w at (k * 9 + (3 + t)) (patternOf d) (omega arith) ∙ s .same .upper k h);
     right = λ k h. update w4 (at + 15) (6 + t) (i + 1) k q (λ x. x ⊕ b) (omega arith) (omega arith) (simp length-set (omega arith)) (add-fits binary64 _ _)
         (ap (λ (x : Float). x ⊕ b) (sym (float-miss w3 (at + 9) (at + 15) (patternOf e) (omega arith) ∙ float-miss3 w at (at + 3) (at + 6) (at + 15) _ _ _ (omega arith) (omega arith) (omega arith))))
         ∙ ap (λ (x : Float). cond (eqb (i + 1) k) (x ⊕ b) x)
         (float-miss w3 (at + 9) (k * 9 + (6 + t)) (patternOf e) (omega arith)
         ∙ update w2 (at + 6) (6 + t) i k r (λ x. x ⊖ b) (omega arith) (omega arith) (simp length-set (omega arith)) (sub-fits binary64 _ _)
         (ap (λ (x : Float). x ⊖ b) (sym (float-miss2 w at (at + 3) (at + 6) _ _ (omega arith) (omega arith)))))
-        ∙ across-next (indexAt m) (linkPull m scale t) (cell w₀ (6 + t)) j k i b _ ei eb (float-miss2 w at (at + 3) (k * 9 + (6 + t)) _ _ (omega arith) (omega arith) ∙ s .same .right k h);
+        ∙ across-next (indexAt m) (linkPull m scale t) (rowCell w₀ (6 + t)) j k i b _ ei eb (float-miss2 w at (at + 3) (k * 9 + (6 + t)) _ _ (omega arith) (omega arith) ∙ s .same .right k h);
   }
 
   stored-number : (k : ℕ) → Five (number d) (number u) (number r) (number e) (number q) → isNan (floatAt w k) ≡ false → isNan (floatAt w5 k) ≡ false
@@ -210,7 +211,7 @@ module _ (w₀ : List ℕ) (n : ℕ) (m : Measured) (scale : ℕ → Float) (j t
   }
 
 -- a link's weight and pull, from what its columns hold
-pub link-weight : (m : Measured) (scale : ℕ → Float) (t j q : ℕ) (c : Float) → c ≡ scale j → q ≡ j * 3 + t → (let g = getD (m .sigma) q nan in c ⊘ (g ⊗ g) ≡ weight m scale t j)
+pub link-weight : (m : Measured) (scale : ℕ → Float) (t j q : ℕ) (c : Float) → c ≡ scale j → q ≡ j * 3 + t → (let g = getD (m .sigma) q nan in c ⊘ (g ⊗ g) ≡ trackWeight m scale t j)
 link-weight m scale t j q c ec eq = rw (ec, eq)
 
 pub link-pull : (m : Measured) (scale : ℕ → Float) (t j q : ℕ) (c : Float) → c ≡ scale j → q ≡ j * 3 + t
@@ -233,7 +234,7 @@ module _ (w₀ : List ℕ) (n skip : ℕ) (m : Measured) (j : ℕ) (w : List ℕ
   scale-is : c ≡ scale j
   scale-is = ec ∙ same-float w₀ w (n * 9 + skip + j) (s .kept .high (n * 9 + skip + j) (omega arith))
 
-  weight-is : (t q : ℕ) → q ≡ j * 3 + t → a q ≡ weight m scale t j
+  weight-is : (t q : ℕ) → q ≡ j * 3 + t → a q ≡ trackWeight m scale t j
   weight-is t q e = link-weight m scale t j q c scale-is e
 
   pull-is : (t q : ℕ) → q ≡ j * 3 + t → b q ≡ linkPull m scale t j

@@ -5,17 +5,17 @@ use mathlib.Core.Logic.{_⊎_, inl, inr, ⊎-elim}
 use mathlib.Core.List.{List}
 use Prim.Native.Nat.{ℕ, zero, suc, _+_, _*_, _<_}
 use native.Mathlib.Omega.{arith}
-use Rattle.tridiagonal.specs.Rows.{floatAt, axisIn, Axes, onAxes, SameOutside, Filled}
-use Rattle.tridiagonal.specs.Tridiagonal.{Equations, axisSolved}
-use Rattle.tridiagonal.specs.Steps.{Alike, NoNan, Spoilt, Solved}
+use Rattle.tridiagonal.specs.Rows.{floatAt, axisIn, Axes, onAxes, SameOutside, Solved}
+use Rattle.tridiagonal.specs.Tridiagonal.{Equations, axisSolved, NoNan, Spoilt}
+use Rattle.tridiagonal.specs.Steps.{Alike, Filled}
 use Rattle.tridiagonal.proofs.EachBelow.{first-fails, second-fails, third-fails}
 use Rattle.tridiagonal.proofs.Cells.{kept-then, same-float}
 use Rattle.tridiagonal.proofs.Alike.{alike-then, spoilt-same, axis-same, solution-same}
 use Rattle.tridiagonal.proofs.Nan.{spoilt-fails}
 use Rattle.trajectory.specs.Input.{Trajectory}
-use Rattle.trajectory.specs.Equations.{Scales, anchorChange, linkChange, changedBy, equationsOf}
+use Rattle.trajectory.specs.Equations.{Scales, equationsOf}
 use Rattle.trajectory.specs.Pass.{passes, fitOf}
-use Rattle.trajectory.specs.Steps.{AddDone, scalesIn, PassDone}
+use Rattle.trajectory.specs.Steps.{AddDone, scalesIn, PassDone, anchorChange, linkChange, changedBy}
 use Rattle.trajectory.proofs.Assembly.{anchored-alike, anchored-spoilt, linked-alike, cleared-numbers, equations-same}
 
 three : (f g : ℕ → Bool) → f 0 ≡ g 0 → f 1 ≡ g 1 → f 2 ≡ g 2 → onAxes f ≡ onAxes g

@@ -5,7 +5,7 @@ use lib.Dec.{eqb}
 use lib.Ieee.{Float}
 use Rattle.exact.specs.Float.{_⊕_, _⊖_, _⊗_, _⊘_, +0}
 use Rattle.tridiagonal.specs.Tridiagonal.{Equations}
-use Rattle.trajectory.specs.Input.{Measured, Trajectory, indexAt, valueAt, sigmaAt, origin}
+use Rattle.trajectory.specs.Input.{Measured, Trajectory, indexAt, valueAt, sigmaAt, trackOrigin}
 
 -- A column once the first j measurements have changed it in turn, where step j k changes row k by measurement j.
 unfoldable pub changed : (ℕ → ℕ → Float → Float) → (ℕ → Float) → ℕ → ℕ → Float
@@ -13,14 +13,14 @@ changed step c zero k = c k
 changed step c (suc j) k = step j k (changed step c j k)
 
 -- measurement j raises, or lowers, its own row by its amount
-abbrev pub raise : (ℕ → ℕ) → (ℕ → Float) → ℕ → ℕ → Float → Float
-raise row amount j k x = cond (eqb (row j) k) (x ⊕ amount j) x
+abbrev pub raisedAt : (ℕ → ℕ) → (ℕ → Float) → ℕ → ℕ → Float → Float
+raisedAt row amount j k x = cond (eqb (row j) k) (x ⊕ amount j) x
 
 abbrev pub lower : (ℕ → ℕ) → (ℕ → Float) → ℕ → ℕ → Float → Float
 lower row amount j k x = cond (eqb (row j) k) (x ⊖ amount j) x
 
-abbrev pub zeros : ℕ → Float
-zeros k = +0
+abbrev pub noEquations : ℕ → Float
+noEquations k = +0
 
 -- what scales the weight of each anchor and of each link
 pub record Scales : Type 0 where
@@ -28,8 +28,8 @@ pub record Scales : Type 0 where
   pub links : ℕ → Float
 
 -- the weight of measurement j on axis t: its scale over the square of its sigma
-abbrev pub weight : Measured → (ℕ → Float) → ℕ → ℕ → Float
-weight m scale t j = scale j ⊘ (sigmaAt m t j ⊗ sigmaAt m t j)
+abbrev pub trackWeight : Measured → (ℕ → Float) → ℕ → ℕ → Float
+trackWeight m scale t j = scale j ⊘ (sigmaAt m t j ⊗ sigmaAt m t j)
 
 -- the epoch at which link j ends
 abbrev pub nextAt : Measured → ℕ → ℕ
@@ -37,62 +37,33 @@ nextAt m j = indexAt m j + 1
 
 -- what an anchor adds to the right side, and what a link takes from it at its start and adds at its end
 abbrev pub anchorPull : Measured → (ℕ → Float) → ℕ → ℕ → Float
-anchorPull m scale t j = weight m scale t j ⊗ (valueAt m t j ⊖ origin m t)
+anchorPull m scale t j = trackWeight m scale t j ⊗ (valueAt m t j ⊖ trackOrigin m t)
 
 abbrev pub linkPull : Measured → (ℕ → Float) → ℕ → ℕ → Float
-linkPull m scale t j = weight m scale t j ⊗ valueAt m t j
+linkPull m scale t j = trackWeight m scale t j ⊗ valueAt m t j
 
 -- a link raises the diagonal at both its ends
 abbrev pub linkDiagonal : Measured → (ℕ → Float) → ℕ → ℕ → ℕ → Float → Float
-linkDiagonal m scale t j k x = raise (nextAt m) (weight m scale t) j k (raise (indexAt m) (weight m scale t) j k x)
+linkDiagonal m scale t j k x = raisedAt (nextAt m) (trackWeight m scale t) j k (raisedAt (indexAt m) (trackWeight m scale t) j k x)
 
 abbrev pub linkRight : Measured → (ℕ → Float) → ℕ → ℕ → ℕ → Float → Float
-linkRight m scale t j k x = raise (nextAt m) (linkPull m scale t) j k (lower (indexAt m) (linkPull m scale t) j k x)
-
--- how each measurement in turn changes the rows of axis t
-pub record Change : Type 0 where
-  pub diagonal : (t : ℕ) → (j k : ℕ) → Float → Float
-  pub upper : (t : ℕ) → (j k : ℕ) → Float → Float
-  pub right : (t : ℕ) → (j k : ℕ) → Float → Float
-
--- an anchor leaves the upper diagonal as it is
-abbrev pub anchorChange : Measured → (ℕ → Float) → Change
-anchorChange m scale = record {
-  diagonal = λ t. raise (indexAt m) (weight m scale t);
-  upper = λ t j k x. x;
-  right = λ t. raise (indexAt m) (anchorPull m scale t);
-}
-
-abbrev pub linkChange : Measured → (ℕ → Float) → Change
-linkChange m scale = record {
-  diagonal = linkDiagonal m scale;
-  upper = λ t. lower (indexAt m) (weight m scale t);
-  right = linkRight m scale;
-}
-
--- the equations of axis t once the first j measurements have changed those of e
-abbrev pub changedBy : Change → Equations → (t j : ℕ) → Equations
-changedBy c e t j = record {
-  diagonal = changed (c .diagonal t) (e .diagonal) j;
-  upper = changed (c .upper t) (e .upper) j;
-  right = changed (c .right t) (e .right) j;
-}
+linkRight m scale t j k x = raisedAt (nextAt m) (linkPull m scale t) j k (lower (indexAt m) (linkPull m scale t) j k x)
 
 -- ---- the three columns of axis t: the anchors in turn, then the links in turn
 
 unfoldable pub diagonal : Trajectory → Scales → ℕ → ℕ → Float
 diagonal p s t =
     changed (linkDiagonal (p .links) (s .links) t)
-    (changed (raise (indexAt (p .anchors)) (weight (p .anchors) (s .anchors) t)) zeros (p .anchors .count))
+    (changed (raisedAt (indexAt (p .anchors)) (trackWeight (p .anchors) (s .anchors) t)) noEquations (p .anchors .count))
     (p .links .count)
 
 unfoldable pub upper : Trajectory → Scales → ℕ → ℕ → Float
-upper p s t = changed (lower (indexAt (p .links)) (weight (p .links) (s .links) t)) zeros (p .links .count)
+upper p s t = changed (lower (indexAt (p .links)) (trackWeight (p .links) (s .links) t)) noEquations (p .links .count)
 
 unfoldable pub right : Trajectory → Scales → ℕ → ℕ → Float
 right p s t =
     changed (linkRight (p .links) (s .links) t)
-    (changed (raise (indexAt (p .anchors)) (anchorPull (p .anchors) (s .anchors) t)) zeros (p .anchors .count))
+    (changed (raisedAt (indexAt (p .anchors)) (anchorPull (p .anchors) (s .anchors) t)) noEquations (p .anchors .count))
     (p .links .count)
 
 abbrev pub equationsOf : Trajectory → Scales → ℕ → Equations

@@ -34,8 +34,8 @@ abbrev pub sigmaAt : Measured → ℕ → ℕ → Float
 sigmaAt m t j = getD (m .sigma) (j * 3 + t) nan
 
 -- of the anchors, the position of the first: the fit counts from there
-abbrev pub origin : Measured → ℕ → Float
-origin m t = valueAt m t 0
+abbrev pub trackOrigin : Measured → ℕ → Float
+trackOrigin m t = valueAt m t 0
 
 -- the floats of work that a track needs
 abbrev pub workNeed : Trajectory → ℕ

@@ -6,7 +6,7 @@ use Rattle.exact.specs.Float.{_⊕_}
 use Rattle.tridiagonal.specs.Rows.{onAxes}
 use Rattle.tridiagonal.specs.Tridiagonal.{solution, axisSolved}
 use Rattle.tridiagonal.specs.Accuracy.{RowsAccurate}
-use Rattle.trajectory.specs.Input.{Trajectory, origin}
+use Rattle.trajectory.specs.Input.{Trajectory, trackOrigin}
 use Rattle.trajectory.specs.Equations.{Scales, equationsOf}
 
 -- a pass fails where an axis does: an epoch is held by no measurement, a pivot vanishes or an unknown is not finite
@@ -15,7 +15,7 @@ passes p s = onAxes (λ t. axisSolved (equationsOf p s t) (p .n))
 
 -- what a good pass fits at epoch k on axis t: the unknown and the origin
 unfoldable pub fitOf : Trajectory → Scales → ℕ → ℕ → Float
-fitOf p s t k = solution (equationsOf p s t) (p .n) k ⊕ origin (p .anchors) t
+fitOf p s t k = solution (equationsOf p s t) (p .n) k ⊕ trackOrigin (p .anchors) t
 
 -- On each axis the solution, before the origin is added, meets the pass's equations as closely as `RowsAccurate` says.
 abbrev pub PassAccurate : Trajectory → Scales → Type 0

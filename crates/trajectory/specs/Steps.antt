@@ -9,12 +9,41 @@ use lib.ListN.{length, set}
 use lib.Ieee.{Float, isNan}
 use Rattle.exact.specs.Float.{_⊕_, _⊖_}
 use Rattle.numeric.specs.Order.{patternOf}
-use Rattle.tridiagonal.specs.Rows.{floatAt, cell, axisIn, Axes, SameOutside}
-use Rattle.tridiagonal.specs.Tridiagonal.{solution}
-use Rattle.tridiagonal.specs.Steps.{Alike, NoNan, Spoilt}
+use Rattle.tridiagonal.specs.Rows.{floatAt, rowCell, axisIn, Axes, SameOutside}
+use Rattle.tridiagonal.specs.Tridiagonal.{Equations, solution, NoNan, Spoilt}
+use Rattle.tridiagonal.specs.Steps.{Alike}
 use Rattle.trajectory.specs.Input.{Measured, Trajectory, indexAt}
-use Rattle.trajectory.specs.Equations.{Change, changedBy, Scales, equationsOf}
+use Rattle.trajectory.specs.Equations.{changed, raisedAt, lower, Scales, trackWeight, anchorPull, linkPull, linkDiagonal, linkRight, equationsOf}
 use Rattle.trajectory.specs.Pass.{passes}
+
+-- how each measurement in turn changes the rows of axis t
+pub record Change : Type 0 where
+  pub diagonal : (t : ℕ) → (j k : ℕ) → Float → Float
+  pub upper : (t : ℕ) → (j k : ℕ) → Float → Float
+  pub right : (t : ℕ) → (j k : ℕ) → Float → Float
+
+-- an anchor leaves the upper diagonal as it is
+abbrev pub anchorChange : Measured → (ℕ → Float) → Change
+anchorChange m scale = record {
+  diagonal = λ t. raisedAt (indexAt m) (trackWeight m scale t);
+  upper = λ t j k x. x;
+  right = λ t. raisedAt (indexAt m) (anchorPull m scale t);
+}
+
+abbrev pub linkChange : Measured → (ℕ → Float) → Change
+linkChange m scale = record {
+  diagonal = linkDiagonal m scale;
+  upper = λ t. lower (indexAt m) (trackWeight m scale t);
+  right = linkRight m scale;
+}
+
+-- the equations of axis t once the first j measurements have changed those of e
+abbrev pub changedBy : Change → Equations → (t j : ℕ) → Equations
+changedBy c e t j = record {
+  diagonal = changed (c .diagonal t) (e .diagonal) j;
+  upper = changed (c .upper t) (e .upper) j;
+  right = changed (c .right t) (e .right) j;
+}
 
 -- the columns hold the measurements that are counted, each with an epoch that there is
 pub record Lent (m : Measured) (bound : ℕ) : Type 0 where
@@ -71,4 +100,4 @@ scalesIn p w = record { anchors = λ j. floatAt w (p .n * 9 + j); links = λ j. 
 pub record PassDone (p : Trajectory) (w : List ℕ) (ok : Bool) (w' : List ℕ) : Type 0 where
   pub kept : SameOutside 0 (p .n * 9) w w'
   pub answer : ok ≡ passes p (scalesIn p w)
-  pub solutions : ok ≡ true → Axes (λ t. (k : ℕ) → k < p .n → cell w' (6 + t) k ≡ solution (equationsOf p (scalesIn p w) t) (p .n) k)
+  pub solutions : ok ≡ true → Axes (λ t. (k : ℕ) → k < p .n → rowCell w' (6 + t) k ≡ solution (equationsOf p (scalesIn p w) t) (p .n) k)

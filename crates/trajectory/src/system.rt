@@ -4,10 +4,10 @@ ghost use Prim.Native.Nat.{_+_, _-_, _*_, _<_, _≤_};
 ghost use lib.ListN.{length};
 ghost use Rattle.exact.specs.Float.{_⊗_, _⊘_};
 ghost use Rattle.tridiagonal.specs.Rows.{Axes, axisIn, floatAt};
-ghost use Rattle.tridiagonal.specs.Steps.{NoNan, NumbersAt};
+ghost use Rattle.tridiagonal.specs.Steps.{NumbersAt};
+ghost use Rattle.tridiagonal.specs.Tridiagonal.{NoNan};
 ghost use Rattle.trajectory.specs.Input.{measured};
-ghost use Rattle.trajectory.specs.Equations.{anchorChange, linkChange};
-ghost use Rattle.trajectory.specs.Steps.{Lent, AnchorAdded, LinkAdded, AddDone};
+ghost use Rattle.trajectory.specs.Steps.{Lent, AnchorAdded, LinkAdded, AddDone, anchorChange, linkChange};
 use numeric::order::float;
 
 // Adds an anchor to the row of one axis whose diagonal stands at `at`: its scale c, sigma s and place v from the origin. False where a NaN would be stored.
@@ -58,7 +58,8 @@ pub(crate) fn add_anchors(
     value: &[f64],
     sigma: &[f64],
 ) -> bool
-    requires { ⌜ (0 < count) × (n * 9 + count ≤ length (now w)) × Lent (measured count (now index) (now value) (now sigma)) n × Axes (λ t. NoNan (axisIn (now w) t) n) ⌝ }
+    requires { ⌜ (0 < count) × (n * 9 + count ≤ length (now w)) × Lent (measured count (now index) (now value) (now sigma)) n
+        × Axes (λ t. NoNan (axisIn (now w) t) n) ⌝ }
     ensures { λ r. ⌜ (
         let m = measured count (now (index .entry)) (now (value .entry)) (now (sigma .entry)) in
         AddDone (anchorChange m (λ j. floatAt (now (w .entry)) (n * 9 + j))) (now (w .entry)) n count r (now (w .exit))) ⌝ }
@@ -95,7 +96,8 @@ pub(crate) fn add_links(
     value: &[f64],
     sigma: &[f64],
 ) -> bool
-    requires { ⌜ (n * 9 + skip + count ≤ length (now w)) × Lent (measured count (now index) (now value) (now sigma)) (n - 1) × Axes (λ t. NoNan (axisIn (now w) t) n) ⌝ }
+    requires { ⌜ (n * 9 + skip + count ≤ length (now w)) × Lent (measured count (now index) (now value) (now sigma)) (n - 1)
+        × Axes (λ t. NoNan (axisIn (now w) t) n) ⌝ }
     ensures { λ r. ⌜ (
         let m = measured count (now (index .entry)) (now (value .entry)) (now (sigma .entry)) in
         AddDone (linkChange m (λ j. floatAt (now (w .entry)) (n * 9 + skip + j))) (now (w .entry)) n count r (now (w .exit))) ⌝ }

@@ -7,8 +7,8 @@ use native.Mathlib.Omega.{arith}
 use lib.Ieee.{Float, isNan, le}
 use lib.Ieee.Scale.{finite}
 use Rattle.exact.specs.Float.{+0}
-use Rattle.tridiagonal.specs.Tridiagonal.{Equations, vanishing, pivot, reduced, eliminated, solvable, back, solution, held, finiteSolution, axisSolved}
-use Rattle.tridiagonal.specs.Steps.{Alike, Spoilt}
+use Rattle.tridiagonal.specs.Tridiagonal.{Equations, vanishing, pivot, reduced, eliminated, solvable, back, solution, held, finiteSolution, axisSolved, Spoilt}
+use Rattle.tridiagonal.specs.Steps.{Alike}
 use Rattle.tridiagonal.proofs.EachBelow.{each-same}
 
 pub back-same : (e e' : Equations) (m n : ℕ) → m < n → Alike e e' n → (j : ℕ) → back e' m j ≡ back e m j

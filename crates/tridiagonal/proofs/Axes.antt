@@ -5,14 +5,14 @@ use mathlib.Core.List.{List}
 use Prim.Native.Nat.{ℕ, _+_, _*_, _<_}
 use native.Mathlib.Omega.{arith}
 use lib.ListN.{getD, set}
-use Rattle.tridiagonal.specs.Rows.{cell, SameOutside}
+use Rattle.tridiagonal.specs.Rows.{rowCell, SameOutside}
 use Rattle.tridiagonal.proofs.Cells.{miss, same-float, kept-none, kept-set}
 
 -- axis u is as it was
 pub record Beside (u : ℕ) (w w' : List ℕ) : Type 0 where
-  pub diagonal : (k : ℕ) → cell w' u k ≡ cell w u k
-  pub upper : (k : ℕ) → cell w' (3 + u) k ≡ cell w (3 + u) k
-  pub right : (k : ℕ) → cell w' (6 + u) k ≡ cell w (6 + u) k
+  pub diagonal : (k : ℕ) → rowCell w' u k ≡ rowCell w u k
+  pub upper : (k : ℕ) → rowCell w' (3 + u) k ≡ rowCell w (3 + u) k
+  pub right : (k : ℕ) → rowCell w' (6 + u) k ≡ rowCell w (6 + u) k
 
 -- w' is w but for the places of axis t in the first n rows
 pub record Touched (t n : ℕ) (w w' : List ℕ) : Type 0 where

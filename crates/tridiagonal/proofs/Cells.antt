@@ -16,7 +16,8 @@ use Rattle.numeric.specs.Order.{patternOf}
 use Rattle.numeric.proofs.OrderLaws.{pattern-back}
 use lib.Ieee.{Float, isNan, nanBits, binary64, fits}
 use borrow.Author.Tests.{eqb-true, eqb-false}
-use Rattle.tridiagonal.specs.Rows.{floatAt, cell, SameOutside, Filled}
+use Rattle.tridiagonal.specs.Rows.{floatAt, rowCell, SameOutside}
+use Rattle.tridiagonal.specs.Steps.{Filled}
 
 -- equal places
 pub place : (xs : List ℕ) (i k : ℕ) → i ≡ k → getD xs i 0 ≡ getD xs k 0
@@ -80,10 +81,10 @@ number-set w i k x f h g o = go (eqb k i) refl
 
 -- The store of f of what stood there, at place s of row i: row k is changed where k is i.
 pub update : (w : List ℕ) (p s i k : ℕ) (x : Float) (f : Float → Float) → s < 9 → p ≡ i * 9 + s → p < length w → T (fits binary64 x) → x ≡ f (floatAt w p)
-    → cell (set w p (patternOf x)) s k ≡ cond (eqb i k) (f (cell w s k)) (cell w s k)
+    → rowCell (set w p (patternOf x)) s k ≡ cond (eqb i k) (f (rowCell w s k)) (rowCell w s k)
 update w p s i k x f small e h g ev = go (eqb i k) refl
   where
-    go : (b : Bool) → eqb i k ≡ b → cell (set w p (patternOf x)) s k ≡ cond b (f (cell w s k)) (cell w s k)
+    go : (b : Bool) → eqb i k ≡ b → rowCell (set w p (patternOf x)) s k ≡ cond b (f (rowCell w s k)) (rowCell w s k)
     go true q =
         let same : k * 9 + s ≡ p = omega (arith, eqb-true i k q) in
         float-hit w p (k * 9 + s) x g h same ∙ ev ∙ ap f (float-place w p (k * 9 + s) (sym same))

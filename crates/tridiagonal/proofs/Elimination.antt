@@ -14,9 +14,9 @@ use lib.Ieee.Fits.{sub-fits}
 use Rattle.exact.specs.Float.{_⊖_, _⊗_, _⊘_, +0}
 use Rattle.numeric.specs.Order.{patternOf}
 use Rattle.numeric.proofs.OrderLaws.{pattern-bits}
-use Rattle.tridiagonal.specs.Rows.{floatAt, cell, axisIn, Axes, SameOutside}
-use Rattle.tridiagonal.specs.Tridiagonal.{Equations, pivot, reduced, vanishing, axisSolved, goesOn, goodRow}
-use Rattle.tridiagonal.specs.Steps.{NoNan, NumbersAt, FirstRow, RowEliminated, Left, Eliminated}
+use Rattle.tridiagonal.specs.Rows.{floatAt, rowCell, axisIn, Axes, SameOutside}
+use Rattle.tridiagonal.specs.Tridiagonal.{Equations, pivot, reduced, vanishing, axisSolved, NoNan}
+use Rattle.tridiagonal.specs.Steps.{NumbersAt, FirstRow, RowEliminated, Left, Eliminated, goesOn, goodRow}
 use Rattle.tridiagonal.specs.declared.solve.Row.{Row}
 use Rattle.tridiagonal.proofs.EachBelow.{each-of, left-true, right-true, first-fails, second-fails, third-fails, who-fails}
 use Rattle.tridiagonal.proofs.Cells.{grown, kept-then, float-place, float-hit, float-miss}
@@ -39,11 +39,11 @@ goes-same d d' p p' q q' ed ep eq = rw (ed, ep, eq)
 -- ---- one axis, its rows 0 to i done
 
 pub record Rows (w₀ : List ℕ) (n i t : ℕ) (w : List ℕ) : Type 0 where
-  pub pivots : (k : ℕ) → k ≤ i → cell w t k ≡ pivot (axisIn w₀ t) k
-  pub below : (k : ℕ) → i < k → k < n → cell w t k ≡ cell w₀ t k
-  pub uppers : (k : ℕ) → k < n → cell w (3 + t) k ≡ cell w₀ (3 + t) k
-  pub rights : (k : ℕ) → k ≤ i → cell w (6 + t) k ≡ reduced (axisIn w₀ t) k
-  pub under : (k : ℕ) → i < k → k < n → cell w (6 + t) k ≡ cell w₀ (6 + t) k
+  pub pivots : (k : ℕ) → k ≤ i → rowCell w t k ≡ pivot (axisIn w₀ t) k
+  pub below : (k : ℕ) → i < k → k < n → rowCell w t k ≡ rowCell w₀ t k
+  pub uppers : (k : ℕ) → k < n → rowCell w (3 + t) k ≡ rowCell w₀ (3 + t) k
+  pub rights : (k : ℕ) → k ≤ i → rowCell w (6 + t) k ≡ reduced (axisIn w₀ t) k
+  pub under : (k : ℕ) → i < k → k < n → rowCell w (6 + t) k ≡ rowCell w₀ (6 + t) k
 
 rows-none : (w₀ : List ℕ) (n t : ℕ) → Rows w₀ n 0 t w₀
 unfolding pivot reduced
@@ -85,8 +85,8 @@ reached-beside w₀ n i t w w' r b s = record {
 pub reached-none : (w₀ : List ℕ) (n at t : ℕ) (r : Row) → at ≡ t → FirstRow w₀ at r → Reached w₀ n 0 t w₀ r
 unfolding pivot reduced
 reached-none w₀ n at t r e s =
-    let d : floatAt w₀ at ≡ cell w₀ t 0 = float-place w₀ at (0 * 9 + t) (omega arith) in
-    let q : floatAt w₀ (at + 6) ≡ cell w₀ (6 + t) 0 = float-place w₀ (at + 6) (0 * 9 + (6 + t)) (omega arith) in
+    let d : floatAt w₀ at ≡ rowCell w₀ t 0 = float-place w₀ at (0 * 9 + t) (omega arith) in
+    let q : floatAt w₀ (at + 6) ≡ rowCell w₀ (6 + t) 0 = float-place w₀ (at + 6) (0 * 9 + (6 + t)) (omega arith) in
     record {
       pivot-is = s .pivot ∙ d;
       right-is = s .right ∙ q;
@@ -131,13 +131,13 @@ module _ (w₀ : List ℕ) (n i t : ℕ) (w : List ℕ) (above : Row) (at : ℕ)
   abbrev e : Equations
   e = axisIn w₀ t
 
-  upper-at : floatAt w (at + 3) ≡ cell w₀ (3 + t) i
+  upper-at : floatAt w (at + 3) ≡ rowCell w₀ (3 + t) i
   upper-at = float-place w (at + 3) (i * 9 + (3 + t)) (omega arith) ∙ s .rows g .uppers i (omega arith)
 
-  diagonal-at : floatAt w (at + 9) ≡ cell w₀ t (i + 1)
+  diagonal-at : floatAt w (at + 9) ≡ rowCell w₀ t (i + 1)
   diagonal-at = float-place w (at + 9) ((i + 1) * 9 + t) (omega arith) ∙ s .rows g .below (i + 1) (omega arith) more
 
-  right-at : floatAt w (at + 15) ≡ cell w₀ (6 + t) (i + 1)
+  right-at : floatAt w (at + 15) ≡ rowCell w₀ (6 + t) (i + 1)
   right-at = float-place w (at + 15) ((i + 1) * 9 + (6 + t)) (omega arith) ∙ s .rows g .under (i + 1) (omega arith) more
 
   pub numbers-below : NoNan (axisIn w₀ t) n → NumbersAt w (at + 3) (at + 9) (at + 15)

@@ -10,8 +10,8 @@ use lib.Dec.{T}
 use lib.Ieee.{Float, nan, inf, fin, isNan, le, add, sub, mul, div}
 use lib.Ieee.Scale.{finite}
 use Rattle.exact.specs.Float.{_⊕_, _⊖_, _⊗_, _⊘_, +0}
-use Rattle.tridiagonal.specs.Tridiagonal.{Equations, pivot, factor, reduced, vanishing, solvable, back, solution, held, finiteSolution, axisSolved, goodRow}
-use Rattle.tridiagonal.specs.Steps.{Spoilt}
+use Rattle.tridiagonal.specs.Tridiagonal.{Equations, pivot, factor, reduced, vanishing, solvable, back, solution, held, finiteSolution, axisSolved, Spoilt}
+use Rattle.tridiagonal.specs.Steps.{goodRow}
 use Rattle.tridiagonal.proofs.EachBelow.{each-fails, first-fails, second-fails, third-fails, who-fails}
 
 -- ---- a NaN operand gives a NaN

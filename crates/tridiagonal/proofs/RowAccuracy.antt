@@ -19,7 +19,7 @@ use Rattle.exact.proofs.Number.{Sized, is-2^-, is-exactly, sized-0, sized-exact
 use Rattle.tridiagonal.specs.Tridiagonal.{Equations, pivot, factor, reduced, eliminated, back, solution}
 use Rattle.tridiagonal.proofs.RowGap.{Back, Steps, back-row, back-last, gap-small}
 use Rattle.tridiagonal.proofs.RowBound.{row-bound}
-use Rattle.tridiagonal.specs.Accuracy.{joined, RowAccurate, RowsMet, RowsAccurate}
+use Rattle.tridiagonal.specs.Accuracy.{joinedRows, RowAccurate, RowsMet, RowsAccurate}
 
 -- the first n rows of each column are binary64s, as every float of a program is
 pub record Fitting (q : Equations) (n : ℕ) : Type 0 where
@@ -168,7 +168,7 @@ module _ (q : Equations) (n : ℕ) (held : Fitting q n) (pf : (i : ℕ) → i < 
     u-is : Sized u u′ scale
     row : Solved i (g′ ⊙ u′)
 
-  beside : (i : ℕ) → i < n → Beside i (joined n i (q .upper i)) (joined n i (solution q n (suc i)))
+  beside : (i : ℕ) → i < n → Beside i (joinedRows n i (q .upper i)) (joinedRows n i (solution q n (suc i)))
   beside i h = go (ltb (suc i) n) (ltb→lt (suc i) n) (nltb→le (suc i) n)
     where
       go : (b : Bool) → (T b → suc i < n) → (T (not b) → n ≤ suc i) → Beside i (cond b (exactly (q .upper i)) 0ₑ) (cond b (exactly (solution q n (suc i))) 0ₑ)

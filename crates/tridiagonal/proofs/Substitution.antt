@@ -15,9 +15,9 @@ use lib.Ieee.Fits.{div-fits}
 use Rattle.exact.specs.Float.{_⊖_, _⊗_, _⊘_, +0}
 use Rattle.numeric.specs.Order.{patternOf}
 use Rattle.numeric.proofs.OrderLaws.{pattern-bits}
-use Rattle.tridiagonal.specs.Rows.{floatAt, cell, axisIn, Axes, SameOutside}
-use Rattle.tridiagonal.specs.Tridiagonal.{Equations, eachBelow, pivot, reduced, vanishing, eliminated, solvable, back, solution, held, finiteSolution, axisSolved, goodRow}
-use Rattle.tridiagonal.specs.Steps.{NoNan, NumbersAt, RowSolved, Left, Eliminated, Substituted, Solved}
+use Rattle.tridiagonal.specs.Rows.{floatAt, rowCell, axisIn, Axes, SameOutside, Solved}
+use Rattle.tridiagonal.specs.Tridiagonal.{Equations, eachBelow, pivot, reduced, vanishing, eliminated, solvable, back, solution, held, finiteSolution, axisSolved, NoNan}
+use Rattle.tridiagonal.specs.Steps.{NumbersAt, RowSolved, Left, Eliminated, Substituted, goodRow}
 use Rattle.tridiagonal.proofs.EachBelow.{each-at, each-of, each-same, each-fails, left-true, right-true, first-fails, second-fails, third-fails, who-fails, all-three}
 use Rattle.tridiagonal.proofs.Cells.{kept-then, float-place, float-hit, float-miss}
 use Rattle.tridiagonal.proofs.Axes.{Beside, beside, Touched, touched-none, touched-right, touched-if, taken}
@@ -41,10 +41,10 @@ unknownOf w n t j = back (axisIn w t) (n - 1) (n - 1 - j)
 -- ---- one axis, the unknowns of rows k to n - 1 found and finite; x is that of row k
 
 pub record Found (w₀ : List ℕ) (n k t : ℕ) (w : List ℕ) (x : Float) : Type 0 where
-  pub diagonal : (j : ℕ) → j < n → cell w t j ≡ cell w₀ t j
-  pub upper : (j : ℕ) → j < n → cell w (3 + t) j ≡ cell w₀ (3 + t) j
-  pub above : (j : ℕ) → j < k → cell w (6 + t) j ≡ cell w₀ (6 + t) j
-  pub done : (j : ℕ) → k ≤ j → j < n → cell w (6 + t) j ≡ unknownOf w₀ n t j
+  pub diagonal : (j : ℕ) → j < n → rowCell w t j ≡ rowCell w₀ t j
+  pub upper : (j : ℕ) → j < n → rowCell w (3 + t) j ≡ rowCell w₀ (3 + t) j
+  pub above : (j : ℕ) → j < k → rowCell w (6 + t) j ≡ rowCell w₀ (6 + t) j
+  pub done : (j : ℕ) → k ≤ j → j < n → rowCell w (6 + t) j ≡ unknownOf w₀ n t j
   pub ends : (j : ℕ) → k ≤ j → j < n → finite (unknownOf w₀ n t j) ≡ true
   pub next : k < n → x ≡ unknownOf w₀ n t k
 
@@ -70,13 +70,13 @@ found-beside w₀ n k t w w' x b s = record {
 
 -- row k, by the unknown x of row k + 1
 module _ (w₀ : List ℕ) (n k t : ℕ) (w : List ℕ) (x : Float) (at : ℕ) (place : at ≡ k * 9 + t) (small : t < 3) (inside : k < n) (s : Found w₀ n (k + 1) t w x) where
-  diagonal-at : floatAt w at ≡ cell w₀ t k
+  diagonal-at : floatAt w at ≡ rowCell w₀ t k
   diagonal-at = float-place w at (k * 9 + t) place ∙ s .diagonal k inside
 
-  upper-at : floatAt w (at + 3) ≡ cell w₀ (3 + t) k
+  upper-at : floatAt w (at + 3) ≡ rowCell w₀ (3 + t) k
   upper-at = float-place w (at + 3) (k * 9 + (3 + t)) (omega arith) ∙ s .upper k inside
 
-  right-at : floatAt w (at + 6) ≡ cell w₀ (6 + t) k
+  right-at : floatAt w (at + 6) ≡ rowCell w₀ (6 + t) k
   right-at = float-place w (at + 6) (k * 9 + (6 + t)) (omega arith) ∙ s .above k (omega arith)
 
   pub row-needs : NoNan (axisIn w₀ t) n → NumbersAt w at (at + 3) (at + 6)
@@ -97,7 +97,7 @@ module _ (w₀ : List ℕ) (n k t : ℕ) (w : List ℕ) (x : Float) (at : ℕ) (
         go true e =
             let h : k + 1 ≡ n = eqb-true (k + 1) n (sym e) in
             let g : k ≡ n - 1 = omega arith in
-            back-last (axisIn w₀ t) (n - 1) (n - 1 - k) _ _ (omega arith) (right-at ∙ ap (cell w₀ (6 + t)) g) (diagonal-at ∙ ap (cell w₀ t) g)
+            back-last (axisIn w₀ t) (n - 1) (n - 1 - k) _ _ (omega arith) (right-at ∙ ap (rowCell w₀ (6 + t)) g) (diagonal-at ∙ ap (rowCell w₀ t) g)
         go false e =
             let h : k + 1 < n = strict (eqb-false (k + 1) n (sym e)) in
             back-next (axisIn w₀ t) (n - 1) k _ _ _ _ (omega arith) right-at upper-at diagonal-at (s .next h)

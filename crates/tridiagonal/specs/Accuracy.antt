@@ -14,8 +14,8 @@ above x zero = 0ₑ
 above x (suc i) = exactly (x i)
 
 -- x, and 0 where i is the last of n rows: what joins row i to the next
-abbrev pub joined : (n i : ℕ) → Float → Number
-joined n i x = cond (ltb (suc i) n) (exactly x) 0ₑ
+abbrev pub joinedRows : (n i : ℕ) → Float → Number
+joinedRows n i x = cond (ltb (suc i) n) (exactly x) 0ₑ
 
 -- The bound, in the letters of docs/SCOPE.md: f is the elimination factor, d the pivot, c the pivot above, e and g are the off-diagonal entries left and right, w, v and u the solution at i - 1, i and i + 1.
 abbrev pub rowBound : (f d c e g w v u : Number) → Number
@@ -30,14 +30,14 @@ RowAccurate q n x i =
     let d = exactly (pivot q i) in
     let c = above (pivot q) i in
     let e = above (q .upper) i in
-    let g = joined n i (q .upper i) in
+    let g = joinedRows n i (q .upper i) in
     let w = above x i in
     let v = exactly (x i) in
-    let u = joined n i (x (suc i)) in
+    let u = joinedRows n i (x (suc i)) in
     ∣ e *ₑ w +ₑ exactly (q .diagonal i) *ₑ v +ₑ g *ₑ u -ₑ exactly (q .right i) ∣ ≤ₑ rowBound f d c e g w v u
 
 -- the condition: the diagonal sums, the pivots and the solution of n equations are all finite
-pub record AllFinite (q : Equations) (n : ℕ) : Type 0 where
+pub record AxisFinite (q : Equations) (n : ℕ) : Type 0 where
   pub diagonal-finite : (i : ℕ) → i < n → T (finite (q .diagonal i))
   pub pivot-finite : (i : ℕ) → i < n → T (finite (pivot q i))
   pub solution-finite : (i : ℕ) → i < n → T (finite (solution q n i))
@@ -51,4 +51,4 @@ pub record RowsMet (q : Equations) (n : ℕ) : Type 0 where
 
 -- what is claimed of n equations
 abbrev pub RowsAccurate : Equations → ℕ → Type 0
-RowsAccurate q n = AllFinite q n → RowsMet q n
+RowsAccurate q n = AxisFinite q n → RowsMet q n

@@ -1,35 +1,34 @@
 -- What each step of the solution leaves in the lent list. Definitions only.
 use mathlib.Core.Path.{_≡_}
-use mathlib.Core.Bool.{Bool, true, false, cond}
-use mathlib.Core.Logic.{_⊎_}
+use mathlib.Core.Bool.{Bool, true, false, cond, not, _&&_}
 use mathlib.Core.List.{List}
-use Prim.Native.Nat.{ℕ, suc, _+_, _-_, _*_, _<_}
-use lib.ListN.{set}
-use lib.Ieee.{Float, isNan}
+use Prim.Native.Nat.{ℕ, _+_, _-_, _*_, _≤_, _<_}
+use lib.ListN.{getD, set}
+use lib.Ieee.{Float, isNan, le}
 use lib.Ieee.Scale.{finite}
-use Rattle.exact.specs.Float.{_⊖_, _⊗_, _⊘_}
+use Rattle.exact.specs.Float.{_⊖_, _⊗_, _⊘_, +0}
 use Rattle.numeric.specs.Order.{patternOf}
-use Rattle.tridiagonal.specs.Rows.{floatAt, cell, axisIn, Axes, onAxes, SameOutside}
-use Rattle.tridiagonal.specs.Tridiagonal.{Equations, eachBelow, eliminated, back, solution, axisSolved, goesOn, goodRow}
+use Rattle.tridiagonal.specs.Rows.{floatAt, rowCell, axisIn, Axes, onAxes, SameOutside, allSolved}
+use Rattle.tridiagonal.specs.Tridiagonal.{Equations, eachBelow, eliminated, back, pivot, reduced, vanishing}
 use Rattle.tridiagonal.specs.declared.solve.Row.{Row}
+
+-- w' is w, with v at each place from lo up to hi
+pub record Filled (lo hi v : ℕ) (w w' : List ℕ) : Type 0 where
+  pub kept : SameOutside lo hi w w'
+  pub filled : (k : ℕ) → lo ≤ k → k < hi → getD w' k 0 ≡ v
+
+-- The elimination goes on from a row of diagonal d, pivot p and right side q: the row is held, its pivot does not vanish, and neither float that would be stored is a NaN.
+abbrev pub goesOn : (d p q : Float) → Bool
+goesOn d p q = not (le d +0) && (not (vanishing p) && (not (isNan p) && not (isNan q)))
+
+abbrev pub goodRow : Equations → ℕ → Bool
+goodRow e k = goesOn (e .diagonal k) (pivot e k) (reduced e k)
 
 -- the first n equations of e' are those of e
 pub record Alike (e e' : Equations) (n : ℕ) : Type 0 where
   pub diagonal : (k : ℕ) → k < n → e' .diagonal k ≡ e .diagonal k
   pub upper : (k : ℕ) → k < n → e' .upper k ≡ e .upper k
   pub right : (k : ℕ) → k < n → e' .right k ≡ e .right k
-
--- no float of the first n equations is a NaN
-pub record NoNan (e : Equations) (n : ℕ) : Type 0 where
-  pub diagonal : (k : ℕ) → k < n → isNan (e .diagonal k) ≡ false
-  pub upper : (k : ℕ) → k < n → isNan (e .upper k) ≡ false
-  pub right : (k : ℕ) → k < n → isNan (e .right k) ≡ false
-
--- a float of the n equations is a NaN, beside the diagonal only where a row follows
-pub record Spoilt (e : Equations) (n : ℕ) : Type 0 where
-  pub row : ℕ
-  pub inside : row < n
-  pub spoilt : (isNan (e .diagonal row) ≡ true) ⊎ ((isNan (e .right row) ≡ true) ⊎ ((suc row < n) × (isNan (e .upper row) ≡ true)))
 
 -- ---- one row of one axis, whose diagonal stands at a place
 
@@ -58,10 +57,6 @@ pub record RowSolved (w : List ℕ) (at : ℕ) (last : Bool) (x v : Float) (w' :
 
 -- ---- the three axes
 
--- each of them is solved
-abbrev pub allSolved : List ℕ → ℕ → Bool
-allSolved w n = onAxes (λ t. axisSolved (axisIn w t) n)
-
 -- the equations that the elimination leaves of e, all of whose rows let it go on
 pub record Left (e : Equations) (n : ℕ) (e' : Equations) : Type 0 where
   pub good : eachBelow (goodRow e) n ≡ true
@@ -77,10 +72,4 @@ pub record Eliminated (w : List ℕ) (n : ℕ) (ok : Bool) (w' : List ℕ) : Typ
 pub record Substituted (w : List ℕ) (n : ℕ) (ok : Bool) (w' : List ℕ) : Type 0 where
   pub kept : SameOutside 0 (n * 9) w w'
   pub answer : ok ≡ onAxes (λ t. eachBelow (λ k. finite (back (axisIn w t) (n - 1) (n - 1 - k))) n)
-  pub unknowns : ok ≡ true → Axes (λ t. (k : ℕ) → k < n → cell w' (6 + t) k ≡ back (axisIn w t) (n - 1) (n - 1 - k))
-
--- The two together: true where each axis is solved, and then the solutions stand in place of the right sides.
-pub record Solved (w : List ℕ) (n : ℕ) (ok : Bool) (w' : List ℕ) : Type 0 where
-  pub kept : SameOutside 0 (n * 9) w w'
-  pub answer : ok ≡ allSolved w n
-  pub solutions : ok ≡ true → Axes (λ t. (k : ℕ) → k < n → cell w' (6 + t) k ≡ solution (axisIn w t) n k)
+  pub unknowns : ok ≡ true → Axes (λ t. (k : ℕ) → k < n → rowCell w' (6 + t) k ≡ back (axisIn w t) (n - 1) (n - 1 - k))

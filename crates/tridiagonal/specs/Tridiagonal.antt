@@ -1,7 +1,9 @@
 -- Symmetric tridiagonal equations and their solution, in the order of operations of the reference (smooth.rs, `thomas`). Definitions only.
 -- A column is a function of the row, and rows count from 0.
-use mathlib.Core.Bool.{Bool, true, not, _&&_}
-use Prim.Native.Nat.{ℕ, zero, suc, _-_}
+use mathlib.Core.Path.{_≡_}
+use mathlib.Core.Bool.{Bool, true, false, not, _&&_}
+use mathlib.Core.Logic.{_⊎_}
+use Prim.Native.Nat.{ℕ, zero, suc, _-_, _<_}
 use lib.Ieee.{Float, isNan, lt, le}
 use lib.Ieee.Scale.{finite}
 use Rattle.exact.specs.Float.{_⊖_, _⊗_, _⊘_, +0, bits}
@@ -74,9 +76,16 @@ finiteSolution e n = eachBelow (λ k. finite (solution e n k)) n
 abbrev pub axisSolved : Equations → ℕ → Bool
 axisSolved e n = held e n && (solvable e n && finiteSolution e n)
 
--- The elimination goes on from a row of diagonal d, pivot p and right side q: the row is held, its pivot does not vanish, and neither float that would be stored is a NaN.
-abbrev pub goesOn : (d p q : Float) → Bool
-goesOn d p q = not (le d +0) && (not (vanishing p) && (not (isNan p) && not (isNan q)))
+-- ---- floats that are no numbers
 
-abbrev pub goodRow : Equations → ℕ → Bool
-goodRow e k = goesOn (e .diagonal k) (pivot e k) (reduced e k)
+-- no float of the first n equations is a NaN
+pub record NoNan (e : Equations) (n : ℕ) : Type 0 where
+  pub diagonal : (k : ℕ) → k < n → isNan (e .diagonal k) ≡ false
+  pub upper : (k : ℕ) → k < n → isNan (e .upper k) ≡ false
+  pub right : (k : ℕ) → k < n → isNan (e .right k) ≡ false
+
+-- a float of the n equations is a NaN, beside the diagonal only where a row follows
+pub record Spoilt (e : Equations) (n : ℕ) : Type 0 where
+  pub row : ℕ
+  pub inside : row < n
+  pub spoilt : (isNan (e .diagonal row) ≡ true) ⊎ ((isNan (e .right row) ≡ true) ⊎ ((suc row < n) × (isNan (e .upper row) ≡ true)))

@@ -1,7 +1,7 @@
 // One pattern at each place of a part of lent memory.
 ghost use Prim.Native.Nat.{_≤_};
 ghost use lib.ListN.{length};
-ghost use Rattle.tridiagonal.specs.Rows.{Filled};
+ghost use Rattle.tridiagonal.specs.Steps.{Filled};
 
 // Puts v at each place from lo up to hi.
 pub fn fill(w: &mut [u64], lo: usize, hi: usize, v: u64)

@@ -4,9 +4,9 @@ ghost use mathlib.Core.Bool.{cond};
 ghost use Prim.Native.Nat.{_+_, _*_, _<_, _≤_};
 ghost use lib.ListN.{length};
 ghost use Rattle.exact.specs.Float.{_⊖_, _⊗_, _⊘_};
-ghost use Rattle.tridiagonal.specs.Rows.{Axes, axisIn};
-ghost use Rattle.tridiagonal.specs.Tridiagonal.{vanishing, goesOn};
-ghost use Rattle.tridiagonal.specs.Steps.{NumbersAt, FirstRow, RowEliminated, Eliminated, RowSolved, Substituted, Solved, NoNan};
+ghost use Rattle.tridiagonal.specs.Rows.{Axes, axisIn, Solved};
+ghost use Rattle.tridiagonal.specs.Tridiagonal.{vanishing, NoNan};
+ghost use Rattle.tridiagonal.specs.Steps.{NumbersAt, FirstRow, RowEliminated, Eliminated, RowSolved, Substituted, goesOn};
 use numeric::real::abs;
 use numeric::real::is_finite;
 

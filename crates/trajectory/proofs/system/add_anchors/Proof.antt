@@ -1,7 +1,7 @@
 use Rattle.trajectory.proofs.Anchors.{anchor-x-needs, anchor-y-needs, anchor-z-needs, anchors-more, anchors-end}
 use Rattle.trajectory.proofs.Adding.{Adding, adding-none, adding-all}
-use Rattle.trajectory.specs.Equations.{anchorChange}
 use Rattle.trajectory.specs.Input.{measured}
+use Rattle.trajectory.specs.Steps.{anchorChange}
 use Rattle.tridiagonal.specs.Rows.{floatAt}
 use borrow.Author.Tests.{not-true, not-false}
 use Prim.Native.Nat.{_+_, _-_, _*_}

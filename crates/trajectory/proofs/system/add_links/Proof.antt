@@ -1,7 +1,7 @@
 use Rattle.trajectory.proofs.Links.{link-x-needs, link-y-needs, link-z-needs, links-more, links-end}
 use Rattle.trajectory.proofs.Adding.{Adding, adding-none, adding-all}
-use Rattle.trajectory.specs.Equations.{linkChange}
 use Rattle.trajectory.specs.Input.{measured}
+use Rattle.trajectory.specs.Steps.{linkChange}
 use Rattle.tridiagonal.specs.Rows.{floatAt}
 use borrow.Author.Tests.{not-true, not-false}
 use Prim.Native.Nat.{_+_, _-_, _*_}

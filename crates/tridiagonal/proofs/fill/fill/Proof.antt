@@ -2,7 +2,7 @@ use native.Mathlib.Omega.{arith}
 use mathlib.Core.Path.{_≡_, refl}
 use Prim.Native.Nat.{_-_, _≤_}
 use lib.ListN.{length, length-set}
-use Rattle.tridiagonal.specs.Rows.{Filled}
+use Rattle.tridiagonal.specs.Steps.{Filled}
 use Rattle.tridiagonal.proofs.Cells.{filled-none, filled-more, filled-all}
 use Rattle.tridiagonal.proofs.fill.fill.Statement.{statement}
 use Rattle.tridiagonal.proofs.fill.fill.Tie as tie
