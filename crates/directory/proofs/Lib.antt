@@ -2,6 +2,7 @@
 pub mod DirectoryLaws
 pub mod FaultLaws
 pub mod ColumnLaws
+pub mod SeriesLaws
 pub mod BlockLaws
 pub mod SoundLaws
 pub mod EntryLaws

@@ -114,11 +114,6 @@ pub tile-at : (es : List Entry) (m : ℕ) → m ≤ length es → (n i : ℕ) �
 tile-at es m h n i l t at =
     rw at (rw (getD-take m es i noEntry l) at (tiles-at 0 n (take m es) i t (omega (arith, length-take-le m es h))))
 
-pub times-of : (ts xs : List Float) (n : ℕ) → n ≤ length (readingRows ts xs) → {c v b f k : ℕ} {e : Entry} → f + k ≤ n → _≡_ {A = Entry} (record { constellation = c; svid = v; band = b; start = f; count = k }) e
-    → timely (take k (drop f ts)) ≡ timely (blockTimes (take n (readingRows ts xs)) e)
-times-of ts xs n h {c} {v} {b} {f} {k} l at =
-    rw (← at) (ap timely (times-at ts xs n (record { constellation = c; svid = v; band = b; start = f; count = k }) h l))
-
 abbrev pub laidFrom : ℕ → ℕ → ℕ → List Entry → Bool
 laidFrom p place n es = ascends p es && tiles place n es
 

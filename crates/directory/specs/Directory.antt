@@ -7,7 +7,7 @@ use lib.Dec.{eqb, leb, ltb}
 use lib.ListN.{length, take, drop}
 use lib.Ieee.{Float, nan}
 use Rattle.exact.specs.Float.{bits}
-use Rattle.walk.specs.Walk.{every, first, collect}
+use Rattle.walk.specs.Walk.{every, collect}
 use Rattle.numeric.specs.Order.{patternOf}
 use Rattle.numeric.specs.Real.{inRange}
 use Rattle.signal.specs.Signal.{signal}
@@ -46,8 +46,8 @@ pub record Blocks : Type 0 where
 
 -- the columns as a call is lent them
 abbrev pub lentBlocks : List ℕ → List ℕ → List ℕ → List ℕ → List ℕ → List Float → List Float → Blocks
-lentBlocks dc dv db df dn ts xs =
-    record { constellations = dc; svids = dv; bands = db; firsts = df; counts = dn; times = ts; corrections = xs }
+lentBlocks constellations svids bands firsts counts times corrections =
+    record { constellations = constellations; svids = svids; bands = bands; firsts = firsts; counts = counts; times = times; corrections = corrections }
 
 -- the floats of a column that is lent as 64-bit patterns: each pattern read by `bits`
 abbrev pub floats : List ℕ → List Float
@@ -132,10 +132,6 @@ block rs e = map (sampleOf e) (take (e .count) (drop (e .start) rs))
 unfoldable pub flat : Directory → List Sample
 flat d = collect (block (d .readings)) (d .entries)
 
--- the block of the signal g, and nothing where the directory does not name it
-unfoldable pub blockOf : Directory → ℕ → List Sample
-blockOf d g = first (λ e. eqb (signalIn e) g) (block (d .readings)) [] (d .entries)
-
 -- ---- number 4, by request (ix)'s list of faults
 
 -- the directory is sorted and names no satellite twice: each signal is above the one before it, and the first is not below p
@@ -194,7 +190,7 @@ unfoldable pub joined : Sample → ℕ → List Entry → List Entry
 joined s place [] = entryOf s place 1 ∷ []
 joined s place (e ∷ es) = cond (isMine s e) (entryOf s place (suc (e .count)) ∷ es) (entryOf s place 1 ∷ e ∷ es)
 
--- the entries of samples that stand from the place on
+-- the entries of samples that lie from the place on
 unfoldable pub entriesFrom : ℕ → List Sample → List Entry
 entriesFrom place [] = []
 entriesFrom place (s ∷ ss) = joined s place (entriesFrom (suc place) ss)

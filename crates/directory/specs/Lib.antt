@@ -1,5 +1,5 @@
 pub mod Directory
 pub mod Faults
-pub mod Passes
 pub mod Rearrange
 pub mod Series
+pub mod Steps

@@ -31,9 +31,9 @@ filedNumber (unfiled r) = numberOf r
 filedNumber (entriesAre es) = 0
 
 -- how many entries there are afterwards, m before
-abbrev pub entriesAfter : Filed → ℕ → ℕ
-entriesAfter (unfiled r) m = m
-entriesAfter (entriesAre es) m = length es
+abbrev pub filedCount : Filed → ℕ → ℕ
+filedCount (unfiled r) m = m
+filedCount (entriesAre es) m = length es
 
 -- the columns with entries, and past them what was there
 abbrev pub entriesWith : List Entry → Blocks → Blocks
@@ -48,7 +48,7 @@ entriesWith es l =
       corrections = l .corrections;
     }
 
--- the columns afterwards: as they were where it is refused
+-- the columns afterwards: unchanged where it is refused
 abbrev pub filedColumns : Filed → Blocks → Blocks
 filedColumns (unfiled r) l = l
 filedColumns (entriesAre es) l = entriesWith es l
@@ -61,7 +61,7 @@ pub data Listed : Type 0 where
   samplesAre : List Sample → Listed
 
 -- The m entries and n samples of a directory in lent columns, whose signals go to columns of that length: numbers 2 and 4, or the samples that it stands for.
--- Both counts are held to the capacity, and the columns of signals to the samples alone, one place for each.
+-- Neither count may exceed the capacity. The columns of signals need a place for each sample, however many entries there are.
 unfoldable pub listedOf : ℕ → ℕ → ℕ → Blocks → Listed
 listedOf m n long l =
     cond ((ltb (blockCapacity l) m || ltb (blockCapacity l) n) || ltb long n) (unlisted TooMany)
@@ -84,7 +84,7 @@ signalsWith t l =
       corrections = l .corrections;
     }
 
--- the columns afterwards: as they were where it is refused
+-- the columns afterwards: unchanged where it is refused
 abbrev pub listedColumns : Listed → Columns → Columns
 listedColumns (unlisted r) l = l
 listedColumns (samplesAre t) l = signalsWith t l

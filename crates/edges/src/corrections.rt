@@ -9,6 +9,7 @@ use differential::record::State;
 use differential::record::States;
 use numeric::vec3::Vec3;
 use query::query::query;
+use signal::signal::signal_of;
 
 // The range of satellite `svid`, which is 20,000 km off.
 fn range(svid: u16, pseudorange: f64) -> Range {
@@ -104,7 +105,8 @@ fn half_way(name: &[u8], gap: f64) {
     let dn = [2usize; 2];
     let ts = [10.0, 20.0];
     let xs = [1.0, 3.0];
-    let a = query(&dc, &dv, &db, &df, &dn, 1, &ts, &xs, 2, gap, 1, 5, 1, 15.0);
+    let signal = signal_of(1, 5, 1);
+    let a = query(&dc, &dv, &db, &df, &dn, 1, &ts, &xs, 2, gap, signal, 15.0);
     correction(name, a);
 }
 

@@ -20,7 +20,7 @@ use Rattle.table.proofs.TableLaws.{and-left, and-right}
 use Rattle.table.proofs.SeriesLaws.{mine, other, insert-rises}
 use Rattle.table.proofs.UnitLaws.{never}
 use Rattle.directory.proofs.DirectoryLaws.{rises-weak}
-use Rattle.query.specs.Query.{Found, missing, the, near, firstOf, lastOf, before, since, nearOr, spanned, ruled, answerIn, answerAt}
+use Rattle.query.specs.Query.{Found, missing, the, near, firstOf, lastOf, before, since, nearOr, spanned, correctionRule, answerIn, answerAt}
 use Rattle.query.specs.declared.query.Correction.the-variants.{Refused}
 use Rattle.query.proofs.FoundLaws.{later, earlier-series, later-series}
 use Rattle.forget.specs.Forget.{earlier, some, forget}
@@ -172,16 +172,16 @@ none-before g q f (s ∷ l) n = rw (not-before-nan (s .time) q n) (test (eqb (si
     test false e = e
 
 -- the answer of a signal by its samples in the table
-answer-found : (l : List Sample) (gap : Float) (c v b : ℕ) (q : Float) → answerAt l gap c v b q ≡ ruled gap q (lastOf (earlier (signal c v b) q) missing l) (firstOf (later (signal c v b) q) l)
+answer-found : (l : List Sample) (gap : Float) (c v b : ℕ) (q : Float) → answerAt l gap c v b q ≡ correctionRule gap q (lastOf (earlier (signal c v b) q) missing l) (firstOf (later (signal c v b) q) l)
 unfolding answerAt answerIn
 answer-found l gap c v b q = rw (earlier-series (signal c v b) q l, later-series (signal c v b) q l)
 
 at-nan : (l : List Sample) (gap : Float) (c v b : ℕ) (q : Float) → isNan q ≡ true → answerAt l gap c v b q ≡ Refused NoCorrection
 at-nan l gap c v b q n = rw (answer-found l gap c v b q, none-before (signal c v b) q missing l n) (go (firstOf (later (signal c v b) q) l))
   where
-    go : (h : Found) → ruled gap q missing h ≡ Refused NoCorrection
-    go missing = unfold ruled nearOr spanned in refl
-    go (the s) = unfold ruled nearOr spanned in rw (near-nan (s .time) q n)
+    go : (h : Found) → correctionRule gap q missing h ≡ Refused NoCorrection
+    go missing = unfold correctionRule nearOr spanned in refl
+    go (the s) = unfold correctionRule nearOr spanned in rw (near-nan (s .time) q n)
 
 -- for every list of samples, drop time and query not before it, the answer is that without the drop
 pub forget-answer : (time : Float) (l : List Sample) (gap : Float) (c v b : ℕ) (q : Float) → lt q time ≡ false → answerAt (forget time l) gap c v b q ≡ answerAt l gap c v b q

@@ -14,7 +14,8 @@ use Rattle.table.specs.declared.sample.Sample.{Sample}
 use Rattle.table.proofs.TableLaws.{and-left, and-right}
 use Rattle.directory.specs.Directory.{Entry, Reading, Directory, ascends, block, blockTimes, directoryOf, entriesFrom, flat, inOrder, readingOf, sampleOf, signalIn, soundDirectory, tiles, timely}
 use Rattle.directory.specs.Series.{front}
-use Rattle.directory.proofs.DirectoryLaws.{block-keyed, keyed, run, readings-map, series-above, sound-parts, sound-flat, tiles-le, tiles-start, tiles-count, tiles-rest, ascends-rest}
+use Rattle.directory.proofs.SeriesLaws.{series-above}
+use Rattle.directory.proofs.DirectoryLaws.{block-keyed, keyed, run, readings-map, sound-parts, sound-flat, tiles-le, tiles-start, tiles-count, tiles-rest, ascends-rest}
 use Rattle.directory.proofs.BlockLaws.{front-le}
 use Rattle.query.specs.Query.{before}
 use Rattle.query.proofs.QueryLaws.{TimesHeld}

@@ -4,7 +4,7 @@ ghost use mathlib.Core.List.{List};
 ghost use Prim.Native.Nat.{ℕ, _+_, _-_, _≤_};
 ghost use lib.ListN.{length, drop};
 ghost use Rattle.directory.specs.Directory.{lentBlocks, floats, directoryIn, blocksWith};
-ghost use Rattle.directory.specs.Passes.{Timed};
+ghost use Rattle.directory.specs.Steps.{Timed};
 ghost use Rattle.forget.specs.Retain.{Fit, SomeDirectory, Outdated, movedDown, trimmed};
 use directory::patterns::number;
 

@@ -12,14 +12,14 @@ use lib.Ieee.{Float, nan, lt}
 use Rattle.exact.specs.Float.{_⊖_}
 use Rattle.walk.proofs.Walk.{and-both}
 use Rattle.numeric.specs.declared.refusal.Refusal.the-variants.{NoCorrection}
-use Rattle.signal.specs.Signal.{signal}
-use Rattle.table.specs.Table.{blank}
+use Rattle.table.specs.Table.{blank, seriesOf}
 use Rattle.table.specs.declared.sample.Sample.{Sample}
 use Rattle.table.proofs.UnitLaws.{never}
-use Rattle.directory.specs.Directory.{Directory, blockOf, flat, soundDirectory}
-use Rattle.directory.proofs.DirectoryLaws.{sound-parts, block-series}
-use Rattle.query.specs.Query.{missing, the, near, firstOf, lastOf, before, since, lastBefore, firstSince, through, line, nearOr, spanned, ruled, answerIn, answerAt}
-use Rattle.query.specs.Search.{Split, isBefore}
+use Rattle.directory.specs.Directory.{Directory, flat, soundDirectory}
+use Rattle.directory.proofs.DirectoryLaws.{sound-parts}
+use Rattle.directory.proofs.SeriesLaws.{block-series, blockOf}
+use Rattle.query.specs.Query.{missing, the, near, firstOf, lastOf, before, since, lastBefore, firstSince, through, line, nearOr, spanned, correctionRule, answerIn}
+use Rattle.query.specs.Steps.{Split, isBefore}
 use Rattle.query.specs.declared.query.Correction.the-variants.{Refused, Metres}
 use Rattle.query.proofs.FoundLaws.{first-at, first-none, last-at, last-none}
 use Rattle.query.proofs.PlaceLaws.{Lies}
@@ -44,34 +44,34 @@ module _ (t : Float) (l : List Sample) (r : ℕ) (s : Split (λ j. before t (get
 
 -- ---- the rule, by whether there is a sample b at or after the time (x), and a sample a before it (y)
 module _ (gap t : Float) (a b : Sample) where
-  way-since : (x y : Bool) → (x && near (b .time) t) ≡ true → Metres (b .correction) ≡ ruled gap t (cond y (the a) missing) (cond x (the b) missing)
-  unfolding ruled nearOr
+  way-since : (x y : Bool) → (x && near (b .time) t) ≡ true → Metres (b .correction) ≡ correctionRule gap t (cond y (the a) missing) (cond x (the b) missing)
+  unfolding correctionRule nearOr
   way-since true y e = rw e
   way-since false y e = never e
 
-  way-before : (x y : Bool) → (x && near (b .time) t) ≡ false → (y && near (a .time) t) ≡ true → Metres (a .correction) ≡ ruled gap t (cond y (the a) missing) (cond x (the b) missing)
-  unfolding ruled nearOr
+  way-before : (x y : Bool) → (x && near (b .time) t) ≡ false → (y && near (a .time) t) ≡ true → Metres (a .correction) ≡ correctionRule gap t (cond y (the a) missing) (cond x (the b) missing)
+  unfolding correctionRule nearOr
   way-before true true e f = rw (e, f)
   way-before false true e f = rw f
   way-before x false e f = never f
 
-  way-ends : (x y : Bool) → (x && near (b .time) t) ≡ false → (y && near (a .time) t) ≡ false → (x && y) ≡ false → Refused NoCorrection ≡ ruled gap t (cond y (the a) missing) (cond x (the b) missing)
-  unfolding ruled nearOr spanned
+  way-ends : (x y : Bool) → (x && near (b .time) t) ≡ false → (y && near (a .time) t) ≡ false → (x && y) ≡ false → Refused NoCorrection ≡ correctionRule gap t (cond y (the a) missing) (cond x (the b) missing)
+  unfolding correctionRule nearOr spanned
   way-ends true true e f g = never (sym g)
   way-ends true false e f g = rw e
   way-ends false true e f g = rw f
   way-ends false false e f g = refl
 
   way-gap : (x y : Bool) → (x && near (b .time) t) ≡ false → (y && near (a .time) t) ≡ false → (x && y) ≡ true → lt gap (b .time ⊖ a .time) ≡ true
-      → Refused NoCorrection ≡ ruled gap t (cond y (the a) missing) (cond x (the b) missing)
-  unfolding ruled nearOr spanned
+      → Refused NoCorrection ≡ correctionRule gap t (cond y (the a) missing) (cond x (the b) missing)
+  unfolding correctionRule nearOr spanned
   way-gap true true e f g h = rw (e, f, h)
   way-gap true false e f g h = never g
   way-gap false y e f g h = never g
 
   way-line : (x y : Bool) → (x && near (b .time) t) ≡ false → (y && near (a .time) t) ≡ false → (x && y) ≡ true → lt gap (b .time ⊖ a .time) ≡ false
-      → Metres (line t a b) ≡ ruled gap t (cond y (the a) missing) (cond x (the b) missing)
-  unfolding ruled nearOr spanned
+      → Metres (line t a b) ≡ correctionRule gap t (cond y (the a) missing) (cond x (the b) missing)
+  unfolding correctionRule nearOr spanned
   way-line true true e f g h = rw (e, f, h)
   way-line true false e f g h = never g
   way-line false y e f g h = never g
@@ -89,7 +89,7 @@ module _ (l : List Sample) (ts xs : List Float) (start count : ℕ) (h : Lies l 
         back = λ j w b. ap (λ (x : Float). lt x t) (h .time j b) ∙ s .back (start + j) (omega (arith, s .above)) (omega arith);
       })
 
-  answer-at : answerIn l gap t ≡ ruled gap t (cond (ltb 0 (r - start)) (the (getD l (r - start - 1) blank)) missing) (cond (ltb (r - start) (length l)) (the (getD l (r - start) blank)) missing)
+  answer-at : answerIn l gap t ≡ correctionRule gap t (cond (ltb 0 (r - start)) (the (getD l (r - start - 1) blank)) missing) (cond (ltb (r - start) (length l)) (the (getD l (r - start) blank)) missing)
   unfolding answerIn
   answer-at = rw (before-at t l (r - start) own, since-at t l (r - start) own)
 
@@ -184,17 +184,17 @@ module _ (l : List Sample) (ts xs : List Float) (start count : ℕ) (h : Lies l 
               ∙ sym answer-at)
 
 -- ---- the answer of a directory's table is that of the signal's block
-pub block-answer : (d : Directory) → soundDirectory d ≡ true → (gap : Float) (c v b : ℕ) (t : Float) → answerIn (blockOf d (signal c v b)) gap t ≡ answerAt (flat d) gap c v b t
-unfolding answerAt
-block-answer d s gap c v b t = ap (λ (l : List Sample). answerIn l gap t) (sym (block-series d (signal c v b) (sound-parts d s .ascending)))
+module _ (d : Directory) (s : soundDirectory d ≡ true) (gap : Float) (g : ℕ) (t : Float) where
+  pub block-answer : answerIn (blockOf d g) gap t ≡ answerIn (seriesOf g (flat d)) gap t
+  block-answer = ap (λ (l : List Sample). answerIn l gap t) (sym (block-series d g (sound-parts d s .ascending)))
 
--- no block, no correction
-none-answer : (gap t : Float) → Refused NoCorrection ≡ answerIn [] gap t
-unfolding answerIn ruled nearOr spanned firstOf lastOf
-none-answer gap t = refl
+  -- no block, no correction
+  none-answer : Refused NoCorrection ≡ answerIn [] gap t
+  unfolding answerIn correctionRule nearOr spanned firstOf lastOf
+  none-answer = refl
 
-pub answer-none : (d : Directory) → soundDirectory d ≡ true → (gap : Float) (c v b : ℕ) (t : Float) → blockOf d (signal c v b) ≡ [] → Refused NoCorrection ≡ answerAt (flat d) gap c v b t
-answer-none d s gap c v b t e = none-answer gap t ∙ ap (λ (l : List Sample). answerIn l gap t) (sym e) ∙ block-answer d s gap c v b t
+  pub answer-none : blockOf d g ≡ [] → Refused NoCorrection ≡ answerIn (seriesOf g (flat d)) gap t
+  answer-none e = none-answer ∙ ap (λ (l : List Sample). answerIn l gap t) (sym e) ∙ block-answer
 
-pub answer-some : (d : Directory) → soundDirectory d ≡ true → (gap : Float) (c v b : ℕ) (t : Float) (l : List Sample) → blockOf d (signal c v b) ≡ l → answerIn l gap t ≡ answerAt (flat d) gap c v b t
-answer-some d s gap c v b t l e = ap (λ (l : List Sample). answerIn l gap t) (sym e) ∙ block-answer d s gap c v b t
+  pub answer-some : (l : List Sample) → blockOf d g ≡ l → answerIn l gap t ≡ answerIn (seriesOf g (flat d)) gap t
+  answer-some l e = ap (λ (l : List Sample). answerIn l gap t) (sym e) ∙ block-answer

@@ -19,9 +19,8 @@ use lib.Ieee.Scale.{finite}
 use Rattle.exact.specs.Float.{_⊖_, _⊗_, _⊘_}
 use Rattle.numeric.specs.Real.{inRange}
 use Rattle.numeric.specs.declared.refusal.Refusal.the-variants.{NoCorrection}
-use Rattle.signal.specs.Signal.{signal}
-use Rattle.table.specs.Table.{blank, signalOf, soundTable}
-use Rattle.query.specs.Query.{GivesFinite, Found, answerAt, answerIn, firstOf, lastOf, line, missing, near, nearOr, ruled, spanned, the, through}
+use Rattle.table.specs.Table.{blank, seriesOf, signalOf, soundTable}
+use Rattle.query.specs.Query.{GivesFinite, Found, answerIn, firstOf, lastOf, line, missing, near, nearOr, correctionRule, spanned, the, through}
 use Rattle.table.specs.declared.sample.Sample.{Sample}
 use Rattle.query.specs.declared.query.Correction.{Correction}
 use Rattle.query.specs.declared.query.Correction.the-variants.{Refused, Metres}
@@ -232,15 +231,14 @@ spanned-finite g gap t (the a) (the b) f i j = go (lt gap (b .time ⊖ a .time))
     go true = tt
     go false = line-finite t a b f (i .0) (j .0) (and-right (eqb (signalOf a) g) _ (i .1)) (not-true _ (and-right (eqb (signalOf b) g) _ (j .1)))
 
-ruled-finite : (g : ℕ) (gap t : Float) (a b : Found) → T (fits binary64 t) → All (Passing (earlier g t)) a → All (Passing (later g t)) b → GivesFinite (ruled gap t a b)
-unfolding ruled
+ruled-finite : (g : ℕ) (gap t : Float) (a b : Found) → T (fits binary64 t) → All (Passing (earlier g t)) a → All (Passing (later g t)) b → GivesFinite (correctionRule gap t a b)
+unfolding correctionRule
 ruled-finite g gap t a b f i j = near-finite (later g t) t b (nearOr t a (spanned gap t a b)) j (near-finite (earlier g t) t a (spanned gap t a b) i (spanned-finite g gap t a b f i j))
 
-pub answer-finite : (l : List Sample) (gap : Float) (c v b : ℕ) (t : Float) → soundTable l ≡ true → TimesHeld l → T (fits binary64 t) → GivesFinite (answerAt l gap c v b t)
-unfolding answerAt answerIn TimesHeld
-answer-finite l gap c v b t s h f =
+pub answer-finite : (l : List Sample) (gap : Float) (g : ℕ) (t : Float) → soundTable l ≡ true → TimesHeld l → T (fits binary64 t) → GivesFinite (answerIn (seriesOf g l) gap t)
+unfolding answerIn TimesHeld
+answer-finite l gap g t s h f =
     let r = sound-at l s in
     let good : (j : ℕ) → j < length l → Good (getD l j blank) = λ j k. record { holds = h j k; time = r .times j k; value = r .values j k } in
-    rw (earlier-series (signal c v b) t l, later-series (signal c v b) t l)
-    (ruled-finite (signal c v b) gap t (lastOf (earlier (signal c v b) t) missing l) (firstOf (later (signal c v b) t) l) f
-    (last-all (earlier (signal c v b) t) missing l tt good) (first-all (later (signal c v b) t) l good))
+    rw (earlier-series g t l, later-series g t l)
+    (ruled-finite g gap t (lastOf (earlier g t) missing l) (firstOf (later g t) l) f (last-all (earlier g t) missing l tt good) (first-all (later g t) l good))

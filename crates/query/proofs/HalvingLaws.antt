@@ -4,8 +4,10 @@ use mathlib.Core.Bool.{Bool, true, false, cond}
 use Prim.Native.Nat.{ℕ, zero, suc, _+_, _*_, _^_, _-_, _/_, _≤_, _<_}
 use native.Mathlib.Nat.{pow-suc}
 use native.Mathlib.Omega.{arith}
+use lib.Dec.{ltb}
+use borrow.Author.Tests.{ltb-true, ltb-false}
 use Rattle.table.proofs.UnitLaws.{never}
-use Rattle.query.specs.Search.{Halving, Split, Falling}
+use Rattle.query.specs.Steps.{Halving, Split, Falling}
 
 module _ (test : ℕ → Bool) (from to : ℕ) (f : Falling test from to) where
   up : (i j : ℕ) → from ≤ i → i ≤ j → j < to → test i ≡ false → test j ≡ false
@@ -105,6 +107,28 @@ module _ (test : ℕ → Bool) (from to : ℕ) (f : Falling test from to) where
             front = λ j g h. i .front j g (omega arith);
             back = λ j h k. up lo j (i .above) (omega arith) k e;
           }
+
+-- ---- what is left of a search, searched by itself
+pub falling-inner : {test : ℕ → Bool} {from to : ℕ} (lo hi : ℕ) → Falling test from to → from ≤ lo → hi ≤ to → Falling test lo hi
+falling-inner lo hi f a b = record { down = λ i j g h k e. f .down i j (omega arith) h (omega arith) e }
+
+pub halving-inner : {test : ℕ → Bool} {from to lo hi r : ℕ} → Halving test from to lo hi → Split test lo hi r → Split test from to r
+halving-inner {test} {from} {to} {lo} {hi} {r} h s =
+    record {
+      above = omega (arith, h .above, s .above);
+      ordered = omega arith;
+      within = omega (arith, h .within, s .within);
+      front = λ j f k. low j f k (ltb j lo) refl;
+      back = λ j k t. high j k t (ltb j hi) refl;
+    }
+  where
+    low : (j : ℕ) → from ≤ j → j < r → (x : Bool) → ltb j lo ≡ x → test j ≡ true
+    low j f k true e = h .front j f (ltb-true j lo e)
+    low j f k false e = s .front j (ltb-false j lo e) k
+
+    high : (j : ℕ) → r ≤ j → j < to → (x : Bool) → ltb j hi ≡ x → test j ≡ false
+    high j k t true e = s .back j k (ltb-true j hi e)
+    high j k t false e = h .back j (ltb-false j hi e) t
 
 -- so many halvings leave one of so many places
 pub halves : (len left : ℕ) → 0 < left → len ≤ 2 ^ left → len - len / 2 ≤ 2 ^ (left - 1)

@@ -6,6 +6,7 @@ pub mod PlaceLaws
 pub mod BlockLaws
 pub mod PastLaws
 pub mod FiniteLaws
+pub mod AnswerLaws
 pub mod FormLaws
 pub mod Values
 pub mod WidenedLaws

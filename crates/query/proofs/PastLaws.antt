@@ -22,8 +22,8 @@ use Rattle.table.proofs.TableLaws.{SoundTable, sound-at, and-right}
 use Rattle.table.proofs.UnitLaws.{earlier-of, never}
 use Rattle.directory.specs.Directory.{Directory, flat, soundDirectory}
 use Rattle.directory.proofs.DirectoryLaws.{sound-flat}
-use Rattle.query.specs.Query.{Found, missing, the, near, firstOf, lastOf, lastBefore, firstSince, nearOr, spanned, ruled, answerIn, answerAt, guarded, queryIn, PassedQuery, Passes}
-use Rattle.query.specs.Past.{bridged, between, answerBefore, queryBefore, isOf, JustPast}
+use Rattle.query.specs.Query.{Found, missing, the, near, firstOf, lastOf, lastBefore, firstSince, nearOr, spanned, correctionRule, answerIn, answerAt, guarded, queryIn, PassedQuery, Passes}
+use Rattle.query.specs.Past.{bridged, between, formerAnswer, queryBefore, isOf, JustPast}
 use Rattle.query.specs.declared.query.Correction.{Correction}
 use Rattle.query.specs.declared.query.Correction.the-variants.{Refused, Metres}
 use Rattle.query.proofs.FoundLaws.{earlier, later, earlier-series, later-series, first-none, last-none}
@@ -32,8 +32,8 @@ use Rattle.query.proofs.QueryLaws.{TimesHeld}
 -- ---- the two rules, by what was found before the time and from it on
 module _ (gap t : Float) where
   -- where there is a sample at or after the time, they agree
-  with-since : (f : Found) (b : Sample) → ruled gap t f (the b) ≡ between gap t f (the b)
-  unfolding ruled nearOr spanned between bridged
+  with-since : (f : Found) (b : Sample) → correctionRule gap t f (the b) ≡ between gap t f (the b)
+  unfolding correctionRule nearOr spanned between bridged
   with-since missing b = refl
   with-since (the a) b = refl
 
@@ -42,16 +42,16 @@ module _ (gap t : Float) where
   unfolding between
   alone f = refl
 
-  close-by : (a : Sample) → near (a .time) t ≡ true → ruled gap t (the a) missing ≡ Metres (a .correction)
-  unfolding ruled nearOr spanned
+  close-by : (a : Sample) → near (a .time) t ≡ true → correctionRule gap t (the a) missing ≡ Metres (a .correction)
+  unfolding correctionRule nearOr spanned
   close-by a e = rw e
 
-  far-off : (a : Sample) → near (a .time) t ≡ false → ruled gap t (the a) missing ≡ Refused NoCorrection
-  unfolding ruled nearOr spanned
+  far-off : (a : Sample) → near (a .time) t ≡ false → correctionRule gap t (the a) missing ≡ Refused NoCorrection
+  unfolding correctionRule nearOr spanned
   far-off a e = rw e
 
-  empty : ruled gap t missing missing ≡ Refused NoCorrection
-  unfolding ruled nearOr spanned
+  empty : correctionRule gap t missing missing ≡ Refused NoCorrection
+  unfolding correctionRule nearOr spanned
   empty = refl
 
 -- ---- the last sample of a signal, by its place
@@ -178,23 +178,23 @@ last-passed ss g t a ft s w p =
 -- ---- for every table that columns hold, every gap limit, signal and time
 module _ (ss : List Sample) (gap : Float) (c v b : ℕ) (t : Float) where
   -- the answers are equal where the time is not just past the signal's last sample, in order or not
-  pub answer-kept : ((a : Sample) → JustPast ss (signal c v b) t a → ⊥) → answerAt ss gap c v b t ≡ answerBefore ss gap c v b t
-  unfolding answerAt answerIn answerBefore
+  pub answer-kept : ((a : Sample) → JustPast ss (signal c v b) t a → ⊥) → answerAt ss gap c v b t ≡ formerAnswer ss gap c v b t
+  unfolding answerAt answerIn formerAnswer
   answer-kept nay = go (lastBefore t (seriesOf (signal c v b) ss)) (firstSince t (seriesOf (signal c v b) ss)) refl refl
     where
-      go : (f h : Found) → lastBefore t (seriesOf (signal c v b) ss) ≡ f → firstSince t (seriesOf (signal c v b) ss) ≡ h → ruled gap t f h ≡ between gap t f h
+      go : (f h : Found) → lastBefore t (seriesOf (signal c v b) ss) ≡ f → firstSince t (seriesOf (signal c v b) ss) ≡ h → correctionRule gap t f h ≡ between gap t f h
       go f (the x) e k = with-since gap t f x
       go missing missing e k = empty gap t ∙ sym (alone gap t missing)
       go (the a) missing e k = test (near (a .time) t) refl
         where
-          test : (x : Bool) → near (a .time) t ≡ x → ruled gap t (the a) missing ≡ between gap t (the a) missing
+          test : (x : Bool) → near (a .time) t ≡ x → correctionRule gap t (the a) missing ≡ between gap t (the a) missing
           test true q = absurd (nay a (passed-last ss (signal c v b) t a record { none-since = k; last-before = e; close = q }))
           test false q = far-off gap t a q ∙ sym (alone gap t (the a))
 
   -- there the old one is 12, and the new one that sample's value
   pub answer-changed : T (fits binary64 t) → soundTable ss ≡ true → TimesHeld ss → (a : Sample) → JustPast ss (signal c v b) t a
-      → (answerBefore ss gap c v b t ≡ Refused NoCorrection) × (answerAt ss gap c v b t ≡ Metres (a .correction))
-  unfolding answerAt answerIn answerBefore
+      → (formerAnswer ss gap c v b t ≡ Refused NoCorrection) × (answerAt ss gap c v b t ≡ Metres (a .correction))
+  unfolding answerAt answerIn formerAnswer
   answer-changed ft s w a j =
       let p = last-passed ss (signal c v b) t a ft (sound-at ss s) w j in
       (rw (p .none-since) (alone gap t (lastBefore t (seriesOf (signal c v b) ss))), rw (p .none-since, p .last-before) (close-by gap t a (p .close)))
@@ -235,7 +235,7 @@ module _ (m n room : ℕ) (d : Directory) (gap : Float) (c v b : ℕ) (t : Float
   -- what 2 to 4 turn away keeps its number
   pub query-refused : (Passes m n room d gap t → ⊥) → queryIn m n room d gap c v b t ≡ queryBefore m n room d gap c v b t
   unfolding queryIn queryBefore
-  query-refused nay = turned-away nay (answerAt (flat d) gap c v b t) (answerBefore (flat d) gap c v b t)
+  query-refused nay = turned-away nay (answerAt (flat d) gap c v b t) (formerAnswer (flat d) gap c v b t)
 
   -- where the time is not just past the signal's last sample, the answer is the old one
   pub query-kept : ((a : Sample) → JustPast (flat d) (signal c v b) t a → ⊥) → queryIn m n room d gap c v b t ≡ queryBefore m n room d gap c v b t
@@ -248,7 +248,7 @@ module _ (m n room : ℕ) (d : Directory) (gap : Float) (c v b : ℕ) (t : Float
   unfolding queryIn queryBefore
   query-changed p ft w a j =
       let k = answer-changed (flat d) gap c v b t ft (sound-flat d (p .table .steady)) w a j in
-      (passes-through p (answerBefore (flat d) gap c v b t) ∙ k .0, passes-through p (answerAt (flat d) gap c v b t) ∙ k .1)
+      (passes-through p (formerAnswer (flat d) gap c v b t) ∙ k .0, passes-through p (answerAt (flat d) gap c v b t) ∙ k .1)
 
 -- ---- a time that is not finite
 near-never : (x t : Float) → finite t ≡ false → near x t ≡ false
@@ -265,8 +265,8 @@ near-never (fin s m e) nan h = refl
 near-never (fin s m e) (inf u) h = refl
 
 -- so it is the ends that decide
-ends-decide : (gap t : Float) (f h : Found) → finite t ≡ false → ruled gap t f h ≡ spanned gap t f h
-unfolding ruled nearOr
+ends-decide : (gap t : Float) (f h : Found) → finite t ≡ false → correctionRule gap t f h ≡ spanned gap t f h
+unfolding correctionRule nearOr
 ends-decide gap t missing missing n = refl
 ends-decide gap t missing (the b) n = rw (near-never (b .time) t n)
 ends-decide gap t (the a) missing n = rw (near-never (a .time) t n)

@@ -1,13 +1,13 @@
 -- The entries of a sound directory and their blocks, place by place in the columns. Assumes nothing.
 use mathlib.Core.Path.{_≡_, refl, sym, ap, _∙_, subst}
-use mathlib.Core.List.{List, [], _∷_}
+use mathlib.Core.List.{List, [], _∷_, map}
 use mathlib.Core.Bool.{Bool, true, false}
 use Prim.Native.Nat.{ℕ, zero, suc, _+_, _-_, _≤_, _<_}
 use native.Mathlib.Nat.{not-suc-le-zero, le-of-suc-le-suc, le-trans, le-refl}
 use native.Mathlib.Omega.{arith}
 use lib.Dec.{T, eqb, ltb, leb}
-use lib.ListN.{length, getD, take, length-map, List·getD-map}
-use lib.Seq.{getD-take, length-take-le}
+use lib.ListN.{length, getD, take, drop, length-map, List·getD-map}
+use lib.Seq.{getD-take, length-take-le, take-take}
 use borrow.Author.Tests.{ltb-true, ltb-false, leb-true, leb-false, le-leb, eq-eqb, ne-eqb}
 use lib.Ieee.{Float, nan, fits, binary64}
 use Rattle.walk.specs.Walk.{every, first}
@@ -18,12 +18,13 @@ use Rattle.table.specs.declared.sample.Sample.{Sample}
 use Rattle.table.proofs.Places.{timeKey}
 use Rattle.table.proofs.TableLaws.{and-left, and-right}
 use Rattle.table.proofs.UnitLaws.{earlier-of}
-use Rattle.directory.specs.Directory.{Entry, Reading, Blocks, block, blockOf, blockTimes, directoryIn, entriesIn, flat, inReach, noEntry, noReading, readingOf, readingsIn, sampleOf, signalIn, soundDirectory, timely}
+use Rattle.directory.specs.Directory.{Entry, Reading, Blocks, block, blockTimes, directoryIn, entriesIn, flat, inReach, noEntry, noReading, readingOf, readingRows, readingsIn, sampleOf, signalIn, soundDirectory, timely}
 use Rattle.directory.proofs.DirectoryLaws.{sound-parts, flat-readings, keyed, block-keyed}
-use Rattle.directory.proofs.SoundLaws.{tiles-at}
+use Rattle.directory.proofs.SeriesLaws.{blockOf}
+use Rattle.directory.proofs.SoundLaws.{part-is, tiles-at}
 use Rattle.directory.proofs.EntryLaws.{ascends-at, block-length, block-at}
 use Rattle.directory.proofs.ColumnLaws.{entry-at, reading-at}
-use Rattle.query.specs.Search.{Split, Falling, isUpTo, isBefore}
+use Rattle.query.specs.Steps.{Split, Falling, isUpTo, isBefore}
 use Rattle.query.proofs.QueryLaws.{TimesHeld}
 
 -- ---- lists by their places
@@ -52,6 +53,29 @@ pub record Lies (l : List Sample) (ts xs : List Float) (start count : ℕ) : Typ
   pub long : length l ≡ count
   pub time : (j : ℕ) → j < count → getD l j blank .time ≡ getD ts (start + j) nan
   pub value : (j : ℕ) → j < count → getD l j blank .correction ≡ getD xs (start + j) nan
+
+-- the block of an entry in the two columns
+pub lies-at : (ts xs : List Float) (e : Entry) (first count : ℕ) → e .start ≡ first → e .count ≡ count → first + count ≤ length (readingRows ts xs)
+    → Lies (block (readingRows ts xs) e) ts xs first count
+lies-at ts xs e first count f k h =
+    rw (← f, ← k)
+    (record {
+      long = block-length (readingRows ts xs) e (omega arith);
+      time = λ j l. ap (λ (x : Sample). x .time) (at j l);
+      value = λ j l. ap (λ (x : Sample). x .correction) (at j l);
+    })
+  where
+    at : (j : ℕ) → j < e .count → getD (block (readingRows ts xs) e) j blank ≡ sampleOf e (record { time = getD ts (e .start + j) nan; correction = getD xs (e .start + j) nan })
+    at j l = block-at (readingRows ts xs) e j (omega arith) l ∙ ap (sampleOf e) (sym (reading-at ts xs (e .start + j) (omega arith)))
+
+-- a block within the first n readings does not depend on those after them
+pub block-whole : (rs : List Reading) (n : ℕ) (e : Entry) → n ≤ length rs → e .start + e .count ≤ n → block rs e ≡ block (take n rs) e
+unfolding block
+block-whole rs n e h k =
+    ap (map (sampleOf e))
+    (part-is (e .start) (e .count) rs (omega arith)
+    ∙ ap (drop (e .start)) (sym (take-take (e .start + e .count) n rs k))
+    ∙ sym (part-is (e .start) (e .count) (take n rs) (omega (arith, length-take-le n rs h))))
 
 -- times in order, by their places
 keyed-from : (k : ℕ) (l : List Sample) (j : ℕ) → keyed k l ≡ true → j < length l → k ≤ timeKey (getD l j blank .time)
@@ -93,7 +117,7 @@ module _ (m n : ℕ) (l : Blocks) (fm : m ≤ length (entriesIn l)) (fn : n ≤ 
       ∙ reach-time (getD (take n (readingsIn l)) i noReading) (every-at inReach noReading (take n (readingsIn l)) i (sound-parts (directoryIn m n l) s .in-reach) (omega (arith, readings)))
 
   -- the entry's satellite, first sample and count
-  is : (i : ℕ) → i < m → _≡_ {A = Entry} (record { constellation = getD (l .constellations) i 0; svid = getD (l .svids) i 0; band = getD (l .bands) i 0; start = getD (l .firsts) i 0; count = getD (l .counts) i 0 }) (getD (entriesIn l) i noEntry)
+  pub is : (i : ℕ) → i < m → _≡_ {A = Entry} (record { constellation = getD (l .constellations) i 0; svid = getD (l .svids) i 0; band = getD (l .bands) i 0; start = getD (l .firsts) i 0; count = getD (l .counts) i 0 }) (getD (entriesIn l) i noEntry)
   is i h = entry-at (l .constellations) (l .svids) (l .bands) (l .firsts) (l .counts) i (omega arith)
 
   signal-is : (i : ℕ) → i < m → signal (getD (l .constellations) i 0) (getD (l .svids) i 0) (getD (l .bands) i 0) ≡ signalIn (getD (take m (entriesIn l)) i noEntry)

@@ -1,3 +1,3 @@
 pub mod Query
 pub mod Past
-pub mod Search
+pub mod Steps

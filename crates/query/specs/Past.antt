@@ -30,12 +30,12 @@ between gap t f missing = Refused NoCorrection
 between gap t f (the b) = cond (near (b .time) t) (Metres (b .correction)) (bridged gap t f b)
 
 -- the answer of before
-unfoldable pub answerBefore : List Sample → Float → ℕ → ℕ → ℕ → Float → Correction
-answerBefore ss gap c v b t = let l = seriesOf (signal c v b) ss in between gap t (lastBefore t l) (firstSince t l)
+unfoldable pub formerAnswer : List Sample → Float → ℕ → ℕ → ℕ → Float → Correction
+formerAnswer ss gap c v b t = let l = seriesOf (signal c v b) ss in between gap t (lastBefore t l) (firstSince t l)
 
 -- a query by the rule of before, of a directory of m entries and n samples in columns with that capacity: the same numbers 2 to 4
 unfoldable pub queryBefore : ℕ → ℕ → ℕ → Directory → Float → ℕ → ℕ → ℕ → Float → Correction
-queryBefore m n room d gap c v b t = guarded (ltb room m || ltb room n) (soundDirectory d) gap t (answerBefore (flat d) gap c v b t)
+queryBefore m n room d gap c v b t = guarded (ltb room m || ltb room n) (soundDirectory d) gap t (formerAnswer (flat d) gap c v b t)
 
 -- ---- where the answers differ
 

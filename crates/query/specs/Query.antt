@@ -13,6 +13,8 @@ use Rattle.numeric.specs.Refusal.{numberOf}
 use Rattle.numeric.specs.declared.refusal.Refusal.the-variants.{TooMany, SettingOutOfRange, RecordOutOfRange, NoCorrection}
 use Rattle.signal.specs.Signal.{signal}
 use Rattle.table.specs.Table.{seriesOf, soundTable}
+use Rattle.table.specs.declared.add.Test.{Test}
+use Rattle.table.specs.declared.add.Test.the-variants as Test
 use Rattle.table.specs.declared.sample.Sample.{Sample}
 use Rattle.directory.specs.Directory.{Directory, flat, soundDirectory}
 use Rattle.query.specs.declared.query.Correction.{Correction}
@@ -76,12 +78,12 @@ spanned gap t (the a) missing = Refused NoCorrection
 spanned gap t (the a) (the b) = cond (lt gap (b .time ⊖ a .time)) (Refused NoCorrection) (Metres (line t a b))
 
 -- request (vi): what the last sample f before t and the first one h at or after it give, a near h first, then a near f, then the ends, then the gap
-unfoldable pub ruled : Float → Float → Found → Found → Correction
-ruled gap t f h = nearOr t h (nearOr t f (spanned gap t f h))
+unfoldable pub correctionRule : Float → Float → Found → Found → Correction
+correctionRule gap t f h = nearOr t h (nearOr t f (spanned gap t f h))
 
 -- the correction at the time t from one satellite's series, by the last sample before t and the first one at or after it
 unfoldable pub answerIn : List Sample → Float → Float → Correction
-answerIn l gap t = ruled gap t (lastBefore t l) (firstSince t l)
+answerIn l gap t = correctionRule gap t (lastBefore t l) (firstSince t l)
 
 -- the correction of the signal c, v, b at the time t: that of its series
 unfoldable pub answerAt : List Sample → Float → ℕ → ℕ → ℕ → Float → Correction
@@ -103,12 +105,23 @@ queryOf n room ss gap c v b t = guarded (ltb room n) (soundTable ss) gap t (answ
 unfoldable pub queryIn : ℕ → ℕ → ℕ → Directory → Float → ℕ → ℕ → ℕ → Float → Correction
 queryIn m n room d gap c v b t = guarded (ltb room m || ltb room n) (soundDirectory d) gap t (answerAt (flat d) gap c v b t)
 
+-- `queryIn` of a signal that is given as one number
+unfoldable pub signalQuery : ℕ → ℕ → ℕ → Directory → Float → ℕ → Float → Correction
+signalQuery m n room d gap g t = guarded (ltb room m || ltb room n) (soundDirectory d) gap t (answerIn (seriesOf g (flat d)) gap t)
+
+-- numbers 2 to 4 of a table of m entries and n samples and of a gap
+unfoldable pub tableTest : ℕ → ℕ → ℕ → Directory → Float → Test
+tableTest m n room d gap =
+    cond (ltb room m || ltb room n) (Test.Refused TooMany)
+    (cond (not (inRange gap)) (Test.Refused SettingOutOfRange)
+    (cond (not (soundDirectory d)) (Test.Refused RecordOutOfRange) Test.Passed))
+
 -- 0, or the number of the refusal
 abbrev pub queryNumber : Correction → ℕ
 queryNumber (Refused r) = numberOf r
 queryNumber (Metres x) = 0
 
--- the pattern of a lent float afterwards, to the last bit: that of the correction, and as it was where the query is refused
+-- the pattern of a lent float afterwards, to the last bit: that of the correction, unchanged where the query is refused
 abbrev pub patternAfter : Correction → ℕ → ℕ
 patternAfter (Refused r) old = old
 patternAfter (Metres x) old = patternOf x

@@ -1,15 +1,14 @@
-// Where a signal stands in a sound directory, and a time in its block: by halving. The last halvings are as many whatever is asked, and each chooses
-// one of two places, so that the compiler makes no branch that what is asked decides.
+// Finds a signal in a sound directory, and a time in a block, by halving. The last halvings are as many whatever is asked, and each chooses one of two places,
+// so that the compiler makes no branch that what is asked decides.
 ghost use mathlib.Core.Path.{_≡_};
 ghost use mathlib.Core.Bool.{cond};
-ghost use Prim.Native.Nat.{_+_, _≤_, _<_};
-ghost use lib.ListN.{length};
+ghost use Prim.Native.Nat.{_+_, _≤_};
 ghost use lib.Dec.{leb};
 ghost use lib.Ieee.{lt};
-ghost use Rattle.query.specs.Search.{Halving, Split, Falling, isUpTo, isBefore};
+ghost use Rattle.query.specs.Steps.{Split, isBefore, SignalsSplit, LastUpTo, TimesSplit};
 use directory::entry::signal_at;
 
-// The place mid where the signal s is not above g, and lo elsewhere.
+// Returns the place mid where the signal s is not above g, and lo elsewhere.
 fn choose_up_to(s: u64, g: u64, mid: usize, lo: usize) -> usize
     requires { ⌜ lo ≤ mid ⌝ }
     ensures { λ r. ⌜ (r ≡ cond (leb s g) mid lo) × ((lo ≤ r) × (r ≤ mid)) ⌝ }
@@ -17,7 +16,7 @@ fn choose_up_to(s: u64, g: u64, mid: usize, lo: usize) -> usize
     if s <= g { mid } else { lo }
 }
 
-// The place mid where the time x is before t, and lo elsewhere.
+// Returns the place mid where the time x is before t, and lo elsewhere.
 fn choose_before(x: f64, t: f64, mid: usize, lo: usize) -> usize
     requires { ⌜ lo ≤ mid ⌝ }
     ensures { λ r. ⌜ (r ≡ cond (lt x t) mid lo) × ((lo ≤ r) × (r ≤ mid)) ⌝ }
@@ -25,21 +24,19 @@ fn choose_before(x: f64, t: f64, mid: usize, lo: usize) -> usize
     if x < t { mid } else { lo }
 }
 
-// The last of the m entries that does not stand after the signal g, or the first where all do; at most 32 entries from the place `from` on are left.
+// Returns the last of `size` entries, at most 32, from the place `from` on, whose signal is not above `signal`, or the first of them where all are.
 fn entry_within(
-    dc: &[u8],
-    dv: &[u16],
-    db: &[u32],
-    m: usize,
-    g: u64,
+    block_constellation: &[u8],
+    block_svid: &[u16],
+    block_band: &[u32],
+    signal: u64,
     from: usize,
     size: usize,
 ) -> usize
-    requires { ⌜ (m ≤ length (now dc)) × ((m ≤ length (now dv)) × (m ≤ length (now db))) ⌝ }
-    requires { ⌜ Falling (isUpTo (now dc) (now dv) (now db) g) 1 m ⌝ }
-    requires { ⌜ Halving (isUpTo (now dc) (now dv) (now db) g) 1 m (from + 1) (from + size) ⌝ }
-    requires { ⌜ (0 < size) × (size ≤ 32) ⌝ }
-    ensures { λ r. ⌜ (r < m) × Split (isUpTo (now (dc .entry)) (now (dv .entry)) (now (db .entry)) g) 1 m (r + 1) ⌝ }
+    requires { ⌜ size ≤ 32 ⌝ }
+    requires { ⌜ SignalsSplit (now «block_constellation») (now «block_svid») (now «block_band») signal from (from + size) ⌝ }
+    ensures { λ r. ⌜ LastUpTo
+        (now («block_constellation» .entry)) (now («block_svid» .entry)) (now («block_band» .entry)) signal from (from + size) r ⌝ }
 {
     let mut lo = from;
     let mut len = size;
@@ -47,40 +44,42 @@ fn entry_within(
     while 0 < left {
         let half = len / 2;
         let mid = lo + half;
-        let s = signal_at(dc, dv, db, mid);
-        lo = choose_up_to(s, g, mid, lo);
+        let s = signal_at(block_constellation, block_svid, block_band, mid);
+        lo = choose_up_to(s, signal, mid, lo);
         len -= half;
         left -= 1;
     }
     lo
 }
 
-// The last of the m entries that does not stand after the signal g, or the first where all do.
-pub(crate) fn entry_of(dc: &[u8], dv: &[u16], db: &[u32], m: usize, g: u64) -> usize
-    requires { ⌜ (m ≤ length (now dc)) × ((m ≤ length (now dv)) × (m ≤ length (now db))) ⌝ }
-    requires { ⌜ 0 < m ⌝ }
-    requires { ⌜ Falling (isUpTo (now dc) (now dv) (now db) g) 1 m ⌝ }
-    ensures { λ r. ⌜ (r < m) × Split (isUpTo (now (dc .entry)) (now (dv .entry)) (now (db .entry)) g) 1 m (r + 1) ⌝ }
+// Returns the last of the entries whose signal is not above `signal`, or the first where all are.
+pub(crate) fn entry_of(
+    block_constellation: &[u8],
+    block_svid: &[u16],
+    block_band: &[u32],
+    blocks: usize,
+    signal: u64,
+) -> usize
+    requires { ⌜ SignalsSplit (now «block_constellation») (now «block_svid») (now «block_band») signal 0 blocks ⌝ }
+    ensures { λ r. ⌜ LastUpTo (now («block_constellation» .entry)) (now («block_svid» .entry)) (now («block_band» .entry)) signal 0 blocks r ⌝ }
 {
     let mut lo: usize = 0;
-    let mut len = m;
+    let mut len = blocks;
     while 32 < len {
         let half = len / 2;
         let mid = lo + half;
-        let s = signal_at(dc, dv, db, mid);
-        lo = choose_up_to(s, g, mid, lo);
+        let s = signal_at(block_constellation, block_svid, block_band, mid);
+        lo = choose_up_to(s, signal, mid, lo);
         len -= half;
     }
-    entry_within(dc, dv, db, m, g, lo, len)
+    entry_within(block_constellation, block_svid, block_band, signal, lo, len)
 }
 
-// The first place from start on, up to end, whose time is not before t; at most 64 places from the place `from` on are left.
-fn front_within(ts: &[f64], start: usize, end: usize, t: f64, from: usize, size: usize) -> usize
-    requires { ⌜ end ≤ length (now ts) ⌝ }
-    requires { ⌜ Falling (isBefore (now ts) t) start end ⌝ }
-    requires { ⌜ Halving (isBefore (now ts) t) start end from (from + size) ⌝ }
-    requires { ⌜ (0 < size) × (size ≤ 64) ⌝ }
-    ensures { λ r. ⌜ Split (isBefore (now (ts .entry)) t) start end r ⌝ }
+// Returns the first of `size` places, at most 64, from the place `from` on, whose time is not before `time`, or the place after them.
+fn front_within(table_time: &[f64], time: f64, from: usize, size: usize) -> usize
+    requires { ⌜ size ≤ 64 ⌝ }
+    requires { ⌜ TimesSplit (now «table_time») time from (from + size) ⌝ }
+    ensures { λ r. ⌜ Split (isBefore (now («table_time» .entry)) time) from (from + size) r ⌝ }
 {
     let mut lo = from;
     let mut len = size;
@@ -88,30 +87,28 @@ fn front_within(ts: &[f64], start: usize, end: usize, t: f64, from: usize, size:
     while 0 < left {
         let half = len / 2;
         let mid = lo + half;
-        let x = ts[mid];
-        lo = choose_before(x, t, mid, lo);
+        let x = table_time[mid];
+        lo = choose_before(x, time, mid, lo);
         len -= half;
         left -= 1;
     }
-    let x = ts[lo];
-    choose_before(x, t, lo + 1, lo)
+    let x = table_time[lo];
+    choose_before(x, time, lo + 1, lo)
 }
 
-// The first place from start on, up to end, whose time is not before t.
-pub(crate) fn front_of(ts: &[f64], start: usize, end: usize, t: f64) -> usize
-    requires { ⌜ end ≤ length (now ts) ⌝ }
-    requires { ⌜ start < end ⌝ }
-    requires { ⌜ Falling (isBefore (now ts) t) start end ⌝ }
-    ensures { λ r. ⌜ Split (isBefore (now (ts .entry)) t) start end r ⌝ }
+// Returns the first place of a block, from first up to end, whose time is not before `time`, or its end.
+pub(crate) fn front_of(table_time: &[f64], first: usize, end: usize, time: f64) -> usize
+    requires { ⌜ TimesSplit (now «table_time») time first end ⌝ }
+    ensures { λ r. ⌜ Split (isBefore (now («table_time» .entry)) time) first end r ⌝ }
 {
-    let mut lo = start;
-    let mut len = end - start;
+    let mut lo = first;
+    let mut len = end - first;
     while 64 < len {
         let half = len / 2;
         let mid = lo + half;
-        let x = ts[mid];
-        lo = choose_before(x, t, mid, lo);
+        let x = table_time[mid];
+        lo = choose_before(x, time, mid, lo);
         len -= half;
     }
-    front_within(ts, start, end, t, lo, len)
+    front_within(table_time, time, lo, len)
 }

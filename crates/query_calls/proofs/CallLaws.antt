@@ -1,23 +1,9 @@
--- The answers of the calls, way by way. Assumes nothing.
-use mathlib.Core.Path.{_≡_, refl, sym, ap, subst, _∙_}
-use mathlib.Core.Bool.{Bool, true, false, not, _||_}
-use mathlib.Core.List.{List, [], _∷_}
-use Prim.Native.Nat.{ℕ}
+-- The numbers of the calls. Assumes nothing.
+use mathlib.Core.Path.{_≡_}
 use native.Mathlib.Omega.{arith}
-use lib.Dec.{ltb}
-use lib.ListN.{getD}
-use lib.Ieee.{Float}
 use Rattle.numeric.specs.Refusal.{numberOf}
 use Rattle.numeric.specs.declared.refusal.Refusal.{Refusal}
 use Rattle.numeric.specs.declared.refusal.Refusal.the-variants.{BrokenForm, TooMany, SettingOutOfRange, RecordOutOfRange, BadInterval, BadTrack, TooFewPairs, TooFewRows, TooManySlots, FitFailed, TableFull, NoCorrection, BadTime, QualityNotFinite, OnReceiver, BadTrip, NoDistance, BadDropTime, NotTurned, NotCertified, BrokenRecords}
-use Rattle.directory.specs.Directory.{Directory}
-use Rattle.query.specs.Query.{queryIn, queryNumber, patternAfter, GivesFinite, Answers}
-use Rattle.query_calls.specs.Queries.{Reply, refusal, answers, placesShort, queriesIn, askingOf, askingNumber, Replies}
-use Rattle.query.specs.declared.query.Correction.{Correction}
-use Rattle.query.specs.declared.query.Correction.the-variants as Correction
-use Rattle.query_calls.specs.declared.queries.Asking.{Asking}
-use Rattle.query_calls.specs.declared.queries.Asking.the-variants as Asking
-use Rattle.query_calls.proofs.QueriesLaws.{number-at, metres-at, finite-there, each-refused}
 
 -- no refusal has the number 0
 pub not-zero : (r : Refusal) → numberOf r ≡ 0 → ⊥
@@ -42,69 +28,3 @@ not-zero BadDropTime e = omega arith
 not-zero NotTurned e = omega arith
 not-zero NotCertified e = omega arith
 not-zero BrokenRecords e = omega arith
-
-given-metres : (q : Correction) (x y : ℕ) → queryNumber q ≡ 0 → patternAfter q x ≡ patternAfter q y
-given-metres (Correction.Refused r) x y e = absurd (not-zero r e)
-given-metres (Correction.Metres z) x y e = refl
-
-kept-pattern : (q : Correction) (y : ℕ) → (queryNumber q ≡ 0 → ⊥) → y ≡ patternAfter q y
-kept-pattern (Correction.Refused r) y ne = refl
-kept-pattern (Correction.Metres x) y ne = absurd (ne refl)
-
-refused-of : (o : Reply) (r : Refusal) → Asking.Refused r ≡ askingOf o → o ≡ refusal r
-refused-of (refusal s) r e = let z : r ≡ s = cc in ap refusal (sym z)
-refused-of (answers l) r e = absurd (let z : _≡_ {A = ℕ} 0 1 = cc in omega arith)
-
--- ---- one query is one place of many: x is the answer of the call inside
-module _ (m n room : ℕ) (d : Directory) (gap : Float) (c v b : ℕ) (t : Float) (k z : ℕ) where
-  abbrev one : Reply
-  one = queriesIn m n room d gap (c ∷ []) (v ∷ []) (b ∷ []) (t ∷ []) 1 (k ∷ []) (z ∷ [])
-
-  long : placesShort 1 (c ∷ []) (v ∷ []) (b ∷ []) (t ∷ []) (k ∷ []) (z ∷ []) ≡ false
-  unfolding placesShort
-  long = refl
-
-  either : (x : Bool) → (x || true) ≡ true
-  either true = refl
-  either false = refl
-
-  asked : ((ltb room m || ltb room n) || not (placesShort 1 (c ∷ []) (v ∷ []) (b ∷ []) (t ∷ []) (k ∷ []) (z ∷ []))) ≡ true
-  asked = rw long (either (ltb room m || ltb room n))
-
-  pub one-refused : {x : Asking} (r : Refusal) {a : ℕ} (y : ℕ) → x ≡ Asking.Refused r → a ≡ numberOf r → x ≡ askingOf one
-      → Answers (queryIn m n room d gap c v b t) a y y
-  one-refused r y e k′ h =
-      let q : queryIn m n room d gap c v b t ≡ Correction.Refused r =
-      each-refused m n room d gap (c ∷ []) (v ∷ []) (b ∷ []) (t ∷ []) 1 (k ∷ []) (z ∷ []) asked r (refused-of one r (sym e ∙ h)) c v b t in
-      rw q (record { number-is = k′; metres-are = refl; given-finite = tt })
-
-  module _ {x : Asking} (numbers′ : List ℕ) (metres′ : List ℕ) (e : x ≡ Asking.Answered) (h : (x ≡ askingOf one) × Replies one (askingNumber x) (k ∷ []) (z ∷ []) numbers′ metres′) where
-    told : Asking.Answered ≡ askingOf one
-    told = sym e ∙ h .0
-
-    inside : Replies one 0 (k ∷ []) (z ∷ []) numbers′ metres′
-    inside = subst (λ (a : Asking). Replies one (askingNumber a) (k ∷ []) (z ∷ []) numbers′ metres′) e (h .1)
-
-    number-is : getD numbers′ 0 0 ≡ queryNumber (queryIn m n room d gap c v b t)
-    number-is = number-at m n room d gap (c ∷ []) (v ∷ []) (b ∷ []) (t ∷ []) 1 (k ∷ []) (z ∷ []) numbers′ metres′ told inside 0 (omega arith)
-
-    metres-are : getD metres′ 0 0 ≡ patternAfter (queryIn m n room d gap c v b t) z
-    metres-are = metres-at m n room d gap (c ∷ []) (v ∷ []) (b ∷ []) (t ∷ []) 1 (k ∷ []) (z ∷ []) numbers′ metres′ told inside 0 (omega arith)
-
-    finite : GivesFinite (queryIn m n room d gap c v b t)
-    finite = finite-there m n room d gap (c ∷ []) (v ∷ []) (b ∷ []) (t ∷ []) 1 (k ∷ []) (z ∷ []) numbers′ metres′ told inside 0 (omega arith)
-
-    pub one-given : (y : ℕ) {p : ℕ} → getD numbers′ 0 0 ≡ 0 → p ≡ getD metres′ 0 0 → Answers (queryIn m n room d gap c v b t) (getD numbers′ 0 0) y p
-    one-given y zero p-is =
-        let q = given-metres (queryIn m n room d gap c v b t) z y (sym number-is ∙ zero) in
-        record { number-is = number-is; metres-are = p-is ∙ metres-are ∙ q; given-finite = finite }
-
-    pub one-kept : (y : ℕ) → (getD numbers′ 0 0 ≡ 0 → ⊥)
-        → Answers (queryIn m n room d gap c v b t) (getD numbers′ 0 0) y y
-    one-kept y ne = record { number-is = number-is; metres-are = kept-pattern (queryIn m n room d gap c v b t) y (λ q. ne (number-is ∙ q)); given-finite = finite }
-
--- x is the answer of the call inside
-pub replies-number : {o : Reply} {x : Asking} {numbers : List ℕ} {metres : List ℕ} {numbers′ : List ℕ} {metres′ : List ℕ} (y : Asking) (number : ℕ) → x ≡ y → number ≡ askingNumber y
-    → (x ≡ askingOf o) × Replies o (askingNumber x) numbers metres numbers′ metres′ → Replies o number numbers metres numbers′ metres′
-replies-number {o = o} {numbers = numbers} {metres = metres} {numbers′ = numbers′} {metres′ = metres′} y number e k a =
-    rw k (subst (λ (z : Asking). Replies o (askingNumber z) numbers metres numbers′ metres′) e (a .1))

@@ -1,56 +1,56 @@
 -- The columns that a call of many queries leaves, and that the call gives what as many single queries give. Assumes nothing.
 use mathlib.Core.Path.{_≡_, refl, sym, ap, _∙_, subst}
 use mathlib.Core.List.{List, [], _∷_, _++_}
-use mathlib.Core.Bool.{Bool, true, false, cond, not, _&&_, _||_}
+use mathlib.Core.Bool.{Bool, true, false, cond, not, _||_}
 use Prim.Native.Nat.{ℕ, zero, suc, _+_, _≤_, _<_}
 use native.Mathlib.Numerals.{add-one}
 use native.Mathlib.Omega.{arith}
 use lib.ListN.{length, getD, set}
 use lib.Dec.{ltb}
-use borrow.Author.Tests.{ltb-false, not-true, not-false}
+use borrow.Author.Tests.{le-ltb, ltb-false}
 use lib.Ieee.{Float}
-use lib.Ieee.Scale.{finite}
 use Rattle.walk.specs.Walk.{places}
 use Rattle.walk.proofs.Walk.{places-length, places-at, or-no}
 use Rattle.numeric.specs.Real.{inRange}
 use Rattle.numeric.specs.declared.refusal.Refusal.{Refusal}
 use Rattle.numeric.specs.declared.refusal.Refusal.the-variants.{TooMany, SettingOutOfRange, RecordOutOfRange}
-use Rattle.directory.specs.Directory.{Directory, flat, soundDirectory}
-use Rattle.query.specs.Query.{answerAt, guarded, queryIn, queryNumber, patternAfter, GivesFinite, PassedQuery}
+use Rattle.table.specs.declared.add.Test.the-variants as Test
+use Rattle.directory.specs.Directory.{Directory, soundDirectory}
+use Rattle.query.specs.Query.{queryNumber, patternAfter, tableTest, GivesFinite, PassedQuery}
 use Rattle.query.specs.declared.query.Correction.{Correction}
 use Rattle.query.specs.declared.query.Correction.the-variants as Correction
 use Rattle.query_calls.specs.declared.queries.Asking.the-variants.{Refused, Answered}
-use Rattle.query_calls.specs.Queries.{Reply, refusal, answers, placesShort, queryAt, queriesIn, askingOf, askingNumber, written, numberAfter, EachFinite, Replies}
+use Rattle.query_calls.specs.Queries.{Reply, refusal, answers, placesShort, queryAt, queriesIn, askingOf, askingNumber, withAnswers, numberAfter, EachFinite, Replies}
 
--- ---- a column with answers written to it
+-- ---- a column with answers withAnswers to it
 module _ {A : Type 0} (f : Correction → A → A) where
-  pub written-length : (l : List Correction) (xs : List A) → length (written f l xs) ≡ length xs
-  unfolding written
+  pub written-length : (l : List Correction) (xs : List A) → length (withAnswers f l xs) ≡ length xs
+  unfolding withAnswers
   written-length [] xs = refl
   written-length (a ∷ l) [] = refl
   written-length (a ∷ l) (x ∷ xs) = ap suc (written-length l xs)
 
-  pub written-at : (l : List Correction) (xs : List A) (i : ℕ) (e : Correction) (d : A) → i < length l → i < length xs → getD (written f l xs) i d ≡ f (getD l i e) (getD xs i d)
-  unfolding written
+  pub written-at : (l : List Correction) (xs : List A) (i : ℕ) (e : Correction) (d : A) → i < length l → i < length xs → getD (withAnswers f l xs) i d ≡ f (getD l i e) (getD xs i d)
+  unfolding withAnswers
   written-at [] xs i e d h k = absurd (omega arith)
   written-at (a ∷ l) [] i e d h k = absurd (omega arith)
   written-at (a ∷ l) (x ∷ xs) zero e d h k = refl
   written-at (a ∷ l) (x ∷ xs) (suc i) e d h k = written-at l xs i e d (omega arith) (omega arith)
 
   -- one answer more
-  more : (l : List Correction) (a : Correction) (xs : List A) (d : A) → set (written f l xs) (length l) (f a (getD (written f l xs) (length l) d)) ≡ written f (l ++ (a ∷ [])) xs
-  unfolding written
+  more : (l : List Correction) (a : Correction) (xs : List A) (d : A) → set (withAnswers f l xs) (length l) (f a (getD (withAnswers f l xs) (length l) d)) ≡ withAnswers f (l ++ (a ∷ [])) xs
+  unfolding withAnswers
   more [] a [] d = refl
   more [] a (x ∷ xs) d = refl
   more (b ∷ l) a [] d = refl
   more (b ∷ l) a (x ∷ xs) d = ap (λ (z : List A). f b x ∷ z) (more l a xs d)
 
-  pub written-next : (a : ℕ → Correction) (i : ℕ) (xs₀ xs : List A) (d : A) (r : Correction) (x : A) → xs ≡ written f (places a i) xs₀ → r ≡ a i → x ≡ f r (getD xs i d)
-      → set xs i x ≡ written f (places a (i + 1)) xs₀
+  pub written-next : (a : ℕ → Correction) (i : ℕ) (xs₀ xs : List A) (d : A) (r : Correction) (x : A) → xs ≡ withAnswers f (places a i) xs₀ → r ≡ a i → x ≡ f r (getD xs i d)
+      → set xs i x ≡ withAnswers f (places a (i + 1)) xs₀
   unfolding places
   written-next a i xs₀ xs d r x h e k = rw (add-one i, k, e, h) (at i (places-length a i))
     where
-      at : (n : ℕ) → length (places a i) ≡ n → set (written f (places a i) xs₀) n (f (a i) (getD (written f (places a i) xs₀) n d)) ≡ written f (places a i ++ (a i ∷ [])) xs₀
+      at : (n : ℕ) → length (places a i) ≡ n → set (withAnswers f (places a i) xs₀) n (f (a i) (getD (withAnswers f (places a i) xs₀) n d)) ≡ withAnswers f (places a i ++ (a i ∷ [])) xs₀
       at n q = rw (← q) (more (places a i) (a i) xs₀ d)
 
 finite-more : (l : List Correction) (a : Correction) → EachFinite l → GivesFinite a → EachFinite (l ++ (a ∷ []))
@@ -64,16 +64,16 @@ finite-at [] i d k h = absurd (omega arith)
 finite-at (a ∷ l) zero d k h = h .0
 finite-at (a ∷ l) (suc i) d k h = finite-at l i d (omega arith) (h .1)
 
--- ---- the loop: a is the answer at each place, of which i are written
+-- ---- the loop: a is the answer at each place, of which i are withAnswers
 pub record Filling (a : ℕ → Correction) (count : ℕ) (numbers₀ : List ℕ) (metres₀ : List ℕ) (numbers : List ℕ) (metres : List ℕ) (i : ℕ) : Type 0 where
   pub within : i ≤ count
-  pub numbers-so-far : numbers ≡ written numberAfter (places a i) numbers₀
-  pub metres-so-far : metres ≡ written patternAfter (places a i) metres₀
+  pub numbers-so-far : numbers ≡ withAnswers numberAfter (places a i) numbers₀
+  pub metres-so-far : metres ≡ withAnswers patternAfter (places a i) metres₀
   pub finite-so-far : EachFinite (places a i)
 
 module _ (a : ℕ → Correction) (count : ℕ) (numbers₀ : List ℕ) (metres₀ : List ℕ) where
   pub filling-start : Filling a count numbers₀ metres₀ numbers₀ metres₀ 0
-  unfolding places written EachFinite
+  unfolding places withAnswers EachFinite
   filling-start = record { within = omega arith; numbers-so-far = refl; metres-so-far = refl; finite-so-far = tt }
 
   module _ (numbers : List ℕ) (metres : List ℕ) (i : ℕ) (s : Filling a count numbers₀ metres₀ numbers metres i) where
@@ -137,39 +137,32 @@ pub answered-reply : {o : Reply} {l : List Correction} {numbers : List ℕ} {met
 answered-reply e h = rw e (refl, h)
 
 module _ (m n room : ℕ) (d : Directory) (gap : Float) (c v b : List ℕ) (t : List Float) (count : ℕ) (numbers : List ℕ) (metres : List ℕ) where
-  pub many : (ltb room m || ltb room n) ≡ true → queriesIn m n room d gap c v b t count numbers metres ≡ refusal TooMany
+  pub short-lent : placesShort count c v b t numbers metres ≡ true → queriesIn m n room d gap c v b t count numbers metres ≡ refusal TooMany
   unfolding queriesIn
-  many h = rw h
+  short-lent h = rw (h, either (ltb room m || ltb room n))
+    where
+      either : (w : Bool) → (w || true) ≡ true
+      either true = refl
+      either false = refl
 
-  module _ (h : (ltb room m || ltb room n) ≡ false) {s : Bool} (es : s ≡ placesShort count c v b t numbers metres) where
-    pub short-lent : s ≡ true → queriesIn m n room d gap c v b t count numbers metres ≡ refusal TooMany
+  module _ (h : placesShort count c v b t numbers metres ≡ false) where
+    -- where a test of the table refuses
+    pub table-refused : (r : Refusal) → Test.Refused r ≡ tableTest m n room d gap → queriesIn m n room d gap c v b t count numbers metres ≡ refusal r
+    unfolding queriesIn tableTest
+    table-refused r e = rw h (go (places (queryAt m n room d gap c v b t) count) (ltb room m || ltb room n) (inRange gap) (soundDirectory d) e)
+      where
+        go : (x : List Correction) (w y s : Bool)
+            → Test.Refused r ≡ cond w (Test.Refused TooMany) (cond (not y) (Test.Refused SettingOutOfRange) (cond (not s) (Test.Refused RecordOutOfRange) Test.Passed))
+            → cond (w || false) (refusal TooMany) (cond (not y) (refusal SettingOutOfRange) (cond (not s) (refusal RecordOutOfRange) (answers x))) ≡ refusal r
+        go x true y s e = let z : TooMany ≡ r = cc in ap refusal z
+        go x false false s e = let z : SettingOutOfRange ≡ r = cc in ap refusal z
+        go x false true false e = let z : RecordOutOfRange ≡ r = cc in ap refusal z
+        go x false true true e = absurd (let z : _≡_ {A = ℕ} 0 1 = cc in omega arith)
+
+    -- where they all pass
+    pub all-answered : PassedQuery m n room d gap → queriesIn m n room d gap c v b t count numbers metres ≡ answers (places (queryAt m n room d gap c v b t) count)
     unfolding queriesIn
-    short-lent w = rw (h, sym es ∙ w)
-
-    module _ (w : s ≡ false) {q : Bool} (eq : q ≡ inRange gap) where
-      pub gap-out : not q ≡ true → queriesIn m n room d gap c v b t count numbers metres ≡ refusal SettingOutOfRange
-      unfolding queriesIn
-      gap-out u = rw (h, sym es ∙ w, sym eq ∙ not-true q u)
-
-      module _ (u : not q ≡ false) {y : Bool} (ey : y ≡ soundDirectory d) where
-        pub not-sound : not y ≡ true → queriesIn m n room d gap c v b t count numbers metres ≡ refusal RecordOutOfRange
-        unfolding queriesIn
-        not-sound z = rw (h, sym es ∙ w, sym eq ∙ not-false q u, sym ey ∙ not-true y z)
-
-        module _ (z : not y ≡ false) where
-          pub passes : PassedQuery m n room d gap
-          passes =
-              let k = or-no (ltb room m) (ltb room n) h in
-              record {
-                few-entries = ltb-false room m (k .0);
-                few-samples = ltb-false room n (k .1);
-                in-range = sym eq ∙ not-false q u;
-                steady = sym ey ∙ not-false y z;
-              }
-
-          pub all-answered : queriesIn m n room d gap c v b t count numbers metres ≡ answers (places (queryAt m n room d gap c v b t) count)
-          unfolding queriesIn
-          all-answered = rw (h, sym es ∙ w, sym eq ∙ not-false q u, sym ey ∙ not-false y z)
+    all-answered p = rw (h, le-ltb room m (p .few-entries), le-ltb room n (p .few-samples), p .in-range, p .steady)
 
 -- ---- one call gives what as many single queries give
 module _ (m n room : ℕ) (d : Directory) (gap : Float) (c v b : List ℕ) (t : List Float) (count : ℕ) (numbers : List ℕ) (metres : List ℕ) where
@@ -220,17 +213,3 @@ module _ (m n room : ℕ) (d : Directory) (gap : Float) (c v b : List ℕ) (t : 
     -- and every correction given is finite
     pub finite-there : GivesFinite (queryAt m n room d gap c v b t i)
     finite-there = subst GivesFinite (answer nothing) (finite-at (places (queryAt m n room d gap c v b t) count) i nothing inside (is .all-finite))
-
-  -- where the samples are too many or the lent columns are long enough, and the call is refused, every query of the table is refused by the same number
-  pub each-refused : ((ltb room m || ltb room n) || not (placesShort count c v b t numbers metres)) ≡ true → (r : Refusal) → queriesIn m n room d gap c v b t count numbers metres ≡ refusal r
-      → (c′ v′ b′ : ℕ) (t′ : Float) → queryIn m n room d gap c′ v′ b′ t′ ≡ Correction.Refused r
-  unfolding queriesIn queryIn guarded
-  each-refused h r e c′ v′ b′ t′ = go (ltb room m || ltb room n) (placesShort count c v b t numbers metres) (not (inRange gap)) (soundDirectory d) h e
-    where
-      go : (w x y z : Bool) → (w || not x) ≡ true → cond (w || x) (refusal TooMany) (cond y (refusal SettingOutOfRange) (cond (not z) (refusal RecordOutOfRange) (answers (places (queryAt m n room d gap c v b t) count)))) ≡ refusal r
-          → cond w (Correction.Refused TooMany) (cond y (Correction.Refused SettingOutOfRange) (cond (not (z && (inRange t′ || not (finite t′)))) (Correction.Refused RecordOutOfRange) (answerAt (flat d) gap c′ v′ b′ t′))) ≡ Correction.Refused r
-      go true x y z p q = let k : TooMany ≡ r = cc in ap Correction.Refused k
-      go false true y z p q = absurd (let k : _≡_ {A = ℕ} 0 1 = cc in omega arith)
-      go false false true z p q = let k : SettingOutOfRange ≡ r = cc in ap Correction.Refused k
-      go false false false false p q = let k : RecordOutOfRange ≡ r = cc in ap Correction.Refused k
-      go false false false true p q = absurd (let k : _≡_ {A = ℕ} 0 1 = cc in omega arith)

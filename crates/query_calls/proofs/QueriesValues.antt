@@ -10,8 +10,8 @@ use Rattle.numeric.specs.Real.{abs, inRange}
 use Rattle.numeric.specs.declared.refusal.Refusal.the-variants.{TooMany}
 use Rattle.table.specs.Table.{timeBefore}
 use Rattle.directory.specs.Directory.{Directory, ascends, tiles, timely, timelyFrom, blockTimes, inReach, soundDirectory, block, flat}
-use Rattle.query.specs.Query.{near, firstOf, lastOf, through, nearOr, spanned, ruled, answerIn, answerAt, guarded, queryIn, patternAfter}
-use Rattle.query_calls.specs.Queries.{Reply, refusal, placesShort, queriesIn, written, placesAfter, numberAfter}
+use Rattle.query.specs.Query.{near, firstOf, lastOf, through, nearOr, spanned, correctionRule, answerIn, answerAt, guarded, queryIn, patternAfter}
+use Rattle.query_calls.specs.Queries.{Reply, refusal, placesShort, queriesIn, withAnswers, placesAfter, numberAfter}
 
 -- samples (10 s, 1 m) and (20 s, 3 m) of one satellite
 abbrev one-block : Directory
@@ -26,11 +26,11 @@ abbrev three : Reply
 three = queriesIn 1 2 2048 one-block (whole 90) (1 ∷ 1 ∷ 1 ∷ []) (5 ∷ 5 ∷ 5 ∷ []) (1 ∷ 1 ∷ 1 ∷ []) (whole 15 ∷ whole 21 ∷ whole 2000000000 ∷ []) 3 (7 ∷ 7 ∷ 7 ∷ 7 ∷ []) (8 ∷ 8 ∷ 8 ∷ [])
 
 pub three-numbers : placesAfter numberAfter three (7 ∷ 7 ∷ 7 ∷ 7 ∷ []) ≡ 0 ∷ 12 ∷ 4 ∷ 7 ∷ []
-unfolding queriesIn placesShort places written queryIn guarded soundDirectory inReach ascends tiles timely timelyFrom blockTimes flat block answerAt answerIn collect ruled nearOr spanned through near firstOf lastOf inRange abs timeBefore totalOrder sign patternOf every lt le eq add sub mul div ofBits ofInt toBits isNan
+unfolding queriesIn placesShort places withAnswers queryIn guarded soundDirectory inReach ascends tiles timely timelyFrom blockTimes flat block answerAt answerIn collect correctionRule nearOr spanned through near firstOf lastOf inRange abs timeBefore totalOrder sign patternOf every lt le eq add sub mul div ofBits ofInt toBits isNan
 three-numbers = refl
 
 pub three-metres : placesAfter patternAfter three (8 ∷ 8 ∷ 8 ∷ []) ≡ 0x4000_0000_0000_0000 ∷ 8 ∷ 8 ∷ []
-unfolding queriesIn placesShort places written queryIn guarded soundDirectory inReach ascends tiles timely timelyFrom blockTimes flat block answerAt answerIn collect ruled nearOr spanned through near firstOf lastOf inRange abs timeBefore totalOrder sign patternOf every lt le eq add sub mul div ofBits ofInt toBits isNan
+unfolding queriesIn placesShort places withAnswers queryIn guarded soundDirectory inReach ascends tiles timely timelyFrom blockTimes flat block answerAt answerIn collect correctionRule nearOr spanned through near firstOf lastOf inRange abs timeBefore totalOrder sign patternOf every lt le eq add sub mul div ofBits ofInt toBits isNan
 three-metres = refl
 
 -- a lent column that is too short is 2

@@ -17,7 +17,7 @@ use Rattle.query.specs.declared.query.Correction.{Correction}
 use Rattle.query_calls.specs.declared.queries.Asking.{Asking}
 use Rattle.query_calls.specs.declared.queries.Asking.the-variants.{Refused, Answered}
 
--- ---- what a call comes to
+-- ---- the outcome of a call
 
 -- a refusal of the whole call, or the answer of each place that is asked
 pub data Reply : Type 0 where
@@ -54,15 +54,15 @@ askingNumber (Refused r) = numberOf r
 askingNumber Answered = 0
 
 -- at each answer's place what f makes of the answer and of the value there, and past them what was there
-unfoldable pub written : {A : Type 0} → (Correction → A → A) → List Correction → List A → List A
-written f [] xs = xs
-written f (a ∷ l) [] = []
-written f (a ∷ l) (x ∷ xs) = f a x ∷ written f l xs
+unfoldable pub withAnswers : {A : Type 0} → (Correction → A → A) → List Correction → List A → List A
+withAnswers f [] xs = xs
+withAnswers f (a ∷ l) [] = []
+withAnswers f (a ∷ l) (x ∷ xs) = f a x ∷ withAnswers f l xs
 
--- a column afterwards: as it was where the call is refused
+-- a column afterwards: unchanged where the call is refused
 abbrev pub placesAfter : {A : Type 0} → (Correction → A → A) → Reply → List A → List A
 placesAfter f (refusal r) column = column
-placesAfter f (answers l) column = written f l column
+placesAfter f (answers l) column = withAnswers f l column
 
 -- a place's number afterwards
 abbrev pub numberAfter : Correction → ℕ → ℕ
@@ -73,13 +73,13 @@ unfoldable pub EachFinite : List Correction → Type 0
 EachFinite [] = Unit {0}
 EachFinite (a ∷ l) = GivesFinite a × EachFinite l
 
-abbrev pub AllFinite : Reply → Type 0
-AllFinite (refusal r) = Unit {0}
-AllFinite (answers l) = EachFinite l
+abbrev pub ReplyFinite : Reply → Type 0
+ReplyFinite (refusal r) = Unit {0}
+ReplyFinite (answers l) = EachFinite l
 
 -- the number and the columns of numbers and of the patterns of metres afterwards are those of the reply, to the last bit, and every correction given is finite
 pub record Replies (o : Reply) (number : ℕ) (numbers metres numbers′ metres′ : List ℕ) : Type 0 where
   pub number-is : number ≡ askingNumber (askingOf o)
   pub numbers-after : numbers′ ≡ placesAfter numberAfter o numbers
   pub metres-after : metres′ ≡ placesAfter patternAfter o metres
-  pub all-finite : AllFinite o
+  pub all-finite : ReplyFinite o

@@ -11,7 +11,7 @@ use Rattle.table.proofs.UnitLaws.{never}
 use Rattle.table.specs.Table.{Columns, capacity, rows, soundTable, tableOf}
 use Rattle.directory.specs.Directory.{Blocks, blockCapacity, directoryIn, directoryOf, entriesFrom, entriesIn, flat, readingsIn, soundDirectory}
 use Rattle.directory.specs.Rearrange.{entriesWith, filedColumns, filedOf, listedColumns, listedOf, signalsWith}
-use Rattle.rearrange.specs.Run.{filingOf, listingOf}
+use Rattle.rearrange.specs.Lent.{filingOf, listingOf}
 use Rattle.rearrange.specs.declared.«directory_of».Filing.the-variants as Filing
 use Rattle.rearrange.specs.declared.«signals_of».Listing.the-variants as Listing
 

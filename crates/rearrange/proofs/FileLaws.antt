@@ -6,7 +6,7 @@ use Prim.Native.Nat.{ℕ, suc, _+_, _-_, _^_, _≤_, _<_}
 use native.Mathlib.Numerals.{add-one}
 use native.Mathlib.Omega.{arith}
 use lib.Dec.{eqb}
-use lib.ListN.{length, getD, take, drop, set, length-append, length-drop, length-map, take-append-drop}
+use lib.ListN.{length, getD, take, drop, set, length-append, length-drop, length-map, length-set, take-append-drop}
 use lib.Ieee.{Float, nan}
 use lib.Seq.{drop-cons, length-take-le, set-at, take-all, take-take}
 use borrow.Author.Tests.{eq-eqb, eqb-true, eqb-false}
@@ -18,12 +18,13 @@ use Rattle.table.proofs.ColumnLaws.{rows-at, rows-length}
 use Rattle.table.proofs.TableLaws.{and-right}
 use Rattle.table.proofs.UnitLaws.{never}
 use Rattle.table.proofs.Places.{rises, sorted-rises}
-use Rattle.directory.specs.Directory.{Entry, columnOf, entriesFrom, isMine, lentBlocks, signalIn}
+use Rattle.directory.specs.Directory.{Blocks, Entry, columnOf, entriesFrom, isMine, lentBlocks, signalIn}
 use Rattle.directory.specs.Rearrange.{entriesWith}
 use Rattle.directory.proofs.DirectoryLaws.{Narrow, Same, same-of}
 use Rattle.addition.proofs.LastLaws.{group-mine, last-block, mine-by-signal, new-below, signals-rise}
+use Rattle.addition.proofs.OwnLaws.{Room}
 use Rattle.addition.proofs.PlaceLaws.{entries-fewer}
-use Rattle.rearrange.specs.Run.{Run, SameAt}
+use Rattle.rearrange.specs.Steps.{Run, SameAt, Signals, lentEntries}
 
 -- ---- one row more in a column
 pub column-more : {R A : Type 0} (f : R → A) (l : List R) (r : R) (d : List A) (z : A) (m : ℕ) → length l ≡ m → m < length d → set (columnOf f l d) m (f r) ≡ columnOf f (l ++ (r ∷ [])) d
@@ -38,14 +39,8 @@ pub column-length : {R A : Type 0} (f : R → A) (l : List R) (d : List A) → l
 column-length f l d h = length-append (map f l) (drop (length l) d) ∙ rw (length-map l f, length-drop (length l) d) (omega arith)
 
 -- ---- the table t of n samples, whose signals lie in the columns
-pub record Signals (cs vs bs : List ℕ) (n : ℕ) (t : List Sample) : Type 0 where
-  pub count : length t ≡ n
-  pub constellations : (x : ℕ) → x < n → getD cs x 0 ≡ getD t x blank .constellation
-  pub svids : (x : ℕ) → x < n → getD vs x 0 ≡ getD t x blank .svid
-  pub bands : (x : ℕ) → x < n → getD bs x 0 ≡ getD t x blank .band
-  pub rising : rises 0 t ≡ true
-  pub svids-fit : (x : ℕ) → getD vs x 0 < 2 ^ 16
-  pub bands-fit : (x : ℕ) → getD bs x 0 < 2 ^ 32
+rising : {cs vs bs : List ℕ} {n : ℕ} {t : List Sample} → Signals cs vs bs n t → rises 0 t ≡ true
+rising {t = t} s = sym (sorted-rises t) ∙ s .in-order
 
 -- the first i samples are filed in m entries, and the next begins a block
 pub record FiledUp (t : List Sample) (n : ℕ) (dc₀ dv₀ db₀ df₀ dn₀ dc dv db df dn : List ℕ) (m i : ℕ) : Type 0 where
@@ -101,7 +96,7 @@ module _ {cs vs bs : List ℕ} {n : ℕ} {t : List Sample} (s : Signals cs vs bs
       let a : length (take i t) ≡ i = length-take-le i t (omega (arith, s .count)) in
       let b : length (drop i (take r t)) ≡ r - i = length-drop i (take r t) ∙ ap (λ (x : ℕ). x - i) (length-take-le r t (omega (arith, s .count, run .within))) in
       let parts : take r t ≡ take i t ++ drop i (take r t) = sym (ap (λ (m : List Sample). m ++ drop i (take r t)) (sym (take-take i r t (omega (arith, run .some)))) ∙ take-append-drop i (take r t)) in
-      let w = last-block e (take i t) (drop i (take r t)) [] [] (new-below (signalIn e) t i (s .rising) (omega (arith, s .count)) (λ p. rw g (fresh p))) (unfold every in refl) (group-mine e t i r (omega (arith, s .count, run .within)) mine) (unfold every in refl) (omega (arith, b, run .some)) in
+      let w = last-block e (take i t) (drop i (take r t)) [] [] (new-below (signalIn e) t i (rising s) (omega (arith, s .count)) (λ p. rw g (fresh p))) (unfold every in refl) (group-mine e t i r (omega (arith, s .count, run .within)) mine) (unfold every in refl) (omega (arith, b, run .some)) in
       let x : length (take i t) + 0 ≡ i = omega (arith, a) in
       let y : length (drop i (take r t)) + 0 ≡ r - i = omega (arith, b) in
       ap (entriesFrom 0) parts ∙ w ∙ rw (x, y)
@@ -112,7 +107,7 @@ module _ {cs vs bs : List ℕ} {n : ℕ} {t : List Sample} (s : Signals cs vs bs
       let e : Entry = record { constellation = getD cs i 0; svid = getD vs i 0; band = getD bs i 0; start = i; count = r - i } in
       let k : i < n = omega (arith, run .within, run .some) in
       let g : signalIn e ≡ signalOf (getD t i blank) = rw (s .constellations i k, s .svids i k, s .bands i k) in
-      let l : signalOf (getD t (r - 1) blank) ≤ signalOf (getD t r blank) = signals-rise t (r - 1) r (s .rising) (omega arith) (omega (arith, s .count)) in
+      let l : signalOf (getD t (r - 1) blank) ≤ signalOf (getD t r blank) = signals-rise t (r - 1) r (rising s) (omega arith) (omega (arith, s .count)) in
       let q : signalOf (getD t (r - 1) blank) ≡ signalOf (getD t i blank) = signal-at (r - 1) (omega (arith, run .some)) (omega (arith, run .some)) in
       let ne : signalOf (getD t (r - 1) blank) ≡ signalOf (getD t r blank) → ⊥ =
       λ z. run .other h (back (same-of (getD t r blank) e (mine-by-signal (getD t r blank) e (narrow-at r h) narrow-entry (sym z ∙ q ∙ sym g)))) in
@@ -143,6 +138,54 @@ module _ {cs vs bs : List ℕ} {n : ℕ} {t : List Sample} (s : Signals cs vs bs
           fresh = λ p h. fresh-next h;
         }
 
+-- all samples are filed
+pub filed-end : {t : List Sample} {n : ℕ} {dc₀ dv₀ db₀ df₀ dn₀ dc dv db df dn : List ℕ} {m i : ℕ} (ts xs : List Float) → FiledUp t n dc₀ dv₀ db₀ df₀ dn₀ dc dv db df dn m i → length t ≡ n → n ≤ i
+    → (m ≡ length (entriesFrom 0 t)) × (lentBlocks dc dv db df dn ts xs ≡ entriesWith (entriesFrom 0 t) (lentBlocks dc₀ dv₀ db₀ df₀ dn₀ ts xs))
+filed-end {t} {n} {m = m} {i = i} ts xs inv e h =
+    let q : take i t ≡ t = take-all i t (omega arith) in
+    (rw q at (sym (inv .count)), rw (inv .in-c, inv .in-v, inv .in-b, inv .in-f, inv .in-n, q))
+
+-- ---- the loop: the first i samples are filed in m entries, whatever table the signals are of
+pub record FilingUp (cs vs bs : List ℕ) (n : ℕ) (dc₀ dv₀ db₀ df₀ dn₀ dc dv db df dn : List ℕ) (m i : ℕ) : Type 0 where
+  pub within : i ≤ n
+  pub fewer : m ≤ i
+  pub long-c : length dc ≡ length dc₀
+  pub long-v : length dv ≡ length dv₀
+  pub long-b : length db ≡ length db₀
+  pub long-f : length df ≡ length df₀
+  pub long-n : length dn ≡ length dn₀
+  pub filed : (t : List Sample) → Signals cs vs bs n t → FiledUp t n dc₀ dv₀ db₀ df₀ dn₀ dc dv db df dn m i
+
+pub filing-start : (cs vs bs : List ℕ) (n : ℕ) (dc dv db df dn : List ℕ) → FilingUp cs vs bs n dc dv db df dn dc dv db df dn 0 0
+filing-start cs vs bs n dc dv db df dn =
+    record { within = omega arith; fewer = omega arith; long-c = refl; long-v = refl; long-b = refl; long-f = refl; long-n = refl; filed = λ t s. filed-start t n dc dv db df dn }
+
+module _ {cs vs bs : List ℕ} {n : ℕ} {dc₀ dv₀ db₀ df₀ dn₀ dc dv db df dn : List ℕ} {m i : ℕ} (inv : FilingUp cs vs bs n dc₀ dv₀ db₀ df₀ dn₀ dc dv db df dn m i) where
+  pub filing-turn : {r : ℕ} → Run cs vs bs i n r → Room n dc₀ dv₀ db₀ df₀ dn₀
+      → FilingUp cs vs bs n dc₀ dv₀ db₀ df₀ dn₀ (set dc m (getD cs i 0)) (set dv m (getD vs i 0)) (set db m (getD bs i 0)) (set df m i) (set dn m (r - i)) (m + 1) r
+  filing-turn {r} run room =
+      let f = inv .fewer in
+      let w = run .some in
+      record {
+        within = run .within;
+        fewer = omega (arith, f, w);
+        long-c = length-set dc m (getD cs i 0) ∙ inv .long-c;
+        long-v = length-set dv m (getD vs i 0) ∙ inv .long-v;
+        long-b = length-set db m (getD bs i 0) ∙ inv .long-b;
+        long-f = length-set df m i ∙ inv .long-f;
+        long-n = length-set dn m (r - i) ∙ inv .long-n;
+        filed = λ t s. filed-turn s run (inv .filed t s) (room .in-dc) (room .in-dv) (room .in-db) (room .in-df) (room .in-dn);
+      }
+
+  pub filing-end : n ≤ i → (t : List Sample) → Signals cs vs bs n t
+      → (m ≡ length (entriesFrom 0 t)) × (lentEntries dc dv db df dn ≡ entriesWith (entriesFrom 0 t) (lentEntries dc₀ dv₀ db₀ df₀ dn₀))
+  filing-end h t s = filed-end [] [] (inv .filed t s) (s .count) h
+
+-- the same beside a table's times and corrections
+pub filed-beside : (dc dv db df dn : List ℕ) {dc′ dv′ db′ df′ dn′ : List ℕ} (es : List Entry) (ts xs : List Float) → lentEntries dc′ dv′ db′ df′ dn′ ≡ entriesWith es (lentEntries dc dv db df dn)
+    → lentBlocks dc′ dv′ db′ df′ dn′ ts xs ≡ entriesWith es (lentBlocks dc dv db df dn ts xs)
+filed-beside dc dv db df dn es ts xs e = ap (λ (l : Blocks). lentBlocks (l .constellations) (l .svids) (l .bands) (l .firsts) (l .counts) ts xs) e
+
 -- ---- from the columns
 module _ (cs vs bs : List ℕ) (ts xs : List Float) (n : ℕ) (h : n ≤ length (rows (lent cs vs bs ts xs))) where
   pub signals-by : soundTable (tableOf n (lent cs vs bs ts xs)) ≡ true → ((x : ℕ) → getD vs x 0 < 2 ^ 16) → ((x : ℕ) → getD bs x 0 < 2 ^ 32) → Signals cs vs bs n (tableOf n (lent cs vs bs ts xs))
@@ -152,20 +195,13 @@ module _ (cs vs bs : List ℕ) (ts xs : List Float) (n : ℕ) (h : n ≤ length 
         constellations = λ x l. ap (λ (s : Sample). s .constellation) (row x l);
         svids = λ x l. ap (λ (s : Sample). s .svid) (row x l);
         bands = λ x l. ap (λ (s : Sample). s .band) (row x l);
-        rising = sym (sorted-rises (tableOf n (lent cs vs bs ts xs))) ∙ and-right (every ranged (tableOf n (lent cs vs bs ts xs))) (sorted (tableOf n (lent cs vs bs ts xs))) (unfold soundTable in ok);
+        in-order = and-right (every ranged (tableOf n (lent cs vs bs ts xs))) (sorted (tableOf n (lent cs vs bs ts xs))) (unfold soundTable in ok);
         svids-fit = fv;
         bands-fit = fb;
       }
     where
       row : (x : ℕ) → x < n → _≡_ {A = Sample} (record { constellation = getD cs x 0; svid = getD vs x 0; band = getD bs x 0; time = getD ts x nan; correction = getD xs x nan }) (getD (tableOf n (lent cs vs bs ts xs)) x blank)
       row x l = rows-at (lent cs vs bs ts xs) x (omega arith) ∙ sym (lib.Seq.getD-take n (rows (lent cs vs bs ts xs)) x blank l)
-
--- all samples are filed
-pub filed-end : {t : List Sample} {n : ℕ} {dc₀ dv₀ db₀ df₀ dn₀ dc dv db df dn : List ℕ} {m i : ℕ} (ts xs : List Float) → FiledUp t n dc₀ dv₀ db₀ df₀ dn₀ dc dv db df dn m i → length t ≡ n → n ≤ i
-    → (m ≡ length (entriesFrom 0 t)) × (lentBlocks dc dv db df dn ts xs ≡ entriesWith (entriesFrom 0 t) (lentBlocks dc₀ dv₀ db₀ df₀ dn₀ ts xs))
-filed-end {t} {n} {m = m} {i = i} ts xs inv e h =
-    let q : take i t ≡ t = take-all i t (omega arith) in
-    (rw q at (sym (inv .count)), rw (inv .in-c, inv .in-v, inv .in-b, inv .in-f, inv .in-n, q))
 
 -- ---- a run, sample by sample
 abbrev pub SameUp : List ℕ → List ℕ → List ℕ → ℕ → ℕ → Type 0
@@ -190,26 +226,6 @@ module _ (cs vs bs : List ℕ) (i j : ℕ) where
 
   pub other-at : ((not (eqb (getD cs j 0) (getD cs i 0)) || not (eqb (getD vs j 0) (getD vs i 0))) || not (eqb (getD bs j 0) (getD bs i 0))) ≡ true → SameAt cs vs bs j i → ⊥
   other-at q s = never (rw (eq-eqb (getD cs j 0) (getD cs i 0) (s .0), eq-eqb (getD vs j 0) (getD vs i 0) (s .1 .0), eq-eqb (getD bs j 0) (getD bs i 0) (s .1 .1)) at q)
-
--- the columns keep their lengths
-module _ {t : List Sample} {n : ℕ} {dc₀ dv₀ db₀ df₀ dn₀ dc dv db df dn : List ℕ} {m i : ℕ} (inv : FiledUp t n dc₀ dv₀ db₀ df₀ dn₀ dc dv db df dn m i) (e : length t ≡ n) where
-  no-more : length (entriesFrom 0 (take i t)) ≤ n
-  no-more = omega (arith, entries-fewer 0 (take i t), length-take-le i t (omega (arith, inv .within)), inv .within)
-
-  pub long-c : n ≤ length dc₀ → length dc ≡ length dc₀
-  long-c h = ap length (inv .in-c) ∙ column-length (λ (e : Entry). e .constellation) (entriesFrom 0 (take i t)) dc₀ (omega (arith, no-more))
-
-  pub long-v : n ≤ length dv₀ → length dv ≡ length dv₀
-  long-v h = ap length (inv .in-v) ∙ column-length (λ (e : Entry). e .svid) (entriesFrom 0 (take i t)) dv₀ (omega (arith, no-more))
-
-  pub long-b : n ≤ length db₀ → length db ≡ length db₀
-  long-b h = ap length (inv .in-b) ∙ column-length (λ (e : Entry). e .band) (entriesFrom 0 (take i t)) db₀ (omega (arith, no-more))
-
-  pub long-f : n ≤ length df₀ → length df ≡ length df₀
-  long-f h = ap length (inv .in-f) ∙ column-length (λ (e : Entry). e .start) (entriesFrom 0 (take i t)) df₀ (omega (arith, no-more))
-
-  pub long-n : n ≤ length dn₀ → length dn ≡ length dn₀
-  long-n h = ap length (inv .in-n) ∙ column-length (λ (e : Entry). e .count) (entriesFrom 0 (take i t)) dn₀ (omega (arith, no-more))
 
 pub rows-within-n : (cs vs bs : List ℕ) (ts xs : List Float) (n : ℕ) → n ≤ length (rows (lent cs vs bs ts xs)) → (n ≤ length cs) × ((n ≤ length vs) × (n ≤ length bs))
 rows-within-n cs vs bs ts xs n h = let z = rows-length (lent cs vs bs ts xs) in (omega arith, (omega arith, omega arith))

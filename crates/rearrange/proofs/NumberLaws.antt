@@ -3,9 +3,9 @@ use mathlib.Core.Path.{_≡_, refl, ap, _∙_}
 use Prim.Native.Nat.{ℕ}
 use Rattle.table.specs.Table.{Columns}
 use Rattle.directory.specs.Directory.{Blocks}
-use Rattle.directory.specs.Rearrange.{Filed, unfiled, entriesAre, filedNumber, entriesAfter, filedColumns, Listed, unlisted, samplesAre, listedNumber, listedColumns}
-use Rattle.rearrange.specs.Lent.{Files, Lists}
-use Rattle.rearrange.specs.Run.{filingOf, listingOf, filingNumber, filingCount, listingNumber}
+use Rattle.directory.specs.Rearrange.{Filed, unfiled, entriesAre, filedNumber, filedCount, filedColumns, Listed, unlisted, samplesAre, listedNumber, listedColumns}
+use Rattle.rearrange.specs.Lent.{Files, Lists, filingOf, listingOf}
+use Rattle.rearrange.specs.Steps.{filingNumber, filingCount, listingNumber}
 use Rattle.rearrange.specs.declared.«directory_of».Filing.{Filing}
 use Rattle.rearrange.specs.declared.«signals_of».Listing.{Listing}
 
@@ -17,7 +17,7 @@ module _ (o : Filed) {r : Filing} (l : Blocks) {l′ : Blocks} (a : (r ≡ filin
       same (unfiled r) = refl
       same (entriesAre es) = refl
 
-      count : (p : Filed) → filingCount (filingOf p) m ≡ entriesAfter p m
+      count : (p : Filed) → filingCount (filingOf p) m ≡ filedCount p m
       count (unfiled r) = refl
       count (entriesAre es) = refl
 

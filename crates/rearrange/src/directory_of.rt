@@ -1,12 +1,14 @@
 // The directory of a sorted table.
 ghost use mathlib.Core.Path.{_≡_};
-ghost use mathlib.Core.Bool.{true};
+ghost use mathlib.Core.List.{List};
 ghost use Prim.Native.Nat.{_≤_, _<_, min};
 ghost use lib.ListN.{length};
-ghost use Rattle.table.specs.Table.{lent, rows, tableOf, soundTable};
-ghost use Rattle.directory.specs.Directory.{lentBlocks, entryRows, entriesFrom};
+ghost use Rattle.table.specs.Table.{lent};
+ghost use Rattle.table.specs.declared.sample.Sample.{Sample};
+ghost use Rattle.directory.specs.Directory.{lentBlocks, entriesIn, entryRows, entriesFrom};
 ghost use Rattle.directory.specs.Rearrange.{filedOf, filedColumns, entriesWith};
-ghost use Rattle.rearrange.specs.Run.{Run, filingOf};
+ghost use Rattle.rearrange.specs.Lent.{filingOf};
+ghost use Rattle.rearrange.specs.Steps.{Run, Signals, SignalsHold, lentEntries};
 use numeric::refusal::Refusal;
 use table::sample::capacity_of;
 use table::sample::is_sound;
@@ -17,34 +19,48 @@ pub enum Filing {
     Entries(usize),
 }
 
-// The lesser of a and b.
-fn lesser(a: usize, b: usize) -> usize
+// Returns the lesser of a and b.
+pub(crate) fn lesser(a: usize, b: usize) -> usize
     ensures { λ r. ⌜ r ≡ min a b ⌝ }
 {
     if a < b { a } else { b }
 }
 
-// How many entries the directory's columns have room for.
-fn entry_room(dc: &[u8], dv: &[u16], db: &[u32], df: &[usize], dn: &[usize]) -> usize
-    ensures { λ r. ⌜ r ≡ length (entryRows (now (dc .entry)) (now (dv .entry)) (now (db .entry)) (now (df .entry)) (now (dn .entry))) ⌝ }
+// Returns how many entries the directory's columns have room for.
+fn entry_room(
+    block_constellation: &[u8],
+    block_svid: &[u16],
+    block_band: &[u32],
+    block_first: &[usize],
+    block_samples: &[usize],
+) -> usize
+    ensures { λ r. ⌜ r ≡ length (entryRows
+        (now («block_constellation» .entry)) (now («block_svid» .entry)) (now («block_band» .entry)) (now («block_first» .entry))
+        (now («block_samples» .entry))) ⌝ }
 {
     lesser(
-        dc.len(),
-        lesser(dv.len(), lesser(db.len(), lesser(df.len(), dn.len()))),
+        block_constellation.len(),
+        lesser(
+            block_svid.len(),
+            lesser(
+                block_band.len(),
+                lesser(block_first.len(), block_samples.len()),
+            ),
+        ),
     )
 }
 
-// Where the samples of the satellite at the place i end.
-fn run_end(cs: &[u8], vs: &[u16], bs: &[u32], i: usize, n: usize) -> usize
-    requires { ⌜ (i < n) × ((n ≤ length (now cs)) × ((n ≤ length (now vs)) × (n ≤ length (now bs)))) ⌝ }
-    ensures { λ r. ⌜ Run (now (cs .entry)) (now (vs .entry)) (now (bs .entry)) i n r ⌝ }
+// Returns where the samples of the signal at the place i end.
+fn run_end(constellation: &[u8], svid: &[u16], band: &[u32], i: usize, table_count: usize) -> usize
+    requires { ⌜ (i < «table_count») × SignalsHold «table_count» (now constellation) (now svid) (now band) ⌝ }
+    ensures { λ r. ⌜ Run (now (constellation .entry)) (now (svid .entry)) (now (band .entry)) i «table_count» r ⌝ }
 {
-    let c = cs[i];
-    let v = vs[i];
-    let b = bs[i];
+    let c = constellation[i];
+    let v = svid[i];
+    let b = band[i];
     let mut j = i + 1;
-    while j < n {
-        if (cs[j] != c) | (vs[j] != v) | (bs[j] != b) {
+    while j < table_count {
+        if (constellation[j] != c) | (svid[j] != v) | (band[j] != b) {
             return j;
         }
         j += 1;
@@ -52,68 +68,99 @@ fn run_end(cs: &[u8], vs: &[u16], bs: &[u32], i: usize, n: usize) -> usize
     j
 }
 
-// The entries of the first n samples, a block after the other; the answer is how many there are.
+// Writes an entry for each run of one signal, whatever sorted table the signals are of, and returns how many there are.
 fn file_all(
-    cs: &[u8],
-    vs: &[u16],
-    bs: &[u32],
-    ts: &[f64],
-    xs: &[f64],
-    n: usize,
-    dc: &mut [u8],
-    dv: &mut [u16],
-    db: &mut [u32],
-    df: &mut [usize],
-    dn: &mut [usize],
+    constellation: &[u8],
+    svid: &[u16],
+    band: &[u32],
+    table_count: usize,
+    block_constellation: &mut [u8],
+    block_svid: &mut [u16],
+    block_band: &mut [u32],
+    block_first: &mut [usize],
+    block_samples: &mut [usize],
 ) -> usize
-    requires { ⌜ (n ≤ length (rows (lent (now cs) (now vs) (now bs) (now ts) (now xs)))) × (n ≤ length (entryRows (now dc) (now dv) (now db) (now df) (now dn))) ⌝ }
-    requires { ⌜ soundTable (tableOf n (lent (now cs) (now vs) (now bs) (now ts) (now xs))) ≡ true ⌝ }
-    ensures { λ r. ⌜ (let es = entriesFrom 0 (tableOf n (lent (now (cs .entry)) (now (vs .entry)) (now (bs .entry)) (now (ts .entry)) (now (xs .entry)))) in
-        (r ≡ length es) × (lentBlocks (now (dc .exit)) (now (dv .exit)) (now (db .exit)) (now (df .exit)) (now (dn .exit)) (now (ts .entry)) (now (xs .entry))
-        ≡ entriesWith es (lentBlocks (now (dc .entry)) (now (dv .entry)) (now (db .entry)) (now (df .entry)) (now (dn .entry)) (now (ts .entry)) (now (xs .entry))))) ⌝ }
+    requires { ⌜ SignalsHold «table_count» (now constellation) (now svid) (now band) ⌝ }
+    requires { ⌜ «table_count» ≤ length (entryRows
+        (now «block_constellation») (now «block_svid») (now «block_band») (now «block_first») (now «block_samples»)) ⌝ }
+    ensures { λ r. ⌜ ((t : List Sample) → Signals (now (constellation .entry)) (now (svid .entry)) (now (band .entry)) «table_count» t →
+        (r ≡ length (entriesFrom 0 t)) × (lentEntries
+        (now («block_constellation» .exit)) (now («block_svid» .exit)) (now («block_band» .exit)) (now («block_first» .exit)) (now («block_samples» .exit))
+        ≡ entriesWith (entriesFrom 0 t) (lentEntries
+        (now («block_constellation» .entry)) (now («block_svid» .entry)) (now («block_band» .entry)) (now («block_first» .entry))
+        (now («block_samples» .entry))))) ⌝ }
 {
-    let mut m: usize = 0;
+    let mut entries: usize = 0;
     let mut i: usize = 0;
-    while i < n {
-        let end = run_end(cs, vs, bs, i, n);
-        dc[m] = cs[i];
-        dv[m] = vs[i];
-        db[m] = bs[i];
-        df[m] = i;
-        dn[m] = end - i;
-        m += 1;
+    while i < table_count {
+        let end = run_end(constellation, svid, band, i, table_count);
+        block_constellation[entries] = constellation[i];
+        block_svid[entries] = svid[i];
+        block_band[entries] = band[i];
+        block_first[entries] = i;
+        block_samples[entries] = end - i;
+        entries += 1;
         i = end;
     }
-    m
+    entries
 }
 
-// The directory of the n samples of a table, whose times and corrections it shares, or the refusal, which leaves every column as it was.
+// Makes the directory of a table, which shares its times and corrections, or returns the refusal, with every column unchanged.
 pub fn directory_of(
-    cs: &[u8],
-    vs: &[u16],
-    bs: &[u32],
-    ts: &[f64],
-    xs: &[f64],
-    n: usize,
-    dc: &mut [u8],
-    dv: &mut [u16],
-    db: &mut [u32],
-    df: &mut [usize],
-    dn: &mut [usize],
+    constellation: &[u8],
+    svid: &[u16],
+    band: &[u32],
+    table_time: &[f64],
+    table_metres: &[f64],
+    table_count: usize,
+    block_constellation: &mut [u8],
+    block_svid: &mut [u16],
+    block_band: &mut [u32],
+    block_first: &mut [usize],
+    block_samples: &mut [usize],
 ) -> Filing
-    ensures { λ r. ⌜ (let l = lentBlocks (now (dc .entry)) (now (dv .entry)) (now (db .entry)) (now (df .entry)) (now (dn .entry)) (now (ts .entry)) (now (xs .entry)) in
-        let o = filedOf n (length (entryRows (now (dc .entry)) (now (dv .entry)) (now (db .entry)) (now (df .entry)) (now (dn .entry)))) (lent (now (cs .entry)) (now (vs .entry)) (now (bs .entry)) (now (ts .entry)) (now (xs .entry))) in
-        (r ≡ filingOf o) × (lentBlocks (now (dc .exit)) (now (dv .exit)) (now (db .exit)) (now (df .exit)) (now (dn .exit)) (now (ts .entry)) (now (xs .entry)) ≡ filedColumns o l)) ⌝ }
+    ensures { λ r. ⌜ (let t = lent
+        (now (constellation .entry)) (now (svid .entry)) (now (band .entry)) (now («table_time» .entry)) (now («table_metres» .entry)) in
+        let l = lentBlocks
+        (now («block_constellation» .entry)) (now («block_svid» .entry)) (now («block_band» .entry)) (now («block_first» .entry)) (now («block_samples» .entry))
+        (t .times) (t .corrections) in
+        let o = filedOf «table_count» (length (entriesIn l)) t in
+        (r ≡ filingOf o) × (lentBlocks
+        (now («block_constellation» .exit)) (now («block_svid» .exit)) (now («block_band» .exit)) (now («block_first» .exit)) (now («block_samples» .exit))
+        (t .times) (t .corrections) ≡ filedColumns o l)) ⌝ }
 {
     let room = lesser(
-        entry_room(dc, dv, db, df, dn),
-        capacity_of(cs, vs, bs, ts, xs),
+        entry_room(
+            block_constellation,
+            block_svid,
+            block_band,
+            block_first,
+            block_samples,
+        ),
+        capacity_of(constellation, svid, band, table_time, table_metres),
     );
-    if room < n {
+    if room < table_count {
         return Filing::Refused(Refusal::TooMany);
     }
-    if !is_sound(cs, vs, bs, ts, xs, n) {
+    if !is_sound(
+        constellation,
+        svid,
+        band,
+        table_time,
+        table_metres,
+        table_count,
+    ) {
         return Filing::Refused(Refusal::RecordOutOfRange);
     }
-    Filing::Entries(file_all(cs, vs, bs, ts, xs, n, dc, dv, db, df, dn))
+    Filing::Entries(file_all(
+        constellation,
+        svid,
+        band,
+        table_count,
+        block_constellation,
+        block_svid,
+        block_band,
+        block_first,
+        block_samples,
+    ))
 }

@@ -1,12 +1,13 @@
 // The table that a directory stands for.
 ghost use mathlib.Core.Path.{_≡_};
-ghost use mathlib.Core.Bool.{true};
-ghost use Prim.Native.Nat.{_+_, _^_, _≤_, _<_, min};
-ghost use lib.ListN.{length, getD};
+ghost use Prim.Native.Nat.{_≤_, min};
+ghost use lib.ListN.{length};
 ghost use Rattle.table.specs.Table.{lent};
-ghost use Rattle.directory.specs.Directory.{lentBlocks, entryRows, readingRows, directoryIn, soundDirectory, flat};
-ghost use Rattle.directory.specs.Rearrange.{listedOf, listedColumns, signalsWith};
-ghost use Rattle.rearrange.specs.Run.{listingOf};
+ghost use Rattle.directory.specs.Directory.{lentBlocks};
+ghost use Rattle.directory.specs.Rearrange.{listedOf, listedColumns};
+ghost use Rattle.rearrange.specs.Lent.{listingOf};
+ghost use Rattle.rearrange.specs.Steps.{Laid, SignalsHold, Spread, startOf};
+use crate::directory_of::lesser;
 use directory::entry::block_capacity;
 use directory::sound::is_sound_directory;
 use numeric::refusal::Refusal;
@@ -17,84 +18,118 @@ pub enum Listing {
     Listed,
 }
 
-// The lesser of a and b.
-fn lesser(a: usize, b: usize) -> usize
-    ensures { λ r. ⌜ r ≡ min a b ⌝ }
-{
-    if a < b { a } else { b }
-}
-
-// The entry after e where the block of e ends at the place i, and else e.
-fn entry_from(df: &[usize], dn: &[usize], e: usize, i: usize) -> usize
-    requires { ⌜ (e < length (now df)) × ((e < length (now dn)) × (getD (now df) e 0 + getD (now dn) e 0 < 2 ^ 64)) ⌝ }
-    ensures { λ r. ⌜ (getD (now (df .entry)) e 0 + getD (now (dn .entry)) e 0 ≡ i → r ≡ e + 1) × ((getD (now (df .entry)) e 0 + getD (now (dn .entry)) e 0 ≡ i → ⊥) → r ≡ e) ⌝ }
-{
-    if df[e] + dn[e] == i {
-        return e + 1;
-    }
-    e
-}
-
-// The signals of the n samples of a sound directory, from the first on.
-fn list_all(
-    dc: &[u8],
-    dv: &[u16],
-    db: &[u32],
-    df: &[usize],
-    dn: &[usize],
-    m: usize,
-    ts: &[f64],
-    xs: &[f64],
-    n: usize,
-    cs: &mut [u8],
-    vs: &mut [u16],
-    bs: &mut [u32],
+// Writes one signal to the places from first up to end.
+fn list_block(
+    constellation: &mut [u8],
+    svid: &mut [u16],
+    band: &mut [u32],
+    first: usize,
+    end: usize,
+    c: u8,
+    v: u16,
+    b: u32,
 )
-    requires { ⌜ (m ≤ length (entryRows (now dc) (now dv) (now db) (now df) (now dn))) × (n ≤ length (readingRows (now ts) (now xs))) ⌝ }
-    requires { ⌜ (n ≤ length (now cs)) × ((n ≤ length (now vs)) × (n ≤ length (now bs))) ⌝ }
-    requires { ⌜ soundDirectory (directoryIn m n (lentBlocks (now dc) (now dv) (now db) (now df) (now dn) (now ts) (now xs))) ≡ true ⌝ }
-    ensures { λ _. ⌜ (let t = flat (directoryIn m n (lentBlocks (now (dc .entry)) (now (dv .entry)) (now (db .entry)) (now (df .entry)) (now (dn .entry)) (now (ts .entry)) (now (xs .entry)))) in
-        lent (now (cs .exit)) (now (vs .exit)) (now (bs .exit)) (now (ts .entry)) (now (xs .entry)) ≡ signalsWith t (lent (now (cs .entry)) (now (vs .entry)) (now (bs .entry)) (now (ts .entry)) (now (xs .entry)))) ⌝ }
+    requires { ⌜ (first ≤ end) × SignalsHold end (now constellation) (now svid) (now band) ⌝ }
+    ensures { λ _. ⌜ Spread c first end (now (constellation .entry)) (now (constellation .exit))
+        × (Spread v first end (now (svid .entry)) (now (svid .exit)) × Spread b first end (now (band .entry)) (now (band .exit))) ⌝ }
 {
-    let mut e: usize = 0;
-    let mut i: usize = 0;
-    while i < n {
-        cs[i] = dc[e];
-        vs[i] = dv[e];
-        bs[i] = db[e];
+    let mut i = first;
+    while i < end {
+        constellation[i] = c;
+        svid[i] = v;
+        band[i] = b;
         i += 1;
-        e = entry_from(df, dn, e, i);
     }
 }
 
-// The signals of the table that a directory stands for, whose times and corrections it shares, or the refusal, which leaves every column as it was.
-pub fn signals_of(
-    dc: &[u8],
-    dv: &[u16],
-    db: &[u32],
-    df: &[usize],
-    dn: &[usize],
-    m: usize,
-    ts: &[f64],
-    xs: &[f64],
-    n: usize,
-    cs: &mut [u8],
-    vs: &mut [u16],
-    bs: &mut [u32],
-) -> Listing
-    ensures { λ r. ⌜ (let l = lent (now (cs .entry)) (now (vs .entry)) (now (bs .entry)) (now (ts .entry)) (now (xs .entry)) in
-        let o = listedOf m n (min (length (now (cs .entry))) (min (length (now (vs .entry))) (length (now (bs .entry)))))
-        (lentBlocks (now (dc .entry)) (now (dv .entry)) (now (db .entry)) (now (df .entry)) (now (dn .entry)) (now (ts .entry)) (now (xs .entry))) in
-        (r ≡ listingOf o) × (lent (now (cs .exit)) (now (vs .exit)) (now (bs .exit)) (now (ts .entry)) (now (xs .entry)) ≡ listedColumns o l)) ⌝ }
+// Writes the signal of each block to its places, block after block from place 0 on.
+fn list_all(
+    block_constellation: &[u8],
+    block_svid: &[u16],
+    block_band: &[u32],
+    block_samples: &[usize],
+    blocks: usize,
+    constellation: &mut [u8],
+    svid: &mut [u16],
+    band: &mut [u32],
+)
+    requires { ⌜ SignalsHold blocks (now «block_constellation») (now «block_svid») (now «block_band») × (blocks ≤ length (now «block_samples»)) ⌝ }
+    requires { ⌜ SignalsHold (startOf (now «block_samples») blocks) (now constellation) (now svid) (now band) ⌝ }
+    ensures { λ _. ⌜ (let counts = now («block_samples» .entry) in
+        Laid (now («block_constellation» .entry)) counts blocks (now (constellation .entry)) (now (constellation .exit))
+        × (Laid (now («block_svid» .entry)) counts blocks (now (svid .entry)) (now (svid .exit))
+        × Laid (now («block_band» .entry)) counts blocks (now (band .entry)) (now (band .exit)))) ⌝ }
 {
-    let long = lesser(cs.len(), lesser(vs.len(), bs.len()));
-    let room = block_capacity(dc, dv, db, df, dn, ts, xs);
-    if (room < m) | (room < n) | (long < n) {
+    let mut place: usize = 0;
+    let mut i: usize = 0;
+    while i < blocks {
+        let end = place + block_samples[i];
+        let c = block_constellation[i];
+        let v = block_svid[i];
+        let b = block_band[i];
+        list_block(constellation, svid, band, place, end, c, v, b);
+        place = end;
+        i += 1;
+    }
+}
+
+// Writes the signals of the table that a directory stands for, which shares its times and corrections, or returns the refusal, with every column unchanged.
+pub fn signals_of(
+    block_constellation: &[u8],
+    block_svid: &[u16],
+    block_band: &[u32],
+    block_first: &[usize],
+    block_samples: &[usize],
+    blocks: usize,
+    table_time: &[f64],
+    table_metres: &[f64],
+    table_count: usize,
+    constellation: &mut [u8],
+    svid: &mut [u16],
+    band: &mut [u32],
+) -> Listing
+    ensures { λ r. ⌜ (let l = lentBlocks
+        (now («block_constellation» .entry)) (now («block_svid» .entry)) (now («block_band» .entry)) (now («block_first» .entry)) (now («block_samples» .entry))
+        (now («table_time» .entry)) (now («table_metres» .entry)) in
+        let t = lent (now (constellation .entry)) (now (svid .entry)) (now (band .entry)) (l .times) (l .corrections) in
+        let o = listedOf blocks «table_count» (min (length (t .constellations)) (min (length (t .svids)) (length (t .bands)))) l in
+        (r ≡ listingOf o) × (lent (now (constellation .exit)) (now (svid .exit)) (now (band .exit)) (l .times) (l .corrections) ≡ listedColumns o t)) ⌝ }
+{
+    let long = lesser(constellation.len(), lesser(svid.len(), band.len()));
+    let room = block_capacity(
+        block_constellation,
+        block_svid,
+        block_band,
+        block_first,
+        block_samples,
+        table_time,
+        table_metres,
+    );
+    if (room < blocks) | (room < table_count) | (long < table_count) {
         return Listing::Refused(Refusal::TooMany);
     }
-    if !is_sound_directory(dc, dv, db, df, dn, m, ts, xs, n) {
+    if !is_sound_directory(
+        block_constellation,
+        block_svid,
+        block_band,
+        block_first,
+        block_samples,
+        blocks,
+        table_time,
+        table_metres,
+        table_count,
+    ) {
         return Listing::Refused(Refusal::RecordOutOfRange);
     }
-    list_all(dc, dv, db, df, dn, m, ts, xs, n, cs, vs, bs);
+    list_all(
+        block_constellation,
+        block_svid,
+        block_band,
+        block_samples,
+        blocks,
+        constellation,
+        svid,
+        band,
+    );
     Listing::Listed
 }

@@ -19,7 +19,7 @@ use Rattle.clocks.specs.Clocks.{given}
 use Rattle.records.specs.Record.{unsigned, bitSet, usable}
 use Rattle.table.specs.Table.{timeBefore}
 use Rattle.directory.specs.Directory.{entryRows, readingRows, ascends, tiles, timely, timelyFrom, blockTimes, inReach, soundDirectory, block, flat}
-use Rattle.query.specs.Query.{near, firstOf, lastOf, through, nearOr, spanned, ruled, answerIn, answerAt, guarded, queryIn}
+use Rattle.query.specs.Query.{near, firstOf, lastOf, through, nearOr, spanned, correctionRule, answerIn, answerAt, guarded, queryIn}
 use Rattle.smooth.proofs.Trials.{one-point, not-held}
 use Rattle.cholesky.proofs.FactorLaws.{factorTo-zero, factorTo-next, refused-more}
 use Rattle.trials.specs.Marked.{All, marked, m1, m2, m3, m4, m5, m6, m7, m8, m9, m10, m11}
@@ -77,11 +77,11 @@ unfolding usable bitSet unsigned
 states c h = rw h
 
 pub half-way : m10
-unfolding queryIn guarded answerAt answerIn flat block collect ruled nearOr spanned through near firstOf lastOf inRange abs soundDirectory inReach ascends tiles timely timelyFrom blockTimes entryRows readingRows timeBefore totalOrder sign patternOf every lt le eq add sub mul div ofBits ofInt toBits isNan
+unfolding queryIn guarded answerAt answerIn flat block collect correctionRule nearOr spanned through near firstOf lastOf inRange abs soundDirectory inReach ascends tiles timely timelyFrom blockTimes entryRows readingRows timeBefore totalOrder sign patternOf every lt le eq add sub mul div ofBits ofInt toBits isNan
 half-way = refl
 
 pub gap-too-long : m11
-unfolding queryIn guarded answerAt answerIn flat block collect ruled nearOr spanned through near firstOf lastOf inRange abs soundDirectory inReach ascends tiles timely timelyFrom blockTimes entryRows readingRows timeBefore totalOrder sign patternOf every lt le eq add sub mul div ofBits ofInt toBits isNan
+unfolding queryIn guarded answerAt answerIn flat block collect correctionRule nearOr spanned through near firstOf lastOf inRange abs soundDirectory inReach ascends tiles timely timelyFrom blockTimes entryRows readingRows timeBefore totalOrder sign patternOf every lt le eq add sub mul div ofBits ofInt toBits isNan
 gap-too-long = refl
 
 -- THE FACT over the list

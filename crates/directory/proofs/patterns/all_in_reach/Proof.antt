@@ -54,13 +54,13 @@ loop-again c =
     let z = readings-length (floats (s .args .table-time .now)) (floats (s .args .table-metres .now)) in
     let zt = floats-length (s .args .table-time .now) in
     let zx = floats-length (s .args .table-metres .now) in
-    (omega arith, reach-on (floats (s .args .table-time .now)) (floats (s .args .table-metres .now)) (s .args .n) (s .pre) (h .i) (h .all) (h .inv .1) (c .before .before .before .before .loop-test .taken) (c .before .before .is-in-range .result) (c .is-in-range2 .result) (c .before .before .is-in-range .ensures ∙ ap inRange (sym (floats-at (s .args .table-time .now) (h .i) (omega (arith, s .pre, z))))) (c .is-in-range2 .ensures ∙ ap inRange (sym (floats-at (s .args .table-metres .now) (h .i) (omega (arith, s .pre, z))))))
+    (omega arith, reach-on (floats (s .args .table-time .now)) (floats (s .args .table-metres .now)) (s .args .table-count) (s .pre) (h .i) (h .all) (h .inv .1) (c .before .before .before .before .loop-test .taken) (c .before .before .is-in-range .result) (c .is-in-range2 .result) (c .before .before .is-in-range .ensures ∙ ap inRange (sym (floats-at (s .args .table-time .now) (h .i) (omega (arith, s .pre, z))))) (c .is-in-range2 .ensures ∙ ap inRange (sym (floats-at (s .args .table-metres .now) (h .i) (omega (arith, s .pre, z))))))
 
 returns : tie.Need-returns Inv-loop μ-loop
 returns c =
     let s = c .before .before .before .before in
     let h = c .before .loop in
-    reach-end (floats (s .args .table-time .now)) (floats (s .args .table-metres .now)) (s .args .n) (s .pre) (h .i) (h .all) (h .inv .1) (c .loop-test .left)
+    reach-end (floats (s .args .table-time .now)) (floats (s .args .table-metres .now)) (s .args .table-count) (s .pre) (h .i) (h .all) (h .inv .1) (c .loop-test .left)
 
 pub all-in-reach-spec : {M : Type 1} → statement M
 all-in-reach-spec =

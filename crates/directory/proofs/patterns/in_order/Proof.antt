@@ -9,7 +9,7 @@ use lib.ListN.{length, getD, take, drop}
 use Rattle.walk.specs.Walk.{every, places}
 use Rattle.walk.proofs.Walk.{every-yes, every-no, every-end, places-length, places-at, places-all}
 use Rattle.directory.specs.Directory.{floats, timely}
-use Rattle.directory.specs.Passes.{timelyBlocks}
+use Rattle.directory.specs.Steps.{timelyBlocks}
 use Rattle.directory.proofs.patterns.in_order.Statement.{statement}
 use Rattle.directory.proofs.patterns.in_order.Tie as tie
 
@@ -27,7 +27,7 @@ loop-holds : tie.Need-loop-holds Inv-loop μ-loop
 unfolding timelyBlocks
 loop-holds c =
     let a = c .before .before .before .args in
-    (omega arith, ap (every timely) (places-all (timesOf (a .block-first .now) (a .block-samples .now) (a .table-time .now)) (a .m)))
+    (omega arith, ap (every timely) (places-all (timesOf (a .block-first .now) (a .block-samples .now) (a .table-time .now)) (a .blocks)))
 
 mul-first : tie.Need-mul-first Inv-loop μ-loop
 mul-first c = omega arith
@@ -42,18 +42,18 @@ shared-slice-read-count : tie.Need-shared-slice-read-count Inv-loop μ-loop
 shared-slice-read-count c = omega arith
 
 in-turn-requires : tie.Need-in-turn-requires Inv-loop μ-loop
-in-turn-requires c κs = c .before .before .before .before .before .before .before .pre .1 (c .before .before .before .loop .i) (c .before .before .loop-test .taken)
+in-turn-requires c κs = c .before .before .before .before .before .before .before .pre .each (c .before .before .before .loop .i) (c .before .before .loop-test .taken)
 
 returns : tie.Need-returns Inv-loop μ-loop
 returns c =
     let s = c .before .before .before .before .before .before .before .before .before in
     let a = s .args in
     let h = c .before .before .before .before .before .loop in
-    let l : h .i < a .m = c .before .before .before .before .loop-test .taken in
+    let l : h .i < a .blocks = c .before .before .before .before .loop-test .taken in
     let f = timesOf (a .block-first .now) (a .block-samples .now) (a .table-time .now) in
-    let k : a .m ≤ length (places f (a .m)) = omega (arith, places-length f (a .m)) in
-    let is : c .before .in-turn .result ≡ timely (getD (places f (a .m)) (h .i) []) = c .before .in-turn .ensures ∙ ap timely (sym (places-at f (a .m) (h .i) [] l)) in
-    every-no (places f (a .m)) (a .m) k (h .i) [] l timely (h .inv .1) is (not-true (c .before .in-turn .result) (c .if1 .taken))
+    let k : a .blocks ≤ length (places f (a .blocks)) = omega (arith, places-length f (a .blocks)) in
+    let is : c .before .in-turn .result ≡ timely (getD (places f (a .blocks)) (h .i) []) = c .before .in-turn .ensures ∙ ap timely (sym (places-at f (a .blocks) (h .i) [] l)) in
+    every-no (places f (a .blocks)) (a .blocks) k (h .i) [] l timely (h .inv .1) is (not-true (c .before .in-turn .result) (c .if1 .taken))
 
 add-i : tie.Need-add-i Inv-loop μ-loop
 add-i c = omega (arith, c .before .before .before .before .before .before .before .before .before .fits)
@@ -66,19 +66,19 @@ loop-again c =
     let s = c .before .before .before .before .before .before .before .before .before in
     let a = s .args in
     let h = c .before .before .before .before .before .loop in
-    let l : h .i < a .m = c .before .before .before .before .loop-test .taken in
+    let l : h .i < a .blocks = c .before .before .before .before .loop-test .taken in
     let f = timesOf (a .block-first .now) (a .block-samples .now) (a .table-time .now) in
-    let k : a .m ≤ length (places f (a .m)) = omega (arith, places-length f (a .m)) in
-    let is : c .before .in-turn .result ≡ timely (getD (places f (a .m)) (h .i) []) = c .before .in-turn .ensures ∙ ap timely (sym (places-at f (a .m) (h .i) [] l)) in
-    (omega arith, every-yes (places f (a .m)) (a .m) k (h .i) [] l timely (h .inv .1) is (not-false (c .before .in-turn .result) (c .if1 .left)))
+    let k : a .blocks ≤ length (places f (a .blocks)) = omega (arith, places-length f (a .blocks)) in
+    let is : c .before .in-turn .result ≡ timely (getD (places f (a .blocks)) (h .i) []) = c .before .in-turn .ensures ∙ ap timely (sym (places-at f (a .blocks) (h .i) [] l)) in
+    (omega arith, every-yes (places f (a .blocks)) (a .blocks) k (h .i) [] l timely (h .inv .1) is (not-false (c .before .in-turn .result) (c .if1 .left)))
 
 returns-2 : tie.Need-returns-2 Inv-loop μ-loop
 returns-2 c =
     let s = c .before .before .before .before .before in
     let a = s .args in
     let f = timesOf (a .block-first .now) (a .block-samples .now) (a .table-time .now) in
-    let k : a .m ≤ length (places f (a .m)) = omega (arith, places-length f (a .m)) in
-    every-end (places f (a .m)) (a .m) k (c .before .loop .i) timely (c .before .loop .inv .1) (c .loop-test .left)
+    let k : a .blocks ≤ length (places f (a .blocks)) = omega (arith, places-length f (a .blocks)) in
+    every-end (places f (a .blocks)) (a .blocks) k (c .before .loop .i) timely (c .before .loop .inv .1) (c .loop-test .left)
 
 pub in-order-spec : {M : Type 1} → statement M
 in-order-spec =

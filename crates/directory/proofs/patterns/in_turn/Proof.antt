@@ -10,7 +10,7 @@ returns : tie.Need-returns
 returns c = c .before .is-rising .ensures (c .if1 .taken)
 
 is-timely-requires : tie.Need-is-timely-requires
-is-timely-requires c κs = (c .before .before .before .pre .filled, c .before .before .before .pre .inside)
+is-timely-requires c κs = record { filled = c .before .before .before .pre .filled; inside = c .before .before .before .pre .inside }
 
 returns-2 : tie.Need-returns-2
 returns-2 c = c .is-timely .ensures

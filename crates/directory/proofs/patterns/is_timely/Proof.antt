@@ -28,7 +28,7 @@ loop-holds : tie.Need-loop-holds Inv-loop μ-loop
 loop-holds c =
     let s = c .before in
     let z : s .args .first + 1 - 1 ≡ s .args .first = omega arith in
-    (omega arith, (omega arith, rw z (timely-start (floats (s .args .table-time .now)) (s .args .first) (s .args .count) (omega (arith, s .pre .1, floats-length (s .args .table-time .now))) (s .pre .0))))
+    (omega arith, (omega arith, rw z (timely-start (floats (s .args .table-time .now)) (s .args .first) (s .args .count) (omega (arith, s .pre .inside, floats-length (s .args .table-time .now))) (s .pre .filled))))
 
 mul-float : tie.Need-mul-float Inv-loop μ-loop
 mul-float c = omega arith
@@ -60,9 +60,9 @@ returns c =
     let h = c .before .before .before .before .before .before .before .loop in
     let ts = s .args .table-time .now in
     let l : h .i < s .args .first + s .args .count = c .before .before .before .before .before .before .loop-test .taken in
-    let k : s .args .first + s .args .count ≤ length (floats ts) = omega (arith, s .pre .1, floats-length ts) in
+    let k : s .args .first + s .args .count ≤ length (floats ts) = omega (arith, s .pre .inside, floats-length ts) in
     let e : c .before .is-earlier .result ≡ timeBefore (getD (floats ts) (h .i) nan) (getD (floats ts) (h .i - 1) nan) =
-    c .before .is-earlier .ensures ∙ rw (c .before .before .before .before .float .ensures, c .before .before .float2 .ensures, floats-at ts (h .i) (omega (arith, s .pre .1)), floats-at ts (h .i - 1) (omega (arith, s .pre .1))) in
+    c .before .is-earlier .ensures ∙ rw (c .before .before .before .before .float .ensures, c .before .before .float2 .ensures, floats-at ts (h .i) (omega (arith, s .pre .inside)), floats-at ts (h .i - 1) (omega (arith, s .pre .inside))) in
     timely-no (floats ts) (s .args .first) (s .args .count) k (h .i) _ (h .inv .1 .1) l (sym e ∙ c .if1 .taken)
 
 add-i-2 : tie.Need-add-i-2 Inv-loop μ-loop
@@ -77,9 +77,9 @@ loop-again c =
     let h = c .before .before .before .before .before .before .before .loop in
     let ts = s .args .table-time .now in
     let l : h .i < s .args .first + s .args .count = c .before .before .before .before .before .before .loop-test .taken in
-    let k : s .args .first + s .args .count ≤ length (floats ts) = omega (arith, s .pre .1, floats-length ts) in
+    let k : s .args .first + s .args .count ≤ length (floats ts) = omega (arith, s .pre .inside, floats-length ts) in
     let e : c .before .is-earlier .result ≡ timeBefore (getD (floats ts) (h .i) nan) (getD (floats ts) (h .i - 1) nan) =
-    c .before .is-earlier .ensures ∙ rw (c .before .before .before .before .float .ensures, c .before .before .float2 .ensures, floats-at ts (h .i) (omega (arith, s .pre .1)), floats-at ts (h .i - 1) (omega (arith, s .pre .1))) in
+    c .before .is-earlier .ensures ∙ rw (c .before .before .before .before .float .ensures, c .before .before .float2 .ensures, floats-at ts (h .i) (omega (arith, s .pre .inside)), floats-at ts (h .i - 1) (omega (arith, s .pre .inside))) in
     let z : h .i + 1 - 1 ≡ h .i = omega arith in
     (omega arith, (omega arith, rw z (timely-on (floats ts) (s .args .first) (s .args .count) k (h .i) _ (h .inv .1 .1) l (sym e ∙ c .if1 .left))))
 
@@ -88,7 +88,7 @@ returns-2 c =
     let s = c .before .before .before in
     let h = c .before .loop in
     let ts = s .args .table-time .now in
-    let k : s .args .first + s .args .count ≤ length (floats ts) = omega (arith, s .pre .1, floats-length ts) in
+    let k : s .args .first + s .args .count ≤ length (floats ts) = omega (arith, s .pre .inside, floats-length ts) in
     timely-end (floats ts) (s .args .first) (s .args .count) k (h .i) _ (h .inv .1 .1) (c .loop-test .left)
 
 pub is-timely-spec : {M : Type 1} → statement M

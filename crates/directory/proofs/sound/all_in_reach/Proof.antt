@@ -22,19 +22,19 @@ loop-holds : tie.Need-loop-holds Inv-loop μ-loop
 loop-holds c = (omega arith, refl)
 
 mul-in-range : tie.Need-mul-in-range Inv-loop μ-loop
-mul-in-range c = let s = c .before .before .before .before in omega (arith, s .pre, readings-length (s .args .ts .now) (s .args .xs .now))
+mul-in-range c = let s = c .before .before .before .before in omega (arith, s .pre, readings-length (s .args .table-time .now) (s .args .table-metres .now))
 
 shared-slice-read-in-range : tie.Need-shared-slice-read-in-range Inv-loop μ-loop
-shared-slice-read-in-range c = let s = c .before .before .before .before .before in omega (arith, s .pre, readings-length (s .args .ts .now) (s .args .xs .now))
+shared-slice-read-in-range c = let s = c .before .before .before .before .before in omega (arith, s .pre, readings-length (s .args .table-time .now) (s .args .table-metres .now))
 
 in-range-requires : tie.Need-in-range-requires Inv-loop μ-loop
 in-range-requires c κs = search needs
 
 mul-in-range-2 : tie.Need-mul-in-range-2 Inv-loop μ-loop
-mul-in-range-2 c = let s = c .before .before .before .before .before .before in omega (arith, s .pre, readings-length (s .args .ts .now) (s .args .xs .now))
+mul-in-range-2 c = let s = c .before .before .before .before .before .before in omega (arith, s .pre, readings-length (s .args .table-time .now) (s .args .table-metres .now))
 
 shared-slice-read-in-range-2 : tie.Need-shared-slice-read-in-range-2 Inv-loop μ-loop
-shared-slice-read-in-range-2 c = let s = c .before .before .before .before .before .before .before in omega (arith, s .pre, readings-length (s .args .ts .now) (s .args .xs .now))
+shared-slice-read-in-range-2 c = let s = c .before .before .before .before .before .before .before in omega (arith, s .pre, readings-length (s .args .table-time .now) (s .args .table-metres .now))
 
 in-range-requires-2 : tie.Need-in-range-requires-2 Inv-loop μ-loop
 in-range-requires-2 c κs = search needs
@@ -49,13 +49,13 @@ loop-again : tie.Need-loop-again Inv-loop μ-loop
 loop-again c =
     let s = c .before .before .before .before .before .before .before .before in
     let h = c .before .before .before .before .before .loop in
-    (omega arith, reach-on (s .args .ts .now) (s .args .xs .now) (s .args .n) (s .pre) (h .i) (h .all) (h .inv .1) (c .before .before .before .before .loop-test .taken) (c .before .before .in-range .result) (c .in-range2 .result) (c .before .before .in-range .ensures) (c .in-range2 .ensures))
+    (omega arith, reach-on (s .args .table-time .now) (s .args .table-metres .now) (s .args .table-count) (s .pre) (h .i) (h .all) (h .inv .1) (c .before .before .before .before .loop-test .taken) (c .before .before .in-range .result) (c .in-range2 .result) (c .before .before .in-range .ensures) (c .in-range2 .ensures))
 
 returns : tie.Need-returns Inv-loop μ-loop
 returns c =
     let s = c .before .before .before .before in
     let h = c .before .loop in
-    reach-end (s .args .ts .now) (s .args .xs .now) (s .args .n) (s .pre) (h .i) (h .all) (h .inv .1) (c .loop-test .left)
+    reach-end (s .args .table-time .now) (s .args .table-metres .now) (s .args .table-count) (s .pre) (h .i) (h .all) (h .inv .1) (c .loop-test .left)
 
 pub all-in-reach-spec : {M : Type 1} → statement M
 all-in-reach-spec =

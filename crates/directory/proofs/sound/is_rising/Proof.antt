@@ -25,7 +25,7 @@ add-i c = omega arith
 loop-holds : tie.Need-loop-holds Inv-loop μ-loop
 loop-holds c =
     let z : c .args .first + 1 - 1 ≡ c .args .first = omega arith in
-    (omega arith, (omega arith, λ _. rw z (timely-start (c .args .ts .now) (c .args .first) (c .args .count) (c .pre .1) (c .pre .0))))
+    (omega arith, (omega arith, λ _. rw z (timely-start (c .args .table-time .now) (c .args .first) (c .args .count) (c .pre .inside) (c .pre .filled))))
 
 sub-all : tie.Need-sub-all Inv-loop μ-loop
 sub-all c = omega arith
@@ -56,7 +56,7 @@ loop-again c =
       omega arith,
       (
         omega arith,
-        λ e. rw z (rising-on (s .args .ts .now) (s .args .first) (s .args .count) (s .pre .1) (h .i) (h .all) (h .inv .1 .1) (c .before .before .loop-test .taken) (c .shared-slice-known2 .given (h .i)) (c .shared-slice-known2 .given (h .i - 1)) e),
+        λ e. rw z (rising-on (s .args .table-time .now) (s .args .first) (s .args .count) (s .pre .inside) (h .i) (h .all) (h .inv .1 .1) (c .before .before .loop-test .taken) (c .shared-slice-known2 .given (h .i)) (c .shared-slice-known2 .given (h .i - 1)) e),
       ),
     )
 
@@ -64,7 +64,7 @@ returns : tie.Need-returns Inv-loop μ-loop
 returns c e =
     let s = c .before .before in
     let h = c .before .loop in
-    timely-end (s .args .ts .now) (s .args .first) (s .args .count) (s .pre .1) (h .i) _ (h .inv .1 .1 e) (c .loop-test .left)
+    timely-end (s .args .table-time .now) (s .args .first) (s .args .count) (s .pre .inside) (h .i) _ (h .inv .1 .1 e) (c .loop-test .left)
 
 pub is-rising-spec : {M : Type 1} → statement M
 is-rising-spec =

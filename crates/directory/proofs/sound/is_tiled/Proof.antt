@@ -19,19 +19,19 @@ loop-holds : tie.Need-loop-holds Inv-loop μ-loop
 loop-holds c = (omega arith, (omega arith, refl))
 
 signal-at-requires : tie.Need-signal-at-requires Inv-loop μ-loop
-signal-at-requires c κs = let a = c .before .before .before .before .before .before .before .args in (omega (arith, c .before .before .before .before .before .before .before .pre, entries-length (a .dc .now) (a .dv .now) (a .db .now) (a .df .now) (a .dn .now)), (omega (arith, c .before .before .before .before .before .before .before .pre, entries-length (a .dc .now) (a .dv .now) (a .db .now) (a .df .now) (a .dn .now)), omega (arith, c .before .before .before .before .before .before .before .pre, entries-length (a .dc .now) (a .dv .now) (a .db .now) (a .df .now) (a .dn .now))))
+signal-at-requires c κs = let a = c .before .before .before .before .before .before .before .args in (omega (arith, c .before .before .before .before .before .before .before .pre, entries-length (a .block-constellation .now) (a .block-svid .now) (a .block-band .now) (a .block-first .now) (a .block-samples .now)), (omega (arith, c .before .before .before .before .before .before .before .pre, entries-length (a .block-constellation .now) (a .block-svid .now) (a .block-band .now) (a .block-first .now) (a .block-samples .now)), omega (arith, c .before .before .before .before .before .before .before .pre, entries-length (a .block-constellation .now) (a .block-svid .now) (a .block-band .now) (a .block-first .now) (a .block-samples .now))))
 
 mul-first : tie.Need-mul-first Inv-loop μ-loop
-mul-first c = let a = c .before .before .before .before .before .before .before .before .args in omega (arith, c .before .before .before .before .before .before .before .before .pre, entries-length (a .dc .now) (a .dv .now) (a .db .now) (a .df .now) (a .dn .now))
+mul-first c = let a = c .before .before .before .before .before .before .before .before .args in omega (arith, c .before .before .before .before .before .before .before .before .pre, entries-length (a .block-constellation .now) (a .block-svid .now) (a .block-band .now) (a .block-first .now) (a .block-samples .now))
 
 shared-slice-read-first : tie.Need-shared-slice-read-first Inv-loop μ-loop
-shared-slice-read-first c = let a = c .before .before .before .before .before .before .before .before .before .args in omega (arith, c .before .before .before .before .before .before .before .before .before .pre, entries-length (a .dc .now) (a .dv .now) (a .db .now) (a .df .now) (a .dn .now))
+shared-slice-read-first c = let a = c .before .before .before .before .before .before .before .before .before .args in omega (arith, c .before .before .before .before .before .before .before .before .before .pre, entries-length (a .block-constellation .now) (a .block-svid .now) (a .block-band .now) (a .block-first .now) (a .block-samples .now))
 
 mul-count : tie.Need-mul-count Inv-loop μ-loop
-mul-count c = let a = c .before .before .before .before .before .before .before .before .before .args in omega (arith, c .before .before .before .before .before .before .before .before .before .pre, entries-length (a .dc .now) (a .dv .now) (a .db .now) (a .df .now) (a .dn .now))
+mul-count c = let a = c .before .before .before .before .before .before .before .before .before .args in omega (arith, c .before .before .before .before .before .before .before .before .before .pre, entries-length (a .block-constellation .now) (a .block-svid .now) (a .block-band .now) (a .block-first .now) (a .block-samples .now))
 
 shared-slice-read-count : tie.Need-shared-slice-read-count Inv-loop μ-loop
-shared-slice-read-count c = let a = c .before .before .before .before .before .before .before .before .before .before .args in omega (arith, c .before .before .before .before .before .before .before .before .before .before .pre, entries-length (a .dc .now) (a .dv .now) (a .db .now) (a .df .now) (a .dn .now))
+shared-slice-read-count c = let a = c .before .before .before .before .before .before .before .before .before .before .args in omega (arith, c .before .before .before .before .before .before .before .before .before .before .pre, entries-length (a .block-constellation .now) (a .block-svid .now) (a .block-band .now) (a .block-first .now) (a .block-samples .now))
 
 sub-if1 : tie.Need-sub-if1 Inv-loop μ-loop
 sub-if1 c = omega arith
@@ -40,7 +40,7 @@ returns : tie.Need-returns Inv-loop μ-loop
 returns c =
     let a = c .before .before .before .before .before .before .before .before .before .before .before .args in
     let h = c .before .before .before .before .before .loop in
-    let at = entry-at (a .dc .now) (a .dv .now) (a .db .now) (a .df .now) (a .dn .now) (h .i) (omega (arith, c .before .before .before .before .before .before .before .before .before .before .before .pre, c .before .before .before .before .loop-test .taken)) in
+    let at = entry-at (a .block-constellation .now) (a .block-svid .now) (a .block-band .now) (a .block-first .now) (a .block-samples .now) (h .i) (omega (arith, c .before .before .before .before .before .before .before .before .before .before .before .pre, c .before .before .before .before .loop-test .taken)) in
     laid-no _ _ (c .before .before .before .before .before .before .before .before .before .before .before .pre) _ (h .i) _ _ (h .inv .1 .1) (c .before .before .before .before .loop-test .taken) at (c .before .before .before .signal-at .ensures .0) (h .inv .1 .0) (c .if1 .taken)
 
 add-least : tie.Need-add-least Inv-loop μ-loop
@@ -50,7 +50,7 @@ add-place : tie.Need-add-place Inv-loop μ-loop
 add-place c =
     let a = c .before .before .before .before .before .before .before .before .before .before .before .args in
     let h = c .before .before .before .before .before .loop in
-    let at = entry-at (a .dc .now) (a .dv .now) (a .db .now) (a .df .now) (a .dn .now) (h .i) (omega (arith, c .before .before .before .before .before .before .before .before .before .before .before .pre, c .before .before .before .before .loop-test .taken)) in
+    let at = entry-at (a .block-constellation .now) (a .block-svid .now) (a .block-band .now) (a .block-first .now) (a .block-samples .now) (h .i) (omega (arith, c .before .before .before .before .before .before .before .before .before .before .before .pre, c .before .before .before .before .loop-test .taken)) in
     omega (arith, laid-room _ _ (c .before .before .before .before .before .before .before .before .before .before .before .pre) _ (h .i) _ _ (h .inv .1 .1) (c .before .before .before .before .loop-test .taken) at (c .before .before .before .signal-at .ensures .0) (c .if1 .left))
 
 add-i : tie.Need-add-i Inv-loop μ-loop
@@ -63,7 +63,7 @@ loop-again : tie.Need-loop-again Inv-loop μ-loop
 loop-again c =
     let a = c .before .before .before .before .before .before .before .before .before .before .before .args in
     let h = c .before .before .before .before .before .loop in
-    let at = entry-at (a .dc .now) (a .dv .now) (a .db .now) (a .df .now) (a .dn .now) (h .i) (omega (arith, c .before .before .before .before .before .before .before .before .before .before .before .pre, c .before .before .before .before .loop-test .taken)) in
+    let at = entry-at (a .block-constellation .now) (a .block-svid .now) (a .block-band .now) (a .block-first .now) (a .block-samples .now) (h .i) (omega (arith, c .before .before .before .before .before .before .before .before .before .before .before .pre, c .before .before .before .before .loop-test .taken)) in
     let r = laid-room _ _ (c .before .before .before .before .before .before .before .before .before .before .before .pre) _ (h .i) _ _ (h .inv .1 .1) (c .before .before .before .before .loop-test .taken) at (c .before .before .before .signal-at .ensures .0) (c .if1 .left) in
     (omega arith, (omega arith, laid-on _ _ (c .before .before .before .before .before .before .before .before .before .before .before .pre) _ (h .i) _ _ (h .inv .1 .1) (c .before .before .before .before .loop-test .taken) at (c .before .before .before .signal-at .ensures .0) (c .if1 .left)))
 

@@ -26,7 +26,7 @@ loop-holds : tie.Need-loop-holds Inv-loop μ-loop
 loop-holds c =
     let s = c .before in
     let z : s .args .first + 1 - 1 ≡ s .args .first = omega arith in
-    (omega arith, (omega arith, rw z (timely-start (s .args .ts .now) (s .args .first) (s .args .count) (s .pre .1) (s .pre .0))))
+    (omega arith, (omega arith, rw z (timely-start (s .args .table-time .now) (s .args .first) (s .args .count) (s .pre .inside) (s .pre .filled))))
 
 mul-is-earlier : tie.Need-mul-is-earlier Inv-loop μ-loop
 mul-is-earlier c = omega arith
@@ -50,7 +50,7 @@ returns : tie.Need-returns Inv-loop μ-loop
 returns c =
     let s = c .before .before .before .before .before .before .before in
     let h = c .before .before .before .before .before .loop in
-    timely-no (s .args .ts .now) (s .args .first) (s .args .count) (s .pre .1) (h .i) _ (h .inv .1 .1) (c .before .before .before .before .loop-test .taken) (sym (c .before .is-earlier .ensures) ∙ c .if1 .taken)
+    timely-no (s .args .table-time .now) (s .args .first) (s .args .count) (s .pre .inside) (h .i) _ (h .inv .1 .1) (c .before .before .before .before .loop-test .taken) (sym (c .before .is-earlier .ensures) ∙ c .if1 .taken)
 
 add-i-2 : tie.Need-add-i-2 Inv-loop μ-loop
 add-i-2 c = omega arith
@@ -63,13 +63,13 @@ loop-again c =
     let s = c .before .before .before .before .before .before .before in
     let h = c .before .before .before .before .before .loop in
     let z : h .i + 1 - 1 ≡ h .i = omega arith in
-    (omega arith, (omega arith, rw z (timely-on (s .args .ts .now) (s .args .first) (s .args .count) (s .pre .1) (h .i) _ (h .inv .1 .1) (c .before .before .before .before .loop-test .taken) (sym (c .before .is-earlier .ensures) ∙ c .if1 .left))))
+    (omega arith, (omega arith, rw z (timely-on (s .args .table-time .now) (s .args .first) (s .args .count) (s .pre .inside) (h .i) _ (h .inv .1 .1) (c .before .before .before .before .loop-test .taken) (sym (c .before .is-earlier .ensures) ∙ c .if1 .left))))
 
 returns-2 : tie.Need-returns-2 Inv-loop μ-loop
 returns-2 c =
     let s = c .before .before .before in
     let h = c .before .loop in
-    timely-end (s .args .ts .now) (s .args .first) (s .args .count) (s .pre .1) (h .i) _ (h .inv .1 .1) (c .loop-test .left)
+    timely-end (s .args .table-time .now) (s .args .first) (s .args .count) (s .pre .inside) (h .i) _ (h .inv .1 .1) (c .loop-test .left)
 
 pub is-timely-spec : {M : Type 1} → statement M
 is-timely-spec =

@@ -1,16 +1,10 @@
 -- `query::query::answer_of` meets its contract. Assumes nothing.
-use mathlib.Core.Path.{sym, _∙_, subst, subst⁻¹}
-use Prim.Native.Nat.{_≤_}
+use mathlib.Core.Path.{sym, _∙_, subst}
 use native.Mathlib.Omega.{arith}
 use lib.Dec.{T}
-use lib.ListN.{length}
 use borrow.Author.Needs.{needs}
-use Rattle.directory.specs.Directory.{lentBlocks, entriesIn, readingsIn}
-use Rattle.directory.proofs.DirectoryLaws.{sound-flat}
-use Rattle.query.specs.Query.{GivesFinite}
-use Rattle.query.proofs.QueryLaws.{time-refused, time-passed}
-use Rattle.query.proofs.PlaceLaws.{held-flat}
-use Rattle.query.proofs.FiniteLaws.{answer-finite}
+use Rattle.directory.specs.Directory.{lentBlocks}
+use Rattle.query.proofs.AnswerLaws.{block-falls, block-in, entry-in, found-for, late, none-for, other-for, search-for}
 use Rattle.query.proofs.query.answer_of.Statement.{statement}
 use Rattle.query.proofs.query.answer_of.Tie as tie
 
@@ -21,29 +15,79 @@ is-finite-requires : tie.Need-is-finite-requires
 is-finite-requires c κs = search needs
 
 returns : tie.Need-returns
-returns c = (time-refused _ _ _ _ _ (c .before .before .before .before .before .before .before .before .before .before .pre) _ _ _ _ (c .before .before .in-range .ensures) (c .before .is-finite .ensures) (c .if1 .taken), tt)
-
-look-up-requires : tie.Need-look-up-requires
-look-up-requires c κs =
+returns c =
     let s = c .before .before .before .before .before .before .before .before .before .before in
     let a = s .args in
-    let l = lentBlocks (a .dc .now) (a .dv .now) (a .db .now) (a .df .now) (a .dn .now) (a .ts .now) (a .xs .now) in
-    let fm : a .m ≤ length (entriesIn l) = omega (arith, s .pre .few-entries) in
-    let fn : a .n ≤ length (readingsIn l) = omega (arith, s .pre .few-samples) in
-    ((fm, fn), s .pre .steady)
+    (late (a .blocks) (lentBlocks (a .block-constellation .now) (a .block-svid .now) (a .block-band .now) (a .block-first .now) (a .block-samples .now) (a .table-time .now) (a .table-metres .now)) (s .pre) (a .max-gap) (a .signal) (a .time) (c .before .before .in-range .ensures) (c .before .is-finite .ensures) (c .if1 .taken), tt)
 
 returns-2 : tie.Need-returns-2
 returns-2 c =
     let s = c .before .before .before .before .before .before .before .before .before .before .before in
     let a = s .args in
-    let l = lentBlocks (a .dc .now) (a .dv .now) (a .db .now) (a .df .now) (a .dn .now) (a .ts .now) (a .xs .now) in
-    let fm : a .m ≤ length (entriesIn l) = omega (arith, s .pre .few-entries) in
-    let fn : a .n ≤ length (readingsIn l) = omega (arith, s .pre .few-samples) in
-    let is = c .look-up .ensures in (
-      is ∙ time-passed _ _ _ _ _ (s .pre) _ _ _ _ (c .before .before .before .in-range .ensures) (c .before .before .is-finite .ensures) (c .before .if1 .left),
-      subst⁻¹ GivesFinite is
-          (answer-finite _ (a .gap) (a .c) (a .v) (a .b) (a .t) (sound-flat _ (s .pre .steady)) (held-flat (a .m) (a .n) l fm fn (s .pre .steady) (λ j. c .before .before .before .before .before .shared-slice-known6 .given j)) (subst T (sym (s .good .1 .1 .1 .1 .1 .1 .1 .1 .1 .1 .1 .1 .1 .0 .1)) tt)),
-    )
+    (none-for (a .blocks) (lentBlocks (a .block-constellation .now) (a .block-svid .now) (a .block-band .now) (a .block-first .now) (a .block-samples .now) (a .table-time .now) (a .table-metres .now)) (s .pre) (a .max-gap) (a .signal) (a .time) (c .before .before .before .in-range .ensures) (c .before .before .is-finite .ensures) (c .before .if1 .left) (c .if2 .taken), tt)
+
+entry-of-requires : tie.Need-entry-of-requires
+entry-of-requires c κs =
+    let s = c .before .before .before .before .before .before .before .before .before .before .before in
+    let a = s .args in
+    let z = c .if2 .left in
+    search-for (a .blocks) (lentBlocks (a .block-constellation .now) (a .block-svid .now) (a .block-band .now) (a .block-first .now) (a .block-samples .now) (a .table-time .now) (a .table-metres .now)) (s .pre) (a .signal) (omega (arith, z))
+
+signal-at-requires : tie.Need-signal-at-requires
+signal-at-requires c κs =
+    let s = c .before .before .before .before .before .before .before .before .before .before .before .before in
+    let a = s .args in
+    entry-in (a .blocks) (lentBlocks (a .block-constellation .now) (a .block-svid .now) (a .block-band .now) (a .block-first .now) (a .block-samples .now) (a .table-time .now) (a .table-metres .now)) (s .pre) (c .entry-of .result) (c .entry-of .ensures .below) .0
+
+returns-3 : tie.Need-returns-3
+returns-3 c =
+    let s = c .before .before .before .before .before .before .before .before .before .before .before .before .before .before in
+    let a = s .args in
+    (other-for (a .blocks) (lentBlocks (a .block-constellation .now) (a .block-svid .now) (a .block-band .now) (a .block-first .now) (a .block-samples .now) (a .table-time .now) (a .table-metres .now)) (s .pre) (a .max-gap) (a .signal) (a .time) (c .before .before .before .before .before .before .in-range .ensures) (c .before .before .before .before .before .is-finite .ensures) (c .before .before .before .before .if1 .left) (c .before .before .entry-of .result) (c .before .before .entry-of .ensures) (λ q. c .if3 .taken (c .before .signal-at .ensures .0 ∙ q)), tt)
+
+mul-first : tie.Need-mul-first
+mul-first c =
+    let s = c .before .before .before .before .before .before .before .before .before .before .before .before .before .before in
+    let a = s .args in
+    let w = entry-in (a .blocks) (lentBlocks (a .block-constellation .now) (a .block-svid .now) (a .block-band .now) (a .block-first .now) (a .block-samples .now) (a .table-time .now) (a .table-metres .now)) (s .pre) (c .before .before .entry-of .result) (c .before .before .entry-of .ensures .below) in
+    omega (arith, w)
+
+shared-slice-read-first : tie.Need-shared-slice-read-first
+shared-slice-read-first c =
+    let s = c .before .before .before .before .before .before .before .before .before .before .before .before .before .before .before in
+    let a = s .args in
+    let w = entry-in (a .blocks) (lentBlocks (a .block-constellation .now) (a .block-svid .now) (a .block-band .now) (a .block-first .now) (a .block-samples .now) (a .table-time .now) (a .table-metres .now)) (s .pre) (c .before .before .before .entry-of .result) (c .before .before .before .entry-of .ensures .below) in
+    omega (arith, w)
+
+mul-count : tie.Need-mul-count
+mul-count c =
+    let s = c .before .before .before .before .before .before .before .before .before .before .before .before .before .before .before in
+    let a = s .args in
+    let w = entry-in (a .blocks) (lentBlocks (a .block-constellation .now) (a .block-svid .now) (a .block-band .now) (a .block-first .now) (a .block-samples .now) (a .table-time .now) (a .table-metres .now)) (s .pre) (c .before .before .before .entry-of .result) (c .before .before .before .entry-of .ensures .below) in
+    omega (arith, w)
+
+shared-slice-read-count : tie.Need-shared-slice-read-count
+shared-slice-read-count c =
+    let s = c .before .before .before .before .before .before .before .before .before .before .before .before .before .before .before .before in
+    let a = s .args in
+    let w = entry-in (a .blocks) (lentBlocks (a .block-constellation .now) (a .block-svid .now) (a .block-band .now) (a .block-first .now) (a .block-samples .now) (a .table-time .now) (a .table-metres .now)) (s .pre) (c .before .before .before .before .entry-of .result) (c .before .before .before .before .entry-of .ensures .below) in
+    omega (arith, w)
+
+answer-in-requires : tie.Need-answer-in-requires
+answer-in-requires c κs =
+    let s = c .before .before .before .before .before .before .before .before .before .before .before .before .before .before .before .before in
+    let a = s .args in
+    let l = lentBlocks (a .block-constellation .now) (a .block-svid .now) (a .block-band .now) (a .block-first .now) (a .block-samples .now) (a .table-time .now) (a .table-metres .now) in
+    let e = c .before .before .before .before .entry-of .result in
+    let h = c .before .before .before .before .entry-of .ensures .below in
+    (block-in (a .blocks) l (s .pre) e h, block-falls (a .blocks) l (s .pre) e h (λ j. c .before .before .before .before .before .before .before .before .before .before .shared-slice-known6 .given j) (a .time) (subst T (sym (s .good .1 .1 .1 .1 .1 .1 .1 .1 .1 .1 .0 .1)) tt))
+
+returns-4 : tie.Need-returns-4
+returns-4 c =
+    let s = c .before .before .before .before .before .before .before .before .before .before .before .before .before .before .before .before .before in
+    let a = s .args in
+    found-for (a .blocks) (lentBlocks (a .block-constellation .now) (a .block-svid .now) (a .block-band .now) (a .block-first .now) (a .block-samples .now) (a .table-time .now) (a .table-metres .now)) (s .pre) (a .max-gap) (a .signal) (a .time) (c .before .before .before .before .before .before .before .before .before .in-range .ensures) (c .before .before .before .before .before .before .before .before .is-finite .ensures) (c .before .before .before .before .before .before .before .if1 .left) (c .before .before .before .before .before .entry-of .result) (c .before .before .before .before .before .entry-of .ensures)
+    (sym (c .before .before .before .before .signal-at .ensures .0) ∙ c .before .before .before .if3 .left) _ (c .answer-in .ensures) (λ j. c .before .before .before .before .before .before .before .before .before .before .before .shared-slice-known6 .given j) (subst T (sym (s .good .1 .1 .1 .1 .1 .1 .1 .1 .1 .1 .0 .1)) tt)
 
 pub answer-of-spec : {M : Type 1} → statement M
 answer-of-spec =
@@ -52,5 +96,13 @@ answer-of-spec =
     in-range-requires
     is-finite-requires
     returns
-    look-up-requires
-    returns-2)
+    returns-2
+    entry-of-requires
+    signal-at-requires
+    returns-3
+    mul-first
+    shared-slice-read-first
+    mul-count
+    shared-slice-read-count
+    answer-in-requires
+    returns-4)

@@ -1,42 +1,35 @@
 -- `query::query::query` meets its contract. Assumes nothing.
+use mathlib.Core.Path.{sym, _∙_}
 use borrow.Author.Needs.{needs}
-use Rattle.query.proofs.QueryLaws.{roomy, rule-2, rule-3, rule-4, no-rule}
+use Rattle.directory.specs.Directory.{lentBlocks}
+use Rattle.query.proofs.QueryLaws.{test-passed, test-refused}
+use Rattle.query.proofs.AnswerLaws.{answerable, answered}
 use Rattle.query.proofs.query.query.Statement.{statement}
 use Rattle.query.proofs.query.query.Tie as tie
 
-block-capacity-requires : tie.Need-block-capacity-requires
-block-capacity-requires c κs = search needs
+tested-requires : tie.Need-tested-requires
+tested-requires c κs = search needs
 
-returns : tie.Need-returns
-returns c = (rule-2 _ _ _ _ _ _ _ _ _ (rw (c .before .block-capacity .ensures) at (c .if1 .taken)), tt)
+enum-known-test : tie.Need-enum-known-test
+enum-known-test c = search needs
 
-in-range-requires : tie.Need-in-range-requires
-in-range-requires c κs = search needs
-
-returns-2 : tie.Need-returns-2
-returns-2 c = (rule-3 _ _ _ _ _ _ _ _ _ (rw (c .before .before .before .block-capacity .ensures) at (c .before .before .if1 .left)) (c .before .in-range .ensures) (c .if2 .taken), tt)
-
-is-sound-directory-requires : tie.Need-is-sound-directory-requires
-is-sound-directory-requires c κs = let a = c .before .before .before .before .before .before .before .before .before .before .before .args in roomy (a .m) (a .n) (c .before .before .before .block-capacity .result) _ (c .before .before .before .block-capacity .ensures) (c .before .before .if1 .left)
-
-returns-3 : tie.Need-returns-3
-returns-3 c = (rule-4 _ _ _ _ _ _ _ _ _ (rw (c .before .before .before .before .before .block-capacity .ensures) at (c .before .before .before .before .if1 .left)) (c .before .before .before .in-range .ensures) (c .before .before .if2 .left) (c .before .is-sound-directory .ensures) (c .if3 .taken), tt)
+enum-told : tie.Need-enum-told
+enum-told c = search needs
 
 answer-of-requires : tie.Need-answer-of-requires
-answer-of-requires c κs = let a = c .before .before .before .before .before .before .before .before .before .before .before .before .before .args in no-rule _ _ _ _ _ (a .c) (a .v) (a .b) (a .t) (rw (c .before .before .before .before .before .block-capacity .ensures) at (c .before .before .before .before .if1 .left)) (c .before .before .before .in-range .ensures) (c .before .before .if2 .left) (c .before .is-sound-directory .ensures) (c .if3 .left)
+answer-of-requires c κs =
+    let a = c .before .before .before .before .before .before .before .before .before .before .args in
+    let l = lentBlocks (a .block-constellation .now) (a .block-svid .now) (a .block-band .now) (a .block-first .now) (a .block-samples .now) (a .table-time .now) (a .table-metres .now) in
+    answerable (a .blocks) (a .table-count) l (a .max-gap) (test-passed _ _ _ _ _ (sym (c .enum-told .given .1) ∙ c .before .before .tested .ensures))
 
-returns-4 : tie.Need-returns-4
-returns-4 c = c .answer-of .ensures
+returns : tie.Need-returns
+returns c = (test-refused _ _ _ _ _ _ (sym (c .before .test .given .1) ∙ c .before .before .before .tested .ensures) _ _, tt)
+
+returns-2 : tie.Need-returns-2
+returns-2 c =
+    let a = c .before .before .before .before .before .before .before .before .before .before .before .args in
+    let l = lentBlocks (a .block-constellation .now) (a .block-svid .now) (a .block-band .now) (a .block-first .now) (a .block-samples .now) (a .table-time .now) (a .table-metres .now) in
+    (c .answer-of .ensures .0 ∙ answered (a .blocks) (a .table-count) l (a .max-gap) (test-passed _ _ _ _ _ (sym (c .before .enum-told .given .1) ∙ c .before .before .before .tested .ensures)) (a .signal) (a .time), c .answer-of .ensures .1)
 
 pub query-spec : {M : Type 1} → statement M
-query-spec =
-    tie.close
-    (tie.spec
-    block-capacity-requires
-    returns
-    in-range-requires
-    returns-2
-    is-sound-directory-requires
-    returns-3
-    answer-of-requires
-    returns-4)
+query-spec = tie.close (tie.spec tested-requires enum-known-test enum-told answer-of-requires returns returns-2)

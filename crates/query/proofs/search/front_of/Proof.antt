@@ -2,8 +2,8 @@
 use Prim.Native.Nat.{_+_, _<_}
 use native.Mathlib.Omega.{arith}
 use Prim.Native.Nat.{_-_}
-use Rattle.query.specs.Search.{Halving, isBefore}
-use Rattle.query.proofs.HalvingLaws.{halving-start, halving-half}
+use Rattle.query.specs.Steps.{Halving, isBefore}
+use Rattle.query.proofs.HalvingLaws.{halving-start, halving-half, halving-inner, falling-inner}
 use Rattle.query.proofs.search.front_of.Statement.{statement}
 use Rattle.query.proofs.search.front_of.Tie as tie
 
@@ -19,8 +19,8 @@ sub-len c = omega arith
 loop-holds : tie.Need-loop-holds Inv-loop μ-loop
 loop-holds c =
     let s = c .before in
-    let some = s .pre .1 .0 in
-    (halving-start _ _ _ (s .pre .1 .1) (s .args .start + (s .args .end - s .args .start)) (omega arith) (omega (arith, some)), omega (arith, some))
+    let some = s .pre .some in
+    (halving-start _ _ _ (s .pre .falling) (s .args .first + (s .args .end - s .args .first)) (omega arith) (omega (arith, some)), omega (arith, some))
 
 add-mid : tie.Need-add-mid Inv-loop μ-loop
 add-mid c = omega arith
@@ -43,16 +43,18 @@ loop-less c = omega arith
 loop-again : tie.Need-loop-again Inv-loop μ-loop
 loop-again c =
     let h = c .before .before .before .loop in
-    (halving-half _ _ _ (c .before .before .before .before .before .pre .1 .1) (h .lo) (h .len) _ (h .inv .1) (c .choose-before .ensures .0) (h .inv .0), omega arith)
+    (halving-half _ _ _ (c .before .before .before .before .before .pre .falling) (h .lo) (h .len) _ (h .inv .1) (c .choose-before .ensures .0) (h .inv .0), omega arith)
 
 front-within-requires : tie.Need-front-within-requires Inv-loop μ-loop
 front-within-requires c κs =
     let s = c .before .before .before in
     let h = c .before .loop in
-    (s .pre .0, (s .pre .1 .1, (h .inv .0, (h .inv .1, c .loop-test .left))))
+    let i = h .inv .0 in
+    let some = h .inv .1 in
+    (c .loop-test .left, record { some = omega (arith, some); inside = omega (arith, i .within, s .pre .inside); falling = falling-inner (h .lo) (h .lo + h .len) (s .pre .falling) (i .above) (i .within) })
 
 returns : tie.Need-returns Inv-loop μ-loop
-returns c = c .front-within .ensures
+returns c = halving-inner (c .before .before .loop .inv .0) (c .front-within .ensures)
 
 pub front-of-spec : {M : Type 1} → statement M
 front-of-spec =

@@ -1,84 +1,171 @@
 -- `query_calls::queries::queries` meets its contract. Assumes nothing.
 use mathlib.Core.Path.{sym, _∙_}
+use Prim.Native.Nat.{_-_}
+use native.Mathlib.Omega.{arith}
 use borrow.Author.Needs.{needs}
-use Rattle.query.proofs.QueryLaws.{roomy}
-use Rattle.query_calls.proofs.QueriesLaws.{refused-reply, answered-reply, many, short-lent, gap-out, not-sound, passes, all-answered}
+use lib.Ieee.{nan}
+use lib.ListN.{getD}
+use Rattle.directory.specs.Directory.{lentBlocks, blockCapacity, directoryIn}
+use Rattle.query.proofs.QueryLaws.{signal-query, test-passed}
+use Rattle.query.proofs.AnswerLaws.{answerable, answered}
+use Rattle.query_calls.specs.Queries.{queryAt}
+use Rattle.query_calls.proofs.QueriesLaws.{Filling, all-answered, answered-reply, filling-end, filling-metres, filling-next, filling-numbers, filling-start, not-short, refused-reply, short-lent, table-refused}
 use Rattle.query_calls.proofs.queries.queries.Statement.{statement}
 use Rattle.query_calls.proofs.queries.queries.Tie as tie
 
-block-capacity-requires : tie.Need-block-capacity-requires
-block-capacity-requires c κs = search needs
+abbrev Inv-loop : tie.InvT-loop
+Inv-loop dc dv db df dn m ts xs n gap c v b t count numbers₀ metres₀ i₀ numbers metres i =
+    Filling (queryAt m n (blockCapacity (lentBlocks dc dv db df dn ts xs)) (directoryIn m n (lentBlocks dc dv db df dn ts xs)) gap c v b t) count numbers₀ metres₀ numbers metres i
 
-returns : tie.Need-returns
-returns c = refused-reply _ _ _ (many _ _ _ _ _ _ _ _ _ _ _ _ (rw (c .before .block-capacity .ensures) at (c .if1 .taken)))
+abbrev μ-loop : tie.MeasureT-loop
+μ-loop dc dv db df dn m ts xs n gap c v b t count numbers₀ metres₀ i₀ numbers metres i = count - i
 
-is-short-requires : tie.Need-is-short-requires
+is-short-requires : tie.Need-is-short-requires Inv-loop μ-loop
 is-short-requires c κs = search needs
 
-same-length : tie.Need-same-length
+same-length : tie.Need-same-length Inv-loop μ-loop
 same-length c = search needs
 
-same-length-2 : tie.Need-same-length-2
+same-length-2 : tie.Need-same-length-2 Inv-loop μ-loop
 same-length-2 c = search needs
 
-returns-2 : tie.Need-returns-2
-returns-2 c = refused-reply _ _ _ (short-lent _ _ _ _ _ _ _ _ _ _ _ _ (rw (c .before .before .before .before .before .block-capacity .ensures) at (c .before .before .before .before .if1 .left)) (c .before .is-short .ensures) (c .if2 .taken))
+returns : tie.Need-returns Inv-loop μ-loop
+returns c = refused-reply _ _ _ (short-lent _ _ _ _ _ _ _ _ _ _ _ _ (sym (c .before .is-short .ensures) ∙ c .if1 .taken))
 
-in-range-requires : tie.Need-in-range-requires
-in-range-requires c κs = search needs
+tested-requires : tie.Need-tested-requires Inv-loop μ-loop
+tested-requires c κs = search needs
 
-same-length-3 : tie.Need-same-length-3
+enum-known-test : tie.Need-enum-known-test Inv-loop μ-loop
+enum-known-test c = search needs
+
+same-length-3 : tie.Need-same-length-3 Inv-loop μ-loop
 same-length-3 c = search needs
 
-same-length-4 : tie.Need-same-length-4
+same-length-4 : tie.Need-same-length-4 Inv-loop μ-loop
 same-length-4 c = search needs
 
-returns-3 : tie.Need-returns-3
-returns-3 c = refused-reply _ _ _ (gap-out _ _ _ _ _ _ _ _ _ _ _ _ (rw (c .before .before .before .before .before .before .before .block-capacity .ensures) at (c .before .before .before .before .before .before .if1 .left)) (c .before .before .before .is-short .ensures) (c .before .before .if2 .left) (c .before .in-range .ensures) (c .if3 .taken))
+returns-2 : tie.Need-returns-2 Inv-loop μ-loop
+returns-2 c = refused-reply _ _ _ (table-refused _ _ _ _ _ _ _ _ _ _ _ _ (sym (c .before .before .before .before .before .is-short .ensures) ∙ c .before .before .before .before .if1 .left) _ (sym (c .before .test .given .1) ∙ c .before .before .before .tested .ensures))
 
-is-sound-directory-requires : tie.Need-is-sound-directory-requires
-is-sound-directory-requires c κs = let a = c .before .before .before .before .before .before .before .before .before .before .before .before .before .before .before .before .before .before .before .before .before .args in roomy (a .blocks) (a .table-count) (c .before .before .before .before .before .before .before .block-capacity .result) _ (c .before .before .before .before .before .before .before .block-capacity .ensures) (c .before .before .before .before .before .before .if1 .left)
+enum-told : tie.Need-enum-told Inv-loop μ-loop
+enum-told c = search needs
 
-same-length-5 : tie.Need-same-length-5
-same-length-5 c = search needs
+loop-holds : tie.Need-loop-holds Inv-loop μ-loop
+loop-holds c = filling-start _ _ _ _
 
-same-length-6 : tie.Need-same-length-6
-same-length-6 c = search needs
+shared-slice-read-signal-of : tie.Need-shared-slice-read-signal-of Inv-loop μ-loop
+shared-slice-read-signal-of c = let l = not-short _ _ _ _ _ _ _ (sym (c .before .before .before .before .before .before .before .is-short .ensures) ∙ c .before .before .before .before .before .before .if1 .left) in omega (arith, c .before .before .before .before .before .before .before .before .before .before .before .before .before .before .before .before .before .before .before .before .before .before .before, c .before .loop-test .taken, l .in-c)
 
-returns-4 : tie.Need-returns-4
-returns-4 c = refused-reply _ _ _ (not-sound _ _ _ _ _ _ _ _ _ _ _ _ (rw (c .before .before .before .before .before .before .before .before .before .block-capacity .ensures) at (c .before .before .before .before .before .before .before .before .if1 .left)) (c .before .before .before .before .before .is-short .ensures) (c .before .before .before .before .if2 .left) (c .before .before .before .in-range .ensures) (c .before .before .if3 .left) (c .before .is-sound-directory .ensures) (c .if4 .taken))
+mul-signal-of : tie.Need-mul-signal-of Inv-loop μ-loop
+mul-signal-of c = let l = not-short _ _ _ _ _ _ _ (sym (c .before .before .before .before .before .before .before .is-short .ensures) ∙ c .before .before .before .before .before .before .if1 .left) in omega (arith, c .before .before .before .before .before .before .before .before .before .before .before .before .before .before .before .before .before .before .before .before .before .before .before, c .before .loop-test .taken, l .in-v)
 
-fill-requires : tie.Need-fill-requires
-fill-requires c κs = (passes _ _ _ _ _ _ _ _ _ _ _ _ (rw (c .before .before .before .before .before .before .before .before .before .before .before .block-capacity .ensures) at (c .before .before .before .before .before .before .before .before .before .before .if1 .left)) (c .before .before .before .before .before .before .before .is-short .ensures) (c .before .before .before .before .before .before .if2 .left) (c .before .before .before .before .before .in-range .ensures) (c .before .before .before .before .if3 .left) (c .before .before .before .is-sound-directory .ensures) (c .before .before .if4 .left), sym (c .before .before .before .before .before .before .before .is-short .ensures) ∙ c .before .before .before .before .before .before .if2 .left)
+shared-slice-read-signal-of-2 : tie.Need-shared-slice-read-signal-of-2 Inv-loop μ-loop
+shared-slice-read-signal-of-2 c = let l = not-short _ _ _ _ _ _ _ (sym (c .before .before .before .before .before .before .before .before .is-short .ensures) ∙ c .before .before .before .before .before .before .before .if1 .left) in omega (arith, c .before .before .before .before .before .before .before .before .before .before .before .before .before .before .before .before .before .before .before .before .before .before .before .before, c .before .before .loop-test .taken, l .in-v)
 
-same-length-7 : tie.Need-same-length-7
-same-length-7 c = search needs
+mul-signal-of-2 : tie.Need-mul-signal-of-2 Inv-loop μ-loop
+mul-signal-of-2 c = let l = not-short _ _ _ _ _ _ _ (sym (c .before .before .before .before .before .before .before .before .is-short .ensures) ∙ c .before .before .before .before .before .before .before .if1 .left) in omega (arith, c .before .before .before .before .before .before .before .before .before .before .before .before .before .before .before .before .before .before .before .before .before .before .before .before, c .before .before .loop-test .taken, l .in-b)
 
-same-length-8 : tie.Need-same-length-8
-same-length-8 c = search needs
+shared-slice-read-signal-of-3 : tie.Need-shared-slice-read-signal-of-3 Inv-loop μ-loop
+shared-slice-read-signal-of-3 c = let l = not-short _ _ _ _ _ _ _ (sym (c .before .before .before .before .before .before .before .before .before .is-short .ensures) ∙ c .before .before .before .before .before .before .before .before .if1 .left) in omega (arith, c .before .before .before .before .before .before .before .before .before .before .before .before .before .before .before .before .before .before .before .before .before .before .before .before .before, c .before .before .before .loop-test .taken, l .in-b)
 
-returns-5 : tie.Need-returns-5
-returns-5 c = answered-reply (all-answered _ _ _ _ _ _ _ _ _ _ _ _ (rw (c .before .before .before .before .before .before .before .before .before .before .before .before .before .before .before .before .block-capacity .ensures) at (c .before .before .before .before .before .before .before .before .before .before .before .before .before .before .before .if1 .left)) (c .before .before .before .before .before .before .before .before .before .before .before .before .is-short .ensures) (c .before .before .before .before .before .before .before .before .before .before .before .if2 .left) (c .before .before .before .before .before .before .before .before .before .before .in-range .ensures) (c .before .before .before .before .before .before .before .before .before .if3 .left) (c .before .before .before .before .before .before .before .before .is-sound-directory .ensures) (c .before .before .before .before .before .before .before .if4 .left)) (c .before .before .before .before .fill .ensures)
+signal-of-requires : tie.Need-signal-of-requires Inv-loop μ-loop
+signal-of-requires c κs = search needs
+
+mul-answer-of : tie.Need-mul-answer-of Inv-loop μ-loop
+mul-answer-of c = let l = not-short _ _ _ _ _ _ _ (sym (c .before .before .before .before .before .before .before .before .before .before .is-short .ensures) ∙ c .before .before .before .before .before .before .before .before .before .if1 .left) in omega (arith, c .before .before .before .before .before .before .before .before .before .before .before .before .before .before .before .before .before .before .before .before .before .before .before .before .before .before, c .before .before .before .before .loop-test .taken, l .in-t)
+
+shared-slice-read-answer-of : tie.Need-shared-slice-read-answer-of Inv-loop μ-loop
+shared-slice-read-answer-of c = let l = not-short _ _ _ _ _ _ _ (sym (c .before .before .before .before .before .before .before .before .before .before .before .is-short .ensures) ∙ c .before .before .before .before .before .before .before .before .before .before .if1 .left) in omega (arith, c .before .before .before .before .before .before .before .before .before .before .before .before .before .before .before .before .before .before .before .before .before .before .before .before .before .before .before, c .before .before .before .before .before .loop-test .taken, l .in-t)
+
+answer-of-requires : tie.Need-answer-of-requires Inv-loop μ-loop
+answer-of-requires c κs =
+    let a = c .before .before .before .before .before .before .before .before .before .before .before .before .before .before .before .before .before .before .before .before .before .before .before .before .before .before .before .args in
+    answerable (a .blocks) (a .table-count) (lentBlocks (a .block-constellation .now) (a .block-svid .now) (a .block-band .now) (a .block-first .now) (a .block-samples .now) (a .table-time .now) (a .table-metres .now)) (a .max-gap) (test-passed _ _ _ _ _ (sym (c .before .before .before .before .before .before .before .enum-told .given .1) ∙ c .before .before .before .before .before .before .before .before .before .tested .ensures))
+
+number-of-requires : tie.Need-number-of-requires Inv-loop μ-loop
+number-of-requires c κs = search needs
+
+slice-write-numbers : tie.Need-slice-write-numbers Inv-loop μ-loop
+slice-write-numbers c = let l = not-short _ _ _ _ _ _ _ (sym (c .before .before .before .before .before .before .before .before .before .before .before .before .before .is-short .ensures) ∙ c .before .before .before .before .before .before .before .before .before .before .before .before .if1 .left) in let e = filling-numbers _ _ _ _ _ _ _ (c .before .before .before .before .before .before .before .before .loop .inv) in omega (arith, c .before .before .before .before .before .before .before .before .before .before .before .before .before .before .before .before .before .before .before .before .before .before .before .before .before .before .before .before .before, c .before .before .before .before .before .before .before .loop-test .taken, l .in-numbers, e)
+
+mul-pattern-of : tie.Need-mul-pattern-of Inv-loop μ-loop
+mul-pattern-of c = let l = not-short _ _ _ _ _ _ _ (sym (c .before .before .before .before .before .before .before .before .before .before .before .before .before .is-short .ensures) ∙ c .before .before .before .before .before .before .before .before .before .before .before .before .if1 .left) in let e = filling-metres _ _ _ _ _ _ _ (c .before .before .before .before .before .before .before .before .loop .inv) in omega (arith, c .before .before .before .before .before .before .before .before .before .before .before .before .before .before .before .before .before .before .before .before .before .before .before .before .before .before .before .before .before, c .before .before .before .before .before .before .before .loop-test .taken, l .in-metres, e)
+
+slice-read-pattern-of : tie.Need-slice-read-pattern-of Inv-loop μ-loop
+slice-read-pattern-of c = let l = not-short _ _ _ _ _ _ _ (sym (c .before .before .before .before .before .before .before .before .before .before .before .before .before .before .is-short .ensures) ∙ c .before .before .before .before .before .before .before .before .before .before .before .before .before .if1 .left) in let e = filling-metres _ _ _ _ _ _ _ (c .before .before .before .before .before .before .before .before .before .loop .inv) in omega (arith, c .before .before .before .before .before .before .before .before .before .before .before .before .before .before .before .before .before .before .before .before .before .before .before .before .before .before .before .before .before .before, c .before .before .before .before .before .before .before .before .loop-test .taken, l .in-metres, e)
+
+pattern-of-requires : tie.Need-pattern-of-requires Inv-loop μ-loop
+pattern-of-requires c κs = search needs
+
+mul-metres : tie.Need-mul-metres Inv-loop μ-loop
+mul-metres c = let l = not-short _ _ _ _ _ _ _ (sym (c .before .before .before .before .before .before .before .before .before .before .before .before .before .before .before .is-short .ensures) ∙ c .before .before .before .before .before .before .before .before .before .before .before .before .before .before .if1 .left) in let e = filling-metres _ _ _ _ _ _ _ (c .before .before .before .before .before .before .before .before .before .before .loop .inv) in omega (arith, c .before .before .before .before .before .before .before .before .before .before .before .before .before .before .before .before .before .before .before .before .before .before .before .before .before .before .before .before .before .before .before, c .before .before .before .before .before .before .before .before .before .loop-test .taken, l .in-metres, e)
+
+slice-write-metres : tie.Need-slice-write-metres Inv-loop μ-loop
+slice-write-metres c = let l = not-short _ _ _ _ _ _ _ (sym (c .before .before .before .before .before .before .before .before .before .before .before .before .before .before .before .is-short .ensures) ∙ c .before .before .before .before .before .before .before .before .before .before .before .before .before .before .if1 .left) in let e = filling-metres _ _ _ _ _ _ _ (c .before .before .before .before .before .before .before .before .before .before .loop .inv) in omega (arith, c .before .before .before .before .before .before .before .before .before .before .before .before .before .before .before .before .before .before .before .before .before .before .before .before .before .before .before .before .before .before .before, c .before .before .before .before .before .before .before .before .before .loop-test .taken, l .in-metres, e)
+
+add-i : tie.Need-add-i Inv-loop μ-loop
+add-i c = omega (arith, c .before .before .before .before .before .before .before .before .before .before .before .before .before .before .before .before .before .before .before .before .before .before .before .before .before .before .before .before .before .before .before, c .before .before .before .before .before .before .before .before .before .loop-test .taken)
+
+loop-less : tie.Need-loop-less Inv-loop μ-loop
+loop-less c = omega (arith, c .before .before .before .before .before .before .before .before .before .loop-test .taken)
+
+loop-again : tie.Need-loop-again Inv-loop μ-loop
+loop-again c =
+    let a = c .before .before .before .before .before .before .before .before .before .before .before .before .before .before .before .before .before .before .before .before .before .before .before .before .before .before .before .before .before .before .before .args in
+    let i = c .before .before .before .before .before .before .before .before .before .before .loop .i in
+    let l = lentBlocks (a .block-constellation .now) (a .block-svid .now) (a .block-band .now) (a .block-first .now) (a .block-samples .now) (a .table-time .now) (a .table-metres .now) in
+    let is = rw (c .before .before .before .before .before .signal-of .ensures) at (c .before .before .before .answer-of .ensures .0) in
+    let p = (test-passed _ _ _ _ _ (sym (c .before .before .before .before .before .before .before .before .before .before .before .enum-told .given .1) ∙ c .before .before .before .before .before .before .before .before .before .before .before .before .before .tested .ensures)) in
+    filling-next _ _ _ _ _ _ _ (c .before .before .before .before .before .before .before .before .before .before .loop .inv) (c .before .before .before .before .before .before .before .before .before .loop-test .taken) _ _ _
+    (is ∙ answered (a .blocks) (a .table-count) l (a .max-gap) p _ (getD (a .time .now) i nan)
+    ∙ signal-query (a .blocks) (a .table-count) (blockCapacity l) (directoryIn (a .blocks) (a .table-count) l) (a .max-gap) (getD (a .constellation .now) i 0) (getD (a .svid .now) i 0) (getD (a .band .now) i 0) (getD (a .time .now) i nan))
+    (c .before .before .before .answer-of .ensures .1) (c .before .before .number-of .ensures) (c .pattern-of .ensures)
+
+same-length-5 : tie.Need-same-length-5 Inv-loop μ-loop
+same-length-5 c = filling-numbers _ _ _ _ _ _ _ (c .before .loop .inv)
+
+same-length-6 : tie.Need-same-length-6 Inv-loop μ-loop
+same-length-6 c = filling-metres _ _ _ _ _ _ _ (c .before .loop .inv)
+
+returns-3 : tie.Need-returns-3 Inv-loop μ-loop
+returns-3 c = answered-reply (all-answered _ _ _ _ _ _ _ _ _ _ _ _ (sym (c .before .before .before .before .before .before .is-short .ensures) ∙ c .before .before .before .before .before .if1 .left) (test-passed _ _ _ _ _ (sym (c .before .before .enum-told .given .1) ∙ c .before .before .before .before .tested .ensures))) (filling-end _ _ _ _ _ _ _ (c .before .loop .inv) (c .loop-test .left))
 
 pub queries-spec : {M : Type 1} → statement M
 queries-spec =
     tie.close
     (tie.spec
-    block-capacity-requires
-    returns
+    Inv-loop
+    μ-loop
     is-short-requires
     same-length
     same-length-2
-    returns-2
-    in-range-requires
+    returns
+    tested-requires
+    enum-known-test
     same-length-3
     same-length-4
-    returns-3
-    is-sound-directory-requires
+    returns-2
+    enum-told
+    loop-holds
+    shared-slice-read-signal-of
+    mul-signal-of
+    shared-slice-read-signal-of-2
+    mul-signal-of-2
+    shared-slice-read-signal-of-3
+    signal-of-requires
+    mul-answer-of
+    shared-slice-read-answer-of
+    answer-of-requires
+    number-of-requires
+    slice-write-numbers
+    mul-pattern-of
+    slice-read-pattern-of
+    pattern-of-requires
+    mul-metres
+    slice-write-metres
+    add-i
+    loop-less
+    loop-again
     same-length-5
     same-length-6
-    returns-4
-    fill-requires
-    same-length-7
-    same-length-8
-    returns-5)
+    returns-3)

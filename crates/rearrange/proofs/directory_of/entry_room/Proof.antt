@@ -17,7 +17,7 @@ lesser-requires-4 : tie.Need-lesser-requires-4
 lesser-requires-4 c κs = search needs
 
 returns : tie.Need-returns
-returns c = let a = c .before .before .before .before .before .before .before .before .before .args in cc (entries-length (a .dc .now) (a .dv .now) (a .db .now) (a .df .now) (a .dn .now))
+returns c = let a = c .before .before .before .before .before .before .before .before .before .args in cc (entries-length (a .block-constellation .now) (a .block-svid .now) (a .block-band .now) (a .block-first .now) (a .block-samples .now))
 
 pub entry-room-spec : {M : Type 1} → statement M
 entry-room-spec =

@@ -30,7 +30,7 @@ add-j : tie.Need-add-j Inv-loop μ-loop
 add-j c = omega arith
 
 loop-holds : tie.Need-loop-holds Inv-loop μ-loop
-loop-holds c = let a = c .before .before .before .args in (omega arith, (omega arith, same-first (a .cs .now) (a .vs .now) (a .bs .now) (a .i) (a .i)))
+loop-holds c = let a = c .before .before .before .args in (omega arith, (omega arith, same-first (a .constellation .now) (a .svid .now) (a .band .now) (a .i) (a .i)))
 
 shared-slice-read-if1 : tie.Need-shared-slice-read-if1 Inv-loop μ-loop
 shared-slice-read-if1 c = omega arith
@@ -51,7 +51,7 @@ returns : tie.Need-returns Inv-loop μ-loop
 returns c =
     let a = c .before .before .before .before .before .before .before .before .before .args in
     let h = c .before .before .before .before .before .loop in
-    record { some = h .inv .0; within = h .inv .1 .0; same = h .inv .1 .1; other = λ l. other-at (a .cs .now) (a .vs .now) (a .bs .now) (a .i) (h .j) (c .if1 .taken) }
+    record { some = h .inv .0; within = h .inv .1 .0; same = h .inv .1 .1; other = λ l. other-at (a .constellation .now) (a .svid .now) (a .band .now) (a .i) (h .j) (c .if1 .taken) }
 
 add-j-2 : tie.Need-add-j-2 Inv-loop μ-loop
 add-j-2 c = omega arith
@@ -63,7 +63,7 @@ loop-again : tie.Need-loop-again Inv-loop μ-loop
 loop-again c =
     let a = c .before .before .before .before .before .before .before .before .before .args in
     let h = c .before .before .before .before .before .loop in
-    (omega arith, (omega arith, same-more (a .cs .now) (a .vs .now) (a .bs .now) (a .i) (h .j) (h .inv .1 .1) (c .if1 .left)))
+    (omega arith, (omega arith, same-more (a .constellation .now) (a .svid .now) (a .band .now) (a .i) (h .j) (h .inv .1 .1) (c .if1 .left)))
 
 returns-2 : tie.Need-returns-2 Inv-loop μ-loop
 returns-2 c =
