@@ -1,4 +1,5 @@
 pub mod Directory
+pub mod Lent
 pub mod Faults
 pub mod Passes
 pub mod Rearrange
