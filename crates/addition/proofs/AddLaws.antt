@@ -21,7 +21,8 @@ use Rattle.table.proofs.UnitLaws.{never}
 use Rattle.table.proofs.InsertLaws.{insertAll-length}
 use Rattle.directory.specs.Directory.{Directory, Blocks, PatternsWith, blockCapacity, blocksWith, directoryIn, directoryOf, entriesIn, flat, readingOf, readingsIn, soundDirectory}
 use Rattle.directory.proofs.ColumnLaws.{flat-length}
-use Rattle.addition.specs.Add.{Fitting, PatternsAfter, Places, addIn, additionNumber, additionOf, directoryWith, testIn}
+use Rattle.addition.specs.Steps.{Fitting}
+use Rattle.addition.specs.Add.{PatternsAfter, Places, addIn, additionNumber, additionOf, directoryWith, testIn}
 use Rattle.addition.specs.declared.add.Addition.{Addition}
 use Rattle.addition.specs.declared.add.Addition.the-variants as Addition
 

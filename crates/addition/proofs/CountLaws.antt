@@ -15,7 +15,7 @@ use Rattle.table.proofs.TableLaws.{and-left, and-right}
 use Rattle.directory.specs.Directory.{Entry, Reading, ascends, block, columnOf, entriesFrom, entryRows, noEntry, readingOf, signalIn}
 use Rattle.directory.proofs.DirectoryLaws.{readings-from}
 use Rattle.directory.proofs.SoundLaws.{tiles-at}
-use Rattle.addition.specs.Merge.{LastIs, LastOf, Lies, OfSignals, Tiled, blocksUpTo, entriesUpTo, lastEntry}
+use Rattle.addition.specs.Steps.{LastIs, LastOf, Lies, OfSignals, Tiled, blocksUpTo, entriesUpTo, lastEntry}
 use Rattle.addition.specs.declared.entries.Last.{Last}
 use Rattle.addition.proofs.FillLaws.{Filling, filling-start, filling-turn, filling-end}
 use Rattle.addition.proofs.LastLaws.{lies-fewer, lies-of}

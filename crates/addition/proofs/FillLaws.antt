@@ -5,7 +5,7 @@ use Prim.Native.Nat.{ℕ, suc, _+_, _-_, _≤_, _<_}
 use native.Mathlib.Omega.{arith}
 use lib.ListN.{length, getD, take, drop, set, length-append, length-set, take-append-drop}
 use lib.Seq.{take-set-le, drop-cons, drop-set-lt, getD-set-same, take-take}
-use Rattle.addition.specs.Merge.{shifted}
+use Rattle.addition.specs.Steps.{shifted}
 
 -- d₀ is the column before, d the column now, and w that after; of its first elements `left` are still to be made, and the first i are as they were
 pub record Filling {A : Type 0} (d₀ d w left : List A) (i k : ℕ) : Type 0 where

@@ -20,7 +20,7 @@ use Rattle.directory.specs.Directory.{Entry, Reading, ascends, block, entriesFr
 use Rattle.directory.proofs.DirectoryLaws.{Same, Narrow, same-of, same-signal, signal-same, run}
 use Rattle.directory.proofs.SoundLaws.{tiles-at}
 use Rattle.directory.proofs.EntryLaws.{ascends-at, block-length, tiles-first, tiles-next}
-use Rattle.addition.specs.Merge.{Lies, blocksUpTo, entriesUpTo}
+use Rattle.addition.specs.Steps.{Lies, blocksUpTo, entriesUpTo}
 use Rattle.addition.proofs.SortLaws.{signal-before, signal-after, every-all, every-append, every-insertAll, insertAll-left, insertAll-right}
 
 -- the entry with another first sample and count

@@ -24,7 +24,7 @@ use Rattle.directory.proofs.DirectoryLaws.{sound-parts, sound-flat, flat-readin
 use Rattle.directory.proofs.ColumnLaws.{entries-length, entry-at, flat-length, readings-length}
 use Rattle.directory.proofs.PatternLaws.{T-true, every-of, floats-at, floats-column, floats-fit-all, floats-length, map-of, numbers-in, numbers-of, patterns-back}
 use Rattle.directory.proofs.EntryLaws.{flat-at, getD-map-in}
-use Rattle.addition.specs.Merge.{ReadingsMerged, Stays, mixed, shifted}
+use Rattle.addition.specs.Steps.{ReadingsMerged, Stays, mixed, shifted}
 use Rattle.addition.proofs.SortLaws.{before-le, every-all, every-insertAll}
 use Rattle.addition.proofs.FillLaws.{Filling, filling-start, filling-turn, filling-end}
 use Rattle.addition.proofs.MixLaws.{mixed-old, mixed-new, mixed-length, mixed-none}

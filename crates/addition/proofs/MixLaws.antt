@@ -14,7 +14,7 @@ use Rattle.table.proofs.TableLaws.{rises-at}
 use Rattle.table.proofs.Places.{placeOf, rises}
 use Rattle.table.proofs.SeriesLaws.{insertAll-append}
 use Rattle.table.proofs.InsertLaws.{insertAll-length}
-use Rattle.addition.specs.Merge.{mixed}
+use Rattle.addition.specs.Steps.{mixed}
 use Rattle.addition.proofs.SortLaws.{before-lt, lt-before, le-before, every-all, every-insertAll, insertAll-left, insert-end}
 
 -- of the first samples of a sorted list none has a higher place than the last of them

@@ -14,7 +14,7 @@ use Rattle.table.proofs.Places.{rises, sorted-rises}
 use Rattle.directory.specs.Directory.{Entry, Reading, ascends, entriesFrom, entryRows, isMine, noEntry, signalIn}
 use Rattle.directory.proofs.DirectoryLaws.{Narrow}
 use Rattle.directory.proofs.ColumnLaws.{entries-length, entry-at}
-use Rattle.addition.specs.Merge.{LastOf, Lies, NewLast, OfSignals, OwnFrom, blocksUpTo, entriesUpTo, lastEntry}
+use Rattle.addition.specs.Steps.{LastOf, Lies, NewLast, OfSignals, OwnFrom, blocksUpTo, entriesUpTo, lastEntry}
 use Rattle.addition.specs.declared.entries.Last.{Last}
 use Rattle.addition.proofs.LastLaws.{entryAt, last-new, last-old, lies-fewer, mine-by-signal, signals-rise}
 

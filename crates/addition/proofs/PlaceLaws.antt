@@ -10,7 +10,8 @@ use lib.Ieee.{Float}
 use Rattle.numeric.specs.Order.{patternOf}
 use Rattle.walk.specs.Walk.{every}
 use Rattle.table.specs.Table.{Columns, lent, rows, sorted, soundTable, tableOf}
-use Rattle.table.specs.Add.{InsertedAll, insertAll}
+use Rattle.table.specs.Add.{insertAll}
+use Rattle.table.specs.Steps.{InsertedAll}
 use Rattle.table.specs.declared.sample.Sample.{Sample}
 use Rattle.table.proofs.ColumnLaws.{rows-length}
 use Rattle.table.proofs.InsertLaws.{insertAll-length}
@@ -20,8 +21,8 @@ use Rattle.directory.specs.Directory.{Directory, Entry, PatternsWith, Reading, 
 use Rattle.directory.proofs.DirectoryLaws.{sound-parts}
 use Rattle.directory.proofs.ColumnLaws.{flat-length}
 use Rattle.directory.proofs.PatternLaws.{map-of}
-use Rattle.addition.specs.Merge.{EntriesMerged, OfSignals, ReadingsMerged, Tiled, entriesUpTo}
-use Rattle.addition.specs.Add.{Fitting, directoryWith}
+use Rattle.addition.specs.Steps.{EntriesMerged, Fitting, OfSignals, ReadingsMerged, Tiled, entriesUpTo}
+use Rattle.addition.specs.Add.{directoryWith}
 use Rattle.addition.proofs.SortLaws.{sorted-first}
 use Rattle.addition.proofs.MergeLaws.{new-row}
 

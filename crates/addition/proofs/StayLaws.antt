@@ -10,7 +10,7 @@ use Rattle.exact.specs.Float.{bits}
 use lib.ListN.{getD}
 use borrow.Author.Tests.{ltb-true, ltb-false, lt-ltb, le-ltb, eq-eqb, ne-eqb}
 use Rattle.table.specs.Table.{timeBefore}
-use Rattle.addition.specs.Merge.{Stays, TimesStay}
+use Rattle.addition.specs.Steps.{Stays, TimesStay}
 
 -- of the first i times those from p on come after the time t
 pub record Staying (ts : List ℕ) (first i : ℕ) (t : Float) (p : ℕ) : Type 0 where

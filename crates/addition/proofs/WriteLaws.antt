@@ -9,7 +9,7 @@ use Rattle.table.specs.declared.sample.Sample.{Sample}
 use Rattle.directory.specs.Directory.{Entry, Reading, entryRows, noEntry, noReading}
 use Rattle.directory.proofs.DirectoryLaws.{Narrow}
 use Rattle.directory.proofs.ColumnLaws.{entries-length}
-use Rattle.addition.specs.Merge.{EntriesMerged, LastIs, LastOf, OfSignals, SomeSignals, Tiled, blocksUpTo, entriesUpTo, lastEntry}
+use Rattle.addition.specs.Steps.{EntriesMerged, LastIs, LastOf, OfSignals, SomeSignals, Tiled, blocksUpTo, entriesUpTo, lastEntry}
 use Rattle.addition.specs.declared.entries.Last.{Last}
 use Rattle.addition.proofs.LastLaws.{lies-fewer}
 use Rattle.addition.proofs.OwnLaws.{enough, nothing-new, room-of, row-at}

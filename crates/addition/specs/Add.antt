@@ -1,7 +1,7 @@
 -- New samples added to a directory (request (ix)): the refusal, or the directory of the table with them. Definitions only.
-use Prim.Native.Nat.{ℕ, _+_, _≤_}
+use Prim.Native.Nat.{ℕ, _+_}
 use mathlib.Core.Path.{_≡_}
-use mathlib.Core.Bool.{true, cond, not, _&&_, _||_}
+use mathlib.Core.Bool.{cond, not, _&&_, _||_}
 use mathlib.Core.List.{List}
 use lib.Dec.{ltb}
 use lib.ListN.{length}
@@ -15,7 +15,8 @@ use Rattle.table.specs.declared.sample.Sample.{Sample}
 use Rattle.table.specs.declared.add.Samples.{Samples}
 use Rattle.table.specs.declared.add.Test.{Test}
 use Rattle.table.specs.declared.add.Test.the-variants as Test
-use Rattle.directory.specs.Directory.{Directory, Blocks, PatternsWith, blocksWith, directoryIn, directoryOf, entriesIn, flat, readingsIn, soundDirectory}
+use Rattle.directory.specs.Directory.{Directory, Blocks, PatternsWith, blocksWith, directoryOf, flat, soundDirectory}
+use Rattle.directory.specs.Lent.{Lent}
 use Rattle.addition.specs.declared.add.Addition.{Addition}
 use Rattle.addition.specs.declared.add.Addition.the-variants as Addition
 
@@ -67,7 +68,7 @@ abbrev pub samplesNow : Addition → ℕ → ℕ
 samplesNow (Addition.Refused r) n = n
 samplesNow (Addition.Added c) n = c .samples
 
--- the columns afterwards: as they were where adding is refused, else with the directory
+-- the columns afterwards: unchanged where adding is refused, else with the directory
 abbrev pub blocksAfter : Placed → Blocks → Blocks
 blocksAfter (refusedIn r) l = l
 blocksAfter (addedIn d) l = blocksWith d l
@@ -79,23 +80,20 @@ pub record Places (o : Placed) (number m m′ n n′ : ℕ) (l l′ : Blocks) : 
   pub samples-are : n′ ≡ samplesNow (additionOf o) n
   pub columns : l′ ≡ blocksAfter o l
 
--- the patterns of times and corrections afterwards, to the last bit: as they were where adding is refused, else with those of the directory's readings
+-- the patterns of times and corrections afterwards, to the last bit: unchanged where adding is refused, else with those of the directory's readings
 abbrev pub PatternsAfter : Placed → List ℕ → List ℕ → List ℕ → List ℕ → Type 0
 PatternsAfter (refusedIn r) ts xs ts′ xs′ = (ts′ ≡ ts) × (xs′ ≡ xs)
 PatternsAfter (addedIn d) ts xs ts′ xs′ = PatternsWith d ts xs ts′ xs′
 
--- ---- the same of the table that the directory stands for
+-- the number, the counts, the columns and the patterns after a call on lent columns are those of the outcome
+abbrev pub AddsIn : Placed → ℕ → ℕ → ℕ → ℕ → ℕ → Lent → Type 0
+AddsIn o number m m′ n n′ t = Places o number m m′ n n′ (t .before) (t .after) × PatternsAfter o (t .times) (t .corrections) (t .timesAfter) (t .correctionsAfter)
+
+-- so are those of an answer by value, and the answer is the outcome's
+abbrev pub AddedBy : Placed → Addition → ℕ → ℕ → Lent → Type 0
+AddedBy o r m n t = (r ≡ additionOf o) × AddsIn o (additionNumber r) m (entriesNow r m) n (samplesNow r n) t
+
+-- ---- the outcome for the table that the directory stands for
 abbrev pub flatOutcome : Placed → Outcome
 flatOutcome (refusedIn r) = refused r
 flatOutcome (addedIn d) = added (flat d)
-
--- ---- what the contracts of the steps say
-
--- a sound directory of m entries and n samples, in columns that have room for k samples more
-pub record Fitting (m n k : ℕ) (l : Blocks) : Type 0 where
-  pub entries-fit : m ≤ length (entriesIn l)
-  pub few : m ≤ 2048
-  pub room : n + k ≤ 2048
-  pub room-entries : n + k ≤ length (entriesIn l)
-  pub room-readings : n + k ≤ length (readingsIn l)
-  pub steady : soundDirectory (directoryIn m n l) ≡ true

@@ -1,2 +1,2 @@
-pub mod Merge
+pub mod Steps
 pub mod Add

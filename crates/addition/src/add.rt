@@ -2,11 +2,13 @@
 ghost use mathlib.Core.Path.{_≡_};
 ghost use mathlib.Core.Bool.{true};
 ghost use Prim.Native.Nat.{_≤_};
-ghost use lib.ListN.{length, take};
+ghost use lib.ListN.{take};
 ghost use Rattle.walk.specs.Walk.{every};
-ghost use Rattle.table.specs.Table.{lent, ranged, rows, sorted, tableOf};
-ghost use Rattle.directory.specs.Directory.{PatternsWith, lentBlocks, floats, blockCapacity, directoryIn, blocksWith};
-ghost use Rattle.addition.specs.Add.{directoryWith, testIn, addIn, additionOf, additionNumber, entriesNow, samplesNow, Places, PatternsAfter, Fitting};
+ghost use Rattle.table.specs.Table.{ranged};
+ghost use Rattle.directory.specs.Directory.{blockCapacity, directoryIn};
+ghost use Rattle.directory.specs.Lent.{lentTable};
+ghost use Rattle.addition.specs.Add.{AddedBy, addIn, directoryWith, testIn};
+ghost use Rattle.addition.specs.Steps.{Becomes, Fitting, SortedNew, lentSamples, tableNow};
 use crate::entries::entries_after;
 use crate::entries::merge_entries;
 use crate::readings::merge_readings;
@@ -31,7 +33,7 @@ pub enum Addition {
     Added(Counts),
 }
 
-// Numbers 2, 4 and 11, in this order.
+// Checks numbers 2, 4 and 11, in this order.
 fn tested(
     block_constellation: &[u8],
     block_svid: &[u16],
@@ -44,9 +46,7 @@ fn tested(
     table_count: usize,
     new: Samples,
 ) -> Test
-    ensures { λ r. ⌜ (let l = lentBlocks
-        (now («block_constellation» .entry)) (now («block_svid» .entry)) (now («block_band» .entry))
-        (now («block_first» .entry)) (now («block_samples» .entry)) (floats (now («table_time» .entry))) (floats (now («table_metres» .entry))) in
+    ensures { λ r. ⌜ (let l = lentTable «block_constellation» «block_svid» «block_band» «block_first» «block_samples» «table_time» «table_metres» .before in
         r ≡ testIn blocks «table_count» (blockCapacity l) (directoryIn blocks «table_count» l) new) ⌝ }
 {
     let new_count = new.count;
@@ -84,7 +84,7 @@ fn tested(
     Test::Passed
 }
 
-// The sorted samples of five columns into a sound directory that has room for them all; the answer is how many entries there are now.
+// Merges the sorted samples of five columns into a sound directory that has room for them all. Returns how many entries there are now.
 fn merge(
     block_constellation: &mut [u8],
     block_svid: &mut [u16],
@@ -102,18 +102,12 @@ fn merge(
     new_metres: &[f64],
     new_count: usize,
 ) -> usize
-    requires { ⌜ Fitting blocks «table_count» «new_count» (lentBlocks
-        (now «block_constellation») (now «block_svid») (now «block_band»)
-        (now «block_first») (now «block_samples») (floats (now «table_time»)) (floats (now «table_metres»))) ⌝ }
-    requires { ⌜ («new_count» ≤ length (rows (lent (now «new_constellation») (now «new_svid») (now «new_band») (now «new_time») (now «new_metres»)))) × (sorted (tableOf «new_count» (lent (now «new_constellation») (now «new_svid») (now «new_band») (now «new_time») (now «new_metres»))) ≡ true) ⌝ }
-    ensures { λ r. ⌜ (let l = lentBlocks
-        (now («block_constellation» .entry)) (now («block_svid» .entry)) (now («block_band» .entry))
-        (now («block_first» .entry)) (now («block_samples» .entry)) (floats (now («table_time» .entry))) (floats (now («table_metres» .entry))) in
-        let d = directoryWith (directoryIn blocks «table_count» l) (tableOf «new_count» (lent (now («new_constellation» .entry)) (now («new_svid» .entry)) (now («new_band» .entry)) (now («new_time» .entry)) (now («new_metres» .entry)))) in
-        (r ≡ length (d .entries)) × ((lentBlocks
-        (now («block_constellation» .exit)) (now («block_svid» .exit)) (now («block_band» .exit))
-        (now («block_first» .exit)) (now («block_samples» .exit)) (floats (now («table_time» .exit))) (floats (now («table_metres» .exit))) ≡ blocksWith d l)
-        × PatternsWith d (now («table_time» .entry)) (now («table_metres» .entry)) (now («table_time» .exit)) (now («table_metres» .exit)))) ⌝ }
+    requires { ⌜ Fitting blocks «table_count» «new_count»
+        (tableNow «block_constellation» «block_svid» «block_band» «block_first» «block_samples» «table_time» «table_metres») ⌝ }
+    requires { ⌜ SortedNew «new_count» «new_constellation» «new_svid» «new_band» «new_time» «new_metres» ⌝ }
+    ensures { λ r. ⌜ (let t = lentTable «block_constellation» «block_svid» «block_band» «block_first» «block_samples» «table_time» «table_metres» in
+        let u = lentSamples «new_count» «new_constellation» «new_svid» «new_band» «new_time» «new_metres» in
+        Becomes (directoryWith (directoryIn blocks «table_count» (t .before)) u) r t) ⌝ }
 {
     let count = entries_after(
         block_constellation,
@@ -133,7 +127,6 @@ fn merge(
         block_svid,
         block_band,
         block_first,
-        block_samples,
         blocks,
         table_time,
         table_metres,
@@ -162,7 +155,7 @@ fn merge(
     count
 }
 
-// The first new_count samples of new, sorted, into a sound directory that has room for them all; the answer is how many entries there are now.
+// Sorts the first new_count samples of new and merges them into a sound directory that has room for them all. Returns how many entries there are now.
 fn place(
     block_constellation: &mut [u8],
     block_svid: &mut [u16],
@@ -177,17 +170,10 @@ fn place(
     new_count: usize,
 ) -> usize
     requires { ⌜ («new_count» ≤ 64) × (every ranged (take «new_count» new) ≡ true) ⌝ }
-    requires { ⌜ Fitting blocks «table_count» «new_count» (lentBlocks
-        (now «block_constellation») (now «block_svid») (now «block_band»)
-        (now «block_first») (now «block_samples») (floats (now «table_time»)) (floats (now «table_metres»))) ⌝ }
-    ensures { λ r. ⌜ (let l = lentBlocks
-        (now («block_constellation» .entry)) (now («block_svid» .entry)) (now («block_band» .entry))
-        (now («block_first» .entry)) (now («block_samples» .entry)) (floats (now («table_time» .entry))) (floats (now («table_metres» .entry))) in
-        let d = directoryWith (directoryIn blocks «table_count» l) (take «new_count» new) in
-        (r ≡ length (d .entries)) × ((lentBlocks
-        (now («block_constellation» .exit)) (now («block_svid» .exit)) (now («block_band» .exit))
-        (now («block_first» .exit)) (now («block_samples» .exit)) (floats (now («table_time» .exit))) (floats (now («table_metres» .exit))) ≡ blocksWith d l)
-        × PatternsWith d (now («table_time» .entry)) (now («table_metres» .entry)) (now («table_time» .exit)) (now («table_metres» .exit)))) ⌝ }
+    requires { ⌜ Fitting blocks «table_count» «new_count»
+        (tableNow «block_constellation» «block_svid» «block_band» «block_first» «block_samples» «table_time» «table_metres») ⌝ }
+    ensures { λ r. ⌜ (let t = lentTable «block_constellation» «block_svid» «block_band» «block_first» «block_samples» «table_time» «table_metres» in
+        Becomes (directoryWith (directoryIn blocks «table_count» (t .before)) (take «new_count» new)) r t) ⌝ }
 {
     let mut new_constellation = [0u8; 64];
     let mut new_svid = [0u16; 64];
@@ -223,7 +209,7 @@ fn place(
     )
 }
 
-// The counted samples of new to the directory of `blocks` entries and `table_count` samples, or the refusal, which leaves every column as it was.
+// Adds the counted samples of new to the directory of `blocks` entries and `table_count` samples. Returns both counts. On refusal, returns it and changes nothing.
 pub fn add(
     block_constellation: &mut [u8],
     block_svid: &mut [u16],
@@ -236,14 +222,9 @@ pub fn add(
     table_count: usize,
     new: Samples,
 ) -> Addition
-    ensures { λ r. ⌜ (let l = lentBlocks
-        (now («block_constellation» .entry)) (now («block_svid» .entry)) (now («block_band» .entry))
-        (now («block_first» .entry)) (now («block_samples» .entry)) (floats (now («table_time» .entry))) (floats (now («table_metres» .entry))) in
-        let o = addIn blocks «table_count» (blockCapacity l) (directoryIn blocks «table_count» l) new in
-        (r ≡ additionOf o) × (Places o (additionNumber r) blocks (entriesNow r blocks) «table_count» (samplesNow r «table_count») l (lentBlocks
-        (now («block_constellation» .exit)) (now («block_svid» .exit)) (now («block_band» .exit))
-        (now («block_first» .exit)) (now («block_samples» .exit)) (floats (now («table_time» .exit))) (floats (now («table_metres» .exit))))
-        × PatternsAfter o (now («table_time» .entry)) (now («table_metres» .entry)) (now («table_time» .exit)) (now («table_metres» .exit)))) ⌝ }
+    ensures { λ r. ⌜ (let t = lentTable «block_constellation» «block_svid» «block_band» «block_first» «block_samples» «table_time» «table_metres» in
+        let d = directoryIn blocks «table_count» (t .before) in
+        AddedBy (addIn blocks «table_count» (blockCapacity (t .before)) d new) r blocks «table_count» t) ⌝ }
 {
     let test = tested(
         block_constellation,

@@ -1,12 +1,6 @@
 // The entries of a directory with new samples, from the back to the front.
-ghost use mathlib.Core.Path.{_≡_};
-ghost use mathlib.Core.Bool.{true};
-ghost use Prim.Native.Nat.{_+_, _-_, _^_, _≤_, _<_};
-ghost use mathlib.Core.List.{List};
-ghost use lib.ListN.{length, getD, take};
-ghost use Rattle.table.specs.declared.sample.Sample.{Sample};
-ghost use Rattle.directory.specs.Directory.{Reading, entryRows, ascends};
-ghost use Rattle.addition.specs.Merge.{OwnFrom, NewLast, LastOf, OfSignals, SomeSignals, Tiled, entriesUpTo, EntriesMerged};
+ghost use Prim.Native.Nat.{_≤_, _<_};
+ghost use Rattle.addition.specs.Steps.{Countable, Counted, Ending, EntriesWritten, Found, NewIn, NewLast, OwnFrom, Writable};
 use directory::entry::signal_at;
 
 // The last entry of the first blocks with the first new samples, and how many blocks and new samples come before it.
@@ -20,7 +14,7 @@ pub struct Last {
     pub count: usize,
 }
 
-// Where those of the first j new samples begin that are of the signal g, from the last down.
+// Finds where the last of the first j new samples that are of the signal g begin.
 fn own_start(
     new_constellation: &[u8],
     new_svid: &[u16],
@@ -28,7 +22,7 @@ fn own_start(
     j: usize,
     g: u64,
 ) -> usize
-    requires { ⌜ (j ≤ length (now «new_constellation»)) × ((j ≤ length (now «new_svid»)) × (j ≤ length (now «new_band»))) ⌝ }
+    requires { ⌜ NewIn j «new_constellation» «new_svid» «new_band» ⌝ }
     ensures { λ r. ⌜ OwnFrom (now («new_constellation» .entry)) (now («new_svid» .entry)) (now («new_band» .entry)) g r j ⌝ }
 {
     let mut a = j;
@@ -42,7 +36,7 @@ fn own_start(
     a
 }
 
-// The block of the last new samples alone, after i blocks; together they end at `end`.
+// Returns the block of the last new samples alone, after i blocks; together they end at `end`.
 fn new_last(
     i: usize,
     new_constellation: &[u8],
@@ -51,7 +45,7 @@ fn new_last(
     j: usize,
     end: usize,
 ) -> Last
-    requires { ⌜ (0 < j) × ((j ≤ end) × ((j ≤ length (now «new_constellation»)) × ((j ≤ length (now «new_svid»)) × (j ≤ length (now «new_band»))))) ⌝ }
+    requires { ⌜ (0 < j) × ((j ≤ end) × NewIn j «new_constellation» «new_svid» «new_band») ⌝ }
     ensures { λ r. ⌜ NewLast (now («new_constellation» .entry)) (now («new_svid» .entry)) (now («new_band» .entry)) i j end r ⌝ }
 {
     let g = signal_at(new_constellation, new_svid, new_band, j - 1);
@@ -67,7 +61,8 @@ fn new_last(
     }
 }
 
-// The last entry of the first i blocks with the first j new samples, which together end at `end`: an old block with the new samples of its satellite, or a block of new ones.
+// Finds the last entry of the first i blocks with the first j new samples, which together end at `end`: an old block with the new samples of its satellite,
+// or a block of new ones.
 fn last_of(
     block_constellation: &[u8],
     block_svid: &[u16],
@@ -81,16 +76,8 @@ fn last_of(
     j: usize,
     end: usize,
 ) -> Last
-    requires { ⌜ (i ≤ length (entryRows
-        (now «block_constellation») (now «block_svid») (now «block_band»)
-        (now «block_first») (now «block_samples»))) × (ascends 0 (take i (entryRows
-        (now «block_constellation») (now «block_svid») (now «block_band»)
-        (now «block_first») (now «block_samples»))) ≡ true) ⌝ }
-    requires { ⌜ (0 < j) × ((j ≤ end) × ((j ≤ length (now «new_constellation»)) × ((j ≤ length (now «new_svid»)) × (j ≤ length (now «new_band»))))) ⌝ }
-    requires { ⌜ (0 < i → (getD (now «block_first») (i - 1) 0 + j < 2 ^ 64) × (getD (now «block_samples») (i - 1) 0 + j < 2 ^ 64)) ⌝ }
-    ensures { λ r. ⌜ LastOf (take i (entryRows
-        (now («block_constellation» .entry)) (now («block_svid» .entry)) (now («block_band» .entry))
-        (now («block_first» .entry)) (now («block_samples» .entry)))) (now («new_constellation» .entry)) (now («new_svid» .entry)) (now («new_band» .entry)) i j end r ⌝ }
+    requires { ⌜ Ending «block_constellation» «block_svid» «block_band» «block_first» «block_samples» i «new_constellation» «new_svid» «new_band» j end ⌝ }
+    ensures { λ r. ⌜ Found «block_constellation» «block_svid» «block_band» «block_first» «block_samples» i «new_constellation» «new_svid» «new_band» j end r ⌝ }
 {
     if i == 0 {
         return new_last(i, new_constellation, new_svid, new_band, j, end);
@@ -112,7 +99,7 @@ fn last_of(
     }
 }
 
-// How many entries the directory of `blocks` entries and `table_count` samples has with the new samples.
+// Counts the entries that the directory of `blocks` entries and `table_count` samples has with the new samples.
 pub(crate) fn entries_after(
     block_constellation: &[u8],
     block_svid: &[u16],
@@ -126,14 +113,10 @@ pub(crate) fn entries_after(
     new_band: &[u32],
     new_count: usize,
 ) -> usize
-    requires { ⌜ Tiled
-        (now «block_constellation») (now «block_svid») (now «block_band»)
-        (now «block_first») (now «block_samples») blocks «table_count» ⌝ }
-    requires { ⌜ (blocks + («table_count» + «new_count») < 2 ^ 64) × ((«new_count» ≤ length (now «new_constellation»)) × ((«new_count» ≤ length (now «new_svid»)) × («new_count» ≤ length (now «new_band»)))) ⌝ }
-    ensures { λ r. ⌜ ((rs : List Reading) (u : List Sample) → length rs ≡ «table_count» → OfSignals (now («new_constellation» .entry)) (now («new_svid» .entry)) (now («new_band» .entry)) «new_count» u
-        → r ≡ length (entriesUpTo rs (take blocks (entryRows
-        (now («block_constellation» .entry)) (now («block_svid» .entry)) (now («block_band» .entry))
-        (now («block_first» .entry)) (now («block_samples» .entry)))) u blocks «new_count»)) ⌝ }
+    requires { ⌜ Countable «block_constellation» «block_svid» «block_band» «block_first» «block_samples» blocks «table_count»
+        «new_constellation» «new_svid» «new_band» «new_count» ⌝ }
+    ensures { λ r. ⌜ Counted «block_constellation» «block_svid» «block_band» «block_first» «block_samples» blocks «table_count»
+        «new_constellation» «new_svid» «new_band» «new_count» r ⌝ }
 {
     let mut i = blocks;
     let mut j = new_count;
@@ -161,7 +144,7 @@ pub(crate) fn entries_after(
     count + i
 }
 
-// The entries of the directory of `blocks` entries and `table_count` samples with the new samples, `count` of them; each old one is moved at most once.
+// Writes the `count` entries of the directory of `blocks` entries and `table_count` samples with the new samples. Moves each old one at most once.
 pub(crate) fn merge_entries(
     block_constellation: &mut [u8],
     block_svid: &mut [u16],
@@ -176,25 +159,10 @@ pub(crate) fn merge_entries(
     new_count: usize,
     count: usize,
 )
-    requires { ⌜ Tiled
-        (now «block_constellation») (now «block_svid») (now «block_band»)
-        (now «block_first») (now «block_samples») blocks «table_count» ⌝ }
-    requires { ⌜ («table_count» + «new_count» < 2 ^ 64) × ((«new_count» ≤ length (now «new_constellation»)) × ((«new_count» ≤ length (now «new_svid»)) × («new_count» ≤ length (now «new_band»)))) ⌝ }
-    requires { ⌜ SomeSignals (now «new_constellation») (now «new_svid») (now «new_band») «new_count» ⌝ }
-    requires { ⌜ count ≤ length (entryRows
-        (now «block_constellation») (now «block_svid») (now «block_band»)
-        (now «block_first») (now «block_samples»)) ⌝ }
-    requires { ⌜ ((rs : List Reading) (u : List Sample) → length rs ≡ «table_count» → OfSignals (now «new_constellation») (now «new_svid») (now «new_band») «new_count» u → count ≡ length (entriesUpTo rs (take blocks (entryRows
-        (now «block_constellation») (now «block_svid») (now «block_band»)
-        (now «block_first») (now «block_samples»))) u blocks «new_count»)) ⌝ }
-    ensures { λ _. ⌜ ((rs : List Reading) (u : List Sample) → length rs ≡ «table_count» → OfSignals (now («new_constellation» .entry)) (now («new_svid» .entry)) (now («new_band» .entry)) «new_count» u
-        → EntriesMerged (entriesUpTo rs (take blocks (entryRows
-        (now («block_constellation» .entry)) (now («block_svid» .entry)) (now («block_band» .entry))
-        (now («block_first» .entry)) (now («block_samples» .entry)))) u blocks «new_count»)
-        (now («block_constellation» .entry)) (now («block_svid» .entry)) (now («block_band» .entry))
-        (now («block_first» .entry)) (now («block_samples» .entry))
-        (now («block_constellation» .exit)) (now («block_svid» .exit)) (now («block_band» .exit))
-        (now («block_first» .exit)) (now («block_samples» .exit))) ⌝ }
+    requires { ⌜ Writable «block_constellation» «block_svid» «block_band» «block_first» «block_samples» blocks «table_count»
+        «new_constellation» «new_svid» «new_band» «new_count» count ⌝ }
+    ensures { λ _. ⌜ EntriesWritten «block_constellation» «block_svid» «block_band» «block_first» «block_samples» blocks «table_count»
+        «new_constellation» «new_svid» «new_band» «new_count» ⌝ }
 {
     let mut i = blocks;
     let mut j = new_count;

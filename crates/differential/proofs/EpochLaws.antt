@@ -30,7 +30,8 @@ use Rattle.addition.specs.declared.add.Addition.the-variants as Addition
 use Rattle.differential.specs.Record.{rangesOf, statesCount, placeInRange, rangeInRange}
 use Rattle.differential.specs.Raw.{rawsOf}
 use Rattle.differential.specs.Sample.{group, clockOf, kept, sampleOf, corrected, sampleAt, samplesOf, epochSamples}
-use Rattle.differential.specs.AddEpoch.{tooMany, settingsInRange, recordsInRange, epochIn, recordsTest}
+use Rattle.differential.specs.AddEpoch.{tooMany, settingsInRange, recordsInRange, epochIn}
+use Rattle.differential.specs.Steps.{recordsTest}
 use Rattle.differential.specs.declared.record.BaseEpoch.{BaseEpoch}
 use Rattle.differential.specs.declared.record.States.{States}
 use Rattle.differential.specs.declared.record.Settings.{Settings}

@@ -16,7 +16,8 @@ use Rattle.numeric.specs.Real.{abs}
 use Rattle.median.specs.Sorted.{medianOf}
 use Rattle.median.specs.Steps.{Front}
 use Rattle.table.specs.declared.sample.Sample.{Sample}
-use Rattle.differential.specs.Sample.{ofConstellation, group, patternsOf, clockOf, clockOrNan, kept, sampleOf, corrected, sampleAt}
+use Rattle.differential.specs.Sample.{ofConstellation, group, patternsOf, clockOf, kept, sampleOf, corrected, sampleAt}
+use Rattle.differential.specs.Steps.{clockOrNan}
 use Rattle.differential.specs.declared.raw.Raw.{Raw}
 
 -- ---- a group

@@ -14,7 +14,8 @@ use Rattle.numeric.specs.declared.refusal.Refusal.{Refusal}
 use Rattle.numeric.specs.declared.refusal.Refusal.the-variants.{TooMany, SettingOutOfRange, RecordOutOfRange}
 use Rattle.table.specs.declared.add.Test.the-variants.{Refused, Passed}
 use Rattle.differential.specs.Record.{statesCount, statesOf, placeInRange, rangeInRange, stateInRange}
-use Rattle.differential.specs.AddEpoch.{tooMany, settingsInRange, recordsInRange, recordsTest}
+use Rattle.differential.specs.AddEpoch.{tooMany, settingsInRange, recordsInRange}
+use Rattle.differential.specs.Steps.{recordsTest}
 use Rattle.differential.specs.declared.record.BaseEpoch.{BaseEpoch}
 use Rattle.differential.specs.declared.record.States.{States}
 use Rattle.differential.specs.declared.record.Settings.{Settings}

@@ -11,8 +11,6 @@ use Rattle.numeric.specs.declared.refusal.Refusal.the-variants.{TooMany, Settin
 use Rattle.table.specs.Table.{soundTable}
 use Rattle.table.specs.Add.{Outcome, refused, added, insertAll}
 use Rattle.table.specs.declared.sample.Sample.{Sample}
-use Rattle.table.specs.declared.add.Test.{Test}
-use Rattle.table.specs.declared.add.Test.the-variants.{Refused, Passed}
 use Rattle.directory.specs.Directory.{Directory, soundDirectory}
 use Rattle.addition.specs.Add.{Placed, refusedIn, addedIn, directoryWith}
 use Rattle.differential.specs.Record.{rangesOf, statesCount, statesOf, placeInRange, rangeInRange, stateInRange}
@@ -53,12 +51,3 @@ epochIn m n room d e s base rover set =
     (cond (not (recordsInRange e s base rover && soundDirectory d)) (refusedIn RecordOutOfRange)
     (cond (ltb room (n + length new)) (refusedIn TableFull)
     (addedIn (directoryWith d new)))))
-
--- ---- what the contracts of the steps say
-
--- numbers 2, 3 and 4 for all but the table's records
-unfoldable pub recordsTest : ℕ → ℕ → ℕ → BaseEpoch → States → Vec3 → Vec3 → Settings → Test
-recordsTest m n room e s base rover set =
-    cond (ltb room m || tooMany n room e s) (Refused TooMany)
-    (cond (not (settingsInRange set)) (Refused SettingOutOfRange)
-    (cond (not (recordsInRange e s base rover)) (Refused RecordOutOfRange) Passed))

@@ -3,3 +3,4 @@ pub mod Raw
 pub mod Sample
 pub mod AddEpoch
 pub mod Build
+pub mod Steps

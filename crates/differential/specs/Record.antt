@@ -29,6 +29,6 @@ placeInRange p = inRange (p .x) && inRange (p .y) && inRange (p .z)
 abbrev pub rangeInRange : Range → Bool
 rangeInRange r = inRange (r .pseudorange)
 
--- a state's `modelled` is looked at like its other floats
+-- a state's `modelled` is checked like its other floats
 unfoldable pub stateInRange : State → Bool
 stateInRange s = placeInRange (s .position) && placeInRange (s .velocity) && inRange (s .clock) && inRange (s .modelled)

@@ -4,7 +4,7 @@ use mathlib.Core.Bool.{Bool, cond, not, _&&_, _||_}
 use mathlib.Core.List.{List, [], _∷_, map}
 use lib.Dec.{eqb, leb, ltb}
 use lib.ListN.{length}
-use lib.Ieee.{Float, nan, lt}
+use lib.Ieee.{Float, lt}
 use lib.Ieee.Scale.{finite}
 use Rattle.exact.specs.Float.{_⊖_, bits}
 use Rattle.walk.specs.Walk.{collect}
@@ -60,9 +60,3 @@ samplesOf time max raws = collect (sampleAt time max raws) raws
 unfoldable pub epochSamples : Vec3 → Vec3 → Settings → BaseEpoch → States → List Sample
 epochSamples base rover set e s =
     samplesOf (e .time) (set .«max_correction») (rawsOf set base rover (statesOf s) (rangesOf e))
-
--- ---- what the contracts of the steps say
-
--- a group under three has no clock
-unfoldable pub clockOrNan : List Raw → Float
-clockOrNan g = cond (ltb (length g) 3) nan (clockOf g)

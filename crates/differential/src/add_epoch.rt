@@ -1,8 +1,10 @@
 // One base epoch added to the table, which is a directory beside the columns of times and corrections.
 ghost use mathlib.Core.Path.{_≡_};
-ghost use Rattle.directory.specs.Directory.{lentBlocks, floats, blockCapacity, directoryIn};
-ghost use Rattle.addition.specs.Add.{additionOf, additionNumber, entriesNow, samplesNow, Places, PatternsAfter};
-ghost use Rattle.differential.specs.AddEpoch.{recordsTest, epochIn};
+ghost use Rattle.directory.specs.Directory.{blockCapacity, directoryIn};
+ghost use Rattle.directory.specs.Lent.{lentTable};
+ghost use Rattle.addition.specs.Add.{AddedBy};
+ghost use Rattle.differential.specs.AddEpoch.{epochIn};
+ghost use Rattle.differential.specs.Steps.{recordsTest};
 use crate::raw::raws_of;
 use crate::record::BaseEpoch;
 use crate::record::Settings;
@@ -20,7 +22,7 @@ use numeric::refusal::Refusal;
 use numeric::vec3::Vec3;
 use table::add::Test;
 
-// Numbers 2, 3 and 4 of all but the table's records, in this order; room is the capacity of the table's columns, m its entries and n its samples.
+// Checks numbers 2, 3 and 4 of all but the table's records, in this order; room is the capacity of the table's columns.
 fn records_tested(
     blocks: usize,
     table_count: usize,
@@ -53,7 +55,7 @@ fn records_tested(
     Test::Passed
 }
 
-// The corrections of the epoch to the directory of `blocks` entries and `table_count` samples, or the refusal, which leaves every column as it was.
+// Adds the epoch's corrections to the directory of `blocks` entries and `table_count` samples. Returns both counts. On refusal, returns it and changes nothing.
 pub fn add_epoch(
     block_constellation: &mut [u8],
     block_svid: &mut [u16],
@@ -70,14 +72,9 @@ pub fn add_epoch(
     rover: Vec3,
     settings: Settings,
 ) -> Addition
-    ensures { λ r. ⌜ (let l = lentBlocks
-        (now («block_constellation» .entry)) (now («block_svid» .entry)) (now («block_band» .entry))
-        (now («block_first» .entry)) (now («block_samples» .entry)) (floats (now («table_time» .entry))) (floats (now («table_metres» .entry))) in
-        let o = epochIn blocks «table_count» (blockCapacity l) (directoryIn blocks «table_count» l) epoch states base rover settings in
-        (r ≡ additionOf o) × (Places o (additionNumber r) blocks (entriesNow r blocks) «table_count» (samplesNow r «table_count») l (lentBlocks
-        (now («block_constellation» .exit)) (now («block_svid» .exit)) (now («block_band» .exit))
-        (now («block_first» .exit)) (now («block_samples» .exit)) (floats (now («table_time» .exit))) (floats (now («table_metres» .exit))))
-        × PatternsAfter o (now («table_time» .entry)) (now («table_metres» .entry)) (now («table_time» .exit)) (now («table_metres» .exit)))) ⌝ }
+    ensures { λ r. ⌜ (let t = lentTable «block_constellation» «block_svid» «block_band» «block_first» «block_samples» «table_time» «table_metres» in
+        let d = directoryIn blocks «table_count» (t .before) in
+        AddedBy (epochIn blocks «table_count» (blockCapacity (t .before)) d epoch states base rover settings) r blocks «table_count» t) ⌝ }
 {
     let room = capacity_of(
         block_constellation,

@@ -28,7 +28,7 @@ pub struct Raws {
     pub raws: [Raw; 64],
 }
 
-// Whether the constellation is enabled; those from 7 up share one place.
+// Checks that the constellation is enabled; those from 7 up share one place.
 pub(crate) fn is_enabled(settings: Settings, constellation: u8) -> bool
     ensures { λ r. ⌜ r ≡ spec.enabled settings constellation ⌝ }
 {
@@ -38,21 +38,21 @@ pub(crate) fn is_enabled(settings: Settings, constellation: u8) -> bool
     settings.constellations[7]
 }
 
-// Whether the state is that of the range's satellite and signal.
+// Checks that the state is that of the range's satellite and signal.
 pub(crate) fn is_same(s: State, r: Range) -> bool
     ensures { λ b. ⌜ b ≡ spec.same r s ⌝ }
 {
     (s.constellation == r.constellation) & (s.svid == r.svid) & (s.band == r.band)
 }
 
-// The distance between two places.
+// Returns the distance between two places.
 fn distance(p: Vec3, o: Vec3) -> f64
     ensures { λ r. ⌜ r ≡ spec.distance p o ⌝ }
 {
     p.sub(o).norm()
 }
 
-// The satellite's place, moved from the rover's transmission time to the base's.
+// Returns the satellite's place, moved from the rover's transmission time to the base's.
 fn shifted(s: State, delta: f64) -> Vec3
     ensures { λ r. ⌜ r ≡ spec.shifted s delta ⌝ }
 {
@@ -63,7 +63,7 @@ fn shifted(s: State, delta: f64) -> Vec3
     }
 }
 
-// The measured range less what the state says it should be.
+// Returns the measured range minus the range that the state predicts.
 pub(crate) fn raw_value(base: Vec3, rover: Vec3, r: Range, s: State) -> f64
     ensures { λ x. ⌜ x ≡ spec.rawValue base rover r s ⌝ }
 {
@@ -74,7 +74,7 @@ pub(crate) fn raw_value(base: Vec3, rover: Vec3, r: Range, s: State) -> f64
     r.pseudorange + s.clock - s.modelled - distance(rotated, base)
 }
 
-// No raw corrections.
+// Returns an empty list of raw corrections.
 fn no_raws() -> Raws
     ensures { λ r. ⌜ r .count ≡ 0 ⌝ }
 {
@@ -91,7 +91,7 @@ fn no_raws() -> Raws
     }
 }
 
-// The raw corrections of the first n ranges by the first m states.
+// Returns the raw corrections of the first n ranges by the first m states.
 pub(crate) fn raws_of(
     epoch: BaseEpoch,
     n: usize,

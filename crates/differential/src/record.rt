@@ -47,21 +47,21 @@ pub struct Settings {
     pub constellations: [bool; 8],
 }
 
-// How many states there are.
+// Returns how many states there are.
 pub(crate) fn states_count(states: States) -> usize
     ensures { λ r. ⌜ r ≡ spec.statesCount states ⌝ }
 {
     if states.present { states.count } else { 0 }
 }
 
-// Whether each component is in range.
+// Checks that each component is in range.
 pub(crate) fn place_in_range(p: Vec3) -> bool
     ensures { λ r. ⌜ r ≡ spec.placeInRange p ⌝ }
 {
     in_range(p.x) & in_range(p.y) & in_range(p.z)
 }
 
-// Whether rule 4 lets the state pass.
+// Checks rule 4 for the state.
 pub(crate) fn state_in_range(s: State) -> bool
     ensures { λ r. ⌜ r ≡ spec.stateInRange s ⌝ }
 {
@@ -71,7 +71,7 @@ pub(crate) fn state_in_range(s: State) -> bool
         & in_range(s.modelled)
 }
 
-// Whether rule 4 lets the first n ranges of the epoch pass.
+// Checks rule 4 for the first n ranges of the epoch.
 pub(crate) fn ranges_in_range(epoch: BaseEpoch, n: usize) -> bool
     requires { ⌜ n ≤ 64 ⌝ }
     ensures { λ r. ⌜ r ≡ every spec.rangeInRange (take n (epoch .ranges)) ⌝ }
@@ -87,7 +87,7 @@ pub(crate) fn ranges_in_range(epoch: BaseEpoch, n: usize) -> bool
     true
 }
 
-// Whether rule 4 lets the first n states pass.
+// Checks rule 4 for the first n states.
 pub(crate) fn states_in_range(states: States, n: usize) -> bool
     requires { ⌜ n ≤ 64 ⌝ }
     ensures { λ r. ⌜ r ≡ every spec.stateInRange (take n (states .states)) ⌝ }

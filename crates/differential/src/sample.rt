@@ -6,6 +6,7 @@ ghost use lib.ListN.{take, getD, length};
 ghost use Rattle.walk.specs.Walk.{Holds};
 ghost use Rattle.median.specs.Steps.{Front};
 ghost use Rattle.differential.specs.Sample as spec;
+ghost use Rattle.differential.specs.Steps.{clockOrNan};
 use crate::raw::Raws;
 use median::median::median;
 use numeric::order::float;
@@ -15,7 +16,7 @@ use numeric::real::is_finite;
 use table::add::Samples;
 use table::sample::Sample;
 
-// Puts the patterns of the values of constellation c into the front of values, and says how many they are.
+// Writes the patterns of the values of constellation c to the front of values. Returns how many there are.
 fn values_of(raws: Raws, c: u8, values: &mut [u64; 64]) -> usize
     requires { ⌜ (raws .count ≤ 64) × (length (now values) ≡ 64) ⌝ }
     ensures { λ r. ⌜ Front (spec.patternsOf (spec.group c (take (raws .count) (raws .raws)))) r (now (values .exit)) ⌝ }
@@ -34,10 +35,10 @@ fn values_of(raws: Raws, c: u8, values: &mut [u64; 64]) -> usize
     k
 }
 
-// The base receiver's clock by the group of constellation c, and a NaN where the group has fewer than three.
+// Returns the base receiver's clock by the group of constellation c, or a NaN if the group has fewer than three.
 fn clock_of(raws: Raws, c: u8) -> f64
     requires { ⌜ raws .count ≤ 64 ⌝ }
-    ensures { λ r. ⌜ r ≡ spec.clockOrNan (spec.group c (take (raws .count) (raws .raws))) ⌝ }
+    ensures { λ r. ⌜ r ≡ clockOrNan (spec.group c (take (raws .count) (raws .raws))) ⌝ }
 {
     let mut values = [0u64; 64];
     let k = values_of(raws, c, &mut values);
@@ -47,10 +48,10 @@ fn clock_of(raws: Raws, c: u8) -> f64
     float(median(&values[..k]))
 }
 
-// The clocks of the constellations 0 to 7.
+// Returns the clocks of the constellations 0 to 7.
 fn clocks_of(raws: Raws) -> [f64; 8]
     requires { ⌜ raws .count ≤ 64 ⌝ }
-    ensures { λ r. ⌜ ((c : ℕ) → c < 8 → getD r c nan ≡ spec.clockOrNan (spec.group c (take (raws .count) (raws .raws)))) ⌝ }
+    ensures { λ r. ⌜ ((c : ℕ) → c < 8 → getD r c nan ≡ clockOrNan (spec.group c (take (raws .count) (raws .raws)))) ⌝ }
 {
     let mut clocks = [0.0; 8];
     let mut c: u8 = 0;
@@ -61,14 +62,14 @@ fn clocks_of(raws: Raws) -> [f64; 8]
     clocks
 }
 
-// Whether a correction is kept: finite and not above the maximum in magnitude.
+// Checks that a correction is kept: finite and not above the maximum in magnitude.
 fn is_kept(x: f64, max: f64) -> bool
     ensures { λ r. ⌜ r ≡ spec.kept max x ⌝ }
 {
     !(max < abs(x)) & is_finite(x)
 }
 
-// No samples.
+// Returns an empty list of samples.
 fn no_samples() -> Samples
     ensures { λ r. ⌜ r .count ≡ 0 ⌝ }
 {
@@ -86,7 +87,7 @@ fn no_samples() -> Samples
     }
 }
 
-// The samples at the time, in the order of the raw corrections.
+// Returns the samples at the time, in the order of the raw corrections.
 pub(crate) fn samples_of(raws: Raws, time: f64, max: f64) -> Samples
     requires { ⌜ raws .count ≤ 64 ⌝ }
     ensures { λ r. ⌜ Holds (r .count) (r .samples) (spec.samplesOf time max (take (raws .count) (raws .raws))) ⌝ }

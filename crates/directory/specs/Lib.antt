@@ -1,4 +1,5 @@
 pub mod Directory
+pub mod Lent
 pub mod Faults
 pub mod Rearrange
 pub mod Series

@@ -1,5 +1,5 @@
 -- Columns read into records, and the outcome of an entry. Assumes nothing.
-use mathlib.Core.Path.{_≡_, refl, sym, ap, _∙_}
+use mathlib.Core.Path.{_≡_, refl, sym, ap, subst, _∙_}
 use mathlib.Core.List.{List}
 use mathlib.Core.Bool.{Bool, true, false, cond, not, or-false, _&&_, _||_}
 use Prim.Native.Nat.{ℕ, _+_, _*_, _≤_}
@@ -9,13 +9,14 @@ use lib.ListN.{length, take}
 use lib.Ieee.{Float}
 use Rattle.walk.specs.Walk.{every, places}
 use Rattle.walk.proofs.Walk.{places-all, or-no}
+use Rattle.table.proofs.UnitLaws.{never}
 use Rattle.numeric.specs.Real.{inRange}
-use Rattle.numeric.specs.Refusal.{numberOf}
 use Rattle.numeric.specs.declared.vec3.Vec3.{Vec3}
 use Rattle.numeric.specs.declared.refusal.Refusal.the-variants.{TooMany, SettingOutOfRange, RecordOutOfRange, TableFull}
 use Rattle.directory.specs.Directory.{Blocks, Directory, blockCapacity, directoryIn, soundDirectory}
 use Rattle.addition.specs.Add.{PatternsAfter, Placed, Places, addedIn, additionNumber, additionOf, directoryWith, entriesNow, refusedIn, samplesNow}
 use Rattle.addition.specs.declared.add.Addition.{Addition}
+use Rattle.addition.specs.declared.add.Addition.the-variants as Addition
 use Rattle.differential.specs.Record.{placeInRange, rangeInRange, rangesOf, stateInRange, statesCount, statesOf}
 use Rattle.differential.specs.Raw.{rawsOf}
 use Rattle.differential.specs.Sample.{epochSamples, samplesOf}
@@ -26,15 +27,54 @@ use Rattle.differential.specs.declared.record.State.{State}
 use Rattle.differential.specs.declared.record.BaseEpoch.{BaseEpoch}
 use Rattle.differential.specs.declared.record.States.{States}
 use Rattle.differential.specs.declared.record.Settings.{Settings}
-use Rattle.epoch_columns.specs.Epoch.{rangeAt, epochOf, stateAt, statesIn, recordsShort, entryIn, unreadable, EpochRead, StatesRead}
+use Rattle.epoch_columns.specs.Epoch.{rangeAt, epochOf, stateAt, statesIn, recordsShort, entryIn}
+use Rattle.epoch_columns.specs.Steps.{CountsWritten, EpochRead, StatesRead, rangesShort, statesShort}
 
 -- ---- columns that are long enough
-pub few : (k w : ℕ) → (ltb 64 k || ltb 64 w) ≡ false → (k ≤ 64) × (w ≤ 64)
+few : (k w : ℕ) → (ltb 64 k || ltb 64 w) ≡ false → (k ≤ 64) × (w ≤ 64)
 few k w e = let p = or-no (ltb 64 k) (ltb 64 w) e in (ltb-false 64 k (p .0), ltb-false 64 w (p .1))
 
-pub many : (k : ℕ) (rc rv rb : List ℕ) (rp : List Float) (m : ℕ) (sc sv sb : List ℕ) (sf : List Float) → (ltb 64 k || ltb 64 m) ≡ true → true ≡ unreadable k rc rv rb rp m sc sv sb sf
-unfolding unreadable
-many k rc rv rb rp m sc sv sb sf e = rw e
+-- more than 64 ranges or states, or a lent column is shorter than they need
+unfoldable pub unreadable : ℕ → List ℕ → List ℕ → List ℕ → List Float → ℕ → List ℕ → List ℕ → List ℕ → List Float → Bool
+unreadable k rc rv rb rp m sc sv sb sf = ltb 64 k || ltb 64 m || recordsShort k rc rv rb rp m sc sv sb sf
+
+module _ (k : ℕ) (rc rv rb : List ℕ) (rp : List Float) (m : ℕ) (sc sv sb : List ℕ) (sf : List Float) where
+  pub by-ranges : rangesShort k rc rv rb rp ≡ true → unreadable k rc rv rb rp m sc sv sb sf ≡ true
+  unfolding unreadable rangesShort recordsShort
+  by-ranges e = go (ltb 64 k) (ltb 64 m) (ltb (length rc) k) (ltb (length rv) k) (ltb (length rb) k) (ltb (length rp) k) e
+    where
+      go : (x y a b c d : Bool) → (x || a || b || c || d) ≡ true
+          → (x || y || (a || b || c || d || ltb (length sc) m || ltb (length sv) m || ltb (length sb) m || ltb (length sf) (m * 8))) ≡ true
+      go true y a b c d e = refl
+      go false true a b c d e = refl
+      go false false true b c d e = refl
+      go false false false true c d e = refl
+      go false false false false true d e = refl
+      go false false false false false true e = refl
+      go false false false false false false e = never e
+
+  pub by-states : statesShort m sc sv sb sf ≡ true → unreadable k rc rv rb rp m sc sv sb sf ≡ true
+  unfolding unreadable statesShort recordsShort
+  by-states e = go (ltb 64 k) (ltb 64 m) (ltb (length rc) k || ltb (length rv) k || ltb (length rb) k || ltb (length rp) k) (ltb (length sc) m) (ltb (length sv) m) (ltb (length sb) m) (ltb (length sf) (m * 8)) e
+    where
+      go : (x y r a b c d : Bool) → (y || a || b || c || d) ≡ true → (x || y || (r || a || b || c || d)) ≡ true
+      go true y r a b c d e = refl
+      go false true r a b c d e = refl
+      go false false true a b c d e = refl
+      go false false false a b c d e = e
+
+  pub by-both : rangesShort k rc rv rb rp ≡ false → statesShort m sc sv sb sf ≡ false → unreadable k rc rv rb rp m sc sv sb sf ≡ false
+  unfolding unreadable rangesShort statesShort recordsShort
+  by-both e f = go (ltb 64 k) (ltb 64 m) (ltb (length rc) k) (ltb (length rv) k) (ltb (length rb) k) (ltb (length rp) k) (ltb (length sc) m) (ltb (length sv) m) (ltb (length sb) m) (ltb (length sf) (m * 8)) e f
+    where
+      go : (x y a b c d p q r s : Bool) → (x || a || b || c || d) ≡ false → (y || p || q || r || s) ≡ false → (x || y || (a || b || c || d || p || q || r || s)) ≡ false
+      go true y a b c d p q r s e f = never (sym e)
+      go false y true b c d p q r s e f = never (sym e)
+      go false y false true c d p q r s e f = never (sym e)
+      go false y false false true d p q r s e f = never (sym e)
+      go false y false false false true p q r s e f = never (sym e)
+      go false true false false false false p q r s e f = never (sym f)
+      go false false false false false false p q r s e f = f
 
 pub record Readable (k : ℕ) (rc rv rb : List ℕ) (rp : List Float) (m : ℕ) (sc sv sb : List ℕ) (sf : List Float) : Type 0 where
   pub few-ranges : k ≤ 64
@@ -116,9 +156,16 @@ module _ (m n : ℕ) (l : Blocks) (ts xs : List ℕ) (time : Float) (k : ℕ) (r
       go true e = refl
       go false e = rw (either (ltb (blockCapacity l) m) (ltb (blockCapacity l) n) (ltb 64 k) (ltb 64 (cond present j 0)) (rw or-false at e))
 
-  pub adds-nothing : {b : Bool} {number : ℕ} → b ≡ unreadable k rc rv rb rp (cond present j 0) sc sv sb sf → b ≡ true → number ≡ numberOf TooMany
-      → (let o = entryIn m n (blockCapacity l) (directoryIn m n l) time k rc rv rb rp present j sc sv sb sf base rover set in Places o number m m n n l l × PatternsAfter o ts xs ts xs)
-  adds-nothing e h r = rw r (told-nothing TooMany m n l ts xs (entry-unreadable (sym e ∙ h)) .1)
+  -- w is how many states are read, as the code has it
+  module _ {w : ℕ} (ew : w ≡ cond present j 0) where
+    wanted-is : {b : Bool} → unreadable k rc rv rb rp w sc sv sb sf ≡ b → unreadable k rc rv rb rp (cond present j 0) sc sv sb sf ≡ b
+    wanted-is {b} h = subst (λ (x : ℕ). unreadable k rc rv rb rp x sc sv sb sf ≡ b) ew h
+
+    pub adds-nothing : unreadable k rc rv rb rp w sc sv sb sf ≡ true
+        → (let o = entryIn m n (blockCapacity l) (directoryIn m n l) time k rc rv rb rp present j sc sv sb sf base rover set in
+        let r = Addition.Refused TooMany in
+        (r ≡ additionOf o) × (Places o (additionNumber r) m (entriesNow r m) n (samplesNow r n) l l × PatternsAfter o ts xs ts xs))
+    adds-nothing h = told-nothing TooMany m n l ts xs (entry-unreadable (wanted-is h))
 
   entry-added : (e : BaseEpoch) (s : States) → unreadable k rc rv rb rp (cond present j 0) sc sv sb sf ≡ false → EpochRead time k (places (rangeAt rc rv rb rp) k) e
       → StatesRead present (cond present j 0) (places (stateAt sc sv sb sf) (cond present j 0)) s
@@ -142,11 +189,17 @@ module _ (m n : ℕ) (l : Blocks) (ts xs : List ℕ) (time : Float) (k : ℕ) (r
       states true = sym (places-all (stateAt sc sv sb sf) j)
       states false = unfold places in refl
 
-  -- x being the answer of the call inside
-  pub adds-number : (ts′ xs′ : List ℕ) {b : Bool} {e : BaseEpoch} {s : States} {from to : Vec3} {given : Settings} {x : Addition} {m′ n′ number : ℕ} {l′ : Blocks}
-      → b ≡ unreadable k rc rv rb rp (cond present j 0) sc sv sb sf → b ≡ false → EpochRead time k (places (rangeAt rc rv rb rp) k) e
-      → StatesRead present (cond present j 0) (places (stateAt sc sv sb sf) (cond present j 0)) s → from ≡ base → to ≡ rover → given ≡ set
+  pub adds-as : {w : ℕ} → w ≡ cond present j 0 → (ts′ xs′ : List ℕ) {e : BaseEpoch} {s : States} {from to : Vec3} {given : Settings} {x : Addition} {l′ : Blocks}
+      → unreadable k rc rv rb rp w sc sv sb sf ≡ false → EpochRead time k (places (rangeAt rc rv rb rp) k) e
+      → StatesRead present w (places (stateAt sc sv sb sf) w) s → from ≡ base → to ≡ rover → given ≡ set
       → (let o = epochIn m n (blockCapacity l) (directoryIn m n l) e s from to given in (x ≡ additionOf o) × (Places o (additionNumber x) m (entriesNow x m) n (samplesNow x n) l l′ × PatternsAfter o ts xs ts′ xs′))
-      → (number ≡ additionNumber x) × (m′ ≡ entriesNow x m) × (n′ ≡ samplesNow x n)
-      → (let o = entryIn m n (blockCapacity l) (directoryIn m n l) time k rc rv rb rp present j sc sv sb sf base rover set in Places o number m m′ n n′ l l′ × PatternsAfter o ts xs ts′ xs′)
-  adds-number ts′ xs′ {e = e} {s = s} eb h er sr f t g a (r, i, k) = rw (← entry-added e s (sym eb ∙ h) er sr, ← f, ← t, ← g, r, i, k) (a .1)
+      → (let o = entryIn m n (blockCapacity l) (directoryIn m n l) time k rc rv rb rp present j sc sv sb sf base rover set in
+      (x ≡ additionOf o) × (Places o (additionNumber x) m (entriesNow x m) n (samplesNow x n) l l′ × PatternsAfter o ts xs ts′ xs′))
+  adds-as ew ts′ xs′ {e = e} {s = s} h er sr f t g a =
+      rw (← entry-added e s (wanted-is ew h) er (subst (λ (x : ℕ). StatesRead present x (places (stateAt sc sv sb sf) x) s) ew sr), ← f, ← t, ← g) a
+
+-- an answer by value, written out
+pub answer-written : {o : Placed} {x : Addition} {m m′ n n′ number : ℕ} {l l′ : Blocks} (ts xs ts′ xs′ : List ℕ)
+    → (x ≡ additionOf o) × (Places o (additionNumber x) m (entriesNow x m) n (samplesNow x n) l l′ × PatternsAfter o ts xs ts′ xs′)
+    → CountsWritten x number m m′ n n′ → Places o number m m′ n n′ l l′ × PatternsAfter o ts xs ts′ xs′
+answer-written ts xs ts′ xs′ a (r, i, k) = rw (r, i, k) (a .1)

@@ -1,16 +1,18 @@
--- A base epoch and the states beside it as lent columns hold them, and what adding them to a directory comes to. Definitions only.
+-- A base epoch and the states beside it as lent columns hold them, and the outcome of adding them to a directory. Definitions only.
 use Prim.Native.Nat.{ℕ, _+_, _*_}
 use mathlib.Core.Bool.{Bool, cond, _||_}
 use mathlib.Core.List.{List}
 use lib.Dec.{ltb}
-use mathlib.Core.Path.{_≡_}
-use lib.ListN.{length, getD, take}
+use lib.ListN.{length, getD}
 use lib.Ieee.{Float, nan}
+use denote.Ref.{RefT, now}
+use denote.Triple.Both.{Both}
 use Rattle.walk.specs.Walk.{places}
 use Rattle.numeric.specs.Vec3.{vectorAt}
 use Rattle.numeric.specs.declared.vec3.Vec3.{Vec3}
 use Rattle.numeric.specs.declared.refusal.Refusal.the-variants.{TooMany}
-use Rattle.directory.specs.Directory.{Directory}
+use Rattle.directory.specs.Directory.{Blocks, Directory, blockCapacity, directoryIn}
+use Rattle.table.specs.Lent.{LentColumn, LentFloats}
 use Rattle.addition.specs.Add.{Placed, refusedIn}
 use Rattle.differential.specs.AddEpoch.{epochIn}
 use Rattle.differential.specs.declared.record.Range.{Range}
@@ -18,6 +20,10 @@ use Rattle.differential.specs.declared.record.BaseEpoch.{BaseEpoch}
 use Rattle.differential.specs.declared.record.State.{State}
 use Rattle.differential.specs.declared.record.States.{States}
 use Rattle.differential.specs.declared.record.Settings.{Settings}
+
+-- one truth value for each constellation, lent
+abbrev pub LentBools : Type 0
+LentBools = Both (RefT (List Bool)) (RefT (List Bool))
 
 -- ---- an epoch
 
@@ -44,6 +50,7 @@ stateAt cs vs bs fs i =
 abbrev pub statesIn : Bool → ℕ → List ℕ → List ℕ → List ℕ → List Float → States
 statesIn present m cs vs bs fs = record { present = present; count = m; states = places (stateAt cs vs bs fs) m }
 
+-- the greatest gap and correction, and for each constellation whether it is in use
 abbrev pub settingsOf : Float → Float → List Bool → Settings
 settingsOf gap max on = record { «max_gap» = gap; «max_correction» = max; constellations = on }
 
@@ -52,26 +59,14 @@ unfoldable pub recordsShort : ℕ → List ℕ → List ℕ → List ℕ → Lis
 recordsShort k rc rv rb rp m sc sv sb sf =
     ltb (length rc) k || ltb (length rv) k || ltb (length rb) k || ltb (length rp) k || ltb (length sc) m || ltb (length sv) m || ltb (length sb) m || ltb (length sf) (m * 8)
 
--- the epoch and the states that the columns hold, added to a directory; states are not looked at under the mark that there are none
+-- the epoch and the states that the columns hold, added to a directory; states are not read under the mark that there are none
 unfoldable pub entryIn : ℕ → ℕ → ℕ → Directory → Float → ℕ → List ℕ → List ℕ → List ℕ → List Float → Bool → ℕ → List ℕ → List ℕ → List ℕ → List Float → Vec3 → Vec3 → Settings → Placed
 entryIn m n room d time k rc rv rb rp present j sc sv sb sf base rover set =
     cond (recordsShort k rc rv rb rp (cond present j 0) sc sv sb sf) (refusedIn TooMany)
     (epochIn m n room d (epochOf time k rc rv rb rp) (statesIn present j sc sv sb sf) base rover set)
 
--- ---- what the contracts of the steps say
-
--- the epoch e has the time and the first k ranges l
-pub record EpochRead (time : Float) (k : ℕ) (l : List Range) (e : BaseEpoch) : Type 0 where
-  pub count : e .count ≡ k
-  pub time-is : e .time ≡ time
-  pub ranges : take k (e .ranges) ≡ l
-
--- the states s have the mark and the first m states l
-pub record StatesRead (present : Bool) (m : ℕ) (l : List State) (s : States) : Type 0 where
-  pub mark : s .present ≡ present
-  pub count : s .count ≡ m
-  pub states-are : take m (s .states) ≡ l
-
--- more than 64 ranges or states, or a lent column is shorter than they need
-unfoldable pub unreadable : ℕ → List ℕ → List ℕ → List ℕ → List Float → ℕ → List ℕ → List ℕ → List ℕ → List Float → Bool
-unreadable k rc rv rb rp m sc sv sb sf = ltb 64 k || ltb 64 m || recordsShort k rc rv rb rp m sc sv sb sf
+-- the outcome for columns that a call is lent, added to the m entries and n samples of l
+abbrev pub lentEntry : ℕ → ℕ → Blocks → Float → ℕ → LentColumn → LentColumn → LentColumn → LentFloats → Bool → ℕ → LentColumn → LentColumn → LentColumn → LentFloats → LentFloats → LentFloats → Float → Float → LentBools → Placed
+lentEntry m n l time k rc rv rb rp present j sc sv sb sf base rover gap max on =
+    entryIn m n (blockCapacity l) (directoryIn m n l) time k (now (rc .entry)) (now (rv .entry)) (now (rb .entry)) (now (rp .entry))
+    present j (now (sc .entry)) (now (sv .entry)) (now (sb .entry)) (now (sf .entry)) (vectorAt (now (base .entry)) 0) (vectorAt (now (rover .entry)) 0) (settingsOf gap max (now (on .entry)))

@@ -1,1 +1,2 @@
 pub mod Epoch
+pub mod Steps

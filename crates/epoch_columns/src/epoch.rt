@@ -3,10 +3,10 @@
 // and sf has eight floats for each state: position, velocity, clock, modelled.
 ghost use mathlib.Core.Path.{_≡_};
 ghost use mathlib.Core.Bool.{cond};
-ghost use Prim.Native.Nat.{_+_, _*_, _≤_, _<_};
+ghost use Prim.Native.Nat.{_+_, _*_, _<_};
 ghost use lib.ListN.{length};
-ghost use Rattle.walk.specs.Walk.{places};
-ghost use Rattle.epoch_columns.specs.Epoch.{rangeAt, stateAt, unreadable, EpochRead, StatesRead};
+ghost use Rattle.epoch_columns.specs.Epoch.{stateAt};
+ghost use Rattle.epoch_columns.specs.Steps.{RangesIn, ReadsEpoch, ReadsStates, StatesIn, rangesShort, statesShort};
 use differential::record::BaseEpoch;
 use differential::record::Range;
 use differential::record::State;
@@ -14,7 +14,7 @@ use differential::record::States;
 use numeric::vec3::Vec3;
 use numeric::vec3::vector_at;
 
-// The epoch of the first k ranges.
+// Reads the epoch of the first k ranges.
 pub(crate) fn epoch_from(
     time: f64,
     k: usize,
@@ -23,10 +23,8 @@ pub(crate) fn epoch_from(
     range_band: &[u32],
     range_pseudorange: &[f64],
 ) -> BaseEpoch
-    requires { ⌜ k ≤ 64 ⌝ }
-    requires { ⌜ (k ≤ length (now «range_constellation»)) × (k ≤ length (now «range_svid»)) ⌝ }
-    requires { ⌜ (k ≤ length (now «range_band»)) × (k ≤ length (now «range_pseudorange»)) ⌝ }
-    ensures { λ r. ⌜ EpochRead time k (places (rangeAt (now («range_constellation» .entry)) (now («range_svid» .entry)) (now («range_band» .entry)) (now («range_pseudorange» .entry))) k) r ⌝ }
+    requires { ⌜ RangesIn k «range_constellation» «range_svid» «range_band» «range_pseudorange» ⌝ }
+    ensures { λ r. ⌜ ReadsEpoch time k «range_constellation» «range_svid» «range_band» «range_pseudorange» r ⌝ }
 {
     let nothing = Range {
         constellation: 0,
@@ -53,7 +51,7 @@ pub(crate) fn epoch_from(
     }
 }
 
-// State i of the columns.
+// Reads state i of the columns.
 fn state_at(
     state_constellation: &[u8],
     state_svid: &[u16],
@@ -63,7 +61,8 @@ fn state_at(
 ) -> State
     requires { ⌜ (i < length (now «state_constellation»)) × (i < length (now «state_svid»)) ⌝ }
     requires { ⌜ (i < length (now «state_band»)) × (i * 8 + 7 < length (now «state_floats»)) ⌝ }
-    ensures { λ r. ⌜ r ≡ stateAt (now («state_constellation» .entry)) (now («state_svid» .entry)) (now («state_band» .entry)) (now («state_floats» .entry)) i ⌝ }
+    ensures { λ r. ⌜ r ≡ stateAt (now («state_constellation» .entry)) (now («state_svid» .entry)) (now («state_band» .entry))
+        (now («state_floats» .entry)) i ⌝ }
 {
     let at = i * 8;
     let position = vector_at(state_floats, at);
@@ -79,28 +78,25 @@ fn state_at(
     }
 }
 
-// How many states are looked at.
-fn wanted(present: bool, j: usize) -> usize
+// Returns how many states are read: none under the mark that there are none.
+pub(crate) fn wanted(present: bool, j: usize) -> usize
     ensures { λ r. ⌜ r ≡ cond present j 0 ⌝ }
 {
     if present { j } else { 0 }
 }
 
-// The first j states, or the mark that there are none.
+// Reads the first m states, or the mark that there are none.
 pub(crate) fn states_from(
     present: bool,
-    j: usize,
+    m: usize,
     state_constellation: &[u8],
     state_svid: &[u16],
     state_band: &[u32],
     state_floats: &[f64],
 ) -> States
-    requires { ⌜ cond present j 0 ≤ 64 ⌝ }
-    requires { ⌜ (cond present j 0 ≤ length (now «state_constellation»)) × (cond present j 0 ≤ length (now «state_svid»)) ⌝ }
-    requires { ⌜ (cond present j 0 ≤ length (now «state_band»)) × (cond present j 0 * 8 ≤ length (now «state_floats»)) ⌝ }
-    ensures { λ r. ⌜ StatesRead present (cond present j 0) (places (stateAt (now («state_constellation» .entry)) (now («state_svid» .entry)) (now («state_band» .entry)) (now («state_floats» .entry))) (cond present j 0)) r ⌝ }
+    requires { ⌜ StatesIn m «state_constellation» «state_svid» «state_band» «state_floats» ⌝ }
+    ensures { λ r. ⌜ ReadsStates present m «state_constellation» «state_svid» «state_band» «state_floats» r ⌝ }
 {
-    let m = wanted(present, j);
     let zero = Vec3 {
         x: 0.0,
         y: 0.0,
@@ -126,31 +122,39 @@ pub(crate) fn states_from(
     }
 }
 
-// Whether there are more than 64 ranges or wanted states, or a lent column is shorter than they need.
-pub(crate) fn is_unreadable(
+// Checks whether there are more than 64 ranges, or a lent column is shorter than they need.
+pub(crate) fn ranges_short(
     k: usize,
     range_constellation: &[u8],
     range_svid: &[u16],
     range_band: &[u32],
     range_pseudorange: &[f64],
-    present: bool,
-    j: usize,
+) -> bool
+    ensures { λ r. ⌜ r ≡ rangesShort k (now («range_constellation» .entry)) (now («range_svid» .entry)) (now («range_band» .entry))
+        (now («range_pseudorange» .entry)) ⌝ }
+{
+    (64 < k)
+        | (range_constellation.len() < k)
+        | (range_svid.len() < k)
+        | (range_band.len() < k)
+        | (range_pseudorange.len() < k)
+}
+
+// Checks whether there are more than 64 states, or a lent column is shorter than they need.
+pub(crate) fn states_short(
+    m: usize,
     state_constellation: &[u8],
     state_svid: &[u16],
     state_band: &[u32],
     state_floats: &[f64],
 ) -> bool
-    ensures { λ r. ⌜ r ≡ unreadable k (now («range_constellation» .entry)) (now («range_svid» .entry)) (now («range_band» .entry)) (now («range_pseudorange» .entry)) (cond present j 0) (now («state_constellation» .entry)) (now («state_svid» .entry)) (now («state_band» .entry)) (now («state_floats» .entry)) ⌝ }
+    ensures { λ r. ⌜ r ≡ statesShort m (now («state_constellation» .entry)) (now («state_svid» .entry)) (now («state_band» .entry))
+        (now («state_floats» .entry)) ⌝ }
 {
-    let m = wanted(present, j);
-    if (64 < k) | (64 < m) {
+    if 64 < m {
         return true;
     }
-    (range_constellation.len() < k)
-        | (range_svid.len() < k)
-        | (range_band.len() < k)
-        | (range_pseudorange.len() < k)
-        | (state_constellation.len() < m)
+    (state_constellation.len() < m)
         | (state_svid.len() < m)
         | (state_band.len() < m)
         | (state_floats.len() < m * 8)

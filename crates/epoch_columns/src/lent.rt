@@ -1,21 +1,23 @@
 // A base epoch of lent columns added to a lent directory, with both counts.
 ghost use mathlib.Core.Path.{_≡_};
-ghost use Rattle.directory.specs.Directory.{lentBlocks, floats, blockCapacity, directoryIn};
-ghost use Rattle.addition.specs.Add.{additionNumber, entriesNow, samplesNow, Places, PatternsAfter};
-ghost use Rattle.numeric.specs.Vec3.{vectorAt};
-ghost use Rattle.epoch_columns.specs.Epoch.{settingsOf, entryIn};
+ghost use Rattle.directory.specs.Lent.{lentTable};
+ghost use Rattle.addition.specs.Add.{AddedBy};
+ghost use Rattle.epoch_columns.specs.Epoch.{lentEntry, settingsOf};
+ghost use Rattle.epoch_columns.specs.Steps.{CountsWritten};
 use crate::epoch::epoch_from;
-use crate::epoch::is_unreadable;
+use crate::epoch::ranges_short;
 use crate::epoch::states_from;
+use crate::epoch::states_short;
+use crate::epoch::wanted;
 use addition::add::Addition;
 use differential::add_epoch::add_epoch;
 use differential::record::Settings;
 use numeric::refusal::Refusal;
 use numeric::vec3::vector;
 
-// Both counts afterwards and 0, or the number of the refusal, which leaves them as they were.
-fn added_in(answer: Addition, blocks: &mut usize, table_count: &mut usize) -> u8
-    ensures { λ r. ⌜ (r ≡ additionNumber answer) × (now (blocks .exit) ≡ entriesNow answer (now (blocks .entry))) × (now («table_count» .exit) ≡ samplesNow answer (now («table_count» .entry))) ⌝ }
+// Writes both counts and returns 0. On refusal, returns its number and changes nothing.
+pub fn counts_into(answer: Addition, blocks: &mut usize, table_count: &mut usize) -> u8
+    ensures { λ r. ⌜ CountsWritten answer r (now (blocks .entry)) (now (blocks .exit)) (now («table_count» .entry)) (now («table_count» .exit)) ⌝ }
 {
     match answer {
         Addition::Refused(why) => why.number(),
@@ -27,7 +29,7 @@ fn added_in(answer: Addition, blocks: &mut usize, table_count: &mut usize) -> u8
     }
 }
 
-// The greatest gap, the greatest correction and the constellations in use as settings.
+// Returns the settings of the greatest gap and correction, and of the constellations in use.
 fn settings_of(max_gap: f64, max_correction: f64, corrected: &[bool; 8]) -> Settings
     ensures { λ r. ⌜ r ≡ settingsOf «max_gap» «max_correction» (now (corrected .entry)) ⌝ }
 {
@@ -39,17 +41,17 @@ fn settings_of(max_gap: f64, max_correction: f64, corrected: &[bool; 8]) -> Sett
 }
 
 // Adds one base epoch of ranges, with states of eight floats each (position, velocity, clock, modelled) or the mark that there are none, to the directory of
-// `blocks` entries and `table_count` samples: 0 and the columns and both counts with its corrections, or the number of the refusal, which leaves them as they were.
+// `blocks` entries and `table_count` samples. Returns both counts. On refusal, returns it and changes nothing.
 pub fn add_into(
     block_constellation: &mut [u8],
     block_svid: &mut [u16],
     block_band: &mut [u32],
     block_first: &mut [usize],
     block_samples: &mut [usize],
-    blocks: &mut usize,
+    blocks: usize,
     table_time: &mut [u64],
     table_metres: &mut [u64],
-    table_count: &mut usize,
+    table_count: usize,
     time: f64,
     ranges: usize,
     range_constellation: &[u8],
@@ -67,33 +69,30 @@ pub fn add_into(
     max_gap: f64,
     max_correction: f64,
     corrected: &[bool; 8],
-) -> u8
-    ensures { λ r. ⌜ (let l = lentBlocks
-        (now («block_constellation» .entry)) (now («block_svid» .entry)) (now («block_band» .entry))
-        (now («block_first» .entry)) (now («block_samples» .entry)) (floats (now («table_time» .entry))) (floats (now («table_metres» .entry))) in
-        let o = entryIn (now (blocks .entry)) (now («table_count» .entry)) (blockCapacity l) (directoryIn (now (blocks .entry)) (now («table_count» .entry)) l) time
-        ranges (now («range_constellation» .entry)) (now («range_svid» .entry)) (now («range_band» .entry)) (now («range_pseudorange» .entry))
-        «states_present» states (now («state_constellation» .entry)) (now («state_svid» .entry)) (now («state_band» .entry)) (now («state_floats» .entry))
-        (vectorAt (now (base .entry)) 0) (vectorAt (now (rover .entry)) 0) (settingsOf «max_gap» «max_correction» (now (corrected .entry))) in
-        Places o r (now (blocks .entry)) (now (blocks .exit)) (now («table_count» .entry)) (now («table_count» .exit)) l (lentBlocks
-        (now («block_constellation» .exit)) (now («block_svid» .exit)) (now («block_band» .exit))
-        (now («block_first» .exit)) (now («block_samples» .exit)) (floats (now («table_time» .exit))) (floats (now («table_metres» .exit))))
-        × PatternsAfter o (now («table_time» .entry)) (now («table_metres» .entry)) (now («table_time» .exit)) (now («table_metres» .exit))) ⌝ }
+) -> Addition
+    ensures { λ r. ⌜ (let t = lentTable «block_constellation» «block_svid» «block_band» «block_first» «block_samples» «table_time» «table_metres» in
+        let o = lentEntry blocks «table_count» (t .before) time ranges «range_constellation» «range_svid» «range_band» «range_pseudorange»
+        «states_present» states «state_constellation» «state_svid» «state_band» «state_floats» base rover «max_gap» «max_correction» corrected in
+        AddedBy o r blocks «table_count» t) ⌝ }
 {
-    if is_unreadable(
+    let given = wanted(states_present, states);
+    if ranges_short(
         ranges,
         range_constellation,
         range_svid,
         range_band,
         range_pseudorange,
-        states_present,
-        states,
+    ) {
+        return Addition::Refused(Refusal::TooMany);
+    }
+    if states_short(
+        given,
         state_constellation,
         state_svid,
         state_band,
         state_floats,
     ) {
-        return Refusal::TooMany.number();
+        return Addition::Refused(Refusal::TooMany);
     }
     let epoch = epoch_from(
         time,
@@ -103,34 +102,29 @@ pub fn add_into(
         range_band,
         range_pseudorange,
     );
-    let given = states_from(
+    let satellites = states_from(
         states_present,
-        states,
+        given,
         state_constellation,
         state_svid,
         state_band,
         state_floats,
     );
-    let from = vector(base);
-    let to = vector(rover);
     let settings = settings_of(max_gap, max_correction, corrected);
-    let entries = *blocks;
-    let samples = *table_count;
-    let answer = add_epoch(
+    add_epoch(
         block_constellation,
         block_svid,
         block_band,
         block_first,
         block_samples,
-        entries,
+        blocks,
         table_time,
         table_metres,
-        samples,
+        table_count,
         epoch,
-        given,
-        from,
-        to,
+        satellites,
+        vector(base),
+        vector(rover),
         settings,
-    );
-    added_in(answer, blocks, table_count)
+    )
 }

@@ -26,7 +26,7 @@ use Rattle.directory.specs.Directory.{Directory, Blocks, Reading, blockCapacity
 use Rattle.directory.proofs.DirectoryLaws.{sound-flat}
 use Rattle.query.proofs.PlaceLaws.{held-flat}
 use Rattle.forget.specs.Forget.{Forgets, Outcome, PatternsAfter, countAfter, forget, forgetIn, forgettingNumber, forgettingOf, leaves, testIn}
-use Rattle.forget.specs.Retain.{Fit, retained, trimmed}
+use Rattle.forget.specs.Steps.{Fit, retained, trimmed}
 use Rattle.forget.specs.declared.forget.Forgetting.{Forgetting}
 use Rattle.forget.specs.declared.forget.Forgetting.the-variants as Forgetting
 use Rattle.forget.proofs.LayoutLaws.{forget-trimmed}

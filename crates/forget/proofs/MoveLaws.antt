@@ -10,7 +10,7 @@ use borrow.Author.Tests.{ltb-true, ltb-false}
 use lib.Ieee.{Float, nan, lt}
 use lib.ListN.{length, getD, take, drop, set, length-drop, length-set, take-append-drop}
 use lib.Seq.{drop-drop, drop-paste, drop-set-lt, getD-append-add, getD-drop, length-paste, length-paste-head, length-take-le, paste-suc, paste-zero, take-paste, take-suc-set}
-use Rattle.forget.specs.Retain.{Outdated, movedDown}
+use Rattle.forget.specs.Steps.{Outdated, movedDown}
 
 -- ---- values moved down, one after the other
 module _ {A : Type 0} (to from : ℕ) (l : List A) where

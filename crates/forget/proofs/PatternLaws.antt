@@ -18,7 +18,7 @@ use Rattle.numeric.specs.Real.{inRange}
 use Rattle.table.proofs.TableLaws.{and-left, and-right}
 use Rattle.directory.specs.Directory.{Reading, columnOf, floats}
 use Rattle.directory.proofs.PatternLaws.{floats-at, floats-length, in-range-number, map-of, patterns-back}
-use Rattle.forget.specs.Retain.{movedDown}
+use Rattle.forget.specs.Steps.{movedDown}
 
 -- every float of a column of patterns is of its format, and so is what a read past the end gives
 pub floats-held : (ts : List ℕ) (j : ℕ) → T (fits binary64 (getD (floats ts) j nan))

@@ -18,7 +18,7 @@ use Rattle.directory.proofs.DirectoryLaws.{sound-parts, tiles-count, tiles-le, 
 use Rattle.directory.proofs.ColumnLaws.{entries-length, entry-at, readings-length}
 use Rattle.directory.proofs.SoundLaws.{part-is}
 use Rattle.query.proofs.PlaceLaws.{Lies, lies}
-use Rattle.forget.specs.Retain.{Outdated, laid, movedDown, retained, trimmed}
+use Rattle.forget.specs.Steps.{Outdated, laid, movedDown, retained, trimmed}
 use Rattle.forget.proofs.MoveLaws.{Going, going-at, going-count, going-end, going-many, going-one, going-start}
 
 -- ---- fields of rows are the columns

@@ -15,6 +15,7 @@ use Rattle.table.specs.declared.sample.Sample.{Sample}
 use Rattle.table.specs.declared.add.Test.{Test}
 use Rattle.table.specs.declared.add.Test.the-variants as Test
 use Rattle.directory.specs.Directory.{Directory, Blocks, PatternsWith, blocksWith, directoryOf, flat, soundDirectory}
+use Rattle.directory.specs.Lent.{Lent}
 use Rattle.query.specs.Query.{before}
 use Rattle.forget.specs.declared.forget.Forgetting.{Forgetting}
 use Rattle.forget.specs.declared.forget.Forgetting.the-variants as Forgetting
@@ -37,7 +38,7 @@ forget time (s ∷ ss) = cond (before time s && some (earlier (signalOf s) time)
 
 -- ---- the call
 
--- what is tested before a drop from m entries and n samples in columns with that capacity: number 2, number 4, which does not look at the time, and number 18
+-- what is tested before a drop from m entries and n samples in columns with that capacity: number 2, number 4, which does not depend on the time, and number 18
 unfoldable pub testIn : ℕ → ℕ → ℕ → Directory → Float → Test
 testIn m n room d time =
     cond (ltb room m || ltb room n) (Test.Refused TooMany)
@@ -79,12 +80,12 @@ abbrev pub entriesAfter : Outcome → ℕ → ℕ
 entriesAfter (refused r) m = m
 entriesAfter (leaves d) m = length (d .entries)
 
--- the columns afterwards: as they were where it is refused, else with the directory, and past it the bytes that were there
+-- the columns afterwards: unchanged where it is refused, else with the directory, and past it the bytes that were there
 abbrev pub blocksAfter : Outcome → Blocks → Blocks
 blocksAfter (refused r) l = l
 blocksAfter (leaves d) l = blocksWith d l
 
--- the patterns of times and corrections afterwards, to the last bit: as they were where it is refused, else with those of the directory's readings
+-- the patterns of times and corrections afterwards, to the last bit: unchanged where it is refused, else with those of the directory's readings
 abbrev pub PatternsAfter : Outcome → List ℕ → List ℕ → List ℕ → List ℕ → Type 0
 PatternsAfter (refused r) ts xs ts′ xs′ = (ts′ ≡ ts) × (xs′ ≡ xs)
 PatternsAfter (leaves d) ts xs ts′ xs′ = PatternsWith d ts xs ts′ xs′
@@ -95,3 +96,7 @@ pub record Forgets (o : Outcome) (number m n n′ : ℕ) (l l′ : Blocks) : Typ
   pub entries-stay : m ≡ entriesAfter o m
   pub count : n′ ≡ countAfter (forgettingOf o) n
   pub columns : l′ ≡ blocksAfter o l
+
+-- the number, the count, the columns and the patterns after a call on lent columns are those of the outcome
+abbrev pub ForgetsIn : Outcome → ℕ → ℕ → ℕ → ℕ → Lent → Type 0
+ForgetsIn o number m n n′ t = Forgets o number m n n′ (t .before) (t .after) × PatternsAfter o (t .times) (t .corrections) (t .timesAfter) (t .correctionsAfter)

@@ -1,3 +1,3 @@
 pub mod Forget
 pub mod History
-pub mod Retain
+pub mod Steps

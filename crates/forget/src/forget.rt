@@ -1,7 +1,8 @@
 // Forgetting in a directory, or the refusal.
 ghost use mathlib.Core.Path.{_≡_};
-ghost use Rattle.directory.specs.Directory.{lentBlocks, floats, blockCapacity, directoryIn};
-ghost use Rattle.forget.specs.Forget.{testIn, forgetIn, forgettingOf, forgettingNumber, countAfter, Forgets, PatternsAfter};
+ghost use Rattle.directory.specs.Directory.{blockCapacity, directoryIn};
+ghost use Rattle.directory.specs.Lent.{lentTable};
+ghost use Rattle.forget.specs.Forget.{ForgetsIn, countAfter, forgetIn, forgettingNumber, forgettingOf, testIn};
 use crate::retain::trim;
 use directory::patterns::capacity_of;
 use directory::patterns::is_sound;
@@ -15,7 +16,7 @@ pub enum Forgetting {
     Count(usize),
 }
 
-// Numbers 2, 4 and 18, in this order.
+// Checks numbers 2, 4 and 18, in this order.
 fn tested(
     block_constellation: &[u8],
     block_svid: &[u16],
@@ -28,9 +29,7 @@ fn tested(
     table_count: usize,
     time: f64,
 ) -> Test
-    ensures { λ r. ⌜ (let l = lentBlocks
-        (now («block_constellation» .entry)) (now («block_svid» .entry)) (now («block_band» .entry))
-        (now («block_first» .entry)) (now («block_samples» .entry)) (floats (now («table_time» .entry))) (floats (now («table_metres» .entry))) in
+    ensures { λ r. ⌜ (let l = lentTable «block_constellation» «block_svid» «block_band» «block_first» «block_samples» «table_time» «table_metres» .before in
         r ≡ testIn blocks «table_count» (blockCapacity l) (directoryIn blocks «table_count» l) time) ⌝ }
 {
     let room = capacity_of(
@@ -64,7 +63,7 @@ fn tested(
     Test::Passed
 }
 
-// Of each satellite's samples earlier than the time only the last is retained; a refusal leaves every column as it was.
+// Drops samples earlier than the time, keeping each satellite's newest of these. Returns how many samples are left. On refusal, returns it and changes nothing.
 pub fn forget(
     block_constellation: &[u8],
     block_svid: &[u16],
@@ -77,14 +76,9 @@ pub fn forget(
     table_count: usize,
     time: f64,
 ) -> Forgetting
-    ensures { λ r. ⌜ (let l = lentBlocks
-        (now («block_constellation» .entry)) (now («block_svid» .entry)) (now («block_band» .entry))
-        (now («block_first» .entry)) (now («block_samples» .entry)) (floats (now («table_time» .entry))) (floats (now («table_metres» .entry))) in
-        let o = forgetIn blocks «table_count» (blockCapacity l) (directoryIn blocks «table_count» l) time in
-        (r ≡ forgettingOf o) × (Forgets o (forgettingNumber r) blocks «table_count» (countAfter r «table_count») l (lentBlocks
-        (now («block_constellation» .entry)) (now («block_svid» .entry)) (now («block_band» .entry))
-        (now («block_first» .exit)) (now («block_samples» .exit)) (floats (now («table_time» .exit))) (floats (now («table_metres» .exit))))
-        × PatternsAfter o (now («table_time» .entry)) (now («table_metres» .entry)) (now («table_time» .exit)) (now («table_metres» .exit)))) ⌝ }
+    ensures { λ r. ⌜ (let t = lentTable «block_constellation» «block_svid» «block_band» «block_first» «block_samples» «table_time» «table_metres» in
+        let o = forgetIn blocks «table_count» (blockCapacity (t .before)) (directoryIn blocks «table_count» (t .before)) time in
+        (r ≡ forgettingOf o) × ForgetsIn o (forgettingNumber r) blocks «table_count» (countAfter r «table_count») t) ⌝ }
 {
     let test = tested(
         block_constellation,

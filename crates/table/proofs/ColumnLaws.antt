@@ -10,7 +10,8 @@ use lib.ListN.{length, getD, take, drop, set}
 use lib.Seq.{drop-drop, getD-set-other}
 use lib.Ieee.{Float, nan}
 use Rattle.table.specs.Table.{Columns, beside, blank, standsBefore, rows, tableOf}
-use Rattle.table.specs.Add.{insertAll, Inserted, insert, opened, past, pushed, spotOf}
+use Rattle.table.specs.Add.{insert, insertAll}
+use Rattle.table.specs.Steps.{Inserted, opened, past, pushed, spotOf}
 use Rattle.table.specs.declared.sample.Sample.{Sample}
 
 -- ---- rows

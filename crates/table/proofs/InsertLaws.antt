@@ -9,7 +9,8 @@ use lib.ListN.{length, getD, take, drop}
 use lib.Seq.{take-suc, drop-drop}
 use Rattle.walk.specs.Walk.{every}
 use Rattle.table.specs.Table.{Columns, blank, standsBefore, ranged, rows, soundTable, tableOf}
-use Rattle.table.specs.Add.{Inserted, InsertedAll, insert, insertAll, past}
+use Rattle.table.specs.Add.{insert, insertAll}
+use Rattle.table.specs.Steps.{Inserted, InsertedAll, past}
 use Rattle.table.specs.declared.sample.Sample.{Sample}
 use Rattle.table.proofs.Places.{sorted-rises}
 use Rattle.table.proofs.TableLaws.{and-left, and-right, every-at}

@@ -9,7 +9,7 @@ use lib.ListN.{length, getD}
 use lib.Dec.{ltb}
 use borrow.Author.Tests.{ltb-true, ltb-false, le-ltb}
 use Rattle.table.specs.Table.{blank, standsBefore}
-use Rattle.table.specs.Add.{spotOf}
+use Rattle.table.specs.Steps.{spotOf}
 use Rattle.table.specs.declared.sample.Sample.{Sample}
 use Rattle.table.proofs.Places.{placeOf, before-place}
 use Rattle.table.proofs.TableLaws.{SoundTable}

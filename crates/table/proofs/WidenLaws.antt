@@ -13,10 +13,8 @@ use lib.Ieee.{Float}
 use Rattle.walk.proofs.Walk.{or-no}
 use Rattle.numeric.specs.declared.refusal.Refusal.the-variants.{TooMany}
 use Rattle.table.specs.Table.{lent, beside, rows, capacity, tableOf, soundTable}
-use Rattle.table.specs.Add.{addOf}
 use Rattle.table.specs.Widen.{bandsShort, widened, widenOf}
 use Rattle.table.specs.declared.sample.Sample.{Sample}
-use Rattle.table.specs.declared.add.Samples.{Samples}
 use Rattle.table.specs.declared.widen.Widening.the-variants.{Refused, Widened}
 use Rattle.table.proofs.ColumnLaws.{rows-length}
 
@@ -145,9 +143,3 @@ module _ (n : ℕ) (cs vs narrow wide : List ℕ) (ts xs : List Float) (r : Room
       ap (min 2048)
       (rows-length (lent cs vs (widened n narrow wide) ts xs)
       ∙ rw (widened-length n narrow wide (r .in-narrow) (r .in-wide), e) (sym (rows-length (lent cs vs narrow ts xs))))
-
-  -- and every addition comes to what it came to
-  pub add-widened : (new : Samples) → length wide ≡ length narrow
-      → addOf n (capacity (lent cs vs (widened n narrow wide) ts xs)) (tableOf n (lent cs vs (widened n narrow wide) ts xs)) new
-      ≡ addOf n (capacity (lent cs vs narrow ts xs)) (tableOf n (lent cs vs narrow ts xs)) new
-  add-widened new e = rw (capacity-widened e, table-widened)

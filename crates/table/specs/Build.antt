@@ -17,7 +17,7 @@ unfoldable pub sortTimes : List Sample → List Sample
 sortTimes [] = []
 sortTimes (s ∷ l) = put s (sortTimes l)
 
--- the signal g among signals in ascending order, each of which stands there once
+-- the signal g among signals in ascending order, each of them there once
 unfoldable pub withSignal : ℕ → List ℕ → List ℕ
 withSignal g [] = g ∷ []
 withSignal g (h ∷ hs) = cond (ltb g h) (g ∷ h ∷ hs) (cond (eqb g h) (h ∷ hs) (h ∷ withSignal g hs))

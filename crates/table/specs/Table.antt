@@ -60,11 +60,11 @@ signalOf s = signal (s .constellation) (s .svid) (s .band)
 unfoldable pub timeBefore : Float → Float → Bool
 timeBefore t u = not (totalOrder (patternOf u) (patternOf t))
 
--- the sample a stands before b: by its signal, and where the signals are equal by its time
+-- the sample a precedes b: by its signal, and where the signals are equal by its time
 unfoldable pub standsBefore : Sample → Sample → Bool
 standsBefore a b = ltb (signalOf a) (signalOf b) || (eqb (signalOf a) (signalOf b) && timeBefore (a .time) (b .time))
 
--- none stands before the one ahead of it, which is p for the first
+-- none precedes the one ahead of it, which is p for the first
 unfoldable pub sortedFrom : Sample → List Sample → Bool
 sortedFrom p [] = true
 sortedFrom p (s ∷ ss) = not (standsBefore s p) && sortedFrom s ss

@@ -25,7 +25,7 @@ abbrev pub wideningNumber : Widening → ℕ
 wideningNumber (Refused r) = numberOf r
 wideningNumber Widened = 0
 
--- the new column afterwards: as it was where widening is refused, else with the bands
+-- the new column afterwards: unchanged where widening is refused, else with the bands
 abbrev pub bandsAfter : Widening → ℕ → List ℕ → List ℕ → List ℕ
 bandsAfter (Refused r) n narrow wide = wide
 bandsAfter Widened n narrow wide = widened n narrow wide

@@ -1,11 +1,13 @@
 // Samples added to a table, each after those that it does not precede.
 ghost use mathlib.Core.Path.{_≡_};
-ghost use mathlib.Core.Bool.{true};
-ghost use Prim.Native.Nat.{_+_, _-_, _≤_, _<_};
+ghost use mathlib.Core.List.{[], _∷_};
+ghost use Prim.Native.Nat.{_-_, _≤_, _<_};
 ghost use lib.ListN.{length, take};
 ghost use Rattle.walk.specs.Walk.{every};
-ghost use Rattle.table.specs.Table.{lent, rows, tableOf, ranged, soundTable};
-ghost use Rattle.table.specs.Add.{spotOf, opened, Inserted, InsertedAll, counted};
+ghost use Rattle.table.specs.Table.{ranged, tableOf};
+ghost use Rattle.table.specs.Add.{counted};
+ghost use Rattle.table.specs.Lent.{columnsBefore, columnsNow};
+ghost use Rattle.table.specs.Steps.{Inserts, RoomForAll, RoomForOne, SoundRows, opened, spotOf};
 use crate::sample::Sample;
 use crate::sample::is_ranged;
 use crate::sample::precedes;
@@ -18,17 +20,16 @@ pub struct Samples {
     pub samples: [Sample; 64],
 }
 
-// What comes of tests: the refusal of the first that fails, or that all passed.
+// The outcome of tests: the refusal of the first that fails, or that all passed.
 pub enum Test {
     Refused(Refusal),
     Passed,
 }
 
-// How many samples at the front of a sound table the sample s does not precede.
+// Counts the samples at the front of a sound table that the sample s does not precede.
 fn spot_of(cs: &[u8], vs: &[u16], bs: &[u32], ts: &[f64], xs: &[f64], n: usize, s: Sample) -> usize
-    requires { ⌜ n ≤ length (rows (lent (now cs) (now vs) (now bs) (now ts) (now xs))) ⌝ }
-    requires { ⌜ soundTable (tableOf n (lent (now cs) (now vs) (now bs) (now ts) (now xs))) ≡ true ⌝ }
-    ensures { λ r. ⌜ r ≡ spotOf s (tableOf n (lent (now (cs .entry)) (now (vs .entry)) (now (bs .entry)) (now (ts .entry)) (now (xs .entry)))) ⌝ }
+    requires { ⌜ SoundRows n (columnsNow cs vs bs ts xs) ⌝ }
+    ensures { λ r. ⌜ r ≡ spotOf s (tableOf n (columnsBefore cs vs bs ts xs)) ⌝ }
 {
     let mut p = n;
     while p > 0 {
@@ -41,7 +42,7 @@ fn spot_of(cs: &[u8], vs: &[u16], bs: &[u32], ts: &[f64], xs: &[f64], n: usize, 
     p
 }
 
-// x at the place p of a column of which n places are in use, what stood there moved up by one.
+// Inserts x at the place p of a column with n places in use, moving those from p on up by one.
 fn open_u8(d: &mut [u8], p: usize, n: usize, x: u8)
     requires { ⌜ (p ≤ n) × (n < length (now d)) ⌝ }
     ensures { λ _. ⌜ now (d .exit) ≡ opened p (n - p) x (now (d .entry)) ⌝ }
@@ -54,7 +55,7 @@ fn open_u8(d: &mut [u8], p: usize, n: usize, x: u8)
     d[i] = x;
 }
 
-// The same for 16-bit numbers.
+// Inserts a 16-bit number likewise.
 fn open_u16(d: &mut [u16], p: usize, n: usize, x: u16)
     requires { ⌜ (p ≤ n) × (n < length (now d)) ⌝ }
     ensures { λ _. ⌜ now (d .exit) ≡ opened p (n - p) x (now (d .entry)) ⌝ }
@@ -67,7 +68,7 @@ fn open_u16(d: &mut [u16], p: usize, n: usize, x: u16)
     d[i] = x;
 }
 
-// The same for 32-bit numbers.
+// Inserts a 32-bit number likewise.
 fn open_u32(d: &mut [u32], p: usize, n: usize, x: u32)
     requires { ⌜ (p ≤ n) × (n < length (now d)) ⌝ }
     ensures { λ _. ⌜ now (d .exit) ≡ opened p (n - p) x (now (d .entry)) ⌝ }
@@ -80,7 +81,7 @@ fn open_u32(d: &mut [u32], p: usize, n: usize, x: u32)
     d[i] = x;
 }
 
-// The same for floats.
+// Inserts a float likewise.
 fn open_f64(d: &mut [f64], p: usize, n: usize, x: f64)
     requires { ⌜ (p ≤ n) × (n < length (now d)) ⌝ }
     ensures { λ _. ⌜ now (d .exit) ≡ opened p (n - p) x (now (d .entry)) ⌝ }
@@ -93,7 +94,7 @@ fn open_f64(d: &mut [f64], p: usize, n: usize, x: f64)
     d[i] = x;
 }
 
-// The sample s into the n samples of a sound table that has room for it.
+// Inserts the sample s into the n samples of a sound table that has room for it.
 fn insert(
     cs: &mut [u8],
     vs: &mut [u16],
@@ -103,10 +104,8 @@ fn insert(
     n: usize,
     s: Sample,
 )
-    requires { ⌜ n < length (rows (lent (now cs) (now vs) (now bs) (now ts) (now xs))) ⌝ }
-    requires { ⌜ soundTable (tableOf n (lent (now cs) (now vs) (now bs) (now ts) (now xs))) ≡ true ⌝ }
-    ensures { λ _. ⌜ Inserted n s (lent (now (cs .entry)) (now (vs .entry)) (now (bs .entry)) (now (ts .entry)) (now (xs .entry)))
-        (lent (now (cs .exit)) (now (vs .exit)) (now (bs .exit)) (now (ts .exit)) (now (xs .exit))) ⌝ }
+    requires { ⌜ RoomForOne n (columnsNow cs vs bs ts xs) ⌝ }
+    ensures { λ _. ⌜ Inserts n 1 (s ∷ []) cs vs bs ts xs ⌝ }
 {
     let p = spot_of(cs, vs, bs, ts, xs, n, s);
     open_u8(cs, p, n, s.constellation);
@@ -116,7 +115,7 @@ fn insert(
     open_f64(xs, p, n, s.correction);
 }
 
-// The first m samples of new, one after the other, into the n samples of a sound table that has room for them all.
+// Inserts the first m samples of new, one after the other, into the n samples of a sound table that has room for them all.
 pub fn insert_all(
     cs: &mut [u8],
     vs: &mut [u16],
@@ -127,12 +126,8 @@ pub fn insert_all(
     new: [Sample; 64],
     m: usize,
 )
-    requires { ⌜ m ≤ 64 ⌝ }
-    requires { ⌜ n + m ≤ length (rows (lent (now cs) (now vs) (now bs) (now ts) (now xs))) ⌝ }
-    requires { ⌜ soundTable (tableOf n (lent (now cs) (now vs) (now bs) (now ts) (now xs))) ≡ true ⌝ }
-    requires { ⌜ every ranged (take m new) ≡ true ⌝ }
-    ensures { λ _. ⌜ InsertedAll n m (take m new) (lent (now (cs .entry)) (now (vs .entry)) (now (bs .entry)) (now (ts .entry)) (now (xs .entry)))
-        (lent (now (cs .exit)) (now (vs .exit)) (now (bs .exit)) (now (ts .exit)) (now (xs .exit))) ⌝ }
+    requires { ⌜ RoomForAll n new m (columnsNow cs vs bs ts xs) ⌝ }
+    ensures { λ _. ⌜ Inserts n m (take m new) cs vs bs ts xs ⌝ }
 {
     let mut i: usize = 0;
     while i < m {
@@ -142,7 +137,7 @@ pub fn insert_all(
     }
 }
 
-// Whether rule 4 lets the counted samples pass.
+// Checks that every counted sample is in range (rule 4).
 pub fn all_ranged(new: Samples) -> bool
     requires { ⌜ new .count ≤ 64 ⌝ }
     ensures { λ r. ⌜ r ≡ every ranged (counted new) ⌝ }

@@ -4,12 +4,14 @@ ghost use mathlib.Core.Bool.{_&&_, _||_};
 ghost use Prim.Native.Nat.{_≤_, _<_, min};
 ghost use lib.ListN.{length, getD};
 ghost use lib.Dec.{ltb, eqb};
-ghost use Rattle.table.specs.Table.{lent, rows, blank, capacity, tableOf, timeBefore, standsBefore, ranged, soundTable};
+ghost use Rattle.table.specs.Table.{blank, capacity, ranged, rows, soundTable, standsBefore, tableOf, timeBefore};
+ghost use Rattle.table.specs.Lent.{columnsBefore, columnsNow};
 use numeric::order::before;
 use numeric::order::pattern;
 use numeric::real::in_range;
 use signal::signal::signal_of;
 
+// A correction of one signal at one time.
 pub struct Sample {
     pub constellation: u8,
     pub svid: u16,
@@ -18,7 +20,7 @@ pub struct Sample {
     pub correction: f64,
 }
 
-// Whether the time t comes before u in totalOrder and is not u. Where one number is below the other (5.10 a, b), they are compared as they are.
+// Checks that the time t is strictly before u in totalOrder. Where one number is below the other (5.10 a, b), they are compared as they are.
 pub fn is_earlier(t: f64, u: f64) -> bool
     ensures { λ r. ⌜ r ≡ timeBefore t u ⌝ }
 {
@@ -31,16 +33,16 @@ pub fn is_earlier(t: f64, u: f64) -> bool
     !before(pattern(u), pattern(t))
 }
 
-// The lesser of a and b.
+// Returns the smaller of a and b.
 fn lesser(a: usize, b: usize) -> usize
     ensures { λ r. ⌜ r ≡ min a b ⌝ }
 {
     if a < b { a } else { b }
 }
 
-// How many samples the columns have room for.
+// Returns how many samples the columns have room for.
 pub fn capacity_of(cs: &[u8], vs: &[u16], bs: &[u32], ts: &[f64], xs: &[f64]) -> usize
-    ensures { λ r. ⌜ r ≡ capacity (lent (now (cs .entry)) (now (vs .entry)) (now (bs .entry)) (now (ts .entry)) (now (xs .entry))) ⌝ }
+    ensures { λ r. ⌜ r ≡ capacity (columnsBefore cs vs bs ts xs) ⌝ }
 {
     lesser(
         2048,
@@ -51,10 +53,10 @@ pub fn capacity_of(cs: &[u8], vs: &[u16], bs: &[u32], ts: &[f64], xs: &[f64]) ->
     )
 }
 
-// The row at i.
+// Reads the row at i.
 pub fn sample_at(cs: &[u8], vs: &[u16], bs: &[u32], ts: &[f64], xs: &[f64], i: usize) -> Sample
-    requires { ⌜ i < length (rows (lent (now cs) (now vs) (now bs) (now ts) (now xs))) ⌝ }
-    ensures { λ r. ⌜ r ≡ getD (rows (lent (now (cs .entry)) (now (vs .entry)) (now (bs .entry)) (now (ts .entry)) (now (xs .entry)))) i blank ⌝ }
+    requires { ⌜ i < length (rows (columnsNow cs vs bs ts xs)) ⌝ }
+    ensures { λ r. ⌜ r ≡ getD (rows (columnsBefore cs vs bs ts xs)) i blank ⌝ }
 {
     Sample {
         constellation: cs[i],
@@ -65,7 +67,7 @@ pub fn sample_at(cs: &[u8], vs: &[u16], bs: &[u32], ts: &[f64], xs: &[f64], i: u
     }
 }
 
-// Whether a sample of the signal s at the time t stands before one of the signal h at the time u.
+// Checks that a sample of the signal s at the time t precedes one of the signal h at the time u.
 pub fn is_below(s: u64, t: f64, h: u64, u: f64) -> bool
     ensures { λ r. ⌜ r ≡ (ltb s h || (eqb s h && timeBefore t u)) ⌝ }
 {
@@ -75,7 +77,7 @@ pub fn is_below(s: u64, t: f64, h: u64, u: f64) -> bool
     is_earlier(t, u)
 }
 
-// Whether a stands before b in the table's order.
+// Checks that a precedes b in the table's order.
 pub fn precedes(a: Sample, b: Sample) -> bool
     ensures { λ r. ⌜ r ≡ standsBefore a b ⌝ }
 {
@@ -84,17 +86,17 @@ pub fn precedes(a: Sample, b: Sample) -> bool
     is_below(g, a.time, h, b.time)
 }
 
-// Whether time and correction are in range.
+// Checks that time and correction are in range.
 pub fn is_ranged(s: Sample) -> bool
     ensures { λ r. ⌜ r ≡ ranged s ⌝ }
 {
     in_range(s.time) & in_range(s.correction)
 }
 
-// Whether rule 4 lets the first n samples pass, in one pass.
+// Checks rule 4 for the first n samples, in one pass.
 pub fn is_sound(cs: &[u8], vs: &[u16], bs: &[u32], ts: &[f64], xs: &[f64], n: usize) -> bool
-    requires { ⌜ n ≤ length (rows (lent (now cs) (now vs) (now bs) (now ts) (now xs))) ⌝ }
-    ensures { λ r. ⌜ r ≡ soundTable (tableOf n (lent (now (cs .entry)) (now (vs .entry)) (now (bs .entry)) (now (ts .entry)) (now (xs .entry)))) ⌝ }
+    requires { ⌜ n ≤ length (rows (columnsNow cs vs bs ts xs)) ⌝ }
+    ensures { λ r. ⌜ r ≡ soundTable (tableOf n (columnsBefore cs vs bs ts xs)) ⌝ }
 {
     if n == 0 {
         return true;

@@ -11,7 +11,7 @@ pub enum Widening {
     Widened,
 }
 
-// The first n bands.
+// Writes the first n bands.
 fn widen_all(narrow: &[u8], n: usize, wide: &mut [u32])
     requires { ⌜ (n ≤ length (now narrow)) × (n ≤ length (now wide)) ⌝ }
     ensures { λ _. ⌜ now (wide .exit) ≡ widened n (now (narrow .entry)) (now (wide .entry)) ⌝ }
@@ -23,9 +23,10 @@ fn widen_all(narrow: &[u8], n: usize, wide: &mut [u32])
     }
 }
 
-// The first n bands of narrow at the front of wide, or the refusal, which leaves wide as it was.
+// Writes the first n bands of narrow to the front of wide. On refusal, returns it and changes nothing.
 pub fn widen_bands(narrow: &[u8], n: usize, wide: &mut [u32]) -> Widening
-    ensures { λ r. ⌜ (r ≡ widenOf n (now (narrow .entry)) (now (wide .entry))) × (now (wide .exit) ≡ bandsAfter r n (now (narrow .entry)) (now (wide .entry))) ⌝ }
+    ensures { λ r. ⌜ (let old = now (narrow .entry) in
+        (r ≡ widenOf n old (now (wide .entry))) × (now (wide .exit) ≡ bandsAfter r n old (now (wide .entry)))) ⌝ }
 {
     if (2048 < n) | (narrow.len() < n) | (wide.len() < n) {
         return Widening::Refused(Refusal::TooMany);

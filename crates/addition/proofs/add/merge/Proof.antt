@@ -21,22 +21,22 @@ entries-after-requires c κs =
 
 merge-readings-requires : tie.Need-merge-readings-requires
 merge-readings-requires c κs =
-    let s = c .before .before .before .before .before .before .before .before .before .before .before .before .before .before .before .before .before .before .before .before .before .before .before .before .before in
+    let s = c .before .before .before .before .before .before .before .before .before .before .before .before .before .before .before .before .before .before .before .before .before .before .before .before in
     let f = s .pre .0 in
-    ((f .entries-fit, f .room-readings), (f .steady, s .pre .1))
+    record { counts = s .args .block-samples .now; held = record { few = f .entries-fit; steady = f .steady }; room = f .room-readings; new = s .pre .1 }
 
 merge-entries-requires : tie.Need-merge-entries-requires
 merge-entries-requires c κs =
-    let s = c .before .before .before .before .before .before .before .before .before .before .before .before .before .before .before .before .before .before .before .before .before .before .before .before .before .before .before .before .before .before .before .before .before .before .before in
+    let s = c .before .before .before .before .before .before .before .before .before .before .before .before .before .before .before .before .before .before .before .before .before .before .before .before .before .before .before .before .before .before .before .before .before .before in
     let a = s .args in
     let f = s .pre .0 in
     let o = signals-by f (a .new-constellation .now) (a .new-svid .now) (a .new-band .now) (a .new-time .now) (a .new-metres .now) (s .pre .1 .0) (s .pre .1 .1) in
     let z = rows-length (lent (a .new-constellation .now) (a .new-svid .now) (a .new-band .now) (a .new-time .now) (a .new-metres .now)) in
-    let q = c .before .before .before .before .before .before .before .before .before .before .before .before .before .before .before .before .before .entries-after .ensures (take (a .table-count) (readingRows (floats (a .table-time .now)) (floats (a .table-metres .now)))) (tableOf (a .new-count) (lent (a .new-constellation .now) (a .new-svid .now) (a .new-band .now) (a .new-time .now) (a .new-metres .now))) (sizes f) o ∙ ap length (entries-all f (a .new-constellation .now) (a .new-svid .now) (a .new-band .now) (a .new-time .now) (a .new-metres .now) (s .pre .1 .0) (s .pre .1 .1)) in (
+    let q = c .before .before .before .before .before .before .before .before .before .before .before .before .before .before .before .before .entries-after .ensures (take (a .table-count) (readingRows (floats (a .table-time .now)) (floats (a .table-metres .now)))) (tableOf (a .new-count) (lent (a .new-constellation .now) (a .new-svid .now) (a .new-band .now) (a .new-time .now) (a .new-metres .now))) (sizes f) o ∙ ap length (entries-all f (a .new-constellation .now) (a .new-svid .now) (a .new-band .now) (a .new-time .now) (a .new-metres .now) (s .pre .1 .0) (s .pre .1 .1)) in (
       tiled-by f,
       (
         (omega (arith, f .room), (omega (arith, z, s .pre .1 .0), (omega (arith, z, s .pre .1 .0), omega (arith, z, s .pre .1 .0)))),
-        (record { samples = (tableOf (a .new-count) (lent (a .new-constellation .now) (a .new-svid .now) (a .new-band .now) (a .new-time .now) (a .new-metres .now))); of = o }, (omega (arith, q, count-fits f (a .new-constellation .now) (a .new-svid .now) (a .new-band .now) (a .new-time .now) (a .new-metres .now) (s .pre .1 .0) (s .pre .1 .1), f .room-entries), c .before .before .before .before .before .before .before .before .before .before .before .before .before .before .before .before .before .entries-after .ensures)),
+        (record { samples = (tableOf (a .new-count) (lent (a .new-constellation .now) (a .new-svid .now) (a .new-band .now) (a .new-time .now) (a .new-metres .now))); of = o }, (omega (arith, q, count-fits f (a .new-constellation .now) (a .new-svid .now) (a .new-band .now) (a .new-time .now) (a .new-metres .now) (s .pre .1 .0) (s .pre .1 .1), f .room-entries), c .before .before .before .before .before .before .before .before .before .before .before .before .before .before .before .before .entries-after .ensures)),
       ),
     )
 
@@ -63,13 +63,14 @@ same-length-7 c = search needs
 
 returns : tie.Need-returns
 returns c =
-    let s = c .before .before .before .before .before .before .before .before .before .before .before .before .before .before .before .before .before .before .before .before .before .before .before .before .before .before .before .before .before .before .before .before .before .before .before .before .before .before .before .before .before .before .before .before .before .before in
+    let s = c .before .before .before .before .before .before .before .before .before .before .before .before .before .before .before .before .before .before .before .before .before .before .before .before .before .before .before .before .before .before .before .before .before .before .before .before .before .before .before .before .before .before .before .before .before in
     let a = s .args in
     let f = s .pre .0 in
+    let readings = c .before .before .before .before .before .before .before .before .before .before .before .before .before .before .before .before .before .before .before .before .merge-readings .ensures (a .block-samples .now) (record { few = f .entries-fit; steady = f .steady }) in
     let o = signals-by f (a .new-constellation .now) (a .new-svid .now) (a .new-band .now) (a .new-time .now) (a .new-metres .now) (s .pre .1 .0) (s .pre .1 .1) in
     let z = rows-length (lent (a .new-constellation .now) (a .new-svid .now) (a .new-band .now) (a .new-time .now) (a .new-metres .now)) in (
-      c .before .before .before .before .before .before .before .before .before .before .before .before .before .before .before .before .before .before .before .before .before .before .before .before .before .before .before .before .entries-after .ensures (take (a .table-count) (readingRows (floats (a .table-time .now)) (floats (a .table-metres .now)))) (tableOf (a .new-count) (lent (a .new-constellation .now) (a .new-svid .now) (a .new-band .now) (a .new-time .now) (a .new-metres .now))) (sizes f) o ∙ ap length (entries-all f (a .new-constellation .now) (a .new-svid .now) (a .new-band .now) (a .new-time .now) (a .new-metres .now) (s .pre .1 .0) (s .pre .1 .1)),
-      (columns-all f (a .new-constellation .now) (a .new-svid .now) (a .new-band .now) (a .new-time .now) (a .new-metres .now) (s .pre .1 .0) (s .pre .1 .1) (c .before .before .before .before .before .before .before .before .before .before .merge-entries .ensures (take (a .table-count) (readingRows (floats (a .table-time .now)) (floats (a .table-metres .now)))) (tableOf (a .new-count) (lent (a .new-constellation .now) (a .new-svid .now) (a .new-band .now) (a .new-time .now) (a .new-metres .now))) (sizes f) o) (c .before .before .before .before .before .before .before .before .before .before .before .before .before .before .before .before .before .before .before .before .merge-readings .ensures .times-read) (c .before .before .before .before .before .before .before .before .before .before .before .before .before .before .before .before .before .before .before .before .merge-readings .ensures .corrections-read), patterns-all _ _ (c .before .before .before .before .before .before .before .before .before .before .before .before .before .before .before .before .before .before .before .before .merge-readings .ensures)),
+      c .before .before .before .before .before .before .before .before .before .before .before .before .before .before .before .before .before .before .before .before .before .before .before .before .before .before .before .entries-after .ensures (take (a .table-count) (readingRows (floats (a .table-time .now)) (floats (a .table-metres .now)))) (tableOf (a .new-count) (lent (a .new-constellation .now) (a .new-svid .now) (a .new-band .now) (a .new-time .now) (a .new-metres .now))) (sizes f) o ∙ ap length (entries-all f (a .new-constellation .now) (a .new-svid .now) (a .new-band .now) (a .new-time .now) (a .new-metres .now) (s .pre .1 .0) (s .pre .1 .1)),
+      (columns-all f (a .new-constellation .now) (a .new-svid .now) (a .new-band .now) (a .new-time .now) (a .new-metres .now) (s .pre .1 .0) (s .pre .1 .1) (c .before .before .before .before .before .before .before .before .before .before .merge-entries .ensures (take (a .table-count) (readingRows (floats (a .table-time .now)) (floats (a .table-metres .now)))) (tableOf (a .new-count) (lent (a .new-constellation .now) (a .new-svid .now) (a .new-band .now) (a .new-time .now) (a .new-metres .now))) (sizes f) o) (readings .times-read) (readings .corrections-read), patterns-all _ _ readings),
     )
 
 pub merge-spec : {M : Type 1} → statement M

@@ -3,7 +3,7 @@ use native.Mathlib.Omega.{arith}
 use mathlib.Core.Path.{refl, sym, ap, _∙_}
 use Prim.Native.Nat.{ℕ}
 use Rattle.directory.specs.Directory.{Blocks, blockCapacity, directoryIn, floats, lentBlocks}
-use Rattle.differential.specs.AddEpoch.{recordsTest}
+use Rattle.differential.specs.Steps.{recordsTest}
 use Rattle.differential.proofs.TestLaws.{passed-records}
 use Rattle.differential.proofs.EpochLaws.{epoch-holds, placed-passed, placed-refused, told-nothing, told-same}
 use borrow.Author.Needs.{needs}

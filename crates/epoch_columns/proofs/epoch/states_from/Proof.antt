@@ -8,13 +8,10 @@ use Rattle.epoch_columns.proofs.epoch.states_from.Statement.{statement}
 use Rattle.epoch_columns.proofs.epoch.states_from.Tie as tie
 
 abbrev Inv-loop : tie.InvT-loop
-Inv-loop present j sc sv sb sf m states₀ i₀ states i = Filling (stateAt sc sv sb sf) m states m i
+Inv-loop present m sc sv sb sf states₀ i₀ states i = Filling (stateAt sc sv sb sf) m states m i
 
 abbrev μ-loop : tie.MeasureT-loop
-μ-loop present j sc sv sb sf m states₀ i₀ states i = m - i
-
-wanted-requires : tie.Need-wanted-requires Inv-loop μ-loop
-wanted-requires c κs = search needs
+μ-loop present m sc sv sb sf states₀ i₀ states i = m - i
 
 loop-holds : tie.Need-loop-holds Inv-loop μ-loop
 loop-holds c = filling-start _ _ _ refl
@@ -36,12 +33,11 @@ loop-less c = search needs
 
 loop-again : tie.Need-loop-again Inv-loop μ-loop
 loop-again c =
-    let w = c .before .before .before in
-    let s = w .before .before .before .before .before in
-    rw (c .state-at .ensures) (filling-next _ _ _ (rw (← w .wanted .ensures) at (s .pre .0)) (c .before .before .loop .inv) (c .before .loop-test .taken))
+    let s = c .before .before .before .before .before .before .before in
+    rw (c .state-at .ensures) (filling-next _ _ _ (s .pre .0) (c .before .before .loop .inv) (c .before .loop-test .taken))
 
 returns : tie.Need-returns Inv-loop μ-loop
-returns c = rw (← c .before .before .wanted .ensures) record { mark = refl; count = refl; states-are = filled _ _ _ (c .before .loop .inv) (c .loop-test .left) }
+returns c = record { mark = refl; count = refl; states-are = filled _ _ _ (c .before .loop .inv) (c .loop-test .left) }
 
 pub states-from-spec : {M : Type 1} → statement M
 states-from-spec =
@@ -49,7 +45,6 @@ states-from-spec =
     (tie.spec
     Inv-loop
     μ-loop
-    wanted-requires
     loop-holds
     state-at-requires
     mul-states

@@ -8,7 +8,7 @@ use Rattle.numeric.specs.Order.{isNanPattern}
 use Rattle.directory.specs.Directory.{Blocks, floats, lentBlocks}
 use Rattle.directory.proofs.DirectoryLaws.{sound-parts}
 use Rattle.directory.proofs.PatternLaws.{floats-length, numbers-in}
-use Rattle.forget.specs.Retain.{Fit}
+use Rattle.forget.specs.Steps.{Fit}
 use Rattle.forget.proofs.PatternLaws.{Beyond, beyond-at, beyond-start, beyond-turn, floats-moved}
 use Rattle.forget.proofs.TrimLaws.{Trimming, here, trimming-start, trimming-turn, trimming-count, trimming-end}
 use Rattle.forget.proofs.retain.trim.Statement.{statement}

@@ -7,7 +7,9 @@ use lib.ListN.{length, getD, take, drop}
 use lib.Seq.{paste}
 use lib.Ieee.{Float, nan, lt}
 use Rattle.walk.specs.Walk.{collect}
-use Rattle.directory.specs.Directory.{Entry, Reading, Directory, Blocks, block, directoryIn, entriesIn, lentBlocks, readingsIn, soundDirectory}
+use denote.Ref.{RefT, now}
+use Rattle.directory.specs.Directory.{Entry, Reading, Directory, Blocks, block, blocksWith, directoryIn, entriesIn, floats, lentBlocks, readingsIn, soundDirectory}
+use Rattle.table.specs.Lent.{LentColumn}
 use Rattle.directory.specs.Series.{front}
 
 -- the first r of the count times from the place first on are before the time, and the next one is not
@@ -43,9 +45,22 @@ pub record Fit (m n : ℕ) (l : Blocks) : Type 0 where
   pub steady : soundDirectory (directoryIn m n l) ≡ true
 
 -- the first samples and the counts of m entries are those of such a directory, whatever its satellites are
-pub record SomeDirectory (m : ℕ) (firsts counts : List ℕ) (ts xs : List Float) : Type 0 where
+pub record SomeDirectory (m : ℕ) (f n t x : RefT (List ℕ)) : Type 0 where
   pub constellations : List ℕ
   pub svids : List ℕ
   pub bands : List ℕ
   pub samples : ℕ
-  pub fit : Fit m samples (lentBlocks constellations svids bands firsts counts ts xs)
+  pub fit : Fit m samples (lentBlocks constellations svids bands (now f) (now n) (floats (now t)) (floats (now x)))
+
+-- the directory afterwards is what the drop leaves of it, whatever its satellites are, and of r samples; past these the bits that were there
+abbrev pub Trims : ℕ → LentColumn → LentColumn → LentColumn → LentColumn → Float → ℕ → Type 0
+Trims m f k t x time r =
+    ((constellations svids bands : List ℕ) (n : ℕ)
+    → (let l = lentBlocks constellations svids bands (now (f .entry)) (now (k .entry)) (floats (now (t .entry))) (floats (now (x .entry))) in
+    let d = trimmed time (directoryIn m n l) in
+    Fit m n l → (r ≡ length (d .readings)) × (lentBlocks constellations svids bands (now (f .exit)) (now (k .exit)) (floats (now (t .exit))) (floats (now (x .exit))) ≡ blocksWith d l)))
+    × ((drop r (now (t .exit)) ≡ drop r (now (t .entry))) × (drop r (now (x .exit)) ≡ drop r (now (x .entry))))
+
+-- a column with k of its values moved down
+abbrev pub MovesDown : ℕ → ℕ → ℕ → LentColumn → Type 0
+MovesDown to from k c = now (c .exit) ≡ movedDown to from k (now (c .entry))

@@ -1,8 +1,8 @@
--- `epoch_columns::lent::added_in` meets its contract. Assumes nothing.
+-- `epoch_columns::lent::counts_into` meets its contract. Assumes nothing.
 use mathlib.Core.Path.{refl}
 use borrow.Author.Needs.{needs}
-use Rattle.epoch_columns.proofs.lent.added_in.Statement.{statement}
-use Rattle.epoch_columns.proofs.lent.added_in.Tie as tie
+use Rattle.epoch_columns.proofs.lent.counts_into.Statement.{statement}
+use Rattle.epoch_columns.proofs.lent.counts_into.Tie as tie
 
 enum-known-answer : tie.Need-enum-known-answer
 enum-known-answer c = search needs
@@ -19,6 +19,6 @@ returns c = rw (c .before .before .answer .given .1) (c .number .ensures, refl, 
 returns-2 : tie.Need-returns-2
 returns-2 c = search needs
 
-pub added-in-spec : {M : Type 1} → statement M
-added-in-spec =
+pub counts-into-spec : {M : Type 1} → statement M
+counts-into-spec =
     tie.close (tie.spec enum-known-answer number-requires enum-known-answer-2 returns returns-2)

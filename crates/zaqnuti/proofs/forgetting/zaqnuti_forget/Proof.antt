@@ -1,8 +1,8 @@
--- `forget::calls::forget_call` meets its contract. Assumes nothing.
+-- `zaqnuti::forgetting::zaqnuti_forget` meets its contract. Assumes nothing.
 use borrow.Author.Needs.{needs}
 use Rattle.forget.proofs.CallLaws.{call-refused, call-count}
-use Rattle.forget.proofs.calls.forget_call.Statement.{statement}
-use Rattle.forget.proofs.calls.forget_call.Tie as tie
+use Rattle.zaqnuti.proofs.forgetting.zaqnuti_forget.Statement.{statement}
+use Rattle.zaqnuti.proofs.forgetting.zaqnuti_forget.Tie as tie
 
 forget-requires : tie.Need-forget-requires
 forget-requires c κs = search needs
@@ -46,8 +46,8 @@ same-length-8 c = search needs
 returns-2 : tie.Need-returns-2
 returns-2 c = (call-count (c .before .before .before .before .before .before .before .before .before .before .before .forget .ensures .1 .0) (c .before .answer2 .given .1), c .before .before .before .before .before .before .before .before .before .before .before .forget .ensures .1 .1)
 
-pub forget-call-spec : {M : Type 1} → statement M
-forget-call-spec =
+pub zaqnuti-forget-spec : {M : Type 1} → statement M
+zaqnuti-forget-spec =
     tie.close
     (tie.spec
     forget-requires
