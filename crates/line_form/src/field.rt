@@ -4,7 +4,7 @@ ghost use mathlib.Core.Bool.{true};
 ghost use Prim.Native.Nat.{_≤_, _<_, _^_};
 ghost use lib.IntN.{pos, negℤ};
 ghost use Rattle.line_form.specs.Field.{plain, isHexDigit, hexValue};
-ghost use Rattle.line_form.specs.Reads.{ReadsNumber, ReadsState, ReadsPattern, ReadsFloat};
+ghost use Rattle.line_form.specs.Steps.{ReadsNumber, ReadsState, ReadsPattern, ReadsFloat};
 use numeric::order::float;
 
 // Whether a field is of the form, and what it says: 0 where it is not.

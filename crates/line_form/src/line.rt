@@ -2,9 +2,8 @@
 ghost use mathlib.Core.Path.{_≡_};
 ghost use Prim.Native.Nat.{_≤_};
 ghost use lib.ListN.{length};
-ghost use Rattle.line_form.specs.Line.{letter, lineOf, firstOf};
-ghost use Rattle.line_form.specs.Fields.{Parted};
-ghost use Rattle.line_form.specs.Reads.{ReadsPlace, ReadsCarrier, ReadsGiven};
+ghost use Rattle.line_form.specs.Line.{letter, lineOf};
+ghost use Rattle.line_form.specs.Steps.{firstLine, Parted, ReadsPlace, ReadsCarrier, ReadsGiven};
 use crate::field::float_of;
 use crate::field::number_of;
 use crate::field::state_of;
@@ -175,7 +174,7 @@ fn given_of(line: &[u8], from: [usize; 12]) -> Giving
 
 pub(crate) fn first_of(line: &[u8]) -> First
     requires { ⌜ length (now line) ≤ 32768 ⌝ }
-    ensures { λ r. ⌜ r ≡ firstOf (now (line .entry)) ⌝ }
+    ensures { λ r. ⌜ r ≡ firstLine (now (line .entry)) ⌝ }
 {
     let fields = fields_of(line);
     if !fields.eleven {

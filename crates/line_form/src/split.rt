@@ -2,8 +2,8 @@
 ghost use mathlib.Core.Path.{_≡_};
 ghost use Prim.Native.Nat.{_+_, _≤_};
 ghost use lib.ListN.{length, drop};
-ghost use Rattle.line_form.specs.Split.{countBefore, field};
-ghost use Rattle.line_form.specs.Fields.{FieldsOf, Parted};
+ghost use Rattle.line_form.specs.Split.{field};
+ghost use Rattle.line_form.specs.Steps.{countBefore, FieldsOf, Parted};
 
 // Where the first byte c at or after `at` stands, or the end.
 pub(crate) fn find(s: &[u8], at: usize, c: u8) -> usize

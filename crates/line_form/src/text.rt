@@ -2,7 +2,7 @@
 ghost use mathlib.Core.Path.{_≡_};
 ghost use Prim.Native.Nat.{_<_, _≤_};
 ghost use lib.ListN.{length, drop};
-ghost use Rattle.line_form.specs.Reads.{Displaces, LinesDisplace, Keeps, ReadsNext};
+ghost use Rattle.line_form.specs.Steps.{Displaces, LinesDisplace, Keeps, ReadsNext};
 use crate::line::First;
 use crate::line::Line;
 use crate::line::first_of;
