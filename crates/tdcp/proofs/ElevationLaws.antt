@@ -1,6 +1,6 @@
 -- Misreading 3, masking previous carriers: two previous epochs that differ only in elevations which 4 lets pass give one displacement. Assumes nothing.
-use mathlib.Core.Path.{_≡_, refl, sym, ap, ap₂, _∙_, fun-ext}
-use mathlib.Core.Bool.{Bool, cond, _&&_}
+use mathlib.Core.Path.{_≡_, refl, sym, ap, _∙_, fun-ext}
+use mathlib.Core.Bool.{cond, _&&_}
 use mathlib.Core.List.{List, [], _∷_, map}
 use lib.Ieee.{Float, le}
 use Rattle.exact.specs.Float.{+0}

@@ -15,11 +15,12 @@ use Rattle.time.specs.declared.time.Seconds.the-variants.{Refused as NoSeconds,
 use Rattle.records.specs.declared.record.Epoch.{Epoch}
 use Rattle.records.specs.declared.pair.Profile.{Profile}
 use Rattle.estimator.specs.Rules.{rule, ruled}
-use Rattle.tdcp.specs.Valid.{settingsPass, dtOf, isTimed, badInterval, intervalRules, givenRules}
+use Rattle.tdcp.specs.Valid.{settingsPass, dtOf, isTimed, badInterval, intervalRules}
 use Rattle.tdcp.specs.Displacement.{input, displacementOf}
 use Rattle.tdcp.specs.declared.displacement.Settings.{Settings}
 use Rattle.tdcp.specs.declared.displacement.Interval.{Interval}
 use Rattle.tdcp.specs.declared.displacement.Interval.the-variants as Interval
+use Rattle.tdcp.specs.Steps.{givenRules}
 
 -- ---- 13, and then 5
 

@@ -17,7 +17,7 @@ use Rattle.estimator.specs.Rounds.{stateAfter}
 use Rattle.quality.specs.Quality.{qualityOf}
 use Rattle.quality.specs.declared.figures.Quality.{Quality}
 use Rattle.quality.specs.declared.figures.Quality.the-variants as Quality
-use Rattle.tdcp.specs.Displacement.{Input, rowAt, kept, fitOf, displacementOf, Accepted}
+use Rattle.tdcp.specs.Displacement.{Input, rowAt, keptPairs, callFit, displacementOf, Accepted}
 use Rattle.tdcp.specs.declared.displacement.Settings.{Settings}
 use Rattle.tdcp.specs.declared.displacement.Delta.{Delta}
 use Rattle.tdcp.specs.declared.displacement.Displacement.{Displacement}
@@ -32,20 +32,20 @@ qualityAt settings k ps x = qualityOf (3 + k .count) (map (rowAt settings k x) p
 
 -- the quality of a call's fit: of the kept pairs at the displacement that the rounds reach, with the final clocks; zero rounds leave both at zero
 unfoldable pub quality : Input → Quality
-quality i = qualityAt (i .settings) (clocksOf (constellations (kept i))) (kept i) (stateAfter (fitOf i .end) zeros)
+quality i = qualityAt (i .settings) (clocksOf (constellations (keptPairs i))) (keptPairs i) (stateAfter (callFit i .end) zeros)
 
 -- a displacement with its figures, or why these are refused
 abbrev pub rate : Delta → Quality → Rated
 rate d (Quality.Refused r) = Refused r
 rate d (Quality.Rated f) = Moved (record { moved = d; chi = f .chi; pdop = f .pdop })
 
-abbrev pub ratedBy : Quality → Displacement → Rated
-ratedBy q (Displacement.Refused r) = Refused r
-ratedBy q (Displacement.Moved d) = rate d q
+abbrev pub ratedWith : Quality → Displacement → Rated
+ratedWith q (Displacement.Refused r) = Refused r
+ratedWith q (Displacement.Moved d) = rate d q
 
 -- refused where the displacement is, by its number; then 10 and 14 of its quality
 unfoldable pub ratedOf : Input → Rated
-ratedOf i = ratedBy (quality i) (displacementOf i)
+ratedOf i = ratedWith (quality i) (displacementOf i)
 
 -- ---- an answer in numbers: its number, which is 0 where it is accepted, its floats, its figures and its counts; a refusal has its number alone
 

@@ -50,10 +50,6 @@ badInterval dt = not (finite dt) || not (lt +0 dt) || lt (whole 604800) dt
 unfoldable pub intervalRules : Interval → List Rule
 intervalRules since = rule BadTime (not (isTimed since)) ∷ rule BadInterval (badInterval (dtOf since)) ∷ []
 
--- 3 to 5 with 13, where `sound` is whether 4 lets every record and the receiver pass
-unfoldable pub givenRules : Settings → Bool → Interval → List Rule
-givenRules settings sound since = rule SettingOutOfRange (not (settingsPass settings)) ∷ rule RecordOutOfRange (not sound) ∷ intervalRules since
-
 -- 7 to 9, of how many pairs there are before screening, how many are kept, and how many clock slots those have
 unfoldable pub fewRules : ℕ → ℕ → ℕ → List Rule
 fewRules pairs kept slots = rule TooFewPairs (ltb pairs 6) ∷ rowRules kept slots

@@ -9,7 +9,8 @@ use Rattle.tdcp.specs.declared.displacement.Delta.{Delta}
 use Rattle.tdcp.specs.declared.displacement.Displacement.{Displacement}
 use Rattle.tdcp.specs.declared.displacement.Displacement.the-variants.{Refused, Moved}
 use Rattle.tdcp.proofs.DisplacementSound.{never, displacement-accepted, given-finite}
-use Rattle.tdcp_columns.specs.Displacement.{Lent, inputOf, isFit, columnsDisplaced, ColumnsPromised, Leaves, DisplacementAnswers}
+use Rattle.tdcp_columns.specs.Displacement.{Lent, inputOf, isFit, columnsDisplaced, Leaves, DisplacementAnswers}
+use Rattle.tdcp_columns.specs.Steps.{ColumnsPromised}
 
 module _ (l : Lent) where
   -- a displacement that was accepted is that of columns that fit

@@ -19,7 +19,7 @@ use Rattle.tdcp.specs.declared.displacement.Interval.the-variants as Interval
 use Rattle.tdcp.specs.declared.displacement.Displacement.{Displacement}
 use Rattle.tdcp.specs.declared.displacement.Displacement.the-variants.{Refused}
 use Rattle.tdcp.proofs.IntervalLaws.{at-dt}
-use Rattle.tdcp_columns.specs.Displacement.{Lent, lent, inputOf, isFit, columnsDisplaced, deltaAfter, countsAfter, Leaves, DisplacementAnswers}
+use Rattle.tdcp_columns.specs.Displacement.{Lent, lent, inputOf, isFit, columnsDisplaced, deltaAfter, countsAfter, DisplacementAnswers}
 use Rattle.tdcp.specs.Displacement.{displacementNumber}
 
 -- the same number, and the same bits in the lent results

@@ -1,12 +1,11 @@
 -- Rated displacements of a caller's columns: the answer, its number, and what the lent results hold afterwards. Definitions only.
 use Prim.Native.Nat.{ℕ}
 use mathlib.Core.Path.{_≡_}
-use mathlib.Core.Bool.{Bool, cond}
+use mathlib.Core.Bool.{cond}
 use mathlib.Core.List.{List, map}
 use Rattle.numeric.specs.Order.{patternOf}
 use Rattle.numeric.specs.declared.refusal.Refusal.the-variants.{TooMany}
 use Rattle.tdcp.specs.Rated.{ratedOf, ratedNumber, ratedFloats, ratedFigures, ratedCounts, RatedAccepted}
-use Rattle.tdcp.specs.Rows.{answerOf}
 use Rattle.tdcp.specs.declared.displacement.RatedDelta.{RatedDelta}
 use Rattle.tdcp.specs.declared.displacement.Rated.{Rated}
 use Rattle.tdcp.specs.declared.displacement.Rated.the-variants.{Refused, Moved}
@@ -41,7 +40,3 @@ pub record RatedLeaves (a : Rated) (number : ℕ) (delta₀ delta quality₀ qua
 pub record RatedAnswers (l : Lent) (number : ℕ) (delta₀ delta quality₀ quality counts₀ counts : List ℕ) : Type 0 where
   pub leaves : RatedLeaves (columnsRated l) number delta₀ delta quality₀ quality counts₀ counts
   pub accepted : (d : RatedDelta) → columnsRated l ≡ Moved d → RatedAccepted (inputOf l) d
-
--- ---- the code's answer, with its figures where they are wanted
-unfoldable pub columnsAnswered : Bool → Lent → Rated
-columnsAnswered wanted l = cond (isFit l) (answerOf wanted (inputOf l)) (Refused TooMany)

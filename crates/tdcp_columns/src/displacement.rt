@@ -4,7 +4,7 @@ ghost use lib.ListN.{length};
 ghost use Rattle.records.specs.Carriers.{carrierColumns, epochFits};
 ghost use Rattle.numeric.specs.Vec3.{vectorAt};
 ghost use Rattle.tdcp_columns.specs.Displacement as spec;
-ghost use Rattle.tdcp_columns.specs.Rated.{columnsAnswered};
+ghost use Rattle.tdcp_columns.specs.Steps.{FitInto, ColumnsPromised, columnsAnswered};
 use crate::settings::displacement_settings;
 use numeric::refusal::Refusal;
 use numeric::vec3::vector;
@@ -49,7 +49,7 @@ fn fit_into(
     signals: &mut [u64; 64],
 ) -> bool
     requires { ⌜ length (now signals) ≡ 64 ⌝ }
-    ensures { λ r. ⌜ spec.FitInto (carrierColumns (now (constellation .entry)) (now (svid .entry)) (now (band .entry))
+    ensures { λ r. ⌜ FitInto (carrierColumns (now (constellation .entry)) (now (svid .entry)) (now (band .entry))
         (now (state .entry)) (now (floats .entry))) n r (now (signals .exit)) ⌝ }
 {
     if !epoch_fits(constellation, svid, band, state, floats, n) {
@@ -152,7 +152,7 @@ pub fn columns_displaced(
         (now («previous_state» .entry)) (now («previous_floats» .entry)) in
         let current = carrierColumns (now («current_constellation» .entry)) (now («current_svid» .entry)) (now («current_band» .entry))
         (now («current_state» .entry)) (now («current_floats» .entry)) in
-        spec.ColumnsPromised (spec.lent previous «previous_count» current «current_count» since
+        ColumnsPromised (spec.lent previous «previous_count» current «current_count» since
         (vectorAt (now (receiver .entry)) 0) (spec.displacementSettings (now (settings .entry)) rounds) profile) r) ⌝ }
 {
     let answer = columns_answered(

@@ -1,4 +1,4 @@
--- `tdcp::displacement::moved_by` meets its contract. Assumes nothing.
+-- `tdcp::moved::moved_by` meets its contract. Assumes nothing.
 use mathlib.Core.Path.{_≡_, refl, sym, ap₂, _∙_}
 use native.Mathlib.Omega.{arith}
 use lib.ListN.{length, take, length-take}
@@ -9,13 +9,13 @@ use Rattle.estimator.specs.declared.rules.Check.the-variants.{Passed}
 use Rattle.estimator.proofs.RulesLaws.{checked}
 use Rattle.tdcp.specs.Front.{sightRules}
 use Rattle.tdcp.proofs.SightLaws.{all-seen, one-unseen}
-use Rattle.tdcp.specs.Rows.{answerBy, qualityBy}
+use Rattle.tdcp.specs.Steps.{answeredBy, qualityBy}
 use Rattle.tdcp.proofs.RatedLaws.{refused-as}
 use Rattle.tdcp.proofs.DisplacementCall.{refused-sights, no-more, refused-counts, few-clocks, over, quality-over}
 use borrow.Author.Needs.{needs}
 use Rattle.records.specs.City.{isCity}
-use Rattle.tdcp.proofs.displacement.moved_by.Statement.{statement}
-use Rattle.tdcp.proofs.displacement.moved_by.Tie as tie
+use Rattle.tdcp.proofs.moved.moved_by.Statement.{statement}
+use Rattle.tdcp.proofs.moved.moved_by.Tie as tie
 
 -- the pairs counted
 long : (c : tie.Start) → c .args .all .count ≡ length (take (c .args .all .count) (c .args .all .pair))
@@ -86,7 +86,7 @@ returns-3 c =
     let t = c .before .before .before .before .before .before .before .before .before .before .before .before .before .before .before .before .before .before .before .before .before .before in
     let s = t .args in
     let k = c .before .before .before .before .before .before .before .before .before .before .before .before .before .before .before .keep-into .ensures in
-    c .moved-over .ensures ∙ ap₂ (answerBy (s .wanted)) (quality-over (isCity (s .profile)) (s .settings) (take (s .all .count) (s .all .pair)) (s .all .count) (long t) (let-pass (c .before .before .before .before .before .before .before .before .before .before .before .before .before .before)) _ k (c .before .before .before .before .before .before .before .before .before .before .before .before .clocks-of .ensures) (c .before .before .before .before .before .before .before .before .before .before .is-uncertified .ensures) (sym (c .before .before .before .before .before .before .before .enum-told .given .1) ∙ c .before .before .before .before .before .before .before .before .before .check-pairs .ensures)) (over (isCity (s .profile)) (s .settings) (take (s .all .count) (s .all .pair)) (s .all .count) (long t) (let-pass (c .before .before .before .before .before .before .before .before .before .before .before .before .before .before)) _ k (c .before .before .before .before .before .before .before .before .before .before .before .before .clocks-of .ensures) (c .before .before .before .before .before .before .before .before .before .before .is-uncertified .ensures) (sym (c .before .before .before .before .before .before .before .enum-told .given .1) ∙ c .before .before .before .before .before .before .before .before .before .check-pairs .ensures) refl)
+    c .moved-over .ensures ∙ ap₂ (answeredBy (s .wanted)) (quality-over (isCity (s .profile)) (s .settings) (take (s .all .count) (s .all .pair)) (s .all .count) (long t) (let-pass (c .before .before .before .before .before .before .before .before .before .before .before .before .before .before)) _ k (c .before .before .before .before .before .before .before .before .before .before .before .before .clocks-of .ensures) (c .before .before .before .before .before .before .before .before .before .before .is-uncertified .ensures) (sym (c .before .before .before .before .before .before .before .enum-told .given .1) ∙ c .before .before .before .before .before .before .before .before .before .check-pairs .ensures)) (over (isCity (s .profile)) (s .settings) (take (s .all .count) (s .all .pair)) (s .all .count) (long t) (let-pass (c .before .before .before .before .before .before .before .before .before .before .before .before .before .before)) _ k (c .before .before .before .before .before .before .before .before .before .before .before .before .clocks-of .ensures) (c .before .before .before .before .before .before .before .before .before .before .is-uncertified .ensures) (sym (c .before .before .before .before .before .before .before .enum-told .given .1) ∙ c .before .before .before .before .before .before .before .before .before .check-pairs .ensures) refl)
 
 pub moved-by-spec : {M : Type 1} → statement M
 moved-by-spec =

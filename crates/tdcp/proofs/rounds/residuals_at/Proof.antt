@@ -1,14 +1,14 @@
--- `tdcp::displacement::residuals_at` meets its contract. Assumes nothing.
+-- `tdcp::rounds::residuals_at` meets its contract. Assumes nothing.
 use Prim.Native.Nat.{ℕ, _-_, _≤_}
 use mathlib.Core.List.{List}
 use lib.ListN.{getD}
 use lib.Ieee.{Float, nan}
 use Rattle.records.proofs.KeepLaws.{Filled, filled-start, filled-more}
-use Rattle.tdcp.specs.Rows.{residualOf}
+use Rattle.tdcp.specs.Steps.{residualOf}
 use borrow.Author.Needs.{needs}
 use native.Mathlib.Omega.{arith}
-use Rattle.tdcp.proofs.displacement.residuals_at.Statement.{statement}
-use Rattle.tdcp.proofs.displacement.residuals_at.Tie as tie
+use Rattle.tdcp.proofs.rounds.residuals_at.Statement.{statement}
+use Rattle.tdcp.proofs.rounds.residuals_at.Tie as tie
 
 -- the residual of each place at the state s
 abbrev residualAt : List Float → List Float → List Float → List ℕ → List Float → List Float → ℕ → ℕ

@@ -1,8 +1,8 @@
--- `tdcp::displacement::rate` meets its contract. Assumes nothing.
+-- `tdcp::rating::rate` meets its contract. Assumes nothing.
 use Rattle.tdcp.proofs.RatedLaws.{rate-no, rate-yes}
 use borrow.Author.Needs.{needs}
-use Rattle.tdcp.proofs.displacement.rate.Statement.{statement}
-use Rattle.tdcp.proofs.displacement.rate.Tie as tie
+use Rattle.tdcp.proofs.rating.rate.Statement.{statement}
+use Rattle.tdcp.proofs.rating.rate.Tie as tie
 
 enum-known-quality : tie.Need-enum-known-quality
 enum-known-quality c = search needs

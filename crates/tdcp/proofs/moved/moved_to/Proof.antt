@@ -1,10 +1,10 @@
--- `tdcp::displacement::moved_to` meets its contract. Assumes nothing.
+-- `tdcp::moved::moved_to` meets its contract. Assumes nothing.
 use Rattle.estimator.specs.Rules.{ruled}
 use Rattle.estimator.specs.Rounds.{finiteAt}
 use Rattle.tdcp.specs.Displacement.{endRules}
 use borrow.Author.Needs.{needs}
-use Rattle.tdcp.proofs.displacement.moved_to.Statement.{statement}
-use Rattle.tdcp.proofs.displacement.moved_to.Tie as tie
+use Rattle.tdcp.proofs.moved.moved_to.Statement.{statement}
+use Rattle.tdcp.proofs.moved.moved_to.Tie as tie
 
 array-read-t8 : tie.Need-array-read-t8
 array-read-t8 c = search needs

@@ -1,4 +1,4 @@
--- `tdcp::displacement::clocks_into` meets its contract. Assumes nothing.
+-- `tdcp::rounds::clocks_into` meets its contract. Assumes nothing.
 use Prim.Native.Nat.{ℕ, _-_, _≤_}
 use mathlib.Core.List.{List}
 use lib.ListN.{getD}
@@ -7,8 +7,8 @@ use Rattle.clocks.specs.declared.clocks.Clocks.{Clocks}
 use Rattle.records.proofs.KeepLaws.{Filled, filled-start, filled-more}
 use borrow.Author.Needs.{needs}
 use native.Mathlib.Omega.{arith}
-use Rattle.tdcp.proofs.displacement.clocks_into.Statement.{statement}
-use Rattle.tdcp.proofs.displacement.clocks_into.Tie as tie
+use Rattle.tdcp.proofs.rounds.clocks_into.Statement.{statement}
+use Rattle.tdcp.proofs.rounds.clocks_into.Tie as tie
 
 -- the clock of each place
 abbrev clockAt : Clocks → List ℕ → ℕ → ℕ

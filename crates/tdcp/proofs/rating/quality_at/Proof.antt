@@ -1,4 +1,4 @@
--- `tdcp::displacement::quality_at` meets its contract. Assumes nothing.
+-- `tdcp::rating::quality_at` meets its contract. Assumes nothing.
 use mathlib.Core.Path.{sym}
 use mathlib.Core.List.{List}
 use native.Mathlib.Omega.{arith}
@@ -9,8 +9,8 @@ use Rattle.records.specs.declared.pair.Pair.{Pair}
 use Rattle.tdcp.proofs.DisplacementLaws.{rows-in}
 use Rattle.tdcp.proofs.RatedLaws.{quality-made}
 use borrow.Author.Needs.{needs}
-use Rattle.tdcp.proofs.displacement.quality_at.Statement.{statement}
-use Rattle.tdcp.proofs.displacement.quality_at.Tie as tie
+use Rattle.tdcp.proofs.rating.quality_at.Statement.{statement}
+use Rattle.tdcp.proofs.rating.quality_at.Tie as tie
 
 abbrev given : tie.Start → List Pair
 given c = pairsIn (c .args .x .now) (c .args .y .now) (c .args .z .now) (c .args .constellation .now) (c .args .elevation .now) (c .args .observed .now)

@@ -1,4 +1,4 @@
--- `tdcp::displacement::fit_pairs` meets its contract. Assumes nothing.
+-- `tdcp::rounds::fit_pairs` meets its contract. Assumes nothing.
 use Prim.Native.Nat.{_+_, _-_, _≤_}
 use mathlib.Core.Path.{_≡_, refl, sym, ap, _∙_}
 use mathlib.Core.List.{List, map}
@@ -7,14 +7,14 @@ use lib.Seq.{length-take-le}
 use Rattle.normal.specs.Columns.{columns, rowsIn}
 use Rattle.estimator.specs.Rounds.{shortStep}
 use Rattle.records.specs.Kept.{pairsIn}
-use Rattle.tdcp.specs.Displacement.{rowAt, roundAt, limit, fitOver}
+use Rattle.tdcp.specs.Displacement.{rowAt, roundAt, stopLimit, fitOver}
 use Rattle.records.specs.declared.pair.Pair.{Pair}
 use Rattle.estimator.proofs.RoundsLaws.{five-places, left-end, left-stopped, left-stops, left-goes, ended-stopped, ended-reached}
 use Rattle.tdcp.proofs.DisplacementLaws.{Going, going, solving, rows-in}
 use borrow.Author.Needs.{needs}
 use native.Mathlib.Omega.{arith}
-use Rattle.tdcp.proofs.displacement.fit_pairs.Statement.{statement}
-use Rattle.tdcp.proofs.displacement.fit_pairs.Tie as tie
+use Rattle.tdcp.proofs.rounds.fit_pairs.Statement.{statement}
+use Rattle.tdcp.proofs.rounds.fit_pairs.Tie as tie
 
 abbrev Inv-loop : tie.InvT-loop
 Inv-loop settings k x y z constellation elevation observed state₀ count clock sigma residual₀ at₀ i₀ state residual at i = (i ≤ settings .rounds) × (state ≡ state₀) × (length residual ≡ 64) × Going settings k (pairsIn x y z constellation elevation observed) i at
@@ -70,7 +70,7 @@ returns c =
     let l = t .before .before .before .before .before .loop in
     let g = c .before .before .before .round-step in
     let q = solving (s .settings) (s .k) ps (l .at) _ _ (g .result) _ _ (rows t) refl (g .ensures) in
-    ended-stopped _ _ _ (l .inv .1) (left-stopped (roundAt (s .settings) (s .k) ps) (3 + s .k .count) limit (s .settings .rounds) (fitOver (s .settings) (s .k) ps) (l .i) (l .at) (t .before .before .before .if1 .taken) (g .result) _ _ q _ (c .before .r .given .1) (l .inv .3))
+    ended-stopped _ _ _ (l .inv .1) (left-stopped (roundAt (s .settings) (s .k) ps) (3 + s .k .count) stopLimit (s .settings .rounds) (fitOver (s .settings) (s .k) ps) (l .i) (l .at) (t .before .before .before .if1 .taken) (g .result) _ _ q _ (c .before .r .given .1) (l .inv .3))
 
 enum-told : tie.Need-enum-told Inv-loop μ-loop
 enum-told c = search needs
@@ -93,7 +93,7 @@ returns-2 c =
     let h = c .before .is-short in
     let u = h .ensures ∙ ap (λ z. shortStep z (g .last .1 .1 .1 .1 .1 .1 .1 .1 .0)) five-places in
     let v = c .before .before .before .enum-told .given .1 in
-    ended-reached _ _ _ (left-stops (roundAt (s .settings) (s .k) ps) (3 + s .k .count) limit (s .settings .rounds) (fitOver (s .settings) (s .k) ps) (l .i) (l .at) (t .before .before .before .if1 .taken) (g .result) _ _ q v (m .result) (h .result) (m .ensures) u (c .if2 .taken) (l .inv .3))
+    ended-reached _ _ _ (left-stops (roundAt (s .settings) (s .k) ps) (3 + s .k .count) stopLimit (s .settings .rounds) (fitOver (s .settings) (s .k) ps) (l .i) (l .at) (t .before .before .before .if1 .taken) (g .result) _ _ q v (m .result) (h .result) (m .ensures) u (c .if2 .taken) (l .inv .3))
 
 add-i : tie.Need-add-i Inv-loop μ-loop
 add-i c = let known = c .before .before .before .before .before .before .before .before .before .before .before .before .before .before .before .struct-known .given in omega (arith, c .before .before .before .before .before .before .before .before .before .before .before .before .before .before .if1 .taken)
@@ -113,14 +113,14 @@ loop-again c =
     let h = c .before .is-short in
     let u = h .ensures ∙ ap (λ z. shortStep z (g .last .1 .1 .1 .1 .1 .1 .1 .1 .0)) five-places in
     let v = c .before .before .before .enum-told .given .1 in
-    (omega (arith, t .before .before .before .if1 .taken), l .inv .1, t .residuals-at .ensures .long, left-goes (roundAt (s .settings) (s .k) ps) (3 + s .k .count) limit (s .settings .rounds) (fitOver (s .settings) (s .k) ps) (l .i) (l .at) (t .before .before .before .if1 .taken) (g .result) _ _ q v (m .result) (h .result) (m .ensures) u (c .if2 .left) (l .inv .3))
+    (omega (arith, t .before .before .before .if1 .taken), l .inv .1, t .residuals-at .ensures .long, left-goes (roundAt (s .settings) (s .k) ps) (3 + s .k .count) stopLimit (s .settings .rounds) (fitOver (s .settings) (s .k) ps) (l .i) (l .at) (t .before .before .before .if1 .taken) (g .result) _ _ q v (m .result) (h .result) (m .ensures) u (c .if2 .left) (l .inv .3))
 
 returns-3 : tie.Need-returns-3 Inv-loop μ-loop
 returns-3 c =
     let s = c .before .before .before .before .before .before .before .before .args in
     let ps = given (c .before .before .before .before .before .before .before .before) in
     let l = c .before .before .loop in
-    ended-reached _ _ _ (left-end (roundAt (s .settings) (s .k) ps) (3 + s .k .count) limit (s .settings .rounds) (fitOver (s .settings) (s .k) ps) (l .i) (l .at) (omega arith) (l .inv .3))
+    ended-reached _ _ _ (left-end (roundAt (s .settings) (s .k) ps) (3 + s .k .count) stopLimit (s .settings .rounds) (fitOver (s .settings) (s .k) ps) (l .i) (l .at) (omega arith) (l .inv .3))
 
 pub fit-pairs-spec : {M : Type 1} → statement M
 fit-pairs-spec =

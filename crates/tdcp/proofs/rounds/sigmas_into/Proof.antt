@@ -1,4 +1,4 @@
--- `tdcp::displacement::sigmas_into` meets its contract. Assumes nothing.
+-- `tdcp::rounds::sigmas_into` meets its contract. Assumes nothing.
 use Prim.Native.Nat.{ℕ, _-_, _≤_}
 use mathlib.Core.List.{List}
 use lib.ListN.{getD}
@@ -8,8 +8,8 @@ use Rattle.records.proofs.KeepLaws.{Filled, filled-start, filled-more}
 use Rattle.tdcp.specs.declared.displacement.Settings.{Settings}
 use borrow.Author.Needs.{needs}
 use native.Mathlib.Omega.{arith}
-use Rattle.tdcp.proofs.displacement.sigmas_into.Statement.{statement}
-use Rattle.tdcp.proofs.displacement.sigmas_into.Tie as tie
+use Rattle.tdcp.proofs.rounds.sigmas_into.Statement.{statement}
+use Rattle.tdcp.proofs.rounds.sigmas_into.Tie as tie
 
 -- the sigma of each place
 abbrev sigmaAt : Settings → List Float → ℕ → Float

@@ -1,7 +1,7 @@
--- `tdcp::displacement::residual_of` meets its contract. Assumes nothing.
+-- `tdcp::rounds::residual_of` meets its contract. Assumes nothing.
 use borrow.Author.Needs.{needs}
-use Rattle.tdcp.proofs.displacement.residual_of.Statement.{statement}
-use Rattle.tdcp.proofs.displacement.residual_of.Tie as tie
+use Rattle.tdcp.proofs.rounds.residual_of.Statement.{statement}
+use Rattle.tdcp.proofs.rounds.residual_of.Tie as tie
 
 array-read-pattern : tie.Need-array-read-pattern
 array-read-pattern c = search needs

@@ -1,8 +1,8 @@
--- The rows of a round as the code has them, columns of numbers, place by place: the contracts of its parts. Definitions only.
+-- What the functions of a displacement return in between: rows as columns of numbers, place by place, and answers with or without figures. Definitions only.
 use mathlib.Core.Path.{_≡_}
 use Prim.Native.Nat.{ℕ, _<_}
-use mathlib.Core.Bool.{Bool, true, false}
-use mathlib.Core.List.{List}
+use mathlib.Core.Bool.{Bool, true, false, not}
+use mathlib.Core.List.{List, _∷_}
 use lib.ListN.{getD, length}
 use lib.Ieee.{Float, nan}
 use Rattle.exact.specs.Float.{_⊕_, _⊖_, _⊗_, +0}
@@ -12,9 +12,13 @@ use Rattle.robust.specs.Sigma.{elevationSigma}
 use Rattle.clocks.specs.Clocks.{slot, clocksOf}
 use Rattle.clocks.specs.declared.clocks.Clocks.{Clocks}
 use Rattle.records.specs.declared.pair.Pair.{Pair}
+use Rattle.numeric.specs.declared.refusal.Refusal.the-variants.{SettingOutOfRange, RecordOutOfRange}
+use Rattle.estimator.specs.Rules.{Rule, rule, ruled}
 use Rattle.estimator.specs.Rounds.{concluded, stateAfter}
+use Rattle.tdcp.specs.Valid.{settingsPass, intervalRules}
+use Rattle.tdcp.specs.declared.displacement.Interval.{Interval}
 use Rattle.tdcp.specs.Displacement.{Input, fitOver, fitBy, deltaAt, endRules, displacementOf}
-use Rattle.tdcp.specs.Rated.{qualityAt, quality, ratedBy}
+use Rattle.tdcp.specs.Rated.{qualityAt, quality, ratedWith}
 use Rattle.tdcp.specs.declared.displacement.Rated.{Rated}
 use Rattle.tdcp.specs.declared.displacement.Rated.the-variants as Rated
 use Rattle.quality.specs.declared.figures.Quality.{Quality}
@@ -22,6 +26,14 @@ use Rattle.records.specs.Screen.{keptOf, constellations}
 use Rattle.tdcp.specs.declared.displacement.Settings.{Settings}
 use Rattle.tdcp.specs.declared.displacement.Displacement.{Displacement}
 use Rattle.tdcp.specs.declared.displacement.Displacement.the-variants.{Refused, Moved}
+
+-- ---- the rules
+
+-- 3 to 5 with 13, where `sound` is whether 4 lets every record and the receiver pass
+unfoldable pub givenRules : Settings → Bool → Interval → List Rule
+givenRules settings sound since = rule SettingOutOfRange (not (settingsPass settings)) ∷ rule RecordOutOfRange (not sound) ∷ intervalRules since
+
+-- ---- the rounds
 
 -- the first n places are the clocks of the pairs, which no round changes
 pub record ClocksAt (k : Clocks) (constellation : List ℕ) (n : ℕ) (clock : List ℕ) : Type 0 where
@@ -40,7 +52,11 @@ pub record ResidualsAt (x y z : List Float) (clock : List ℕ) (observed s : Lis
   pub long : length residual ≡ 64
   pub residuals : (i : ℕ) → i < length observed → getD residual i 0 ≡ residualOf (getD observed i nan) (getD x i nan) (getD y i nan) (getD z i nan) (getD clock i 0) s
 
--- what the rounds over the pairs ps come to, with the clocks k, where so many were screened out
+-- the answer at the state x that the rounds reach
+abbrev pub concludedAt : ℕ → ℕ → List Float → Displacement
+concludedAt used screened x = ruled Refused (endRules x) (Moved (deltaAt used screened x))
+
+-- the displacement of the rounds over the pairs ps, with the clocks k, where so many were screened out
 abbrev pub movedOver : Settings → Clocks → List Pair → ℕ → Displacement
 movedOver settings k ps screened = concluded Refused endRules (λ x. Moved (deltaAt (length ps) screened x)) (fitOver settings k ps .end)
 
@@ -50,9 +66,9 @@ abbrev pub unrated : Displacement → Rated
 unrated (Refused r) = Rated.Refused r
 unrated (Moved d) = Rated.Moved (record { moved = d; chi = +0; pdop = +0 })
 
-abbrev pub answerBy : Bool → Quality → Displacement → Rated
-answerBy true q m = ratedBy q m
-answerBy false q m = unrated m
+abbrev pub answeredBy : Bool → Quality → Displacement → Rated
+answeredBy true q m = ratedWith q m
+answeredBy false q m = unrated m
 
 -- the quality at the end of the rounds over the pairs ps, with the clocks k
 abbrev pub qualityOver : Settings → Clocks → List Pair → Quality
@@ -69,5 +85,5 @@ abbrev pub plainOf : Rated → Displacement
 plainOf (Rated.Refused r) = Refused r
 plainOf (Rated.Moved d) = Moved (d .moved)
 
-unfoldable pub answerOf : Bool → Input → Rated
-answerOf wanted i = answerBy wanted (quality i) (displacementOf i)
+unfoldable pub answeredOf : Bool → Input → Rated
+answeredOf wanted i = answeredBy wanted (quality i) (displacementOf i)

@@ -1,16 +1,16 @@
--- `tdcp::displacement::moved_over` meets its contract. Assumes nothing.
+-- `tdcp::moved::moved_over` meets its contract. Assumes nothing.
 use mathlib.Core.Path.{sym, _∙_}
 use mathlib.Core.List.{List}
 use lib.ListN.{length}
 use Rattle.walk.proofs.Walk.{places-length}
 use Rattle.records.specs.Kept.{pairIn, pairsIn}
 use Rattle.records.specs.declared.pair.Pair.{Pair}
-use Rattle.tdcp.specs.Rows.{qualityOver}
+use Rattle.tdcp.specs.Steps.{qualityOver}
 use Rattle.tdcp.proofs.DisplacementCall.{over-refused, over-reached}
 use Rattle.tdcp.proofs.RatedLaws.{refused-as, moved-rated, moved-plain, quality-reached}
 use borrow.Author.Needs.{needs}
-use Rattle.tdcp.proofs.displacement.moved_over.Statement.{statement}
-use Rattle.tdcp.proofs.displacement.moved_over.Tie as tie
+use Rattle.tdcp.proofs.moved.moved_over.Statement.{statement}
+use Rattle.tdcp.proofs.moved.moved_over.Tie as tie
 
 abbrev given : tie.Start → List Pair
 given c = pairsIn (c .args .x .now) (c .args .y .now) (c .args .z .now) (c .args .constellation .now) (c .args .elevation .now) (c .args .observed .now)
