@@ -1,5 +1,5 @@
 -- What an accepted displacement has, DEMAND 3 over all of its rounds among it. Assumes nothing.
-use mathlib.Core.Path.{_≡_, refl, sym, _∙_, subst}
+use mathlib.Core.Path.{_≡_, refl, sym, ap, _∙_, subst}
 use mathlib.Core.Bool.{Bool, true}
 use Prim.Native.Nat.{ℕ, _+_, _-_, _<_}
 use native.Mathlib.Omega.{arith}
@@ -23,7 +23,7 @@ use Rattle.clocks.specs.declared.clocks.Clocks.{Clocks}
 use Rattle.records.specs.declared.pair.Pair.{Pair}
 use Rattle.tdcp.specs.declared.displacement.Settings.{Settings}
 use Rattle.estimator.specs.Rounds.{concluded, Each}
-use Rattle.tdcp.specs.Displacement.{Input, rowAt, roundAt, stopLimit, fitOver, fitBy, pairs, keptPairs, callFit, roundsOf, deltaAt, endRules, movedBy, displacementOf, displacementFloats, Accepted, Promised}
+use Rattle.tdcp.specs.Displacement.{Input, rowAt, roundAt, stopLimit, fitOver, fitBy, pairs, keptPairs, callFit, roundsOf, deltaAt, endRules, movedBy, displacementOf, displacementNumber, displacementFloats, displacementCounts, Accepted, Promised}
 use Rattle.tdcp.specs.declared.displacement.Delta.{Delta}
 use Rattle.tdcp.specs.declared.displacement.Displacement.{Displacement}
 use Rattle.tdcp.specs.declared.displacement.Displacement.the-variants.{Refused, Moved}
@@ -115,4 +115,11 @@ given-finite i (Moved d) h = let a = h d refl in three-finite (d .delta .x) (d .
 pub promised : (i : Input) (r : Displacement) → r ≡ displacementOf i → Promised i r
 promised i r e =
     let accepted : (d : Delta) → r ≡ Moved d → Accepted i d = λ d q. displacement-accepted i d (sym e ∙ q) in
-    record { answer = e; given-finite = given-finite i r accepted; accepted = accepted }
+    record {
+      answer = e;
+      number-is = ap displacementNumber e;
+      floats-are = ap displacementFloats e;
+      counts-are = ap displacementCounts e;
+      given-finite = given-finite i r accepted;
+      accepted = accepted;
+    }

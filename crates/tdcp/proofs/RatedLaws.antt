@@ -17,7 +17,7 @@ use Rattle.quality.specs.declared.figures.Figures.{Figures}
 use Rattle.quality.specs.declared.figures.Quality.{Quality}
 use Rattle.quality.specs.declared.figures.Quality.the-variants as Quality
 use Rattle.tdcp.specs.Displacement.{Input, rowAt, fitOver, displacementOf}
-use Rattle.tdcp.specs.Rated.{qualityAt, quality, rate, ratedWith, ratedOf, ratedFloats, ratedFigures, RatedAccepted, RatedPromised}
+use Rattle.tdcp.specs.Rated.{qualityAt, quality, rate, ratedWith, ratedOf, ratedNumber, ratedFloats, ratedFigures, ratedCounts, RatedAccepted, RatedPromised}
 use Rattle.walk.specs.Walk.{every}
 use lib.Ieee.Scale.{finite}
 use native.Mathlib.Omega.{arith}
@@ -61,10 +61,10 @@ pub quality-reached : (settings : Settings) (k : Clocks) (ps : List Pair) {c : C
 quality-reached settings k ps h e = e ∙ ap (qualityAt settings k ps) (h .state-is)
 
 -- the quality of rows that are those of the pairs
-pub quality-made : (settings : Settings) (k : Clocks) (ps : List Pair) (x : List Float) {rows : List Row} {p : Quality} → p ≡ qualityOf (3 + k .count) rows → rows ≡ map (rowAt settings k x) ps
-    → p ≡ qualityAt settings k ps x
+pub quality-made : (settings : Settings) (k : Clocks) (ps : List Pair) (x : List Float) {n : ℕ} {rows : List Row} {p : Quality} → p ≡ qualityOf n rows → n ≡ 3 + k .count
+    → rows ≡ map (rowAt settings k x) ps → p ≡ qualityAt settings k ps x
 unfolding qualityAt
-quality-made settings k ps x e h = e ∙ ap (qualityOf (3 + k .count)) h
+quality-made settings k ps x e m h = e ∙ ap₂ qualityOf m h
 
 -- rows that are equal have one quality
 pub quality-rows : (settings : Settings) (k : Clocks) (ps qs : List Pair) (x : List Float) → map (rowAt settings k x) ps ≡ map (rowAt settings k x) qs → qualityAt settings k ps x ≡ qualityAt settings k qs x
@@ -114,4 +114,12 @@ module _ (i : Input) where
   unfolding answeredOf ratedOf
   rated-promised r e =
       let accepted : (d : RatedDelta) → r ≡ Rated.Moved d → RatedAccepted i d = λ d q. rated-accepted d (sym e ∙ q) in
-      record { answer = e; given-finite = rated-finite r accepted; accepted = accepted }
+      record {
+        answer = e;
+        number-is = ap ratedNumber e;
+        floats-are = ap ratedFloats e;
+        figures-are = ap ratedFigures e;
+        counts-are = ap ratedCounts e;
+        given-finite = rated-finite r accepted;
+        accepted = accepted;
+      }

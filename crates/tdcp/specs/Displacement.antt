@@ -159,8 +159,11 @@ pub record Accepted (i : Input) (d : Delta) : Type 0 where
   pub sound-rounds : Each SoundRound (roundsOf i)
   pub finite-residuals : Each FiniteResiduals (roundsOf i)
 
--- the answer is the definition's, for every input whatever, and what it gives out is finite
+-- The answer is the definition's for every input, and so are its number, floats and counts. What it returns is finite.
 pub record Promised (i : Input) (r : Displacement) : Type 0 where
   pub answer : r ≡ displacementOf i
+  pub number-is : displacementNumber r ≡ displacementNumber (displacementOf i)
+  pub floats-are : displacementFloats r ≡ displacementFloats (displacementOf i)
+  pub counts-are : displacementCounts r ≡ displacementCounts (displacementOf i)
   pub given-finite : every finite (displacementFloats r) ≡ true
   pub accepted : (d : Delta) → r ≡ Moved d → Accepted i d

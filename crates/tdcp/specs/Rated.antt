@@ -76,7 +76,12 @@ pub record RatedAccepted (i : Input) (d : RatedDelta) : Type 0 where
   pub chi-finite : T (finite (d .chi))
   pub pdop-finite : T (finite (d .pdop))
 
+-- the answer is the definition's, and so are its number, floats, figures and counts
 pub record RatedPromised (i : Input) (r : Rated) : Type 0 where
   pub answer : r ≡ ratedOf i
+  pub number-is : ratedNumber r ≡ ratedNumber (ratedOf i)
+  pub floats-are : ratedFloats r ≡ ratedFloats (ratedOf i)
+  pub figures-are : ratedFigures r ≡ ratedFigures (ratedOf i)
+  pub counts-are : ratedCounts r ≡ ratedCounts (ratedOf i)
   pub given-finite : every finite (ratedFloats r ++ ratedFigures r) ≡ true
   pub accepted : (d : RatedDelta) → r ≡ Moved d → RatedAccepted i d

@@ -1,6 +1,6 @@
 -- What the functions of a displacement return in between: rows as columns of numbers, place by place, and answers with or without figures. Definitions only.
 use mathlib.Core.Path.{_≡_}
-use Prim.Native.Nat.{ℕ, _<_}
+use Prim.Native.Nat.{ℕ, _+_, _<_}
 use mathlib.Core.Bool.{Bool, true, false, not}
 use mathlib.Core.List.{List, _∷_}
 use lib.ListN.{getD, length}
@@ -14,7 +14,8 @@ use Rattle.clocks.specs.declared.clocks.Clocks.{Clocks}
 use Rattle.records.specs.declared.pair.Pair.{Pair}
 use Rattle.numeric.specs.declared.refusal.Refusal.the-variants.{SettingOutOfRange, RecordOutOfRange}
 use Rattle.estimator.specs.Rules.{Rule, rule, ruled}
-use Rattle.estimator.specs.Rounds.{concluded, stateAfter}
+use Rattle.estimator.specs.Rounds.{Ended, concluded, stateAfter}
+use Rattle.estimator.specs.declared.rules.Check.{Check}
 use Rattle.tdcp.specs.Valid.{settingsPass, intervalRules}
 use Rattle.tdcp.specs.declared.displacement.Interval.{Interval}
 use Rattle.tdcp.specs.Displacement.{Input, fitOver, fitBy, deltaAt, endRules, displacementOf}
@@ -22,6 +23,7 @@ use Rattle.tdcp.specs.Rated.{qualityAt, quality, ratedWith}
 use Rattle.tdcp.specs.declared.displacement.Rated.{Rated}
 use Rattle.tdcp.specs.declared.displacement.Rated.the-variants as Rated
 use Rattle.quality.specs.declared.figures.Quality.{Quality}
+use Rattle.records.specs.Kept.{pairsIn}
 use Rattle.records.specs.Screen.{keptOf, constellations}
 use Rattle.tdcp.specs.declared.displacement.Settings.{Settings}
 use Rattle.tdcp.specs.declared.displacement.Displacement.{Displacement}
@@ -42,6 +44,18 @@ pub record ClocksAt (k : Clocks) (constellation : List ℕ) (n : ℕ) (clock : L
 -- and their sigmas
 pub record SigmasAt (settings : Settings) (elevation : List Float) (n : ℕ) (sigma : List Float) : Type 0 where
   pub sigmas : (i : ℕ) → i < n → getD sigma i nan ≡ elevationSigma (getD elevation i nan) (settings .«sigma_a») (settings .«sigma_b»)
+
+-- the rounds over the pairs end in r and the state s, whichever pairs have these clocks and sigmas
+pub record FitEnds (settings : Settings) (k : Clocks) (x y z : List Float) (clock : List ℕ) (sigma observed : List Float) (r : Check) (s₀ s : List Float) : Type 0 where
+  pub ends :
+      (constellation : List ℕ) (elevation : List Float) → ClocksAt k constellation (length observed) clock → SigmasAt settings elevation (length observed) sigma →
+      Ended (fitOver settings k (pairsIn x y z constellation elevation observed) .end) r s₀ s
+
+-- and r is their quality at the state s
+pub record QualityIs (n : ℕ) (x y z : List Float) (clock : List ℕ) (sigma observed s : List Float) (r : Quality) : Type 0 where
+  pub quality-is :
+      (settings : Settings) (k : Clocks) (constellation : List ℕ) (elevation : List Float) → n ≡ 3 + k .count → ClocksAt k constellation (length observed) clock →
+      SigmasAt settings elevation (length observed) sigma → r ≡ qualityAt settings k (pairsIn x y z constellation elevation observed) s
 
 -- what was observed, less what the state x says of the line of sight u, v, w and the clock s
 abbrev pub residualOf : Float → Float → Float → Float → ℕ → List Float → ℕ

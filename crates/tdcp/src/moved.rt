@@ -15,7 +15,9 @@ use crate::displacement::RatedDelta;
 use crate::displacement::Settings;
 use crate::rating::quality_at;
 use crate::rating::rate;
+use crate::rounds::clocks_into;
 use crate::rounds::fit_pairs;
+use crate::rounds::sigmas_into;
 use crate::valid::check_pairs;
 use crate::valid::is_uncertified;
 use clocks::clocks::Clocks;
@@ -66,6 +68,10 @@ fn moved_over(
         r ≡ code.answeredBy wanted (code.qualityOver settings k pairs) (code.movedOver settings k pairs screened)) ⌝ }
 {
     let used = observed.len();
+    let mut clock = [0usize; 64];
+    clocks_into(k, constellation, used, &mut clock);
+    let mut sigma = [0.0; 64];
+    sigmas_into(settings, elevation, used, &mut sigma);
     let mut state = [0.0; 9];
     if let Check::Refused(r) = fit_pairs(
         settings,
@@ -73,8 +79,8 @@ fn moved_over(
         x,
         y,
         z,
-        constellation,
-        elevation,
+        &clock,
+        &sigma,
         observed,
         &mut state,
     ) {
@@ -85,17 +91,8 @@ fn moved_over(
         Displacement::Refused(r) => Rated::Refused(r),
         Displacement::Moved(d) => {
             if wanted {
-                let quality = quality_at(
-                    settings,
-                    k,
-                    x,
-                    y,
-                    z,
-                    constellation,
-                    elevation,
-                    observed,
-                    state,
-                );
+                let n = 3 + k.count;
+                let quality = quality_at(n, x, y, z, &clock, &sigma, observed, state);
                 return rate(d, quality);
             }
             Rated::Moved(RatedDelta {

@@ -2,9 +2,6 @@
 ghost use mathlib.Core.Path.{_≡_};
 ghost use lib.ListN.{length};
 ghost use Prim.Native.Nat.{_≤_};
-ghost use Rattle.records.specs.Kept.{pairsIn};
-ghost use Rattle.estimator.specs.Rounds.{Ended};
-ghost use Rattle.tdcp.specs.Displacement as spec;
 ghost use Rattle.tdcp.specs.Steps as code;
 use crate::displacement::Settings;
 use clocks::clocks::Clocks;
@@ -84,41 +81,36 @@ pub(crate) fn sigmas_into(
     }
 }
 
-// Runs the rounds over the pairs of the columns. Writes the state that they reach to `state`; on refusal, changes nothing.
+// Runs the rounds over the pairs of the columns, with their clocks and sigmas. Writes the state that they reach to `state`; on refusal, changes nothing.
 pub(crate) fn fit_pairs(
     settings: Settings,
     k: Clocks,
     x: &[f64; 64],
     y: &[f64; 64],
     z: &[f64; 64],
-    constellation: &[u8; 64],
-    elevation: &[f64; 64],
+    clock: &[usize; 64],
+    sigma: &[f64; 64],
     observed: &[f64],
     state: &mut [f64; 9],
 ) -> Check
     requires { ⌜ (length (now observed) ≤ 64) × (k .count ≤ 6) ⌝ }
-    ensures { λ r. ⌜ (let pairs = pairsIn (now (x .entry)) (now (y .entry)) (now (z .entry)) (now (constellation .entry)) (now (elevation .entry))
-        (now (observed .entry)) in
-        Ended (spec.fitOver settings k pairs .end) r (now (state .entry)) (now (state .exit))) ⌝ }
+    ensures { λ r. ⌜ code.FitEnds settings k (now (x .entry)) (now (y .entry)) (now (z .entry)) (now (clock .entry)) (now (sigma .entry))
+        (now (observed .entry)) r (now (state .entry)) (now (state .exit)) ⌝ }
 {
     let count = observed.len();
-    let mut clock = [0usize; 64];
-    clocks_into(k, constellation, count, &mut clock);
-    let mut sigma = [0.0; 64];
-    sigmas_into(settings, elevation, count, &mut sigma);
     let mut residual = [0u64; 64];
     let mut at = [0.0; 9];
     let mut i: u32 = 0;
     while i < settings.rounds {
-        residuals_at(x, y, z, &clock, observed, at, &mut residual);
+        residuals_at(x, y, z, clock, observed, at, &mut residual);
         let n = 3 + k.count;
         let mut dx = [0.0; 9];
         if let Stepping::Refused(r) = round_step(
             x,
             y,
             z,
-            &clock,
-            &sigma,
+            clock,
+            sigma,
             &residual[..count],
             n,
             settings.huber,

@@ -5,7 +5,7 @@ use mathlib.Core.List.{List}
 use Prim.Native.Nat.{ℕ}
 use Rattle.numeric.specs.declared.vec3.Vec3.{Vec3}
 use Rattle.numeric.specs.declared.refusal.Refusal.the-variants.{TooMany, BadTime}
-use Rattle.time.specs.Time.{isDated, secondsAfter}
+use Rattle.time.specs.Time.{isDated, secondsBetween}
 use Rattle.time.specs.declared.time.GpsTime.{GpsTime}
 use Rattle.records.specs.Carriers.{CarrierColumns, epochOf}
 use Rattle.records.specs.declared.pair.Profile.{Profile}
@@ -43,7 +43,7 @@ module _ (previous : CarrierColumns) (m : ℕ) (current : CarrierColumns) (n : �
   between = lent previous m current n (Interval.Between s t) receiver settings profile
 
   abbrev pub apart : Lent
-  apart = lent previous m current n (Interval.Seconds (secondsAfter t s)) receiver settings profile
+  apart = lent previous m current n (Interval.Seconds (secondsBetween t s)) receiver settings profile
 
   same-displacement : (isDated t && isDated s) ≡ true → columnsDisplaced between ≡ columnsDisplaced apart
   unfolding columnsDisplaced
