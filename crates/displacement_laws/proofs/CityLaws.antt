@@ -31,7 +31,7 @@ use Rattle.tdcp.specs.declared.displacement.Interval.the-variants.{Seconds}
 use Rattle.tdcp.specs.declared.displacement.Displacement.{Displacement}
 use Rattle.tdcp.specs.declared.displacement.Displacement.the-variants.{Refused}
 use Rattle.tdcp.proofs.CityLaws.{rules-left, left-passed, earlier, lacks, city-twenty, city-general, city-earlier}
-use Rattle.tdcp_columns.specs.Displacement.{Lent, lent, inputOf, isFit, columnsDisplaced, deltaAfter, countsAfter, DisplacementAnswers}
+use Rattle.tdcp_columns.specs.Displacement.{Lent, lent, lentInput, isFit, columnsDisplaced, deltaAfter, countsAfter, DisplacementAnswers}
 use Rattle.tdcp_columns.proofs.CallLaws.{Alike}
 use Rattle.displacement_laws.proofs.NeverLaws.{never-twenty}
 
@@ -102,19 +102,19 @@ module _ (previous : CarrierColumns) (m : ℕ) (current : CarrierColumns) (n : �
     abbrev pub alone : Lent
     alone = lent previous′ m′ current′ n′ (Seconds dt) receiver settings General
 
-    left-is : inputOf alone ≡ left band (inputOf city)
+    left-is : lentInput alone ≡ left band (lentInput city)
     left-is = ap₂ (λ (a b : Epoch). input a b (Seconds dt) receiver settings General) (same-epoch p) (same-epoch c)
 
-    city-alone : displacementOf (inputOf city) ≡ cond (isTwenty (inputOf alone)) (Refused NotCertified) (displacementOf (inputOf alone))
-    city-alone = subst (λ (j : Input). displacementOf (inputOf city) ≡ cond (isTwenty j) (Refused NotCertified) (displacementOf j)) (sym left-is) (city-left band (inputOf city) passed)
+    city-alone : displacementOf (lentInput city) ≡ cond (isTwenty (lentInput alone)) (Refused NotCertified) (displacementOf (lentInput alone))
+    city-alone = subst (λ (j : Input). displacementOf (lentInput city) ≡ cond (isTwenty j) (Refused NotCertified) (displacementOf j)) (sym left-is) (city-left band (lentInput city) passed)
 
-    pub city-is : columnsDisplaced city ≡ cond (isTwenty (inputOf alone)) (Refused NotCertified) (columnsDisplaced alone)
+    pub city-is : columnsDisplaced city ≡ cond (isTwenty (lentInput alone)) (Refused NotCertified) (columnsDisplaced alone)
     unfolding columnsDisplaced
     city-is = rw (fit, p .fits, c .fits) city-alone
 
     module _ {number : ℕ} {delta₀ delta counts₀ counts : List ℕ} (answers : DisplacementAnswers city number delta₀ delta counts₀ counts) where
       -- 20, with nothing written, where those rules let the columns pass and the kept pairs lack constellation 1 or 6
-      pub city-refused : isTwenty (inputOf alone) ≡ true → (number ≡ 20) × (delta ≡ delta₀) × (counts ≡ counts₀)
+      pub city-refused : isTwenty (lentInput alone) ≡ true → (number ≡ 20) × (delta ≡ delta₀) × (counts ≡ counts₀)
       city-refused e =
           let is : columnsDisplaced city ≡ Refused NotCertified = city-is ∙ rw e in (
             answers .leaves .number-is ∙ ap displacementNumber is,
@@ -123,7 +123,7 @@ module _ (previous : CarrierColumns) (m : ℕ) (current : CarrierColumns) (n : �
           )
 
       -- otherwise the call on those columns
-      pub city-same : isTwenty (inputOf alone) ≡ false → {number′ : ℕ} {delta′ counts′ : List ℕ} → DisplacementAnswers alone number′ delta₀ delta′ counts₀ counts′ → Alike number number′ delta delta′ counts counts′
+      pub city-same : isTwenty (lentInput alone) ≡ false → {number′ : ℕ} {delta′ counts′ : List ℕ} → DisplacementAnswers alone number′ delta₀ delta′ counts₀ counts′ → Alike number number′ delta delta′ counts counts′
       city-same e b =
           let is : columnsDisplaced city ≡ columnsDisplaced alone = city-is ∙ rw e in
           record {
@@ -133,15 +133,15 @@ module _ (previous : CarrierColumns) (m : ℕ) (current : CarrierColumns) (n : �
           }
 
       -- and 20 nowhere else
-      pub city-exactly : number ≡ 20 → isTwenty (inputOf alone) ≡ true
+      pub city-exactly : number ≡ 20 → isTwenty (lentInput alone) ≡ true
       unfolding columnsDisplaced
-      city-exactly twenty = decide (isTwenty (inputOf alone)) refl
+      city-exactly twenty = decide (isTwenty (lentInput alone)) refl
         where
           is-twenty : displacementNumber (columnsDisplaced city) ≡ 20
           is-twenty = sym (answers .leaves .number-is) ∙ twenty
 
-          decide : (b : Bool) → isTwenty (inputOf alone) ≡ b → b ≡ true
+          decide : (b : Bool) → isTwenty (lentInput alone) ≡ b → b ≡ true
           decide true e = refl
           decide false e =
-              let general : columnsDisplaced city ≡ displacementOf (inputOf alone) = city-is ∙ rw (e, p .fits, c .fits) in
-              absurd (never-twenty (inputOf alone) refl (sym (ap displacementNumber general) ∙ is-twenty))
+              let general : columnsDisplaced city ≡ displacementOf (lentInput alone) = city-is ∙ rw (e, p .fits, c .fits) in
+              absurd (never-twenty (lentInput alone) refl (sym (ap displacementNumber general) ∙ is-twenty))

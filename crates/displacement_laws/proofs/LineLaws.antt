@@ -27,7 +27,7 @@ use Rattle.tdcp.specs.declared.displacement.Displacement.the-variants.{Refused,
 use Rattle.line_form.specs.Text.{isText, textInput, displacementIn}
 use Rattle.line_form.specs.Print.{digitsText, digitCount, decimalText, hexText, floatText, lineText, answerText}
 use Rattle.line_form.specs.Answer.{answerLine}
-use Rattle.tdcp_columns.specs.Displacement.{Lent, lent, inputOf, isFit, columnsDisplaced, deltaAfter, countsAfter, DisplacementAnswers}
+use Rattle.tdcp_columns.specs.Displacement.{Lent, lent, lentInput, isFit, columnsDisplaced, deltaAfter, countsAfter, DisplacementAnswers}
 use Rattle.displacement_laws.proofs.NeverLaws.{never-one}
 use Rattle.displacement_laws.proofs.RecordLaws.{not-zero}
 

@@ -24,13 +24,13 @@ use Rattle.tdcp.specs.declared.displacement.Displacement.{Displacement}
 use Rattle.tdcp.specs.declared.displacement.Displacement.the-variants.{Refused, Moved}
 use Rattle.wire.specs.Number.{fiveBytes}
 use Rattle.wire.specs.Record.{recordAt, countIn, recordsOf}
-use Rattle.wire.specs.Columns.{RecordColumns, over, floatsOf}
+use Rattle.wire.specs.Columns.{RecordColumns, over, recordFloats}
 use Rattle.wire.specs.Lent.{ReadAnswers}
 use Rattle.wire.specs.declared.record.CarrierRecord.{CarrierRecord}
 use Rattle.wire.proofs.RecordLaws.{collect-length}
 use Rattle.wire.proofs.ColumnLaws.{columns-room}
 use Rattle.wire.proofs.LentLaws.{had-room}
-use Rattle.wire_tdcp.specs.Displacement.{handed, answerOf, resultAfter, floatColumns, Answers}
+use Rattle.wire_tdcp.specs.Displacement.{handed, recordsDisplaced, bytesAfter, floatColumns, RecordAnswers}
 use Rattle.wire_tdcp.proofs.ColumnLaws.{same-displacement}
 use Rattle.tdcp_columns.specs.Displacement.{Lent, lent, columnsDisplaced, deltaAfter, countsAfter, DisplacementAnswers}
 
@@ -49,9 +49,9 @@ module _ {s : List ℕ} {c₀ c : RecordColumns} {count₀ count : ℕ} (read : 
 
   floats-long : 6 * count ≤ length (map bits (c .floats))
   floats-long =
-      let six = collect-length floatsOf 6 (λ (x : CarrierRecord). refl) (recordsOf s) in
+      let six = collect-length recordFloats 6 (λ (x : CarrierRecord). refl) (recordsOf s) in
       let e = ap (λ (d : RecordColumns). length (d .floats)) (read .columns-are) in
-      let a = length-append (collect floatsOf (recordsOf s)) (drop (length (collect floatsOf (recordsOf s))) (c₀ .floats)) in
+      let a = length-append (collect recordFloats (recordsOf s)) (drop (length (collect recordFloats (recordsOf s))) (c₀ .floats)) in
       omega (arith, e, a, six, many, length-map (c .floats) bits)
 
   pub read-fits : epochFits (floatColumns c) count ≡ true
@@ -98,7 +98,7 @@ pub record Beside (number number′ : ℕ) (delta counts out out′ : List ℕ) 
   pub accepted : number ≡ 0 → out′ ≡ over (fortyBytes counts delta) out
   pub refused : (number ≡ 0 → ⊥) → out′ ≡ out
 
-beside : (x : Displacement) (delta₀ counts₀ : List ℕ) {number number′ : ℕ} {delta counts out out′ : List ℕ} → number ≡ displacementNumber x → out′ ≡ resultAfter x out
+beside : (x : Displacement) (delta₀ counts₀ : List ℕ) {number number′ : ℕ} {delta counts out out′ : List ℕ} → number ≡ displacementNumber x → out′ ≡ bytesAfter x out
     → number′ ≡ displacementNumber x → delta ≡ deltaAfter x delta₀ → counts ≡ countsAfter x counts₀ → Beside number number′ delta counts out out′
 beside (Refused r) delta₀ counts₀ n o n′ d c = record { numbers = n ∙ sym n′; accepted = λ z. absurd (not-zero r (sym n ∙ z)); refused = λ z. o }
 beside (Moved v) delta₀ counts₀ n o n′ d c = record { numbers = n ∙ sym n′; accepted = λ z. rw (d, c) o; refused = λ z. absurd (z n) }
@@ -109,18 +109,18 @@ module _ {p : List ℕ} {d₀ d : RecordColumns} {m₀ m : ℕ} (before : ReadAn
   abbrev pub columns : Lent
   columns = lent (floatColumns d) m (floatColumns e) n (Seconds dt) receiver settings General
 
-  same : (out : List ℕ) → 40 ≤ length out → answerOf (handed p c dt receiver settings) out ≡ columnsDisplaced columns
+  same : (out : List ℕ) → 40 ≤ length out → recordsDisplaced (handed p c dt receiver settings) out ≡ columnsDisplaced columns
   unfolding columnsDisplaced
   same out room = rw (read-fits before, read-fits now) (same-displacement before now dt receiver settings out room)
 
   -- two slices that reading accepts, and room for the result: the call on the columns read, its counts and patterns being the 40 bytes
   pub records-columns : {number number′ : ℕ} {delta₀ delta counts₀ counts out out′ : List ℕ} → 40 ≤ length out
-      → Answers (handed p c dt receiver settings) number out out′ → DisplacementAnswers columns number′ delta₀ delta counts₀ counts → Beside number number′ delta counts out out′
+      → RecordAnswers (handed p c dt receiver settings) number out out′ → DisplacementAnswers columns number′ delta₀ delta counts₀ counts → Beside number number′ delta counts out out′
   records-columns {delta₀ = delta₀} {counts₀ = counts₀} {out = out} room a b =
       let is = same out room in
       beside (columnsDisplaced columns) delta₀ counts₀
       (a .number-is ∙ ap displacementNumber is)
-      (a .result-is ∙ ap (λ (x : Displacement). resultAfter x out) is)
+      (a .result-is ∙ ap (λ (x : Displacement). bytesAfter x out) is)
       (b .leaves .number-is)
       (b .leaves .delta-is)
       (b .leaves .counts-are)

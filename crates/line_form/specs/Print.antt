@@ -33,7 +33,7 @@ hexText p = digitsText 16 16 p
 abbrev pub floatText : Float → List ℕ
 floatText x = hexText (toBits binary64 x)
 
--- fields parted by commas (44), and an LF (10)
+-- fields separated by commas (44), and an LF (10)
 abbrev pub lineText : List ℕ → List (List ℕ) → List ℕ
 lineText f [] = f ++ (10 ∷ [])
 lineText f (g ∷ fs) = (f ++ (44 ∷ [])) ++ lineText g fs

@@ -15,7 +15,7 @@ unfoldable pub split : ℕ → List ℕ → List (List ℕ)
 split c [] = [] ∷ []
 split c (b ∷ s) = let ps = split c s in cond (eqb b c) ([] ∷ ps) (onto b ps)
 
--- the fields of a line, parted by commas (44)
+-- the fields of a line, separated by commas (44)
 abbrev pub fields : List ℕ → List (List ℕ)
 fields line = split 44 line
 

@@ -34,7 +34,7 @@ use Rattle.tdcp.specs.Displacement.{general, displacementOf}
 
 -- ---- splitting
 
--- how many bytes stand before the first c
+-- how many bytes come before the first c
 unfoldable pub countBefore : ℕ → List ℕ → ℕ
 countBefore c [] = 0
 countBefore c (b ∷ s) = cond (eqb b c) 0 (suc (countBefore c s))
@@ -67,7 +67,7 @@ Printable (Moved d) = Numbers (d .delta)
 abbrev pub vectorText : Vec3 → List ℕ
 vectorText v = lineText (floatText (v .x)) (floatText (v .y) ∷ floatText (v .z) ∷ [])
 
--- the bytes bs in the place of those from at on
+-- d with the bytes bs written from place at on
 abbrev pub overwritten : List ℕ → ℕ → List ℕ → List ℕ
 overwritten d at bs = take at d ++ bs ++ drop (at + length bs) d
 
@@ -116,7 +116,7 @@ pub record ReadsGiven (line : List ℕ) (r : Giving) : Type 0 where
   pub formed : r .formed ≡ settingsForm line
   pub value : r .value ≡ givenIn line
 
--- the count is that of the epoch e, and as many of its carriers as there is room for stand in the signals, states and floats
+-- the count is that of the epoch e, and the signals, states and floats hold as many of its carriers as they have room for
 pub record HoldsEpoch (e : Epoch) (n : ℕ) (ss : List ℕ) (ts : List ℤ) (fs : List Float) : Type 0 where
   pub count-is : n ≡ e .count
   pub laid : Laid (e .carriers) (min n 64) ss ts fs
@@ -125,7 +125,7 @@ pub record HoldsEpoch (e : Epoch) (n : ℕ) (ss : List ℕ) (ts : List ℤ) (fs 
 pub record Keeps (c : Carrier) (n r : ℕ) (ss : List ℕ) (ts : List ℤ) (fs : List Float) (ss′ : List ℕ) (ts′ : List ℤ) (fs′ : List Float) : Type 0 where
   pub kept : (e : Epoch) → length (e .carriers) ≡ 64 → HoldsEpoch e n ss ts fs → HoldsEpoch (withCarrier e c) r ss′ ts′ fs′
 
--- what stands after a place of a text, by its first line and what stands after that
+-- the rest of a text from a place on, by its first line and the rest after that
 pub record ReadsNext (s : List ℕ) (at : ℕ) (r : Next) : Type 0 where
   pub onward : at < r .at
   pub within : r .at ≤ length s

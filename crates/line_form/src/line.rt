@@ -23,7 +23,7 @@ pub(crate) struct Carried {
     pub value: Carrier,
 }
 
-// What the first line says.
+// The values of the first line.
 pub(crate) struct Given {
     pub dt: f64,
     pub receiver: Vec3,
@@ -47,14 +47,14 @@ pub(crate) enum Line {
     Broken,
 }
 
-// The byte of a field of one byte; 0 for any other.
+// Returns the byte of a field of one byte, and 0 for any other field.
 fn letter_of(s: &[u8]) -> u8
     ensures { λ r. ⌜ r ≡ letter (now (s .entry)) ⌝ }
 {
     if s.len() == 1 { s[0] } else { 0 }
 }
 
-// Three floats, from the field k on.
+// Reads three floats, from field k on.
 fn place_of(line: &[u8], from: [usize; 12], k: usize) -> Place
     requires { ⌜ Parted (now line) from ⌝ }
     requires { ⌜ k ≤ 8 ⌝ }
@@ -73,7 +73,7 @@ fn place_of(line: &[u8], from: [usize; 12], k: usize) -> Place
     }
 }
 
-// The ten fields of a carrier.
+// Reads the ten fields of a carrier.
 fn carrier_of(line: &[u8], from: [usize; 12]) -> Carried
     requires { ⌜ Parted (now line) from ⌝ }
     ensures { λ r. ⌜ ReadsCarrier (now (line .entry)) r ⌝ }
@@ -133,7 +133,7 @@ pub(crate) fn line_of(line: &[u8]) -> Line
     Line::Broken
 }
 
-// The ten fields of the first line.
+// Reads the ten fields of the first line.
 fn given_of(line: &[u8], from: [usize; 12]) -> Giving
     requires { ⌜ Parted (now line) from ⌝ }
     ensures { λ r. ⌜ ReadsGiven (now (line .entry)) r ⌝ }

@@ -31,7 +31,7 @@ fn spell(out: &mut [u8], at: usize, k: usize, base: u64, n: u64)
     }
 }
 
-// How many decimal digits n has.
+// Returns the number of decimal digits of n.
 fn places_of(n: u64) -> usize
     ensures { λ r. ⌜ r ≡ digitCount 20 n ⌝ }
     ensures { λ r. ⌜ r ≤ 21 ⌝ }
@@ -45,7 +45,7 @@ fn places_of(n: u64) -> usize
     j + 1
 }
 
-// A number in decimal, and the byte after it.
+// Writes a number in decimal and one more byte, and returns the next place.
 fn put_decimal(out: &mut [u8], at: usize, n: u64, end: u8) -> usize
     requires { ⌜ at + 22 ≤ length (now out) ⌝ }
     ensures { λ r. ⌜ PutBytes (now (out .entry)) (now (out .exit)) at (decimalText n ++ (end ∷ [])) r ⌝ }
@@ -57,7 +57,7 @@ fn put_decimal(out: &mut [u8], at: usize, n: u64, end: u8) -> usize
     at + k + 1
 }
 
-// 64 bits in hexadecimal, and the byte after them.
+// Writes 64 bits in hexadecimal and one more byte, and returns the next place.
 fn put_hex(out: &mut [u8], at: usize, p: u64, end: u8) -> usize
     requires { ⌜ at + 17 ≤ length (now out) ⌝ }
     ensures { λ r. ⌜ PutBytes (now (out .entry)) (now (out .exit)) at (hexText p ++ (end ∷ [])) r ⌝ }
@@ -68,7 +68,7 @@ fn put_hex(out: &mut [u8], at: usize, p: u64, end: u8) -> usize
     at + 17
 }
 
-// A letter and a comma, at the start.
+// Writes a letter and a comma at the start, and returns the next place.
 fn put_letter(out: &mut [u8], b: u8) -> usize
     requires { ⌜ 2 ≤ length (now out) ⌝ }
     ensures { λ r. ⌜ PutBytes (now (out .entry)) (now (out .exit)) 0 (b ∷ 44 ∷ []) r ⌝ }
@@ -79,7 +79,7 @@ fn put_letter(out: &mut [u8], b: u8) -> usize
     2
 }
 
-// The last three fields of the line.
+// Writes the last three fields of the line, and returns its length.
 fn put_vector(out: &mut [u8], at: usize, v: Vec3) -> usize
     requires { ⌜ at + 51 ≤ length (now out) ⌝ }
     requires { ⌜ Numbers v ⌝ }
@@ -90,7 +90,7 @@ fn put_vector(out: &mut [u8], at: usize, v: Vec3) -> usize
     put_hex(out, b, f64::to_bits(v.z), 10)
 }
 
-// The whole line.
+// Writes the whole line, and returns its length.
 pub(crate) fn print_to(out: &mut [u8], d: Displacement) -> usize
     requires { ⌜ 128 ≤ length (now out) ⌝ }
     requires { ⌜ Printable d ⌝ }

@@ -38,7 +38,7 @@ use Rattle.tdcp.specs.declared.displacement.Delta.{Delta}
 use Rattle.tdcp.specs.declared.displacement.Displacement.{Displacement}
 use Rattle.tdcp.specs.declared.displacement.Displacement.the-variants.{Refused, Moved}
 
--- what is handed over: two epochs, how far apart they lie, the receiver, the settings, and which carriers are looked at
+-- the arguments of a call: two epochs, the interval between them, the receiver, the settings, and the profile, which chooses the carriers
 pub record Input : Type 0 where
   pub previous : Epoch
   pub current : Epoch

@@ -74,7 +74,7 @@ concludedAt used screened x = ruled Refused (endRules x) (Moved (deltaAt used sc
 abbrev pub movedOver : Settings → Clocks → List Pair → ℕ → Displacement
 movedOver settings k ps screened = concluded Refused endRules (λ x. Moved (deltaAt (length ps) screened x)) (fitOver settings k ps .end)
 
--- ---- the answer as the code has it, with its figures where they are wanted and zeros in their place where not
+-- ---- the answer as the code has it, with its figures on request, and zeros for them otherwise
 
 abbrev pub unrated : Displacement → Rated
 unrated (Refused r) = Rated.Refused r

@@ -71,8 +71,8 @@ pub fn plain(answer: Rated) -> Displacement
     }
 }
 
-// Returns the receiver's position change between two epochs of signals, states and floats, with the figures of its fit where these are wanted. Every displacement
-// ends here. The receiver's position sets the geometry only.
+// Returns the receiver's position change between two epochs of signals, states and floats, with the figures of its fit on request. Every displacement ends here.
+// The receiver's position sets the geometry only.
 pub fn answered(
     previous_signals: &[u64],
     previous_states: &[i32],
@@ -117,7 +117,7 @@ pub fn answered(
     }
 }
 
-// Returns the receiver's position change between two epochs of signals, states and floats, of which no float is copied.
+// Returns the receiver's position change between two epochs of signals, states and floats, without copying a float.
 pub fn displaced(
     previous_signals: &[u64],
     previous_states: &[i32],

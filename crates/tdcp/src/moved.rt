@@ -49,7 +49,7 @@ fn moved_to(x: [f64; 9], used: usize, screened: usize) -> Displacement
     Displacement::Refused(Refusal::FitFailed)
 }
 
-// Runs the rounds over the pairs of the columns. Returns the displacement at the state that they reach, with its figures where these are wanted, or the refusal.
+// Runs the rounds over the pairs of the columns. Returns the displacement at the state that they reach, with its figures on request, or the refusal.
 fn moved_over(
     settings: Settings,
     k: Clocks,

@@ -19,7 +19,7 @@ use Rattle.tdcp.specs.declared.displacement.Interval.the-variants as Interval
 use Rattle.tdcp.specs.declared.displacement.Displacement.{Displacement}
 use Rattle.tdcp.specs.declared.displacement.Displacement.the-variants.{Refused}
 use Rattle.tdcp.proofs.IntervalLaws.{at-dt}
-use Rattle.tdcp_columns.specs.Displacement.{Lent, lent, inputOf, isFit, columnsDisplaced, deltaAfter, countsAfter, DisplacementAnswers}
+use Rattle.tdcp_columns.specs.Displacement.{Lent, lent, lentInput, isFit, columnsDisplaced, deltaAfter, countsAfter, DisplacementAnswers}
 use Rattle.tdcp.specs.Displacement.{displacementNumber}
 
 -- the same number, and the same bits in the lent results
@@ -57,7 +57,7 @@ module _ (previous : CarrierColumns) (m : ℕ) (current : CarrierColumns) (n : �
   abbrev rules : List Rule
   rules = epochRules (epochOf previous m) (epochOf current n) receiver settings
 
-  thirteen : (isDated t && isDated s) ≡ false → displacementOf (inputOf between) ≡ ruled Refused rules (Refused BadTime)
+  thirteen : (isDated t && isDated s) ≡ false → displacementOf (lentInput between) ≡ ruled Refused rules (Refused BadTime)
   unfolding displacementOf intervalRules ruled
   thirteen e = ruled-append Refused _ rules _ ∙ rw e
 

@@ -47,19 +47,19 @@ lent p m c n since receiver settings profile =
     record { previous = p; previous-count = m; current = c; current-count = n; since = since; receiver = receiver; settings = settings; profile = profile }
 
 -- the two epochs, and the same
-abbrev pub inputOf : Lent → Input
-inputOf l = input (epochOf (l .previous) (l .previous-count)) (epochOf (l .current) (l .current-count)) (l .since) (l .receiver) (l .settings) (l .profile)
+abbrev pub lentInput : Lent → Input
+lentInput l = input (epochOf (l .previous) (l .previous-count)) (epochOf (l .current) (l .current-count)) (l .since) (l .receiver) (l .settings) (l .profile)
 
 abbrev pub isFit : Lent → Bool
 isFit l = epochFits (l .previous) (l .previous-count) && epochFits (l .current) (l .current-count)
 
 -- their displacement. 2: one epoch has more than 64 carriers, or one of its columns is too short.
 unfoldable pub columnsDisplaced : Lent → Displacement
-columnsDisplaced l = cond (isFit l) (displacementOf (inputOf l)) (Refused TooMany)
+columnsDisplaced l = cond (isFit l) (displacementOf (lentInput l)) (Refused TooMany)
 
 -- ---- the answer in lent memory
 
--- the patterns of the displacement in metres, and how many pairs were used and screened out; a refusal leaves both as they were, to the last bit
+-- the patterns of the displacement in metres, and how many pairs were used and screened out; a refusal changes no bit of either
 abbrev pub deltaAfter : Displacement → List ℕ → List ℕ
 deltaAfter (Refused r) before = before
 deltaAfter (Moved d) before = map patternOf (displacementFloats (Moved d))
@@ -78,4 +78,4 @@ pub record Leaves (d : Displacement) (number : ℕ) (delta₀ delta : List ℕ) 
 -- round included.
 pub record DisplacementAnswers (l : Lent) (number : ℕ) (delta₀ delta : List ℕ) (counts₀ counts : List ℕ) : Type 0 where
   pub leaves : Leaves (columnsDisplaced l) number delta₀ delta counts₀ counts
-  pub accepted : (d : Delta) → columnsDisplaced l ≡ Moved d → Accepted (inputOf l) d
+  pub accepted : (d : Delta) → columnsDisplaced l ≡ Moved d → Accepted (lentInput l) d

@@ -1,4 +1,4 @@
-// Displacements of two epochs' columns: 2 where they do not fit, and else what their signals, states and floats answer.
+// Displacements of two epochs' columns: refused by 2 where they do not fit, otherwise that of their signals, states and floats.
 ghost use mathlib.Core.Path.{_≡_};
 ghost use lib.ListN.{length};
 ghost use Rattle.records.specs.Carriers.{carrierColumns, epochFits};
@@ -16,7 +16,7 @@ use tdcp::displacement::Rated;
 use tdcp::displacement::answered;
 use tdcp::displacement::plain;
 
-// Whether there are at most 64 carriers and no column is shorter than they need.
+// Checks that there are at most 64 carriers and that the columns hold them.
 fn epoch_fits(
     constellation: &[u8],
     svid: &[u16],
@@ -38,7 +38,7 @@ fn epoch_fits(
         & (6 * n <= floats.len())
 }
 
-// Whether the epoch fits, and then its signals in signals.
+// Checks that the epoch fits, and writes its signals.
 fn fit_into(
     constellation: &[u8],
     svid: &[u16],
@@ -59,7 +59,7 @@ fn fit_into(
     true
 }
 
-// Returns the answer of two epochs, of which the states and the floats are read where they lie, with the figures of its fit where these are wanted.
+// Returns the displacement between two epochs, with the figures of its fit on request. States and floats are read in place.
 pub fn columns_answered(
     previous_constellation: &[u8],
     previous_svid: &[u16],

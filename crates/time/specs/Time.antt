@@ -29,7 +29,7 @@ nanosPerSecond = whole 1000000000
 abbrev pub inWeek : Float → Bool
 inWeek tow = le +0 tow && lt tow (whole 604800)
 
--- a week and a time of week that 13 does not turn away
+-- a week and a time of week that pass rule 13
 abbrev pub isTime : ℕ → Float → Bool
 isTime week tow = leb week 15000 && inWeek tow
 
@@ -47,7 +47,7 @@ timeOf week tow = cond (isTime week tow) (At (record { nanos = week * nanosPerWe
 
 -- ---- differences
 
--- A time handed in that 13 does not turn away: it is not past the start of week 15,001, up to which a time of week 15,000 may be rounded. None is before week 0.
+-- A time that passes rule 13: it is not past the start of week 15,001, up to which a time of week 15,000 may be rounded. No time is before week 0.
 abbrev pub isDated : GpsTime → Bool
 isDated t = leb (t .nanos) (15001 * nanosPerWeek)
 

@@ -1,4 +1,4 @@
-// Carrier records in columns that a caller lends.
+// Carrier records in a caller's columns.
 ghost use mathlib.Core.Path.{_≡_};
 ghost use mathlib.Core.Bool.{true};
 ghost use Prim.Native.Nat.{_+_, _*_, _≤_, _<_};
@@ -11,7 +11,7 @@ use crate::record::put_record;
 use crate::record::record_of;
 use numeric::refusal::Refusal;
 
-// Whether there are at most 64 records and no column is shorter than they need.
+// Checks that there are at most 64 records and that the columns hold them.
 fn columns_fit(
     constellation: &[u8],
     svid: &[u16],
@@ -20,7 +20,8 @@ fn columns_fit(
     floats: &[u64],
     n: usize,
 ) -> bool
-    ensures { λ r. ⌜ r ≡ spec.columnsFit (spec.recordColumns (now (constellation .entry)) (now (svid .entry)) (now (band .entry)) (now (state .entry)) (now (floats .entry))) n ⌝ }
+    ensures { λ r. ⌜ r ≡ spec.columnsFit (spec.recordColumns (now (constellation .entry)) (now (svid .entry)) (now (band .entry))
+        (now (state .entry)) (now (floats .entry))) n ⌝ }
 {
     if n > 64 {
         return false;
@@ -44,7 +45,11 @@ fn fill(
 )
     requires { ⌜ spec.columnsFit (spec.recordColumns (now constellation) (now svid) (now band) (now state) (now floats)) n ≡ true ⌝ }
     requires { ⌜ 59 * n ≤ length (now s) ⌝ }
-    ensures { λ _. ⌜ spec.recordColumns (now (constellation .exit)) (now (svid .exit)) (now (band .exit)) (now (state .exit)) (now (floats .exit)) ≡ spec.columnsWith (recordsIn (now (s .entry)) n) (spec.recordColumns (now (constellation .entry)) (now (svid .entry)) (now (band .entry)) (now (state .entry)) (now (floats .entry))) ⌝ }
+    ensures { λ _. ⌜ (let before = spec.recordColumns (now (constellation .entry)) (now (svid .entry)) (now (band .entry))
+        (now (state .entry)) (now (floats .entry)) in
+        let after = spec.recordColumns (now (constellation .exit)) (now (svid .exit)) (now (band .exit))
+        (now (state .exit)) (now (floats .exit)) in
+        after ≡ spec.columnsWith (recordsIn (now (s .entry)) n) before) ⌝ }
 {
     let mut i: usize = 0;
     while i < n {
@@ -65,8 +70,8 @@ fn fill(
     }
 }
 
-// Reads the records of s into the columns and their count into count. 0; or 21 where s is no whole records, then 2 where there are more than 64
-// or a column is too short, which leave every lent place.
+// Returns 0 and writes the records of `s` to the columns and their number to `count`. On refusal, returns its number and changes nothing: 21 where the length of `s`
+// is no multiple of 59, then 2 where there are more than 64 records or a column is too short.
 pub fn read_records(
     s: &[u8],
     constellation: &mut [u8],
@@ -93,7 +98,7 @@ pub fn read_records(
     0
 }
 
-// The record at place i of the columns.
+// Returns the record at place i of the columns.
 fn column_record(
     constellation: &[u8],
     svid: &[u16],
@@ -104,7 +109,8 @@ fn column_record(
 ) -> CarrierRecord
     requires { ⌜ (i < length (now constellation)) × (i < length (now svid)) × (i < length (now band)) × (i < length (now state)) ⌝ }
     requires { ⌜ 6 * i + 5 < length (now floats) ⌝ }
-    ensures { λ r. ⌜ r ≡ spec.columnRecord (spec.recordColumns (now (constellation .entry)) (now (svid .entry)) (now (band .entry)) (now (state .entry)) (now (floats .entry))) i ⌝ }
+    ensures { λ r. ⌜ r ≡ spec.columnRecord (spec.recordColumns (now (constellation .entry)) (now (svid .entry)) (now (band .entry))
+        (now (state .entry)) (now (floats .entry))) i ⌝ }
 {
     let at = 6 * i;
     let bits = state[i];
@@ -134,7 +140,9 @@ fn put_records(
 )
     requires { ⌜ spec.columnsFit (spec.recordColumns (now constellation) (now svid) (now band) (now state) (now floats)) n ≡ true ⌝ }
     requires { ⌜ 59 * n ≤ length (now out) ⌝ }
-    ensures { λ _. ⌜ now (out .exit) ≡ spec.over (epochBytes (spec.columnRecords (spec.recordColumns (now (constellation .entry)) (now (svid .entry)) (now (band .entry)) (now (state .entry)) (now (floats .entry))) n)) (now (out .entry)) ⌝ }
+    ensures { λ _. ⌜ (let columns = spec.recordColumns (now (constellation .entry)) (now (svid .entry)) (now (band .entry))
+        (now (state .entry)) (now (floats .entry)) in
+        now (out .exit) ≡ spec.over (epochBytes (spec.columnRecords columns n)) (now (out .entry))) ⌝ }
 {
     let mut i: usize = 0;
     while i < n {
@@ -144,7 +152,7 @@ fn put_records(
     }
 }
 
-// Writes the first n records of the columns into out. 0; or 2 where there are more than 64, a column is too short or out is, which leaves out as it was.
+// Returns 0 and writes the first n records of the columns to `out`. Returns 2 and changes nothing where there are more than 64, or a column or `out` is too short.
 pub fn write_records(
     constellation: &[u8],
     svid: &[u16],
@@ -154,7 +162,9 @@ pub fn write_records(
     n: usize,
     out: &mut [u8],
 ) -> u8
-    ensures { λ r. ⌜ WriteAnswers (spec.recordColumns (now (constellation .entry)) (now (svid .entry)) (now (band .entry)) (now (state .entry)) (now (floats .entry))) n r (now (out .entry)) (now (out .exit)) ⌝ }
+    ensures { λ r. ⌜ WriteAnswers (spec.recordColumns (now (constellation .entry)) (now (svid .entry)) (now (band .entry))
+        (now (state .entry)) (now (floats .entry)))
+        n r (now (out .entry)) (now (out .exit)) ⌝ }
 {
     if !columns_fit(constellation, svid, band, state, floats, n) {
         return Refusal::TooMany.number();
