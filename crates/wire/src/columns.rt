@@ -6,9 +6,11 @@ ghost use lib.ListN.{length};
 ghost use Rattle.wire.specs.Record.{recordsIn, epochBytes};
 ghost use Rattle.wire.specs.Columns as spec;
 ghost use Rattle.wire.specs.Lent.{ReadAnswers, WriteAnswers};
+use crate::number::number_at;
+use crate::number::signed;
 use crate::record::CarrierRecord;
+use crate::record::pattern_in;
 use crate::record::put_record;
-use crate::record::record_of;
 use numeric::refusal::Refusal;
 
 // Checks that there are at most 64 records and that the columns hold them.
@@ -33,7 +35,7 @@ fn columns_fit(
         & (6 * n <= floats.len())
 }
 
-// Writes the first n records of s into the columns.
+// Writes the first n records of s into the columns, field by field: a record as a struct goes through memory, where loads wait for its stores.
 fn fill(
     s: &[u8],
     n: usize,
@@ -53,19 +55,28 @@ fn fill(
 {
     let mut i: usize = 0;
     while i < n {
-        let r = record_of(s, 59 * i);
-        let bits = r.state;
+        let from = 59 * i;
         let at = 6 * i;
-        constellation[i] = r.constellation;
-        svid[i] = r.svid;
-        band[i] = r.band;
+        let first = number_at(s, from, 1);
+        let second = number_at(s, from + 1, 2);
+        let third = number_at(s, from + 3, 4);
+        let adr = pattern_in(s, from + 7);
+        let bits = signed(number_at(s, from + 15, 4));
+        let x = pattern_in(s, from + 19);
+        let y = pattern_in(s, from + 27);
+        let z = pattern_in(s, from + 35);
+        let elevation = pattern_in(s, from + 43);
+        let rate = pattern_in(s, from + 51);
+        constellation[i] = first as u8;
+        svid[i] = second as u16;
+        band[i] = third as u32;
         state[i] = bits;
-        floats[at] = r.adr;
-        floats[at + 1] = r.x;
-        floats[at + 2] = r.y;
-        floats[at + 3] = r.z;
-        floats[at + 4] = r.elevation;
-        floats[at + 5] = r.rate;
+        floats[at] = adr;
+        floats[at + 1] = x;
+        floats[at + 2] = y;
+        floats[at + 3] = z;
+        floats[at + 4] = elevation;
+        floats[at + 5] = rate;
         i += 1;
     }
 }

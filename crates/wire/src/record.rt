@@ -25,7 +25,7 @@ pub struct CarrierRecord {
 }
 
 // The 64 bits of a float, a NaN's sign and payload with them.
-fn pattern_in(s: &[u8], at: usize) -> u64
+pub(crate) fn pattern_in(s: &[u8], at: usize) -> u64
     requires { ⌜ at + 8 ≤ length (now s) ⌝ }
     ensures { λ r. ⌜ r ≡ numberAt (now (s .entry)) at 8 ⌝ }
 {
