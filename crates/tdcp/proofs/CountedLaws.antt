@@ -12,8 +12,7 @@ use Rattle.records.specs.declared.pair.Profile.{Profile}
 use Rattle.estimator.specs.Rules.{ruled}
 use Rattle.tdcp.specs.Valid.{settingsPass, epochRules}
 use Rattle.tdcp.specs.Displacement.{Input, input, callFit, displacementOf}
-use Rattle.tdcp.specs.Rated.{quality}
-use Rattle.tdcp.specs.Steps.{answeredBy, answeredOf}
+use Rattle.tdcp.specs.Rated.{quality, answeredBy, answeredOf}
 use Rattle.tdcp.specs.declared.displacement.Rated.the-variants as Rated
 use Rattle.tdcp.specs.declared.displacement.Settings.{Settings}
 use Rattle.tdcp.specs.declared.displacement.Interval.{Interval}

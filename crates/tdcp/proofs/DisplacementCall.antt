@@ -25,8 +25,8 @@ use Rattle.tdcp.specs.Valid.{dtOf, epochRules, fewRules}
 use Rattle.tdcp.specs.Front.{sightRules, countRules, cityRules, pairRules}
 use Rattle.estimator.specs.Rounds.{End, Stopped, Reached, Fit, concluded, Ended, stateAfter}
 use Rattle.tdcp.specs.Displacement.{Input, fitOver, fitBy, callFit, pairs, deltaAt, endRules, movedBy, displacementOf}
-use Rattle.tdcp.specs.Rated.{qualityAt, quality}
-use Rattle.tdcp.specs.Steps.{movedOver, answeredBy, qualityOver, qualityBy, answeredOf, givenRules, concludedAt}
+use Rattle.tdcp.specs.Rated.{qualityAt, quality, answeredBy, answeredOf}
+use Rattle.tdcp.specs.Steps.{movedOver, qualityOver, qualityBy, givenRules, concludedAt}
 use Rattle.tdcp.specs.declared.displacement.Rated.the-variants as Rated
 use Rattle.tdcp.proofs.RatedLaws.{refused-as, quality-rows}
 use Rattle.cholesky.specs.Factor.{zeros}

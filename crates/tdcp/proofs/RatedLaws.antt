@@ -17,14 +17,14 @@ use Rattle.quality.specs.declared.figures.Figures.{Figures}
 use Rattle.quality.specs.declared.figures.Quality.{Quality}
 use Rattle.quality.specs.declared.figures.Quality.the-variants as Quality
 use Rattle.tdcp.specs.Displacement.{Input, rowAt, fitOver, displacementOf}
-use Rattle.tdcp.specs.Rated.{qualityAt, quality, rate, ratedWith, ratedOf, ratedNumber, ratedFloats, ratedFigures, ratedCounts, RatedAccepted, RatedPromised}
+use Rattle.tdcp.specs.Rated.{qualityAt, quality, rate, ratedWith, ratedOf, ratedNumber, ratedFloats, ratedFigures, ratedCounts, RatedAccepted, RatedPromised, unrated, plainOf, answeredBy, answeredOf}
 use Rattle.walk.specs.Walk.{every}
 use lib.Ieee.Scale.{finite}
 use native.Mathlib.Omega.{arith}
 use lib.Ieee.Bits.{is-true}
 use Rattle.quality.proofs.QualityLaws.{quality-finite}
 use Rattle.tdcp.proofs.DisplacementSound.{displacement-accepted}
-use Rattle.tdcp.specs.Steps.{unrated, plainOf, answeredBy, qualityOver, answeredOf}
+use Rattle.tdcp.specs.Steps.{qualityOver}
 use Rattle.tdcp.specs.declared.displacement.Settings.{Settings}
 use Rattle.tdcp.specs.declared.displacement.Delta.{Delta}
 use Rattle.tdcp.specs.declared.displacement.Displacement.{Displacement}

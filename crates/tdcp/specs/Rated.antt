@@ -1,11 +1,12 @@
 -- The displacement with the quality of its fit (docs/SCOPE.md, "Rated displacement"). Definitions only.
 use mathlib.Core.Path.{_≡_}
 use Prim.Native.Nat.{ℕ, _+_}
-use mathlib.Core.Bool.{true}
+use mathlib.Core.Bool.{Bool, true, false}
 use mathlib.Core.List.{List, [], _∷_, _++_, map}
 use lib.Dec.{T}
 use lib.Ieee.{Float}
 use lib.Ieee.Scale.{finite}
+use Rattle.exact.specs.Float.{+0}
 use Rattle.walk.specs.Walk.{every}
 use Rattle.cholesky.specs.Factor.{zeros}
 use Rattle.numeric.specs.Refusal.{numberOf}
@@ -46,6 +47,24 @@ ratedWith q (Displacement.Moved d) = rate d q
 -- refused where the displacement is, by its number; then 10 and 14 of its quality
 unfoldable pub ratedOf : Input → Rated
 ratedOf i = ratedWith (quality i) (displacementOf i)
+
+-- ---- the answer with its figures on request, and zeros for them otherwise
+
+abbrev pub unrated : Displacement → Rated
+unrated (Displacement.Refused r) = Refused r
+unrated (Displacement.Moved d) = Moved (record { moved = d; chi = +0; pdop = +0 })
+
+abbrev pub answeredBy : Bool → Quality → Displacement → Rated
+answeredBy true q m = ratedWith q m
+answeredBy false q m = unrated m
+
+-- an answer without its figures
+abbrev pub plainOf : Rated → Displacement
+plainOf (Refused r) = Displacement.Refused r
+plainOf (Moved d) = Displacement.Moved (d .moved)
+
+unfoldable pub answeredOf : Bool → Input → Rated
+answeredOf wanted i = answeredBy wanted (quality i) (displacementOf i)
 
 -- ---- an answer in numbers: its number, which is 0 where it is accepted, its floats, its figures and its counts; a refusal has its number alone
 

@@ -1,11 +1,11 @@
 -- What the functions of a displacement return in between: rows as columns of numbers, place by place, and answers with or without figures. Definitions only.
 use mathlib.Core.Path.{_≡_}
 use Prim.Native.Nat.{ℕ, _+_, _<_}
-use mathlib.Core.Bool.{Bool, true, false, not}
+use mathlib.Core.Bool.{Bool, not}
 use mathlib.Core.List.{List, _∷_}
 use lib.ListN.{getD, length}
 use lib.Ieee.{Float, nan}
-use Rattle.exact.specs.Float.{_⊕_, _⊖_, _⊗_, +0}
+use Rattle.exact.specs.Float.{_⊕_, _⊖_, _⊗_}
 use Rattle.cholesky.specs.Factor.{at, zeros}
 use Rattle.numeric.specs.Order.{patternOf}
 use Rattle.robust.specs.Sigma.{elevationSigma}
@@ -18,10 +18,8 @@ use Rattle.estimator.specs.Rounds.{Ended, concluded, stateAfter}
 use Rattle.estimator.specs.declared.rules.Check.{Check}
 use Rattle.tdcp.specs.Valid.{settingsPass, intervalRules}
 use Rattle.tdcp.specs.declared.displacement.Interval.{Interval}
-use Rattle.tdcp.specs.Displacement.{Input, fitOver, fitBy, deltaAt, endRules, displacementOf}
-use Rattle.tdcp.specs.Rated.{qualityAt, quality, ratedWith}
-use Rattle.tdcp.specs.declared.displacement.Rated.{Rated}
-use Rattle.tdcp.specs.declared.displacement.Rated.the-variants as Rated
+use Rattle.tdcp.specs.Displacement.{fitOver, fitBy, deltaAt, endRules}
+use Rattle.tdcp.specs.Rated.{qualityAt}
 use Rattle.quality.specs.declared.figures.Quality.{Quality}
 use Rattle.records.specs.Kept.{pairsIn}
 use Rattle.records.specs.Screen.{keptOf, constellations}
@@ -74,16 +72,6 @@ concludedAt used screened x = ruled Refused (endRules x) (Moved (deltaAt used sc
 abbrev pub movedOver : Settings → Clocks → List Pair → ℕ → Displacement
 movedOver settings k ps screened = concluded Refused endRules (λ x. Moved (deltaAt (length ps) screened x)) (fitOver settings k ps .end)
 
--- ---- the answer as the code has it, with its figures on request, and zeros for them otherwise
-
-abbrev pub unrated : Displacement → Rated
-unrated (Refused r) = Rated.Refused r
-unrated (Moved d) = Rated.Moved (record { moved = d; chi = +0; pdop = +0 })
-
-abbrev pub answeredBy : Bool → Quality → Displacement → Rated
-answeredBy true q m = ratedWith q m
-answeredBy false q m = unrated m
-
 -- the quality at the end of the rounds over the pairs ps, with the clocks k
 abbrev pub qualityOver : Settings → Clocks → List Pair → Quality
 qualityOver settings k ps = qualityAt settings k ps (stateAfter (fitOver settings k ps .end) zeros)
@@ -93,11 +81,3 @@ abbrev pub qualityBy : Settings → List Pair → Quality
 qualityBy settings ps =
     let kept = keptOf (settings .screen) ps in
     qualityAt settings (clocksOf (constellations kept)) kept (stateAfter (fitBy settings ps .end) zeros)
-
--- an answer without its figures
-abbrev pub plainOf : Rated → Displacement
-plainOf (Rated.Refused r) = Refused r
-plainOf (Rated.Moved d) = Moved (d .moved)
-
-unfoldable pub answeredOf : Bool → Input → Rated
-answeredOf wanted i = answeredBy wanted (quality i) (displacementOf i)

@@ -3,7 +3,6 @@ ghost use mathlib.Core.Path.{_≡_};
 ghost use Rattle.records.specs.Signals.{epochIn, Fit};
 ghost use Rattle.tdcp.specs.Displacement as spec;
 ghost use Rattle.tdcp.specs.Rated as rated;
-ghost use Rattle.tdcp.specs.Steps as code;
 use crate::moved::moved_by;
 use crate::valid::seconds_of;
 use numeric::refusal::Refusal;
@@ -60,7 +59,7 @@ pub enum Rated {
 
 // Returns the displacement of an answer without its figures.
 pub fn plain(answer: Rated) -> Displacement
-    ensures { λ r. ⌜ r ≡ code.plainOf answer ⌝ }
+    ensures { λ r. ⌜ r ≡ rated.plainOf answer ⌝ }
 {
     match answer {
         Rated::Refused(r) => Displacement::Refused(r),
@@ -88,7 +87,7 @@ pub fn answered(
 ) -> Rated
     requires { ⌜ Fit (now «previous_signals») (now «previous_states») (now «previous_floats») ⌝ }
     requires { ⌜ Fit (now «current_signals») (now «current_states») (now «current_floats») ⌝ }
-    ensures { λ r. ⌜ r ≡ code.answeredOf wanted (spec.input
+    ensures { λ r. ⌜ r ≡ rated.answeredOf wanted (spec.input
         (epochIn (now («previous_signals» .entry)) (now («previous_states» .entry)) (now («previous_floats» .entry)))
         (epochIn (now («current_signals» .entry)) (now («current_states» .entry)) (now («current_floats» .entry)))
         since receiver settings profile) ⌝ }
@@ -163,7 +162,7 @@ fn answered_by(
     profile: Profile,
     wanted: bool,
 ) -> Rated
-    ensures { λ r. ⌜ r ≡ code.answeredOf wanted (spec.input previous current since receiver settings profile) ⌝ }
+    ensures { λ r. ⌜ r ≡ rated.answeredOf wanted (spec.input previous current since receiver settings profile) ⌝ }
 {
     let m = previous.count;
     let n = current.count;

@@ -7,6 +7,7 @@ ghost use Rattle.records.specs.City.{isCity};
 ghost use Rattle.records.specs.Kept.{pairsIn};
 ghost use Rattle.records.specs.Pair.{seen};
 ghost use Rattle.tdcp.specs.Displacement as spec;
+ghost use Rattle.tdcp.specs.Rated as rated;
 ghost use Rattle.tdcp.specs.Steps as code;
 use crate::displacement::Delta;
 use crate::displacement::Displacement;
@@ -65,7 +66,7 @@ fn moved_over(
     requires { ⌜ (length (now observed) ≤ 64) × (k .count ≤ 6) ⌝ }
     ensures { λ r. ⌜ (let pairs = pairsIn (now (x .entry)) (now (y .entry)) (now (z .entry)) (now (constellation .entry)) (now (elevation .entry))
         (now (observed .entry)) in
-        r ≡ code.answeredBy wanted (code.qualityOver settings k pairs) (code.movedOver settings k pairs screened)) ⌝ }
+        r ≡ rated.answeredBy wanted (code.qualityOver settings k pairs) (code.movedOver settings k pairs screened)) ⌝ }
 {
     let used = observed.len();
     let mut clock = [0usize; 64];
@@ -109,7 +110,7 @@ fn moved_over(
 pub(crate) fn moved_by(settings: Settings, all: Pairs, profile: Profile, wanted: bool) -> Rated
     requires { ⌜ (all .count ≤ 64) × (all .seen ≡ every seen (take (all .count) (all .pair))) ⌝ }
     ensures { λ r. ⌜ (let pairs = take (all .count) (all .pair) in
-        r ≡ code.answeredBy wanted (code.qualityBy settings pairs) (spec.movedBy (isCity profile) settings pairs)) ⌝ }
+        r ≡ rated.answeredBy wanted (code.qualityBy settings pairs) (spec.movedBy (isCity profile) settings pairs)) ⌝ }
 {
     let pairs = all.count;
     let seen = all.seen;

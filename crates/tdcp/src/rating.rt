@@ -23,7 +23,8 @@ pub(crate) fn quality_at(
     at: [f64; 9],
 ) -> Quality
     requires { ⌜ (length (now observed) ≤ 64) × (3 ≤ n) × (n ≤ 9) ⌝ }
-    ensures { λ r. ⌜ code.QualityIs n (now (x .entry)) (now (y .entry)) (now (z .entry)) (now (clock .entry)) (now (sigma .entry)) (now (observed .entry)) at r ⌝ }
+    ensures { λ r. ⌜ code.QualityIs n (now (x .entry)) (now (y .entry)) (now (z .entry)) (now (clock .entry)) (now (sigma .entry))
+        (now (observed .entry)) at r ⌝ }
 {
     let count = observed.len();
     let mut residual = [0u64; 64];

@@ -14,7 +14,7 @@ use Rattle.numeric.specs.declared.refusal.Refusal.the-variants.{TooMany}
 use Rattle.records.specs.Carriers.{CarrierColumns, carrierColumns, epochOf, epochFits}
 use Rattle.records.specs.Signals.{epochIn, Fit}
 use Rattle.records.proofs.EpochLaws.{signalled-fits, signalled-is}
-use Rattle.tdcp.specs.Steps.{answeredOf}
+use Rattle.tdcp.specs.Rated.{answeredOf}
 use Rattle.tdcp.specs.declared.displacement.Rated.{Rated}
 use Rattle.tdcp.specs.declared.displacement.Rated.the-variants.{Refused}
 use Rattle.tdcp_columns.specs.Displacement.{Lent, lentInput}

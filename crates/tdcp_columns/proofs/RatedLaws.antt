@@ -17,8 +17,7 @@ use Rattle.estimator.specs.Rounds.{stateAfter}
 use Rattle.quality.specs.Quality.{chiOf, unweightedMatrix, dilutionOf, figureRules, qualityOf}
 use Rattle.tdcp.specs.Displacement.{rowAt, keptPairs, callFit, displacementOf}
 use Rattle.tdcp.specs.declared.displacement.Delta.{Delta}
-use Rattle.tdcp.specs.Rated.{qualityAt, quality, rate, ratedWith, ratedOf, RatedAccepted}
-use Rattle.tdcp.specs.Steps.{plainOf, answeredOf}
+use Rattle.tdcp.specs.Rated.{qualityAt, quality, rate, ratedWith, ratedOf, RatedAccepted, plainOf, answeredOf}
 use Rattle.tdcp.specs.declared.displacement.Displacement.{Displacement}
 use Rattle.tdcp.specs.declared.displacement.Displacement.the-variants as Displacement
 use Rattle.tdcp.specs.declared.displacement.RatedDelta.{RatedDelta}

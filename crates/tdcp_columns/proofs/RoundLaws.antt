@@ -9,7 +9,7 @@ use Rattle.records.specs.declared.record.Epoch.{Epoch}
 use Rattle.records.specs.declared.pair.Profile.{Profile}
 use Rattle.estimator.proofs.RoundsLaws.{capped}
 use Rattle.tdcp.specs.Displacement.{input}
-use Rattle.tdcp.specs.Steps.{answeredOf}
+use Rattle.tdcp.specs.Rated.{answeredOf}
 use Rattle.tdcp.specs.declared.displacement.Interval.{Interval}
 use Rattle.tdcp.proofs.CountedLaws.{answer-many-rounds}
 use Rattle.tdcp_columns.specs.Displacement.{displacementSettings}

@@ -9,7 +9,7 @@ use Rattle.numeric.specs.declared.refusal.Refusal.the-variants.{TooMany}
 use Rattle.records.specs.Carriers.{CarrierColumns, epochFits}
 use Rattle.records.specs.Signals.{Signalled}
 use Rattle.tdcp.specs.Displacement.{displacementFloats, Accepted}
-use Rattle.tdcp.specs.Steps.{answeredOf}
+use Rattle.tdcp.specs.Rated.{answeredOf}
 use Rattle.tdcp.specs.declared.displacement.Delta.{Delta}
 use Rattle.tdcp.specs.declared.displacement.Displacement.{Displacement}
 use Rattle.tdcp.specs.declared.displacement.Displacement.the-variants.{Moved}

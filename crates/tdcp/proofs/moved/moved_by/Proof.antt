@@ -9,7 +9,8 @@ use Rattle.estimator.specs.declared.rules.Check.the-variants.{Passed}
 use Rattle.estimator.proofs.RulesLaws.{checked}
 use Rattle.tdcp.specs.Front.{sightRules}
 use Rattle.tdcp.proofs.SightLaws.{all-seen, one-unseen}
-use Rattle.tdcp.specs.Steps.{answeredBy, qualityBy}
+use Rattle.tdcp.specs.Steps.{qualityBy}
+use Rattle.tdcp.specs.Rated.{answeredBy}
 use Rattle.tdcp.proofs.RatedLaws.{refused-as}
 use Rattle.tdcp.proofs.DisplacementCall.{refused-sights, no-more, refused-counts, few-clocks, over, quality-over}
 use borrow.Author.Needs.{needs}
