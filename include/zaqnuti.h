@@ -464,15 +464,17 @@ uint8_t zaqnuti_city_displacement_rated(
     zaqnuti_size counts[2]);
 
 /*
- * The displacement of a text in the line form, `S`, `P` and `C` lines: writes
- * the answer line with its LF, `A,used,screened,dx,dy,dz` or `R,number`, and
- * gives its length. Where the buffer is shorter than the answer it writes
- * nothing and gives 0; ZAQNUTI_LINE bytes are always enough. A text above
- * 32,768 bytes, or one that breaks the form, is answered by `R,1`.
+ * The displacement of a text in the line form, `S`, `P` and `C` lines. Returns
+ * 0 and writes the answer line with its LF, `A,used,screened,dx,dy,dz` or
+ * `R,number`, to `line` and its length to `written`. Returns 2 and changes
+ * nothing where the buffer is shorter than the line; ZAQNUTI_LINE bytes are
+ * always enough. A text above 32,768 bytes, or one that breaks the form, is
+ * answered by `R,1`.
  */
-zaqnuti_size zaqnuti_line(
+uint8_t zaqnuti_line(
     const uint8_t *text, zaqnuti_size text_length,
-    uint8_t *line, zaqnuti_size line_length);
+    uint8_t *line, zaqnuti_size line_length,
+    zaqnuti_size *written);
 
 /* ---- the trip */
 

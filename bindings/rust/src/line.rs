@@ -25,8 +25,17 @@ impl Line {
 /// ```
 pub fn answer(text: &[u8]) -> Line {
     let mut bytes = [0; LINE];
-    // SAFETY: each pointer has its length beside it, and the line is ours alone.
-    let length =
-        unsafe { sys::zaqnuti_line(text.as_ptr(), text.len(), bytes.as_mut_ptr(), bytes.len()) };
+    let mut length = 0;
+    // SAFETY: each pointer has its length beside it, and the line and its length are ours alone.
+    // `LINE` bytes are always enough, so that the call isn't refused.
+    unsafe {
+        sys::zaqnuti_line(
+            text.as_ptr(),
+            text.len(),
+            bytes.as_mut_ptr(),
+            bytes.len(),
+            &mut length,
+        )
+    };
     Line { bytes, length }
 }

@@ -286,7 +286,8 @@ extern "C" {
         text_length: usize,
         line: *mut u8,
         line_length: usize,
-    ) -> usize;
+        written: *mut usize,
+    ) -> u8;
     /// Carrier records written as bytes.
     pub fn zaqnuti_write_records(
         constellation: *const u8,

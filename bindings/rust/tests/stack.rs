@@ -472,10 +472,19 @@ fn line(rounds: usize, last: &[u8], room: usize) -> usize {
     text.pop();
     text.extend(last);
     let mut line = vec![0; room];
+    let mut written = 0;
     measured(move || {
         let frame = top();
-        // SAFETY: each pointer has its length beside it, and the line is ours alone.
-        unsafe { sys::zaqnuti_line(text.as_ptr(), text.len(), line.as_mut_ptr(), room) };
+        // SAFETY: each pointer has its length beside it, and the line and its length are ours alone.
+        unsafe {
+            sys::zaqnuti_line(
+                text.as_ptr(),
+                text.len(),
+                line.as_mut_ptr(),
+                room,
+                &mut written,
+            )
+        };
         frame
     })
 }

@@ -7,7 +7,8 @@ use Rattle.tdcp.specs.declared.displacement.Displacement.{Displacement}
 use Rattle.tdcp.proofs.CountedLaws.{many-rounds}
 use Rattle.trip.specs.declared.trip.Step.{Step}
 use Rattle.drive.specs.Drive.{underNew}
-use Rattle.tdcp_columns.specs.Displacement.{displacementSettings, Lent, columnsDisplaced, ColumnsPromised}
+use Rattle.tdcp_columns.specs.Displacement.{displacementSettings, Lent, columnsDisplaced}
+use Rattle.tdcp_columns.specs.Steps.{ColumnsPromised}
 use Rattle.estimator.proofs.RoundsLaws.{capped}
 use Rattle.tdcp_columns.proofs.AnswerLaws.{columns-accepted}
 use Rattle.drive.specs.Lent.{drivingNumber, inForceAfter, roundsAfter, startedAfter, DrivingAnswers, BegunAnswers, travelledBy, travelNumber, tripAfter, travelDeltaAfter, travelCountsAfter, TravelLeaves, TravelAnswers}

@@ -6,7 +6,7 @@ use lib.Ieee.{Float}
 use Rattle.numeric.specs.Order.{patternOf}
 use Rattle.numeric.specs.Refusal.{numberOf}
 use Rattle.tdcp.specs.Displacement.{displacementFloats, displacementCounts, Accepted}
-use Rattle.tdcp_columns.specs.Displacement.{Lent, inputOf, columnsDisplaced}
+use Rattle.tdcp_columns.specs.Displacement.{Lent, lentInput, columnsDisplaced}
 use Rattle.tdcp.specs.declared.displacement.Settings.{Settings}
 use Rattle.tdcp.specs.declared.displacement.Displacement.{Displacement}
 use Rattle.tdcp.specs.declared.displacement.Displacement.the-variants as Displacement
@@ -86,4 +86,4 @@ pub record TravelLeaves (t : Travel) (number : ℕ) (trip₀ trip delta₀ delta
 -- round included.
 pub record TravelAnswers (l : Lent) (pulses number : ℕ) (trip₀ trip delta₀ delta counts₀ counts : List ℕ) : Type 0 where
   pub leaves : TravelLeaves (travelledBy (columnsDisplaced l) pulses trip₀) number trip₀ trip delta₀ delta counts₀ counts
-  pub accepted : (w : Travelled) → travelledBy (columnsDisplaced l) pulses trip₀ ≡ Travel.Goes w → Accepted (inputOf l) (w .moved)
+  pub accepted : (w : Travelled) → travelledBy (columnsDisplaced l) pulses trip₀ ≡ Travel.Goes w → Accepted (lentInput l) (w .moved)

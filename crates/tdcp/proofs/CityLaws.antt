@@ -46,7 +46,7 @@ behind f (r ∷ rs) {a} {b} {c} h = go (r .applies) (behind f rs h)
     go false h = h
 
 module _ (settings : Settings) (ps : List Pair) where
-  abbrev kept : List Pair
+  abbrev pub kept : List Pair
   kept = keptOf (settings .screen) ps
 
   abbrev fitted : Displacement
@@ -92,10 +92,10 @@ module _ (band : ℕ) (i : Input) (e : Passed ≡ checked (epochRules (i .previo
   abbrev rules : List Rule
   rules = epochRules (i .previous) (i .current) (i .receiver) (i .settings)
 
-  abbrev rules-left : List Rule
+  abbrev pub rules-left : List Rule
   rules-left = epochRules (certifiedEpoch band (i .previous)) (certifiedEpoch band (i .current)) (i .receiver) (i .settings)
 
-  left-passed : Passed ≡ checked rules-left
+  pub left-passed : Passed ≡ checked rules-left
   unfolding epochRules ruled
   left-passed =
       let h = passed-parts (i .previous) (i .current) (i .receiver) (i .settings) e in

@@ -21,13 +21,13 @@ use Rattle.clocks.specs.Clocks.{has, clocksOf}
 use Rattle.records.specs.Screen.{keptOf, constellations}
 use Rattle.records.specs.Kept.{pairIn, pairsIn, Kept}
 use Rattle.estimator.specs.Rules.{Rule, rule, ruled}
-use Rattle.tdcp.specs.Valid.{dtOf, epochRules, givenRules, fewRules}
+use Rattle.tdcp.specs.Valid.{dtOf, epochRules, fewRules}
 use Rattle.tdcp.specs.Front.{sightRules, countRules, cityRules, pairRules}
 use Rattle.estimator.specs.Rounds.{End, Stopped, Reached, Fit, concluded, stateAfter}
 use Rattle.estimator.specs.Steps.{Ended}
-use Rattle.tdcp.specs.Displacement.{Input, fitOver, fitBy, fitOf, pairs, deltaAt, endRules, concludedAt, movedBy, displacementOf}
-use Rattle.tdcp.specs.Rated.{qualityAt, quality}
-use Rattle.tdcp.specs.Rows.{movedOver, answerBy, qualityOver, qualityBy, answerOf}
+use Rattle.tdcp.specs.Displacement.{Input, fitOver, fitBy, callFit, pairs, deltaAt, endRules, movedBy, displacementOf}
+use Rattle.tdcp.specs.Rated.{qualityAt, quality, answeredBy, answeredOf}
+use Rattle.tdcp.specs.Steps.{movedOver, qualityOver, qualityBy, givenRules, concludedAt}
 use Rattle.tdcp.specs.declared.displacement.Rated.the-variants as Rated
 use Rattle.tdcp.proofs.RatedLaws.{refused-as, quality-rows}
 use Rattle.cholesky.specs.Factor.{zeros}
@@ -156,14 +156,14 @@ paired i {dt = dt} e h =
 
 -- and so is their answer
 pub answered-pairs : (i : Input) (wanted : Bool) {ps : List Pair} → ps ≡ pairs i → movedBy (isCity (i .profile)) (i .settings) (pairs i) ≡ displacementOf i
-    → answerBy wanted (qualityBy (i .settings) ps) (movedBy (isCity (i .profile)) (i .settings) ps) ≡ answerOf wanted i
-unfolding answerOf quality fitOf
+    → answeredBy wanted (qualityBy (i .settings) ps) (movedBy (isCity (i .profile)) (i .settings) ps) ≡ answeredOf wanted i
+unfolding answeredOf quality callFit
 answered-pairs i wanted e m =
-    ap (λ (ps : List Pair). answerBy wanted (qualityBy (i .settings) ps) (movedBy (isCity (i .profile)) (i .settings) ps)) e
-    ∙ ap (answerBy wanted (qualityBy (i .settings) (pairs i))) m
+    ap (λ (ps : List Pair). answeredBy wanted (qualityBy (i .settings) ps) (movedBy (isCity (i .profile)) (i .settings) ps)) e
+    ∙ ap (answeredBy wanted (qualityBy (i .settings) (pairs i))) m
 
-pub answered-refused : (i : Input) (wanted : Bool) {r : Refusal} → Refused r ≡ displacementOf i → Rated.Refused r ≡ answerOf wanted i
-unfolding answerOf
+pub answered-refused : (i : Input) (wanted : Bool) {r : Refusal} → Refused r ≡ displacementOf i → Rated.Refused r ≡ answeredOf wanted i
+unfolding answeredOf
 answered-refused i wanted e = refused-as wanted (quality i) e
 
 module _ (i : Input) where

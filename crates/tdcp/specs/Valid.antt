@@ -10,7 +10,7 @@ use Rattle.walk.specs.Walk.{every}
 use Rattle.numeric.specs.Real.{inRange}
 use Rattle.numeric.specs.declared.vec3.Vec3.{Vec3}
 use Rattle.numeric.specs.declared.refusal.Refusal.the-variants.{TooMany, SettingOutOfRange, RecordOutOfRange, BadTime, BadInterval, TooFewPairs}
-use Rattle.time.specs.Time.{isDated, secondsAfter}
+use Rattle.time.specs.Time.{isDated, secondsBetween}
 use Rattle.estimator.specs.Rules.{Rule, rule, rowRules}
 use Rattle.records.specs.Record.{counted, placeable, soundCarrier}
 use Rattle.records.specs.declared.record.Epoch.{Epoch}
@@ -35,7 +35,7 @@ epochRules previous current receiver settings =
 -- the seconds of an interval: so many, or those from the previous time to the current one
 abbrev pub dtOf : Interval → Float
 dtOf (Interval.Seconds dt) = dt
-dtOf (Interval.Between previous current) = secondsAfter current previous
+dtOf (Interval.Between previous current) = secondsBetween current previous
 
 -- 13: one of two times is past the last
 abbrev pub isTimed : Interval → Bool
@@ -49,10 +49,6 @@ badInterval dt = not (finite dt) || not (lt +0 dt) || lt (whole 604800) dt
 -- 13 and 5, of the interval
 unfoldable pub intervalRules : Interval → List Rule
 intervalRules since = rule BadTime (not (isTimed since)) ∷ rule BadInterval (badInterval (dtOf since)) ∷ []
-
--- 3 to 5 with 13, where `sound` is whether 4 lets every record and the receiver pass
-unfoldable pub givenRules : Settings → Bool → Interval → List Rule
-givenRules settings sound since = rule SettingOutOfRange (not (settingsPass settings)) ∷ rule RecordOutOfRange (not sound) ∷ intervalRules since
 
 -- 7 to 9, of how many pairs there are before screening, how many are kept, and how many clock slots those have
 unfoldable pub fewRules : ℕ → ℕ → ℕ → List Rule

@@ -14,11 +14,11 @@ use Rattle.numeric.specs.declared.refusal.Refusal.the-variants.{TooMany}
 use Rattle.records.specs.Carriers.{CarrierColumns, carrierColumns, epochOf, epochFits}
 use Rattle.records.specs.Signals.{epochIn, Fit}
 use Rattle.records.proofs.EpochLaws.{signalled-fits, signalled-is}
-use Rattle.tdcp.specs.Rows.{answerOf}
+use Rattle.tdcp.specs.Rated.{answeredOf}
 use Rattle.tdcp.specs.declared.displacement.Rated.{Rated}
 use Rattle.tdcp.specs.declared.displacement.Rated.the-variants.{Refused}
-use Rattle.tdcp_columns.specs.Displacement.{Lent, inputOf, FitInto}
-use Rattle.tdcp_columns.specs.Rated.{columnsAnswered}
+use Rattle.tdcp_columns.specs.Displacement.{Lent, lentInput}
+use Rattle.tdcp_columns.specs.Steps.{FitInto, columnsAnswered}
 
 -- what the test of lengths tells
 pub record CarrierRoom (c : CarrierColumns) (n : ℕ) : Type 0 where
@@ -74,6 +74,6 @@ module _ (wanted : Bool) (l : Lent) {a : Bool} (is : a ≡ epochFits (l .previou
     unfolding columnsAnswered
     not-second e = rw (← is, ← is′, t, e)
 
-    pub both-fit : {d : Rated} → b ≡ true → d ≡ answerOf wanted (inputOf l) → d ≡ columnsAnswered wanted l
+    pub both-fit : {d : Rated} → b ≡ true → d ≡ answeredOf wanted (lentInput l) → d ≡ columnsAnswered wanted l
     unfolding columnsAnswered
     both-fit u q = q ∙ rw (← is, ← is′, t, u)

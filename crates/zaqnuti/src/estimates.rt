@@ -1,4 +1,4 @@
-// Entry points of the displacement and the fix. What a caller lends as doubles is taken as their patterns, so that a refusal is promised to leave every bit.
+// Entry points of the displacement and the fix. Doubles to be written are lent as their patterns, so that a refusal is promised to change no bit.
 ghost use mathlib.Core.Path.{_≡_};
 ghost use Rattle.records.specs.Carriers.{carrierColumns};
 ghost use Rattle.numeric.specs.Vec3.{vectorAt};
@@ -13,7 +13,8 @@ use wls_columns::fix::columns_fix;
 use wls_columns::fix::fix_into;
 use wls_columns::fix::position_into;
 
-// The displacement between two epochs: 0, the displacement in metres in delta and how many pairs were used and screened out in counts; or the refusal's number, which leaves both as they were.
+// The displacement between two epochs, dt seconds apart.
+// Returns 0 and writes the displacement in metres to delta and how many pairs were used and screened out to counts. On refusal, returns its number and changes nothing.
 #[no_mangle]
 pub extern "C" fn zaqnuti_displacement(
     previous_constellation: &[u8],
