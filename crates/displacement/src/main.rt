@@ -1,4 +1,4 @@
-// Reads a text of the line form from standard input, and writes the answer's line. More than 32,768 bytes break the form, so what stands after the buffer's end changes nothing.
+// Reads a text of the line form from standard input, and writes the answer's line. More than 32,768 bytes break the form, so nothing past the end of the buffer changes the answer.
 use libc::STDIN_FILENO;
 use libc::STDOUT_FILENO;
 
