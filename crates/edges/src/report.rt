@@ -1,4 +1,4 @@
-// A line for each trial: its name, and what came.
+// Writes a line for each trial: its name and its answer.
 use addition::add::Addition;
 use libc::STDOUT_FILENO;
 use numeric::order::pattern;
@@ -16,7 +16,7 @@ fn number(n: u64) {
     io::print_decimal(STDOUT_FILENO, n);
 }
 
-// A float as its 64 bits.
+// Writes a float as its 64 bits.
 fn float(x: f64) {
     text(b" ");
     io::print_hex(STDOUT_FILENO, pattern(x), 16);

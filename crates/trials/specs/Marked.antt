@@ -100,6 +100,6 @@ m10 = queryIn 1 2 2 twoSamples (whole 90) 1 5 1 (whole 15) ≡ Metres (whole 2)
 abbrev pub m11 : Type 0
 m11 = queryIn 1 2 2 twoSamples (whole 5) 1 5 1 (whole 15) ≡ Correction.Refused NoCorrection
 
--- m12 and m13, those of a track, stand beside its definition
+-- m12 and m13 are trials of a track, defined in its crate
 abbrev pub marked : List (Type 0)
 marked = m1 ∷ m2 ∷ m3 ∷ m4 ∷ m5 ∷ m6 ∷ m7 ∷ m8 ∷ m9 ∷ m10 ∷ m11 ∷ m12 ∷ m13 ∷ []

@@ -19,7 +19,7 @@ use Rattle.tdcp.specs.Valid.{settingsPass, badInterval, epochRules, intervalRul
 use Rattle.tdcp.specs.Front.{sightRules, countRules, cityRules, pairRules}
 use Rattle.estimator.specs.Rounds.{fitFrom, finiteAt}
 use Rattle.tdcp.specs.Displacement.{fitOver, fitBy, endRules, movedBy, displacementOf}
-use Rattle.trials.specs.Carriers.{sixIn, usedOf}
+use Rattle.trials.specs.Steps.{sixIn, usedOf}
 use borrow.Author.Needs.{needs}
 use Rattle.trials.proofs.carriers.states.Statement.{statement}
 use Rattle.trials.proofs.carriers.states.Tie as tie
