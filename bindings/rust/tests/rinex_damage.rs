@@ -202,7 +202,7 @@ fn silent(name: &str, count: usize, seed: u64) -> Vec<String> {
 
 #[test]
 fn damage_moves_no_position_without_a_word() {
-    assert_eq!(silent("damage", 60, 46), Vec::<String>::new());
+    assert_eq!(silent("damage", 60, 1), Vec::<String>::new());
 }
 
 /// DAMAGED is how many, SEED where to begin, and RECORDINGS a folder of further ones.

@@ -182,10 +182,7 @@ impl Record {
             place: km([3, 7, 11]),
             velocity: km([4, 8, 12]),
         };
-        let orbit = Glonass {
-            start,
-            pull: km([5, 9, 13]),
-        };
+        let orbit = Glonass::new(start, km([5, 9, 13]));
         if !orbit.sound() {
             return self.wrong("not the position of a GLONASS satellite");
         }
