@@ -4,8 +4,12 @@ use std::f64::consts::PI;
 
 use super::signals::System;
 
-/// The greatest part of a unit by which a number may miss a whole multiple.
+/// The greatest part of a unit by which a number may miss a whole multiple; and the part of the
+/// number itself, since some programs have kept rates in 32 bits.
 const STRAY: f64 = 0.01;
+const SINGLE: f64 = 6.2e-8;
+/// How many times larger a correction or a rate may be than in all other records.
+const LARGER: f64 = 5.0;
 /// The least number of records that can be compared.
 const LEAST: usize = 3;
 
@@ -55,7 +59,8 @@ pub fn odd(system: System, numbers: &[f64]) -> u64 {
         let parts = unit(system, i).map_or(0.0, |u| x / u);
         // A number that is nearly 0 has a damaged exponent.
         let lost = parts != 0.0 && parts.round() == 0.0;
-        bits |= u64::from(lost || (parts - parts.round()).abs() > STRAY) << i;
+        let stray = (2e-4 + SINGLE * parts.abs()).min(STRAY);
+        bits |= u64::from(lost || (parts - parts.round()).abs() > stray) << i;
     }
     bits
 }
@@ -69,6 +74,25 @@ pub fn telling(records: impl Iterator<Item = u64> + Clone) -> u64 {
         count >= LEAST && odd <= 1 + count / 50
     };
     (0..64).filter(few).fold(0, |bits, bit| bits | 1 << bit)
+}
+
+/// Returns the index of the record whose correction or rate is far larger than in all others, if
+/// one is: its exponent was damaged. Each record has its numbers.
+pub fn largest(records: &[&[f64]]) -> Option<usize> {
+    // Harmonic corrections of angles, and the rates of anomaly, node and inclination.
+    for field in [5, 7, 9, 12, 14, 18, 19] {
+        let size = |r: &&[f64]| r.get(field).map_or(0.0, |x| x.abs());
+        let most = (0..records.len()).max_by(|a, b| {
+            let (a, b) = (size(&records[*a]), size(&records[*b]));
+            a.total_cmp(&b)
+        })?;
+        let others = records.iter().enumerate().filter(|(i, _)| *i != most);
+        let next = others.map(|(_, r)| size(r)).fold(0.0, f64::max);
+        if records.len() >= 2 * LEAST && size(&records[most]) > LARGER * next {
+            return Some(most);
+        }
+    }
+    None
 }
 
 /// Returns how many Klobuchar parameters are no whole multiples of their units (IS-GPS-200, table
@@ -118,6 +142,25 @@ mod tests {
         let records = [0b011, 0b001, 0b001, 0b001, 0b101];
         assert_eq!(telling(records.into_iter()) & 0b111, 0b110);
         assert_eq!(telling([0b1, 0b0].into_iter()), 0);
+    }
+
+    #[test]
+    fn a_correction_far_above_all_others_is_told() {
+        let record = |x: f64| {
+            let mut numbers = [0.0; 20];
+            numbers[12] = x;
+            numbers
+        };
+        let mut all = [2e-8, -9e-8, 1.3e-7, 4e-8, 5e-8, -1.1e-7].map(record);
+        let found = |all: &[[f64; 20]]| {
+            let records: Vec<&[f64]> = all.iter().map(|r| &r[..]).collect();
+            largest(&records)
+        };
+        assert_eq!(found(&all), None);
+        all[3] = record(4e-5);
+        assert_eq!(found(&all), Some(3));
+        assert_eq!(found(&all[..4]), None);
+        assert_eq!(found(&[]), None);
     }
 
     #[test]

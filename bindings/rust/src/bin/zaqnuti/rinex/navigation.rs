@@ -96,8 +96,7 @@ impl Ephemerides {
             }
             let record = Record::read(&mut lines, &version)?;
             if let Some((satellite, ephemeris)) = record.ephemeris(&version)? {
-                let odd = record.odd(satellite, &ephemeris);
-                found.push((satellite, ephemeris, odd, record.line()));
+                found.push((satellite, ephemeris, record));
             }
         }
         self.keep(found, lines.name());
@@ -105,16 +104,24 @@ impl Ephemerides {
     }
 
     /// Keeps the ephemerides of a file, without those that were damaged.
-    fn keep(&mut self, found: Vec<(Satellite, Ephemeris, u64, u64)>, name: &str) {
-        let telling = SYSTEMS.map(|system| {
-            let own = found.iter().filter(|f| f.0.system == system);
-            grain::telling(own.map(|f| f.2))
-        });
+    fn keep(&mut self, found: Vec<(Satellite, Ephemeris, Record)>, name: &str) {
+        let odd: Vec<u64> = found.iter().map(|(s, e, r)| r.odd(*s, e)).collect();
+        let mut bad = vec![false; found.len()];
+        for system in SYSTEMS {
+            let own = (0..found.len()).filter(|i| found[*i].0.system == system);
+            let telling = grain::telling(own.clone().map(|i| odd[i]));
+            own.clone().for_each(|i| bad[i] = odd[i] & telling != 0);
+            let sound: Vec<usize> = own.filter(|i| !bad[*i]).collect();
+            let numbers: Vec<&[f64]> = sound.iter().map(|i| found[*i].2.numbers()).collect();
+            if let Some(most) = grain::largest(&numbers).filter(|_| system != System::Glonass) {
+                bad[sound[most]] = true;
+            }
+        }
         let mut left = Vec::new();
-        for (satellite, ephemeris, odd, line) in found {
-            match odd & telling[satellite.system as usize] {
-                0 => self.by_satellite[satellite.place()].push(ephemeris),
-                _ => left.push(line),
+        for ((satellite, ephemeris, record), bad) in found.into_iter().zip(bad) {
+            match bad {
+                false => self.by_satellite[satellite.place()].push(ephemeris),
+                true => left.push(record.line()),
             }
         }
         if let Some(line) = left.first() {

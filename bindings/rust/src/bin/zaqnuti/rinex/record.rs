@@ -98,6 +98,11 @@ impl Record {
         self.line
     }
 
+    /// The numbers after the date.
+    pub fn numbers(&self) -> &[f64] {
+        &self.numbers
+    }
+
     /// Returns bits for what a broadcast message would not say: numbers that are no multiples of
     /// their units, and times, weeks and issues that contradict each other.
     pub fn odd(&self, of: Satellite, found: &Ephemeris) -> u64 {
