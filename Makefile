@@ -39,7 +39,7 @@ doc = share/doc/zaqnuti
 papers = LICENSE-MIT LICENSE-APACHE NOTICE KIT CHANGELOG.md docs/REFUSALS.md docs/LINE_FORM.md docs/TRUST.md docs/BOXES.md \
 	examples/easy.c examples/firmware.c
 links = lib/$(soname) lib/libzaqnuti.so
-installed = include/zaqnuti.h include/zaqnuti_easy.h lib/libzaqnuti.a lib/$(notdir $(shared)) lib/pkgconfig/zaqnuti.pc bin/displacement \
+installed = include/zaqnuti.h include/zaqnuti_easy.h lib/libzaqnuti.a lib/$(notdir $(shared)) lib/pkgconfig/zaqnuti.pc lib/pkgconfig/zaqnuti-shared.pc bin/displacement \
 	$(if $(command),bin/zaqnuti) share/man/man1/displacement.1 share/man/man1/zaqnuti.1 share/man/man3/zaqnuti.3 \
 	$(addprefix $(doc)/,$(notdir $(papers))) $(BOXES) $(PAGE)
 
@@ -73,7 +73,8 @@ install: $(archive) $(program) $(shared)
 	ln -sf $(notdir $(shared)) '$(to)/lib/$(soname)'
 	ln -sf $(soname) '$(to)/lib/libzaqnuti.so'
 	$(INSTALL) -m 755 $(program) $(command) '$(to)/bin'
-	sed -e 's|@PREFIX@|$(PC_PREFIX)|' -e 's|@VERSION@|$(version)|' packaging/zaqnuti.pc.in >'$(to)/lib/pkgconfig/zaqnuti.pc'
+	for name in zaqnuti zaqnuti-shared; do \
+		sed -e 's|@PREFIX@|$(PC_PREFIX)|' -e 's|@VERSION@|$(version)|' packaging/$$name.pc.in >"$(to)/lib/pkgconfig/$$name.pc" || exit 1; done
 	sed 's|@VERSION@|$(version)|' packaging/displacement.1 >'$(to)/share/man/man1/displacement.1'
 	sed 's|@VERSION@|$(version)|' packaging/zaqnuti.1 >'$(to)/share/man/man1/zaqnuti.1'
 	sed 's|@VERSION@|$(version)|' packaging/zaqnuti.3 >'$(to)/share/man/man3/zaqnuti.3'

@@ -45,6 +45,7 @@ SOURCES = ROOT / "bindings/python"
 COMMAND = ROOT / "bindings/rust/target/release/zaqnuti"
 FILES = sorted(glob.glob(str(ROOT / "examples/month/*-2026-*.csv")))
 HALLE = str(ROOT / "examples/month/halle-03-2026-11-03.csv")
+ROVER = str(ROOT / "examples/geonet/rover.csv")
 DRESDEN = str(ROOT / "examples/month/dresden-21-2026-11-03.csv")
 
 # Fields that a reader of decimals may take in its own way.
@@ -59,6 +60,12 @@ warnings.simplefilter("ignore")
 {before}
 import zaqnuti
 {check}
+rover = zaqnuti.Drive.from_csv({rover!r}, at=(-3976219.5, 3382372.6, 3652513.0))
+for settings in (zaqnuti.FixSettings(), zaqnuti.FixSettings.geodetic()):
+    fixed, numbers = zaqnuti.fix(rover, settings=settings)
+    print([[float(x).hex() for x in row] for row in fixed], list(map(int, numbers)))
+city, numbers = zaqnuti.displacements(rover, zaqnuti.Settings.geodetic(), city=0)
+print([[float(x).hex() for x in row] for row in city], list(map(int, numbers)))
 for file in sys.argv[1:]:
     moved, numbers = zaqnuti.displacements(zaqnuti.Drive.from_csv(file))
     print(zaqnuti.trip(zaqnuti.Drive.from_csv(file), pulses_per_km=8000).line(file))
@@ -70,7 +77,7 @@ def answers(before="", check="", sources=False, files=FILES):
     """Trip lines and displacements of files, from a process of its own."""
     where = {"ZAQNUTI_LIBRARY": _library.PATH}
     where["PYTHONPATH"] = str(SOURCES) if sources else str(Path(zaqnuti.__file__).parents[1])
-    text = LINES.format(before=before, check=check)
+    text = LINES.format(before=before, check=check, rover=ROVER)
     done = subprocess.run([sys.executable, "-c", text, *files], env={**os.environ, **where}, capture_output=True, text=True)
     if done.returncode != 0:
         raise AssertionError(done.stderr)
@@ -97,7 +104,7 @@ class Month(unittest.TestCase):
         self.assertEqual(len(lines), 13)
         have = [zaqnuti.trip(zaqnuti.Drive.from_csv(file), pulses_per_km=8000).line(file) for file in FILES]
         self.assertEqual(have, lines[1:])
-        self.assertEqual(answers("sys.modules['numpy'] = None")[::2], lines[1:])
+        self.assertEqual(answers("sys.modules['numpy'] = None")[3::2], lines[1:])
 
     def variants(self, folder):
         """Files with pulses, a count that wraps, a gap, no week and no satellite, with the options for each."""
@@ -126,7 +133,8 @@ class Month(unittest.TestCase):
     @unittest.skipUnless(COMMAND.exists(), "the command is not built")
     def test_forms_of_a_drive(self):
         settings = zaqnuti.Settings()
-        _, quality, numbers = _loop.displaced(zaqnuti.Drive.from_csv(HALLE), settings.floats(), settings.rounds, True)
+        form = _loop.Form(settings.floats(), settings.rounds, None)
+        _, quality, numbers = _loop.displaced(zaqnuti.Drive.from_csv(HALLE), [(0, form)], True)
         errors = [quality[2 * i + 1] * max(quality[2 * i], 1.0) * 0.01 for i in range(len(numbers)) if numbers[i] == 0]
         middle = float(sorted(errors)[len(errors) // 2])
         with tempfile.TemporaryDirectory() as folder:
@@ -137,6 +145,91 @@ class Month(unittest.TestCase):
                     lines = subprocess.run(command, capture_output=True, text=True).stdout.splitlines()
                     trip = zaqnuti.trip(zaqnuti.Drive.from_csv(path), 8000, wrap=wrap, max_error=limit)
                     self.assertEqual([trip.line(path)], lines[1:])
+
+    def told(self, *words):
+        """Give the lines of CSV that the command writes."""
+        return subprocess.run([str(COMMAND), *words, "--csv"], capture_output=True, text=True).stdout.splitlines()
+
+    @unittest.skipUnless(COMMAND.exists(), "the command is not built")
+    def test_city_and_changing_settings(self):
+        with tempfile.TemporaryDirectory() as folder:
+            path = Path(folder) / "settings.csv"
+            header = "week,tow,screen,sigma_a,sigma_b,huber,mask,rounds"
+            for lines in ([], ["2443,201610.5,0.5,0.008,0.002,1.5,35,4", "2443,201622,0.02,0.008,0.002,1.5,10,4", "2443,201622.5,0.5,0.01,0.1,3,20,0"],
+                          ["1,5,0.5,0.008,0.002,1.5,30,4", "2500,0,0.5,0.008,0.002,1.5,90,4"]):
+                path.write_text("\n".join([header, *lines]))
+                for city in (None, 1575, 1176):
+                    for file in (HALLE, DRESDEN):
+                        words = [*(["--city", str(city)] if city else []), "--settings", str(path)]
+                        line = self.told("trip", "--pulses-per-km", "8000", *words, file)[1]
+                        drive = zaqnuti.Drive.from_csv(file)
+                        trip = zaqnuti.trip(drive, 8000, city=city, changes=path)
+                        self.assertEqual(trip.line(file), line)
+                        given = [(int(w), float(t), zaqnuti.Settings(*map(float, f), int(r))) for w, t, *f, r in (x.split(",") for x in lines)]
+                        self.assertEqual(zaqnuti.trip(drive, 8000, city=city, changes=given), trip)
+            path.write_text(f"{header}\n2443,5,0.5,0.008,0.002,1.5,30,51")
+            with self.assertRaisesRegex(ValueError, "settings at 5.000 s are refused by 3"):
+                zaqnuti.displacements(zaqnuti.Drive.from_csv(HALLE), changes=path)
+            with self.assertRaisesRegex(ValueError, "^city: -1; expected a band"):
+                zaqnuti.displacements(zaqnuti.Drive.from_csv(HALLE), city=-1)
+
+    @unittest.skipUnless(COMMAND.exists(), "the command is not built")
+    def test_an_odometer_of_its_own(self):
+        rows = [row.split(",") for row in Path(HALLE).read_text().splitlines()]
+        counts = {row[1]: int(row[-1]) for row in rows[1:]}
+        some = random.Random(7)
+        with tempfile.TemporaryDirectory() as folder:
+            path, odometer = Path(folder) / "drive.csv", Path(folder) / "odometer.csv"
+            path.write_text("\n".join(",".join(row[:-1]) for row in rows))
+            drive = zaqnuti.Drive.from_csv(path)
+            for late, keep, wrap, more in ((0.0, 1.0, None, 0), (-0.3, 0.7, None, 0), (0.4, 0.5, 16, 60_000), (7.0, 0.9, 32, 2**32 - 4_100), (500.0, 1.0, None, 0)):
+                times = [(float(t) + late, c) for t, c in counts.items() if some.random() <= keep]
+                times = [(t, c + more if wrap is None else (c + more) % 2**wrap) for t, c in times]
+                odometer.write_text("\n".join(["week,tow,odometer", *(f"2443,{t!r},{c}" for t, c in times)]))
+                words = ["--odometer", str(odometer), *(["--wrap", str(wrap)] if wrap else [])]
+                line = self.told("trip", "--pulses-per-km", "8000", *words, str(path))[1]
+                trip = zaqnuti.trip(drive, 8000, odometer=odometer, wrap=wrap)
+                self.assertEqual(trip.line(str(path)), line)
+                columns = {"week": [2443] * len(times), "tow": [t for t, _ in times], "odometer": [c for _, c in times]}
+                self.assertEqual(zaqnuti.trip(drive, 8000, odometer=columns, wrap=wrap), trip)
+            for bad, why in (({"tow": [1.0], "odometer": [3]}, "both have weeks"), ({"week": [1, 1], "tow": [1.0, 2.0], "odometer": [3, 2]}, "runs backwards"),
+                             ({"week": [1]}, "tow: the column is missing"), ({"week": [], "tow": [], "odometer": []}, "has no counts")):
+                with self.assertRaisesRegex(ValueError, why):
+                    zaqnuti.trip(drive, 8000, odometer=bad)
+            with self.assertRaisesRegex(ValueError, "one form only"):
+                zaqnuti.trip(zaqnuti.Drive.from_csv(HALLE), 8000, odometer=odometer)
+
+    @unittest.skipUnless(COMMAND.exists(), "the command is not built")
+    def test_fixes_are_the_commands(self):
+        base = ROOT / "examples/geonet/base.csv"
+        with tempfile.TemporaryDirectory() as folder:
+            corrected = Path(folder) / "corrected.csv"
+            lines = self.told("corrections", "--base", str(base), "--base-at=-3978242.4348,3382841.1715,3649902.7667", ROVER)
+            corrected.write_text("\n".join(lines))
+            for file in (ROVER, str(corrected)):
+                for kind, settings in (("phone", zaqnuti.FixSettings()), ("geodetic", zaqnuti.FixSettings.geodetic())):
+                    want = [line.split(",") for line in self.told("fix", "--receiver", kind, file)[1:]]
+                    drive = zaqnuti.Drive.from_csv(file, at=(0, 0, 0))
+                    fixed, numbers = zaqnuti.fix(drive, settings=settings)
+                    self.assertEqual([int(n) for n in numbers], [int(line[-1]) for line in want])
+                    for have, line in zip(fixed, want):
+                        self.assertEqual(["" if x != x else float(x) for x in have], [float(x) if x else "" for x in line[2:5]])
+                    if pandas is not None:
+                        again, same = zaqnuti.fix(zaqnuti.Drive.from_columns(pandas.read_csv(file), at=(0, 0, 0)), settings=settings)
+                        self.assertEqual([list(map(repr, row)) for row in again], [list(map(repr, row)) for row in fixed])
+                        self.assertEqual(list(same), list(numbers))
+            self.assertIn(8, [int(n) for n in zaqnuti.fix(drive, settings=settings)[1]])
+
+    def test_a_drive_without_pseudoranges(self):
+        with self.assertRaisesRegex(ValueError, "^pseudorange: the column is missing$"):
+            zaqnuti.fix(zaqnuti.Drive.from_csv(HALLE))
+        with self.assertRaisesRegex(ValueError, "^y: has 1 elements"):
+            zaqnuti.fix([1, 1], [2e7, 2e7], [2e7, 2e7], [0.0], [0.0, 0.0], [45.0, 45.0])
+        drive = zaqnuti.Drive.from_columns(two_epochs(pseudorange=[2e7, float("nan")]), at=(6.4e6, 0, 0))
+        self.assertEqual([int(n) for n in zaqnuti.fix(drive)[1]], [8, 4])
+        with self.assertRaises(zaqnuti.Refused) as caught:
+            zaqnuti.fix(drive, settings=zaqnuti.FixSettings(rounds=51))
+        self.assertEqual(caught.exception.number, 3)
 
     def damaged(self, some, rows):
         """Give the lines of a drive with a few of them changed, doubled or left out."""
@@ -336,6 +429,12 @@ class Columns(unittest.TestCase):
         columns = {name: 65 * values[:1] for name, values in two_epochs().items()}
         with self.assertRaisesRegex(ValueError, "^constellation: 65 carriers in the epoch at 0.0 s; at most 64$"):
             zaqnuti.Drive.from_columns(columns, at=(6.4e6, 0, 0))
+        rows = Path(HALLE).read_text().splitlines()
+        with tempfile.NamedTemporaryFile("w", suffix=".csv") as file:
+            file.write("\n".join([rows[0], *(65 * [rows[1]]), rows[-1]]))
+            file.flush()
+            with self.assertRaisesRegex(ValueError, re.escape(file.name) + ": constellation: 65 carriers in the epoch at .* s; at most 64$"):
+                zaqnuti.Drive.from_csv(file.name)
 
     def test_bad_files(self):
         rows = Path(HALLE).read_text().splitlines()

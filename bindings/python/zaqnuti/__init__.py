@@ -6,10 +6,11 @@
 """
 
 from ._corrections import Corrections
-from ._displacements import Settings, displacements
+from ._displacements import displacements
 from ._drive import Drive
 from ._fix import Fix, FixSettings, fix
 from ._refused import Refused
+from ._settings import Settings
 from ._smooth import smooth
 from ._times import gps_time, north_east_down
 from ._trip import COLUMNS, Trip, trip

@@ -1,62 +1,23 @@
 """Displacements between the epochs of a drive."""
 
-from array import array
-from dataclasses import dataclass
 from typing import Any
 
 from . import _columns, _loop
+from ._changes import Changes, forms
 from ._drive import Drive
-from ._library import LIBRARY
-from ._refused import accepted
+from ._settings import Settings
 
 
-@dataclass(frozen=True)
-class Settings:
-    """Settings of a displacement; those of a phone are the default.
-
-    >>> Settings()
-    Settings(screen=0.5, sigma_a=0.008, sigma_b=0.002, huber=1.5, mask=10.0, rounds=4)
-    >>> Settings.geodetic().screen
-    2.0
-    """
-
-    screen: float = 0.5
-    sigma_a: float = 0.008
-    sigma_b: float = 0.002
-    huber: float = 1.5
-    mask: float = 10.0
-    rounds: int = 4
-
-    @classmethod
-    def geodetic(cls) -> "Settings":
-        """Give settings for a receiver of a geodetic network."""
-        return cls(screen=2.0)
-
-    def floats(self) -> "array[float]":
-        """Give the five floats as the library takes them."""
-        return array("d", (self.screen, self.sigma_a, self.sigma_b, self.huber, self.mask))
-
-    def checked(self) -> "Settings":
-        """Raise Refused(3) where the library does not take these settings.
-
-        >>> Settings(rounds=51).checked()
-        Traceback (most recent call last):
-        zaqnuti.Refused: refused by 3: a setting is not finite or above 1e9, or the rounds are not allowed
-        """
-        if isinstance(self.rounds, bool) or not isinstance(self.rounds, int) or not 0 <= self.rounds < 2**64:
-            raise ValueError(f"rounds: {self.rounds!r}; expected a whole number from 0 to 50")
-        given, trip, force = self.floats(), array("Q", bytes(48)), array("d", bytes(40))
-        rounds = array("Q", [0])
-        addresses = (_columns.address(force), _columns.address(rounds))
-        accepted(LIBRARY.zaqnuti_trip_begin(_columns.address(given), self.rounds, 1, _columns.address(trip), *addresses))
-        return self
-
-
-def displacements(drive: Drive, settings: Settings = Settings()) -> tuple[Any, Any]:
+def displacements(
+    drive: Drive, settings: Settings = Settings(), *, city: int | None = None, changes: Changes | None = None
+) -> tuple[Any, Any]:
     """Give how far the receiver moved from each epoch to the next, and the number that refused it or 0.
 
     With NumPy these are an array of (n - 1, 3) metres, NaN where refused, and one of n - 1 numbers, for
     n epochs; otherwise a list of tuples and a list.
+
+    `city` is a band in MHz: GPS and Galileo on it alone. `changes` are settings that change during the drive,
+    a file as `zaqnuti trip --settings` reads it or (week, tow, Settings) in order: each is in force from its time.
 
     Do not add these up to rank vans: `nansum` leaves out what was driven under bridges, so that a depot
     ranks by its sky. `trip` keeps those pulses and says how much was covered.
@@ -70,8 +31,7 @@ def displacements(drive: Drive, settings: Settings = Settings()) -> tuple[Any, A
     """
     if len(drive) == 1:
         raise ValueError("tow: the drive has one epoch; a displacement needs two")
-    settings.checked()
-    delta, _, numbers = _loop.displaced(drive, settings.floats(), settings.rounds, False)
+    delta, _, numbers = _loop.displaced(drive, forms(drive, settings, city, changes), False)
     if _columns.numpy is not None:
         return delta.reshape(-1, 3), numbers
     return [tuple(delta[3 * i : 3 * i + 3]) for i in range(len(numbers))], list(numbers)

@@ -19,6 +19,7 @@ _FLOATS = ("adr", "x", "y", "z", "elevation", "rate")
 _PHASE = ("carrier", "clock", "modelled", "ionosphere")
 _PLACE = ("rx", "ry", "rz")
 _COUNTS = {"odometer": "Q", "pulses": "H"}
+_RANGE = ("pseudorange", "clock", "modelled", "correction")
 
 
 class Drive:
@@ -45,6 +46,12 @@ class Drive:
     """The running count of pulses at each epoch."""
     pulses: Data | None
     """The pulses of each epoch since the one before."""
+    ranges: Data | None
+    """The corrected pseudorange of each carrier, for `fix`."""
+    unused: Data | None
+    """1 for each pseudorange that lacks a correction, where the column has some."""
+    no_ranges: str
+    """Why `ranges` is None."""
 
     def __init__(self, columns: dict[str, Data], rows: int, bare: list[int], place: Callable[[list[int]], "array[float]"]) -> None:
         """Use from_csv or from_columns."""
@@ -60,6 +67,7 @@ class Drive:
         self.places = _places(self.starts, firsts, bare, place)
         for name in _COUNTS:
             setattr(self, name, _count(name, columns.get(name), firsts, rows))
+        self.ranges, self.unused, self.no_ranges = None, None, "pseudorange: the column is missing"
 
     def __len__(self) -> int:
         """Give the number of epochs."""
@@ -101,9 +109,25 @@ class Drive:
             return given * len(rows) if given is not None else table.places(_PLACE, rows)
 
         try:
-            return cls(columns, table.rows, bare, place)
+            drive = cls(columns, table.rows, bare, place)
         except ValueError as why:
             raise ValueError(f"{table.name}: {why}") from None
+        if "pseudorange" in table.names:
+            drive._range_from_csv(table, bare)
+        return drive
+
+    def _range_from_csv(self, table: Table, bare: list[int]) -> None:
+        """Read the pseudoranges; what is wrong with them matters to a fix alone."""
+        names = [name for name in _RANGE if name in table.names]
+        blank = table.bare(["correction"]) if "correction" in names else []
+        gone = sorted({*bare, *blank})
+        try:
+            parts = {name: table.floats(name, gone) for name in names}
+        except ValueError as why:
+            self.no_ranges = str(why)
+            return
+        lost = set(bare)
+        self._keep_ranges(parts, _places_within([row for row in blank if row not in lost], bare))
 
     @classmethod
     def from_columns(cls, columns: Any = None, /, *, at: Sequence[float] | None = None, **named: Any) -> "Drive":
@@ -152,7 +176,40 @@ class Drive:
             picked = [_columns.column(name, _rows(given[name], rows), "d") for name in _PLACE]
             return array("d", [float(column[i]) for i in range(len(rows)) for column in picked])
 
-        return cls(out, rows, bare, place)
+        drive = cls(out, rows, bare, place)
+        if "pseudorange" in given:
+            own = {name: _columns.without(given[name], bare) for name in _RANGE if name in given}
+            blank = _columns.blanks("correction", own["correction"]) if "correction" in own else []
+            parts = {name: _columns.column(name, _columns.without(values, blank), "d") for name, values in own.items()}
+            drive._keep_ranges(parts, blank)
+        return drive
+
+    def _keep_ranges(self, parts: dict[str, Data], blank: list[int]) -> None:
+        """Correct the pseudoranges as the command does; those at some places have no correction."""
+        zeros = _columns.empty("d", int(self.starts[-1]) - len(blank))
+        range_, clock, modelled, correction = (parts.get(name, zeros) for name in _RANGE)
+        if _columns.numpy is not None:
+            whole = _columns.numpy.asarray
+            ranges = whole(range_) + whole(clock) - whole(modelled) - whole(correction)
+        else:
+            ranges = array("d", (p + c - m - b for p, c, m, b in zip(range_, clock, modelled, correction)))
+        self.ranges, self.unused = ranges, None
+        if blank:
+            unused = array("B", bytes(int(self.starts[-1])))
+            for place in blank:
+                unused[place] = 1
+            each = iter(ranges)
+            spread = array("d", (math.nan if gone else float(next(each)) for gone in unused))
+            self.ranges, self.unused = _columns.column("pseudorange", spread, "d"), _columns.column("correction", unused, "B")
+
+
+def _places_within(rows: list[int], bare: list[int]) -> list[int]:
+    """Say which carriers some rows are, among rows without the bare ones.
+
+    >>> _places_within([2, 5], [1, 4])
+    [1, 3]
+    """
+    return [row - sum(1 for gone in bare if gone < row) for row in rows]
 
 
 def _named(columns: Any, named: dict[str, Any]) -> dict[str, Any]:
@@ -163,7 +220,7 @@ def _named(columns: Any, named: dict[str, Any]) -> dict[str, Any]:
             raise ValueError("columns: a mapping or a DataFrame is wanted")
         given = {str(name): columns[name] for name in columns}
     given.update(named)
-    known = {"week", "tow", *_WHOLE, *_FLOATS, *_PHASE, *_PLACE, *_COUNTS}
+    known = {"week", "tow", *_WHOLE, *_FLOATS, *_PHASE, *_PLACE, *_COUNTS, *_RANGE}
     if columns is None:
         for name in given:
             if name not in known:

@@ -21,6 +21,8 @@ _CALLS: dict[str, list[Any]] = {
     "seconds_since": [U64, U64, POINTER],
     "fix": 2 * _COLUMN + [SIZE, POINTER, POINTER, SIZE, POINTER, POINTER],
     "displacement": 2 * _CARRIERS + [DOUBLE, POINTER, POINTER, SIZE, POINTER, POINTER],
+    "city_displacement": 2 * _CARRIERS + [DOUBLE, U32, POINTER, POINTER, SIZE, POINTER, POINTER],
+    "city_displacement_rated": 2 * _CARRIERS + [DOUBLE, U32, POINTER, POINTER, SIZE, POINTER, POINTER, POINTER],
     "displacement_rated": 2 * _CARRIERS + [DOUBLE, POINTER, POINTER, SIZE, POINTER, POINTER, POINTER],
     "trip_begin": [POINTER, SIZE, U16, POINTER, POINTER, POINTER],
     "trip_start": [U16, POINTER],

@@ -6,7 +6,7 @@ import math
 import warnings
 from array import array
 from pathlib import Path
-from typing import Any
+from typing import Any, NamedTuple
 
 from . import _columns
 from ._columns import Data, address
@@ -19,7 +19,21 @@ _FLOATS = ("adr", "x", "y", "z", "elevation", "rate")
 
 
 class _Calls(ctypes.Structure):
-    _fields_ = [(name, ctypes.c_void_p) for name in ("time", "seconds_since", "displacement", "displacement_rated", "trip_add", "mileage_add")]
+    _fields_ = [
+        (name, ctypes.c_void_p)
+        for name in (
+            "time", "seconds_since", "displacement", "displacement_rated", "city_displacement", "city_displacement_rated",
+            "trip_add", "mileage_add", "fix",
+        )
+    ]
+
+
+class Form(NamedTuple):
+    """How displacements are worked out: five floats, rounds, and the band of the city form or None."""
+
+    settings: "array[float]"
+    rounds: int
+    city: int | None
 
 
 class _Columns(ctypes.Structure):
@@ -39,8 +53,10 @@ def _compiled() -> ctypes.CDLL | None:
         except OSError:
             continue
         pointer, size = ctypes.c_void_p, ctypes.c_uint64
-        loop.zaqnuti_loop_displacements.argtypes = [pointer, pointer, pointer, size, pointer, pointer, pointer]
+        loop.zaqnuti_loop_displacements.argtypes = [pointer, pointer, size, size, pointer, size, *(4 * [pointer])]
         loop.zaqnuti_loop_displacements.restype = None
+        loop.zaqnuti_loop_fixes.argtypes = [*(6 * [pointer]), size, pointer, pointer]
+        loop.zaqnuti_loop_fixes.restype = None
         loop.zaqnuti_loop_add.argtypes = [pointer, size, *(7 * [pointer])]
         loop.zaqnuti_loop_add.restype = ctypes.c_uint8
         return loop
@@ -60,20 +76,60 @@ def _columns_of(drive: Drive) -> _Columns:
     return _Columns(len(drive), address(drive.starts), *wholes, floats, week, address(drive.tow), address(drive.places))
 
 
-def displaced(drive: Drive, settings: "array[float]", rounds: int, rated: bool) -> tuple[Data, Data | None, Data]:
-    """Work out the displacement from each epoch to the next: floats, chi with pdop where rated, and numbers."""
+def displaced(drive: Drive, forms: list[tuple[int, Form]], rated: bool) -> tuple[Data, Data | None, Data]:
+    """Work out the displacement from each epoch to the next: floats, chi with pdop where rated, and numbers.
+
+    Each form holds from the pair of its number up to that of the next.
+    """
     pairs = len(drive) - 1
     delta, numbers = _columns.empty("d", 3 * pairs), _columns.empty("B", pairs)
     quality = _columns.empty("d", 2 * pairs) if rated else None
-    if LOOP is None:
-        _displaced_slowly(drive, settings, rounds, delta, quality, numbers)
-    else:
-        columns = _columns_of(drive)
-        to = None if quality is None else address(quality)
+    ends = [*(first for first, _ in forms[1:]), pairs]
+    columns, to = _columns_of(drive), None if quality is None else address(quality)
+    for (first, form), end in zip(forms, ends):
+        if LOOP is None:
+            _displaced_slowly(drive, range(first, end), form, delta, quality, numbers)
+            continue
+        band = None if form.city is None else ctypes.byref(ctypes.c_uint32(form.city))
         LOOP.zaqnuti_loop_displacements(
-            ctypes.byref(_CALLS), ctypes.byref(columns), address(settings), rounds, address(delta), to, address(numbers)
+            ctypes.byref(_CALLS), ctypes.byref(columns), first, end, address(form.settings), form.rounds, band,
+            address(delta), to, address(numbers),
         )
     return delta, quality, numbers
+
+
+def fixed(drive: Drive, guess: "array[float]", settings: "array[float]", rounds: int) -> tuple[Data, Data]:
+    """Work out the fix of each epoch: x, y and z, and numbers."""
+    epochs = len(drive)
+    position, numbers = _columns.empty("d", 3 * epochs), _columns.empty("B", epochs)
+    if LOOP is None:
+        _fixed_slowly(drive, guess, settings, rounds, position, numbers)
+    else:
+        columns = _columns_of(drive)
+        unused = None if drive.unused is None else address(drive.unused)
+        LOOP.zaqnuti_loop_fixes(
+            ctypes.byref(_CALLS), ctypes.byref(columns), address(drive.ranges), unused, address(guess), address(settings),
+            rounds, address(position), address(numbers),
+        )
+    return position, numbers
+
+
+def _fixed_slowly(drive: Drive, guess: "array[float]", settings: "array[float]", rounds: int, position: Data, numbers: Data) -> None:
+    solution, used, c = (ctypes.c_double * 5)(), ctypes.c_uint64(), drive.carriers
+    ranges: Data = drive.ranges
+    for i in range(len(drive)):
+        rows = [k for k in range(int(drive.starts[i]), int(drive.starts[i + 1])) if drive.unused is None or not drive.unused[k]]
+        which = array("B", [int(c["constellation"][k]) for k in rows])
+        floats = array("d")
+        for k in rows:
+            floats.extend((float(ranges[k]), *(float(c[name][k]) for name in ("x", "y", "z", "elevation"))))
+        number = LIBRARY.zaqnuti_fix(
+            address(which), len(rows), address(floats), 5 * len(rows), len(rows), address(guess), address(settings), rounds,
+            solution, ctypes.byref(used),
+        )
+        numbers[i] = number
+        for j in range(3):
+            position[3 * i + j] = solution[j] if number == 0 else math.nan
 
 
 def _interval(drive: Drive, i: int) -> tuple[int, float]:
@@ -102,20 +158,23 @@ def _epoch(drive: Drive, i: int) -> tuple[list[Any], "array[float]"]:
     return [*out, address(floats), 6 * count, count], floats
 
 
-def _displaced_slowly(drive: Drive, settings: "array[float]", rounds: int, delta: Data, quality: Data | None, numbers: Data) -> None:
+def _displaced_slowly(drive: Drive, pairs: range, form: Form, delta: Data, quality: Data | None, numbers: Data) -> None:
     moved, counts, rating = (ctypes.c_double * 3)(), (ctypes.c_uint64 * 2)(), (ctypes.c_double * 2)()
-    for i in range(len(drive) - 1):
+    band = [] if form.city is None else [form.city]
+    plain = LIBRARY.zaqnuti_displacement if form.city is None else LIBRARY.zaqnuti_city_displacement
+    rated = LIBRARY.zaqnuti_displacement_rated if form.city is None else LIBRARY.zaqnuti_city_displacement_rated
+    for i in pairs:
         number, dt = _interval(drive, i)
         if number == 0 and max(int(drive.starts[k + 1]) - int(drive.starts[k]) for k in (i, i + 1)) > 64:
             number = _TOO_MANY
         if number == 0:
             (before, kept), (now, kept_too) = _epoch(drive, i), _epoch(drive, i + 1)
             place = address(drive.places) + 24 * i
-            asked = [*before, *now, dt, place, address(settings), rounds, moved]
+            asked = [*before, *now, dt, *band, place, address(form.settings), form.rounds, moved]
             if quality is None:
-                number = LIBRARY.zaqnuti_displacement(*asked, counts)
+                number = plain(*asked, counts)
             else:
-                number = LIBRARY.zaqnuti_displacement_rated(*asked, rating, counts)
+                number = rated(*asked, rating, counts)
             del kept, kept_too
         numbers[i] = number
         for j in range(3):

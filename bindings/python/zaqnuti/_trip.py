@@ -8,11 +8,12 @@ from decimal import Decimal
 from typing import Any
 
 from . import _columns, _loop
-from ._columns import Data, address
-from ._displacements import Settings
+from ._changes import Changes, Recorded, counts, forms, times
+from ._columns import Data
 from ._drive import Drive
 from ._library import LIBRARY
 from ._refused import accepted
+from ._settings import Settings
 
 # Epochs that a trip and a mileage of the library hold.
 EPOCHS = 65_535
@@ -88,12 +89,15 @@ def _decimal(x: float) -> str:
 
 
 def trip(
-    drive: Drive, pulses_per_km: int, *, wrap: int | None = None, max_error: float = 0.2, settings: Settings = Settings()
+    drive: Drive, pulses_per_km: int, *, wrap: int | None = None, max_error: float = 0.2, settings: Settings = Settings(),
+    city: int | None = None, changes: Changes | None = None, odometer: Recorded | None = None,
 ) -> Trip:
     """Add up a drive by carrier phases and all its odometer pulses, as `zaqnuti trip` does.
 
     `wrap` is 16 or 32 where the running count wraps. Displacements with a predicted error of `max_error`
-    metres or more are set aside.
+    metres or more are set aside. `city` and `changes` are as in `displacements`. `odometer` is a second
+    recording of the running count at times of its own, a file or columns (week, tow, odometer), in place
+    of a column of the drive: an epoch has the last count at or before it, and those before the first are left out.
 
     >>> drive = Drive.from_csv("examples/month/halle-03-2026-11-03.csv")
     >>> halle = trip(drive, pulses_per_km=8000)
@@ -104,16 +108,38 @@ def trip(
     """
     if isinstance(pulses_per_km, bool) or not isinstance(pulses_per_km, int) or not 1 <= pulses_per_km <= 65_535:
         raise ValueError(f"pulses_per_km: {pulses_per_km!r} is not 1 to 65535")
-    settings.checked()
+    each = forms(drive, settings, city, changes)
     _check_forward(drive)
-    name, pulses = _pulses(drive, wrap)
-    delta, quality, numbers = _loop.displaced(drive, settings.floats(), settings.rounds, True)
+    first, pause = 0, 0.0
+    if odometer is None:
+        name, pulses = _pulses(drive, wrap)
+    else:
+        name, (first, pulses, pause) = "recording", _recorded(drive, odometer, wrap)
+    delta, quality, numbers = _loop.displaced(drive, each, True)
     sums = _Sums(pulses_per_km, max_error)
-    for start in range(0, max(len(pulses), 1), EPOCHS):
+    for start in range(first, max(len(pulses), first + 1), EPOCHS):
         sums.add(start, min(start + EPOCHS, len(pulses)), delta, quality, pulses, numbers)
     gap, longest = _gaps(drive)
     lost = gap > 0.0 and (name == "pulses" or _wraps(wrap, longest, pulses_per_km))
-    return sums.told(drive, numbers, gap, lost)
+    if name == "recording":
+        lost = _wraps(wrap, pause, pulses_per_km)
+    return sums.told(drive, numbers[first:], gap, lost)
+
+
+def _recorded(drive: Drive, odometer: Recorded, wrap: int | None) -> tuple[int, "array[int]", float]:
+    """Give the first pair of epochs with counts, the pulses of every pair, and the recording's longest pause."""
+    _check_wrap(wrap)
+    if drive.odometer is not None or drive.pulses is not None:
+        raise ValueError("odometer: a second recording and a column of the drive; an odometer has one form only")
+    totals, longest = counts(drive, odometer, wrap)
+    first = sum(total is None for total in totals)
+    out = array("H")
+    for last, now in zip(totals, totals[1:]):
+        step = 0 if last is None or now is None else now - last
+        if step > PULSES:
+            raise ValueError(f"odometer: {step} pulses since the epoch before; at most {PULSES}")
+        out.append(step)
+    return min(first, len(out)), out, longest
 
 
 def _since(drive: Drive, i: int) -> float:
@@ -123,18 +149,21 @@ def _since(drive: Drive, i: int) -> float:
 
 
 def _check_forward(drive: Drive) -> None:
-    weeks = array("I", bytes(4 * len(drive))) if drive.week is None else drive.week
-    times = list(zip(map(int, weeks), map(float, drive.tow)))
-    for before, now in zip(times, times[1:]):
+    all_times = times(drive)
+    for before, now in zip(all_times, all_times[1:]):
         if not now > before:
             of = ("" if drive.week is None else f"week {week}, " for week, _ in (now, before))
             raise ValueError(f"tow: {next(of)}{now[1]:.3f} s is not after {next(of)}{before[1]:.3f} s")
 
 
-def _pulses(drive: Drive, wrap: int | None) -> tuple[str, "array[int]"]:
-    """Give the column of the odometer, and the pulses from each epoch to the next."""
+def _check_wrap(wrap: int | None) -> None:
     if wrap not in (None, 16, 32):
         raise ValueError(f"wrap: {wrap!r} is not 16 or 32")
+
+
+def _pulses(drive: Drive, wrap: int | None) -> tuple[str, "array[int]"]:
+    """Give the column of the odometer, and the pulses from each epoch to the next."""
+    _check_wrap(wrap)
     if drive.odometer is not None and drive.pulses is not None:
         raise ValueError("odometer: the columns odometer and pulses; an odometer has one form only")
     if drive.pulses is not None:
@@ -142,7 +171,7 @@ def _pulses(drive: Drive, wrap: int | None) -> tuple[str, "array[int]"]:
             raise ValueError("pulses: they do not wrap")
         return "pulses", array("H", drive.pulses[1:])
     if drive.odometer is None:
-        raise ValueError("odometer: the column odometer or pulses is missing")
+        raise ValueError("odometer: the column odometer or pulses is missing; or give odometer=FILE")
     out, counts = array("H"), drive.odometer
     for last, count in zip(counts, counts[1:]):
         out.append(_step(int(last), int(count), wrap))

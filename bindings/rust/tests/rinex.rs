@@ -206,10 +206,12 @@ fn packed_files_are_read() {
     let cut = file("cut.05o.gz", &bytes[..bytes.len() / 2]);
     let (status, why) = told(&[&cut, &both[1]]);
     assert_eq!(status, Some(2));
-    assert!(
-        why.contains("gzip can't decompress") || why.contains("ends within"),
-        "{why}"
-    );
+    let reasons = [
+        "gzip can't decompress",
+        "ends within",
+        "is not an observation",
+    ];
+    assert!(reasons.iter().any(|r| why.contains(r)), "{why}");
 }
 
 /// Runs on the edited recording of GEONET. Returns the status and the messages.
@@ -372,6 +374,145 @@ fn a_pseudorange_that_misses_the_others_is_left_out_with_a_word() {
 }
 
 #[test]
+fn a_digit_that_was_changed_is_told() {
+    let change = |line: usize, from: &'static str, to: &'static str| {
+        move |mut lines: Vec<String>| {
+            assert!(lines[line - 1].contains(from), "{}", lines[line - 1]);
+            lines[line - 1] = lines[line - 1].replacen(from, to, 1);
+            lines
+        }
+    };
+    // A time, in the middle and at the beginning; a pseudorange in the middle and at the beginning.
+    let (status, why) = edited("late.05o", change(45, "0  1 30.0000000", "0  1 30.0100000"));
+    assert_eq!(status, Some(1));
+    let late = "1 of 120 epochs left out: 1 whose time is out of step with the others";
+    assert!(why.contains(late), "{why}");
+    let (status, why) = edited(
+        "first.05o",
+        change(18, "0  0  0.0000000", "0  0  0.0070000"),
+    );
+    assert_eq!(status, Some(1));
+    assert!(why.contains(late) && why.contains("the first epoch is not that of the header"));
+    let (status, why) = edited("range.05o", change(93, "23622022", "23622029"));
+    assert_eq!(status, Some(0));
+    assert!(why.contains("1 whose pseudoranges disagree"), "{why}");
+    let (status, why) = edited("range.05o", change(21, "23407378.219", "23407370.219"));
+    assert_eq!(status, Some(0));
+    assert!(why.contains("1 carriers jump relative to code"), "{why}");
+    // A number of the wrong width.
+    let (status, why) = edited("width.05o", change(21, "  23407378.219", " 23407378.219 "));
+    assert_eq!(status, Some(2));
+    assert!(
+        why.contains("OBS:21: \"23407378.219\" is not an observation"),
+        "{why}"
+    );
+}
+
+#[test]
+fn a_header_that_contradicts_itself_is_told() {
+    let types = "     4    L1    C1    L2    L2                              # / TYPES OF OBSERV";
+    let (status, why) = edited("types.05o", |mut lines| {
+        lines[11] = types.to_string();
+        lines
+    });
+    assert!(
+        status == Some(2) && why.contains("OBS:12: an observation type is listed twice"),
+        "{why}"
+    );
+    let (status, why) = edited("system.05o", |mut lines| {
+        lines[17] = lines[17].replace("G28", "S28");
+        lines
+    });
+    assert!(
+        status == Some(0) && why.contains("1 of systems that the header does not list"),
+        "{why}"
+    );
+    let (status, why) = edited("sbas.05o", |mut lines| {
+        lines[17] = lines[17].replace("G 8", "S 8");
+        lines
+    });
+    assert!(
+        status == Some(2) && why.contains("OBS:21: no satellite here"),
+        "{why}"
+    );
+    let (status, why) = edited("event.05o", |mut lines| {
+        lines[26] = lines[26].replace(" 0  8G", " 4  8G");
+        lines
+    });
+    assert!(
+        status == Some(2) && why.contains("OBS:28: no line of an event"),
+        "{why}"
+    );
+}
+
+/// Runs on the hour of GEONET with edited navigation. Returns the status and the messages.
+fn sent(name: &str, from: &str, to: &str) -> (Option<i32>, String) {
+    let navigation = fs::read_to_string(&hour()[1]).unwrap();
+    assert!(navigation.contains(from), "{from}");
+    let at = file(name, navigation.replacen(from, to, 1).as_bytes());
+    let (status, why) = told(&[&hour()[0], &at]);
+    (status, why.replace(&at, "NAV"))
+}
+
+#[test]
+fn ephemerides_that_no_satellite_sent_are_told() {
+    // The anomaly is no multiple of its unit, a time is another, and an exponent is none.
+    for (from, to) in [
+        ("2.871534990340D+00", "2.871544990340D+00"),
+        (" 1 05  4  2  2  0  0.0", " 1 05  4  2  2 40  0.0"),
+        ("4.026596389650D-09", "4.026596389650D-89"),
+    ] {
+        let (status, why) = sent("damaged.05n", from, to);
+        assert_eq!(status, Some(0), "{why}");
+        assert!(
+            why.contains("NAV:14: 1 records left out, with numbers that no broadcast message has"),
+            "{why}"
+        );
+    }
+    // The radius is 200 m off, which is a multiple.
+    let (status, why) = sent("radius.05n", "2.197187500000D+02", "4.197187500000D+02");
+    assert_eq!(status, Some(0), "{why}");
+    assert!(
+        why.contains("ephemerides are left out, which contradict those before or after"),
+        "{why}"
+    );
+    let (_, why) = sent("ionosphere.05n", "8.8060D+04", "8.8060D+14");
+    assert!(
+        why.contains("ionosphere parameters that no broadcast message has"),
+        "{why}"
+    );
+    let (status, why) = sent("width.05n", "2.871534990340D+00", "2.87153499034D+00 ");
+    assert!(
+        status == Some(2) && why.contains("is not a number of 19 columns"),
+        "{why}"
+    );
+}
+
+#[test]
+fn a_file_without_its_end_is_told() {
+    let text = fs::read_to_string(&hour()[0]).unwrap();
+    let whole = text.trim_end();
+    let at = file("open.05o", whole.as_bytes());
+    let (status, why) = told(&[&at, &hour()[1]]);
+    assert!(
+        status == Some(0) && why.contains(": the last line has no end"),
+        "{why}"
+    );
+    let header = "  2005     4     2     1     0    0.0000000     GPS         TIME OF LAST OBS\n";
+    let late = text.replacen(
+        "                                                            END OF HEADER",
+        &format!("{header}{}END OF HEADER", " ".repeat(60)),
+        1,
+    );
+    let at = file("short.05o", late.as_bytes());
+    let (status, why) = told(&[&at, &hour()[1]]);
+    assert!(
+        status == Some(0) && why.contains("the last epoch is not that of the header"),
+        "{why}"
+    );
+}
+
+#[test]
 fn a_navigation_file_of_another_day_writes_nothing() {
     let (status, why) = told(&[&hour()[0], &sky()[1]]);
     assert_eq!(status, Some(2));
@@ -403,12 +544,8 @@ fn a_recording_that_is_cut_anywhere_ends_with_a_word() {
         let cut = file("cut.obs", &bytes[..end]);
         let out = run(&["rinex", &cut, &sky()[1]]);
         let last_line_is_whole = bytes[..end].ends_with(b"\n");
-        let quiet = out.stderr.is_empty();
         assert_ne!(out.status.code(), None);
-        assert!(
-            !quiet || last_line_is_whole || out.status.code() == Some(0),
-            "{end}"
-        );
+        assert!(!out.stderr.is_empty() || last_line_is_whole, "{end}");
         let csv = text(&out.stdout);
         if csv.lines().count() > 1 {
             let (far, _) = farthest(&csv);

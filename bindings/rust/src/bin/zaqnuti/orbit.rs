@@ -1,5 +1,7 @@
 //! Positions and velocities of satellites from broadcast orbits.
 
+use std::cell::Cell;
+
 /// The speed of light, m/s.
 pub const LIGHT: f64 = 299_792_458.0;
 /// The earth's rotation rate in IS-GPS-200, rad/s.
@@ -178,16 +180,24 @@ fn standing(state: State, turn: f64, since: f64) -> State {
 }
 
 /// A GLONASS ephemeris: the state at the reference time, and the luni-solar acceleration in m/s².
-#[derive(Clone, Copy, Debug, PartialEq)]
+#[derive(Clone, Debug, PartialEq)]
 pub struct Glonass {
     pub start: State,
     pub pull: [f64; 3],
+    /// The state after the whole steps of the last call, from which the next one goes on.
+    last: Cell<(i32, State)>,
 }
 
 /// The longest step of the integration, s.
 const STEP: f64 = 60.0;
 
 impl Glonass {
+    /// Starts at a state, with an acceleration.
+    pub fn new(start: State, pull: [f64; 3]) -> Self {
+        let last = Cell::new((0, start));
+        Self { start, pull, last }
+    }
+
     /// Checks that the numbers describe a GLONASS orbit.
     pub fn sound(&self) -> bool {
         let length = |[x, y, z]: [f64; 3]| (x * x + y * y + z * z).sqrt();
@@ -199,12 +209,16 @@ impl Glonass {
     /// Returns the state `since` seconds after the reference time, by numerical integration
     /// (GLONASS ICD, A.3.1.2).
     pub fn at(&self, since: f64) -> State {
-        let steps = (since.abs() / STEP).floor();
-        let mut state = self.start;
-        for _ in 0..steps as u32 {
+        let steps = (since / STEP) as i32;
+        let (mut done, mut state) = self.last.get();
+        if done.signum() * steps.signum() < 0 || done.abs() > steps.abs() {
+            (done, state) = (0, self.start);
+        }
+        for _ in done.abs()..steps.abs() {
             state = self.stepped(state, STEP.copysign(since));
         }
-        self.stepped(state, since - STEP.copysign(since) * steps)
+        self.last.set((steps, state));
+        self.stepped(state, since - STEP * f64::from(steps))
     }
 
     /// Makes one step of the fourth-order Runge-Kutta method.
@@ -319,20 +333,20 @@ mod tests {
             place: [7_003_008.789, -12_206_626.953, 21_280_765.625],
             velocity: [783.541_7, 2_804.253, 1_352.515],
         };
-        let orbit = Glonass {
-            start,
-            pull: [0.0, 1.7e-6, -5.41e-6],
-        };
+        let orbit = Glonass::new(start, [0.0, 1.7e-6, -5.41e-6]);
         assert!(orbit.sound());
         assert_eq!(orbit.at(0.0), start);
         let there = orbit.at(847.3);
-        let back = Glonass {
-            start: there,
-            ..orbit
-        };
+        let back = Glonass::new(there, orbit.pull);
         let again = back.at(-847.3);
         for i in 0..3 {
             assert!((again.place[i] - start.place[i]).abs() < 1e-4);
+        }
+        // In whatever order it is asked.
+        let new = Glonass::new(start, orbit.pull);
+        for since in [-1.0, 61.0, 600.0, 30.0, -600.0, 0.0, 847.3, -59.0, 780.0] {
+            let alone = Glonass::new(start, orbit.pull);
+            assert_eq!(new.at(since), alone.at(since), "{since}");
         }
         // The velocity is the derivative of the position.
         let (before, after) = (orbit.at(599.5), orbit.at(600.5));

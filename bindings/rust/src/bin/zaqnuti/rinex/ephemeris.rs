@@ -60,6 +60,25 @@ impl Ephemeris {
         }
     }
 
+    /// Checks that the next ephemeris of the satellite agrees halfway between the two; nothing
+    /// where they are too far apart in time, unhealthy, or of different kinds.
+    pub fn agrees(&self, next: &Self) -> Option<bool> {
+        // Those of a day of broadcast orbits are within 8 m and 5 m of clock, of GLONASS 16 m and 9 m.
+        let (longest, far) = match self.orbit {
+            Orbit::Kepler(_) => (7_300.0, 25.0),
+            Orbit::Glonass(_) => (1_900.0, 60.0),
+        };
+        let gap = next.toe.since(self.toe);
+        let same = self.healthy && next.healthy && self.fnav == next.fnav;
+        if !same || gap > longest {
+            return None;
+        }
+        let middle = self.toe.plus(gap / 2.0);
+        let ((a, own), (b, other)) = (self.state(middle), next.state(middle));
+        let square: f64 = (0..3).map(|i| (a.place[i] - b.place[i]).powi(2)).sum();
+        Some(square.sqrt() <= far && ((own - other) * LIGHT).abs() <= far)
+    }
+
     /// Returns the state and the clock error at the transmission of a signal.
     pub fn at(&self, received: Moment, pseudorange: f64) -> (State, f64) {
         self.state(self.sent(received, pseudorange))

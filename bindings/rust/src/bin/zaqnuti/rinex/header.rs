@@ -4,8 +4,8 @@ use crate::fault::Run;
 
 use super::head::{self, Version};
 use super::lines::Lines;
-use super::signals::{other, Kind, System};
-use super::time::Scale;
+use super::signals::{skipped, Kind, System};
+use super::time::{Moment, Scale};
 
 /// The header of an observation file.
 pub struct Header {
@@ -18,6 +18,10 @@ pub struct Header {
     pub channels: [Option<i8>; 100],
     /// The time system of the epochs.
     pub scale: Scale,
+    /// The times of the first and the last epoch, if they are there.
+    pub times: [Option<Moment>; 2],
+    /// The letters of the systems whose types are listed; none in version 2.
+    pub listed: Vec<u8>,
     /// The types of observation of each system.
     pub kinds: [Vec<Kind>; 4],
 }
@@ -39,6 +43,18 @@ fn total(lines: &Lines, count: i64) -> Run<usize> {
     match usize::try_from(count) {
         Ok(count @ 1..=999) => Ok(count),
         _ => Err(lines.fault("implausible count")),
+    }
+}
+
+/// Checks that an observation type is not listed twice.
+fn once(lines: &Lines, names: &mut Vec<Vec<u8>>, (from, to): (usize, usize)) -> Run<()> {
+    let name = lines.field(from, to).to_vec();
+    match names.contains(&name) {
+        true => Err(lines.fault("an observation type is listed twice")),
+        false => {
+            names.push(name);
+            Ok(())
+        }
     }
 }
 
@@ -65,6 +81,8 @@ impl Header {
             place: None,
             channels: [None; 100],
             scale,
+            times: [None; 2],
+            listed: Vec::new(),
             kinds: Default::default(),
         };
         loop {
@@ -86,13 +104,17 @@ impl Header {
                 // Zeros mean that the position is unknown.
                 self.place = (place != [0.0; 3]).then_some(place);
             }
-            b"TIME OF FIRST OBS" => match lines.field(48, 51) {
-                b"GPS" | b"GAL" | b"QZS" => self.scale = Scale::Gps,
-                b"GLO" => self.scale = Scale::Utc,
-                b"BDT" => self.scale = Scale::Beidou,
-                b"" => {}
-                other => return Err(lines.fault_in(other, "a time that is read")),
-            },
+            b"TIME OF FIRST OBS" => {
+                match lines.field(48, 51) {
+                    b"GPS" | b"GAL" | b"QZS" => self.scale = Scale::Gps,
+                    b"GLO" => self.scale = Scale::Utc,
+                    b"BDT" => self.scale = Scale::Beidou,
+                    b"" => {}
+                    other => return Err(lines.fault_in(other, "a time that is read")),
+                }
+                self.times[0] = self.date(lines)?;
+            }
+            b"TIME OF LAST OBS" => self.times[1] = self.date(lines)?,
             b"SYS / SCALE FACTOR" | b"OBS SCALE FACTOR" if lines.whole(2, 6, "")? != 1 => {
                 return Err(lines.fault("scale factors are not supported"));
             }
@@ -105,6 +127,23 @@ impl Header {
             label => head::foreign(lines, label)?,
         }
         Ok(())
+    }
+
+    /// Reads the time of the first or the last epoch; nothing where it is blank.
+    fn date(&self, lines: &Lines) -> Run<Option<Moment>> {
+        if lines.field(0, 43).is_empty() {
+            return Ok(None);
+        }
+        let mut date = [0; 5];
+        for (i, d) in date.iter_mut().enumerate() {
+            *d = lines.whole(6 * i, 6 * (i + 1), "a date")?;
+        }
+        date[0] = head::century(date[0]);
+        let second = lines.float(30, 43, "a second")?;
+        match Moment::of_date(date, second, self.scale) {
+            Some(time) => Ok(Some(time)),
+            None => Err(lines.fault("no such date")),
+        }
     }
 
     /// Reads GLONASS frequency channels.
@@ -125,13 +164,14 @@ impl Header {
 
     /// Reads the observation types of version 2, which all systems share.
     fn kinds_2(&mut self, lines: &mut Lines) -> Run<()> {
-        let mut kinds = Vec::new();
+        let (mut kinds, mut names) = (Vec::new(), Vec::new());
         let count = lines.whole(0, 6, "the number of types")?;
         for i in 0..total(lines, count)? {
             if i > 0 && i % 9 == 0 {
                 self.more(lines, b"# / TYPES OF OBSERV")?;
             }
             let from = 10 + 6 * (i % 9);
+            once(lines, &mut names, (from, from + 2))?;
             match Kind::of_2(lines.field(from, from + 2)) {
                 Some(kind) => kinds.push(kind),
                 None => return Err(lines.fault("an observation type is missing")),
@@ -146,22 +186,27 @@ impl Header {
         let letter = lines.column(0);
         let system = match System::of(letter) {
             Some(system) => system,
-            None if other(letter) => System::Gps,
+            None if skipped(letter) => System::Gps,
             None => return Err(lines.fault("unknown satellite system")),
         };
-        let mut kinds = Vec::new();
+        if self.listed.contains(&letter) {
+            return Err(lines.fault("the types of this system are listed twice"));
+        }
+        self.listed.push(letter);
+        let (mut kinds, mut names) = (Vec::new(), Vec::new());
         let count = lines.whole(3, 6, "the number of types")?;
         for i in 0..total(lines, count)? {
             if i > 0 && i % 13 == 0 {
                 self.more(lines, b"SYS / # / OBS TYPES")?;
             }
             let from = 7 + 4 * (i % 13);
+            once(lines, &mut names, (from, from + 3))?;
             match Kind::of_3(lines.field(from, from + 3), system, self.version.number) {
                 Some(kind) => kinds.push(kind),
                 None => return Err(lines.fault("an observation type is missing")),
             }
         }
-        if !other(letter) {
+        if !skipped(letter) {
             self.kinds[system as usize] = kinds;
         }
         Ok(())

@@ -13,14 +13,19 @@ pub struct Left {
     empty: u64,
     nowhere: u64,
     aloft: u64,
+    untimely: u64,
     missing: u64,
     old: u64,
     unhealthy: u64,
     channel: u64,
+    /// Satellites of systems that the header does not list.
+    pub unlisted: u64,
     /// Signals whose pseudoranges disagree with the others.
     pub off: u64,
     /// Epochs whose fix is far from the header's position.
     pub away: u64,
+    /// Pseudoranges that jump for one epoch, and are not left out.
+    pub spikes: u64,
     /// Carriers marked as slipped because of a jump.
     pub jumps: u64,
 }
@@ -60,13 +65,22 @@ impl Left {
         }
     }
 
+    /// Counts an epoch whose time is not of the receiver's rhythm.
+    pub fn untimely(&mut self) {
+        self.untimely += 1;
+    }
+
     /// Prints the counts on standard error. Returns whether every epoch was written.
     pub fn told(&self, name: &str) -> Run<bool> {
         let signals = list(&[
             (self.missing, "without an ephemeris"),
             (self.old, "whose ephemerides are too old or too new"),
             (self.unhealthy, "of unhealthy satellites"),
-            (self.channel, "of an unknown GLONASS channel"),
+            (
+                self.channel,
+                "of an unknown or contradictory GLONASS channel",
+            ),
+            (self.unlisted, "of systems that the header does not list"),
             (self.off, "whose pseudoranges disagree with the others"),
         ]);
         if !signals.is_empty() {
@@ -75,6 +89,10 @@ impl Left {
         if self.jumps > 0 {
             let why = "jump relative to code or Doppler, and are marked as slipped";
             tell(&format!("{name}: {} carriers {why}", self.jumps));
+        }
+        if self.spikes > 0 {
+            let why = "jump relative to their carriers for one epoch";
+            tell(&format!("{name}: {} pseudoranges {why}", self.spikes));
         }
         if self.away > 0 {
             let why = "the fix is more than 20 m from the header's position and replaces it";
@@ -88,8 +106,10 @@ impl Left {
             (self.empty, "without a usable satellite"),
             (self.nowhere, "without a position of the receiver"),
             (self.aloft, "whose fix is not near the ground"),
+            (self.untimely, "whose time is out of step with the others"),
         ]);
-        let (all, out) = (self.epochs, self.empty + self.nowhere + self.aloft);
+        let left = self.empty + self.nowhere + self.aloft;
+        let (all, out) = (self.epochs, left + self.untimely);
         if all == 0 {
             return said(format!("{name}: no epochs"));
         }

@@ -4,7 +4,7 @@ use std::io::{BufRead, BufReader, Read};
 use std::process::{Child, Command, Stdio};
 
 use crate::csv;
-use crate::fault::{failed, said, Fault, Run};
+use crate::fault::{failed, said, tell, Fault, Run};
 use crate::progress::Progress;
 
 /// The longest line that is read, in bytes.
@@ -18,6 +18,8 @@ pub struct Lines {
     text: Vec<u8>,
     number: u64,
     bytes: u64,
+    /// Whether the last line has no end.
+    open: bool,
     again: bool,
     progress: Progress,
 }
@@ -63,6 +65,7 @@ impl Lines {
             text: Vec::new(),
             number: 0,
             bytes: 0,
+            open: false,
             again: false,
             progress: Progress::new(size),
         }
@@ -102,6 +105,7 @@ impl Lines {
         self.number += u64::from(n > 0);
         self.bytes += n;
         self.progress.tell(&self.name, self.number, self.bytes);
+        self.open = n > 0 && self.text.last() != Some(&b'\n') || n == 0 && self.open;
         while let Some(b'\n' | b'\r') = self.text.last() {
             self.text.pop();
         }
@@ -114,8 +118,12 @@ impl Lines {
         Ok(n > 0)
     }
 
-    /// Checks at the end of the file that gzip succeeded.
+    /// Checks at the end of the file that it is whole and that gzip succeeded.
     fn end(&mut self) -> Run<()> {
+        if std::mem::take(&mut self.open) {
+            let why = "the last line has no end: is a part missing?";
+            tell(&format!("{}:{}: {why}", self.name, self.number));
+        }
         let Some(mut child) = self.unpacker.take() else {
             return Ok(());
         };

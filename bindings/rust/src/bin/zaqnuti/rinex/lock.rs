@@ -32,6 +32,13 @@ struct Seen {
     slipped: bool,
 }
 
+/// A carrier in m, and whether it was locked since the last written epoch.
+#[derive(Clone, Copy)]
+pub struct Held {
+    pub metres: f64,
+    pub locked: bool,
+}
+
 /// Tracks the carriers of a file.
 pub struct Locks {
     /// By satellite and band.
@@ -204,6 +211,25 @@ impl Locks {
                 (VALID | if slipped { SLIPPED } else { 0 }, seen.carrier)
             }
             _ => (0, f64::NAN),
+        }
+    }
+
+    /// Returns a carrier of the current epoch, before `state` is asked.
+    pub fn held(&self, signal: &Signal) -> Option<Held> {
+        let seen = self.seen[self.place(signal)].filter(|s| s.epoch == self.epoch)?;
+        let paired = seen.written == self.written && self.written > 0;
+        Some(Held {
+            metres: seen.carrier,
+            locked: paired && !seen.slipped,
+        })
+    }
+
+    /// Marks a carrier as slipped because it jumps.
+    pub fn jumped(&mut self, signal: &Signal) {
+        let place = self.place(signal);
+        if let Some(seen) = &mut self.seen[place] {
+            seen.slipped = true;
+            self.untold += 1;
         }
     }
 

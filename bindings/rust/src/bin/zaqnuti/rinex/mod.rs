@@ -1,6 +1,8 @@
 //! `zaqnuti rinex`: converts RINEX files to the CSV of the other commands.
 
+mod codes;
 mod ephemeris;
+mod grain;
 mod head;
 mod header;
 mod left;
@@ -10,8 +12,10 @@ mod navigation;
 mod observations;
 mod place;
 mod record;
+mod rhythm;
 mod runner;
 mod signals;
+mod stray;
 mod time;
 mod written;
 
@@ -85,25 +89,71 @@ pub fn run(words: &[String]) -> Run<bool> {
     let mut runner = Runner::new(bands, ephemerides, models, args.place("--at")?);
     let mut out = Output::open(args.value("-o"))?;
     out.line(written::HEADER)?;
+    let mut written: Option<Moment> = None;
+    let last = epochs(&mut file, |file, epoch, first| {
+        if let Some(times) = first {
+            runner.learn(times);
+        }
+        runner.take(file, epoch);
+        // Receivers' epochs may be a few milliseconds early.
+        if written.is_some_and(|last| epoch.time.since(last) < every - 0.01) {
+            return Ok(());
+        }
+        written = Some(epoch.time);
+        put(&mut out, runner.lines(file, epoch))
+    })?;
+    put(&mut out, runner.rest())?;
+    ends(&file, last);
+    let mut left = runner.left();
+    left.unlisted = file.unlisted();
+    let whole = left.told(file.name())?;
+    out.close()?;
+    Ok(whole)
+}
+
+/// Takes every epoch in turn, the first one with the times of those after it. Returns the times of
+/// the first and the last one.
+fn epochs(
+    file: &mut Observations,
+    mut take: impl FnMut(&Observations, &Epoch, Option<&[Moment]>) -> Run<()>,
+) -> Run<Option<[Moment; 2]>> {
     let mut epoch = Epoch {
         time: Moment::new(0, 0.0),
         failed: false,
         signals: Vec::new(),
     };
-    let mut last: Option<Moment> = None;
-    while file.next(&mut epoch)? {
-        runner.take(&file, &epoch);
-        // Receivers' epochs may be a few milliseconds early.
-        if last.is_some_and(|last| epoch.time.since(last) < every - 0.01) {
-            continue;
+    let (mut first, mut more) = (Vec::new(), Ok(true));
+    while first.len() < rhythm::FIRST && matches!(more, Ok(true)) {
+        more = file.next(&mut epoch);
+        if let Ok(true) = more {
+            first.push(epoch.clone());
         }
-        last = Some(epoch.time);
-        put(&mut out, runner.lines(&file, &epoch))?;
     }
-    put(&mut out, runner.rest())?;
-    let whole = runner.left().told(file.name())?;
-    out.close()?;
-    Ok(whole)
+    let times: Vec<Moment> = first.iter().map(|e| e.time).collect();
+    for (i, epoch) in first.iter().enumerate() {
+        take(file, epoch, (i == 0).then_some(&times[..]))?;
+    }
+    while more? {
+        more = file.next(&mut epoch);
+        if let Ok(true) = more {
+            take(file, &epoch, None)?;
+        }
+    }
+    Ok(times.first().map(|first| [*first, epoch.time]))
+}
+
+/// Tells where a file's first and last epochs are not those that its header has.
+fn ends(file: &Observations, found: Option<[Moment; 2]>) {
+    let Some(found) = found else {
+        return;
+    };
+    let names = ["first", "last"];
+    for ((name, found), header) in names.iter().zip(found).zip(file.times()) {
+        if header.is_some_and(|h| found.since(h).abs() > 1e-3) {
+            let why = format!("the {name} epoch is not that of the header: is a part missing?");
+            tell(&format!("{}: {why}", file.name()));
+        }
+    }
 }
 
 /// Writes complete lines, if there are any.

@@ -1,13 +1,14 @@
 //! RINEX navigation files, versions 2 and 3: ephemerides and Klobuchar parameters.
 
 use crate::atmosphere::Klobuchar;
-use crate::fault::Run;
+use crate::fault::{tell, Run};
 
 use super::ephemeris::Ephemeris;
+use super::grain;
 use super::head::{self, Version};
 use super::lines::Lines;
 use super::record::Record;
-use super::signals::{Band, Satellite, System};
+use super::signals::{Band, Satellite, System, SYSTEMS};
 use super::time::Moment;
 
 /// The greatest age of a usable ephemeris, before or after its reference time, s.
@@ -56,21 +57,77 @@ impl Ephemerides {
         for list in &mut all.by_satellite {
             list.sort_by(|a, b| a.toe.since(b.toe).total_cmp(&0.0));
         }
+        all.agree();
         Ok(all)
+    }
+
+    /// Leaves out ephemerides that contradict those before and after them.
+    fn agree(&mut self) {
+        let mut left = 0;
+        for list in &mut self.by_satellite {
+            let pairs: Vec<Option<bool>> = list.windows(2).map(|w| w[0].agrees(&w[1])).collect();
+            let beside = |i: usize| {
+                let before = i.checked_sub(1).and_then(|b| pairs[b]);
+                [before, pairs.get(i).copied().flatten()]
+            };
+            let alone =
+                |i: usize| beside(i).contains(&Some(false)) && !beside(i).contains(&Some(true));
+            let mut i = 0;
+            let before = list.len();
+            let bad: Vec<bool> = (0..before).map(alone).collect();
+            list.retain(|_| {
+                i += 1;
+                !bad[i - 1]
+            });
+            left += before - list.len();
+        }
+        if left > 0 {
+            let why = "left out, which contradict those before or after them";
+            tell(&format!("{left} ephemerides are {why}"));
+        }
     }
 
     fn add(&mut self, mut lines: Lines) -> Run<()> {
         let version = self.header(&mut lines)?;
+        let mut found = Vec::new();
         while lines.next()? {
             if lines.text().trim_ascii().is_empty() {
                 continue;
             }
             let record = Record::read(&mut lines, &version)?;
             if let Some((satellite, ephemeris)) = record.ephemeris(&version)? {
-                self.by_satellite[satellite.place()].push(ephemeris);
+                found.push((satellite, ephemeris, record));
             }
         }
+        self.keep(found, lines.name());
         Ok(())
+    }
+
+    /// Keeps the ephemerides of a file, without those that were damaged.
+    fn keep(&mut self, found: Vec<(Satellite, Ephemeris, Record)>, name: &str) {
+        let odd: Vec<u64> = found.iter().map(|(s, e, r)| r.odd(*s, e)).collect();
+        let mut bad = vec![false; found.len()];
+        for system in SYSTEMS {
+            let own = (0..found.len()).filter(|i| found[*i].0.system == system);
+            let telling = grain::telling(own.clone().map(|i| odd[i]));
+            own.clone().for_each(|i| bad[i] = odd[i] & telling != 0);
+            let sound: Vec<usize> = own.filter(|i| !bad[*i]).collect();
+            let numbers: Vec<&[f64]> = sound.iter().map(|i| found[*i].2.numbers()).collect();
+            if let Some(most) = grain::largest(&numbers).filter(|_| system != System::Glonass) {
+                bad[sound[most]] = true;
+            }
+        }
+        let mut left = Vec::new();
+        for ((satellite, ephemeris, record), bad) in found.into_iter().zip(bad) {
+            match bad {
+                false => self.by_satellite[satellite.place()].push(ephemeris),
+                true => left.push(record.line()),
+            }
+        }
+        if let Some(line) = left.first() {
+            let why = "left out, with numbers that no broadcast message has";
+            tell(&format!("{name}:{line}: {} records {why}", left.len()));
+        }
     }
 
     fn header(&mut self, lines: &mut Lines) -> Run<Version> {
@@ -106,7 +163,13 @@ impl Ephemerides {
             numbers[place] = Some([field(0)?, field(1)?, field(2)?, field(3)?]);
         }
         if let [Some([a, b, c, d]), Some([e, f, g, h])] = numbers {
-            self.klobuchar.get_or_insert([a, b, c, d, e, f, g, h]);
+            let numbers = [a, b, c, d, e, f, g, h];
+            // Those that were fitted to other data are no multiples at all.
+            if (1..=3).contains(&grain::odd_ionosphere(&numbers)) {
+                let why = "ionosphere parameters that no broadcast message has";
+                tell(&format!("{}: {why}", lines.name()));
+            }
+            self.klobuchar.get_or_insert(numbers);
         }
         Ok(version)
     }

@@ -25,6 +25,7 @@ pub struct Signal {
 }
 
 /// The signals of one epoch.
+#[derive(Clone)]
 pub struct Epoch {
     pub time: Moment,
     /// Whether power failed since the previous epoch.
@@ -40,6 +41,8 @@ pub struct Observations {
     /// One satellite's observations, each of 16 columns.
     row: Vec<u8>,
     last: Option<Moment>,
+    /// Satellites of systems that the header does not list.
+    unlisted: u64,
 }
 
 /// The first line of an epoch.
@@ -66,6 +69,7 @@ impl Observations {
             picks,
             row: Vec::new(),
             last: None,
+            unlisted: 0,
         })
     }
 
@@ -81,6 +85,16 @@ impl Observations {
             .get(usize::from(number))
             .copied()
             .flatten()
+    }
+
+    /// Returns the header's times of the first and the last epoch.
+    pub fn times(&self) -> [Option<Moment>; 2] {
+        self.header.times
+    }
+
+    /// Returns the number of satellites whose system the header does not list.
+    pub fn unlisted(&self) -> u64 {
+        self.unlisted
     }
 
     /// The name of the file, for messages.
@@ -180,6 +194,9 @@ impl Observations {
         }
         for _ in 0..count {
             self.lines.wanted("an event")?;
+            if !self.lines.label().iter().any(u8::is_ascii_alphabetic) {
+                return Err(self.lines.fault("no line of an event: it has no label"));
+            }
             if !self.header.lasts(&self.lines) {
                 let why = "the antenna, position or observation types change here; split the file";
                 return Err(self.lines.fault(why));
@@ -206,7 +223,9 @@ impl Observations {
                 }
                 None => self.row_3()?,
             };
-            let Some(satellite) = self.satellite(name)? else {
+            let satellite = self.satellite(name)?;
+            self.unlisted += u64::from(!self.lists(name[0]));
+            let Some(satellite) = satellite else {
                 continue;
             };
             let (set, bit) = (&mut seen[satellite.system as usize], 1 << satellite.number);
@@ -254,6 +273,15 @@ impl Observations {
         Ok([0, 1, 2].map(|c| self.lines.column(c)))
     }
 
+    /// Checks whether the header lists a system.
+    fn lists(&self, letter: u8) -> bool {
+        let version = &self.header.version;
+        match version.major() {
+            2 => letter == b' ' || version.system == b'M' || version.system == letter,
+            _ => self.header.listed.contains(&letter),
+        }
+    }
+
     /// The satellite of a name such as G07; none of a system that is not read.
     fn satellite(&self, [letter, tens, ones]: [u8; 3]) -> Run<Option<Satellite>> {
         // In version 2 a blank stands for the file's system.
@@ -269,7 +297,7 @@ impl Observations {
                 let number = 10 * tens + ones;
                 Ok(Some(Satellite { system, number }))
             }
-            (None, Some(_), Some(_)) if other(letter) => Ok(None),
+            (None, Some(tens), Some(ones)) if other(letter, 10 * tens + ones) => Ok(None),
             _ => Err(self.lines.fault("no satellite here; is a line missing?")),
         }
     }
@@ -302,14 +330,16 @@ impl Observations {
         Ok(())
     }
 
-    /// The observation at a place of the row; a blank and 0 are none.
+    /// The observation at a place of the row, of 14 columns with 3 decimals; a blank and 0 are none.
     fn observed(&self, place: usize) -> Run<Option<f64>> {
         let end = self.row.len();
-        let field = self.row[(16 * place).min(end)..(16 * place + 14).min(end)].trim_ascii();
+        let columns = &self.row[(16 * place).min(end)..(16 * place + 14).min(end)];
+        let field = columns.trim_ascii();
         if field.is_empty() {
             return Ok(None);
         }
-        match plain(field) {
+        let whole = columns.len() == 14 && columns[10] == b'.' && columns[13] != b' ';
+        match plain(field).filter(|_| whole) {
             Some(x) => Ok((x != 0.0).then_some(x)),
             None => Err(self.lines.fault_in(field, "an observation")),
         }

@@ -9,6 +9,7 @@ use crate::orbit::State;
 use super::lock::median;
 use super::observations::Signal;
 use super::signals::{Band, SYSTEMS};
+use super::stray;
 
 /// The greatest distance of a fix from the header's position at which the latter is used, m.
 const NEAR: f64 = 20.0;
@@ -42,7 +43,7 @@ impl Sight {
     }
 
     /// Returns the corrected pseudorange minus the geometric range.
-    fn miss(&self) -> f64 {
+    pub fn miss(&self) -> f64 {
         self.range() - self.to.range
     }
 
@@ -145,6 +146,7 @@ impl Places {
             None if fixed.is_some() => return Err(Nowhere::Aloft),
             None => return Err(Nowhere::Unknown),
         };
+        let at = self.without_strays(sights, at, models, second);
         let near = header.filter(|h| apart(*h, at) <= NEAR);
         self.away += u64::from(header.is_some() && near.is_none());
         let sky = self.stay(near.unwrap_or(at), sights, models, second);
@@ -211,6 +213,26 @@ impl Places {
         again.filter(|a| ground(*a)).or(Some(at))
     }
 
+    /// Removes pseudoranges that contradict the position of the others, and repeats the fix.
+    fn without_strays(
+        &mut self,
+        sights: &mut Vec<Sight>,
+        mut at: [f64; 3],
+        models: &Models,
+        second: f64,
+    ) -> [f64; 3] {
+        for _ in 0..3 {
+            let Some(stray) = stray::worst(sights) else {
+                break;
+            };
+            sights.remove(stray);
+            let again = self.fix(sights, Some(at));
+            at = again.filter(|a| ground(*a)).unwrap_or(at);
+            self.stay(at, sights, models, second);
+        }
+        at
+    }
+
     /// Moves to a position and computes all directions.
     fn stay(&mut self, at: [f64; 3], sights: &mut [Sight], models: &Models, second: f64) -> Sky {
         let sky = match self.sky {
@@ -233,15 +255,37 @@ fn ground(place: [f64; 3]) -> bool {
 fn middles(sights: &[Sight]) -> [Option<(f64, f64)>; 4] {
     SYSTEMS.map(|system| {
         let own = sights.iter().filter(|s| s.band.system == system);
-        let mut all: Vec<f64> = own.map(Sight::miss).collect();
+        let (mut all, mut count) = ([0.0; RECORDS], 0);
+        for (a, sight) in all.iter_mut().zip(own) {
+            *a = sight.miss();
+            count += 1;
+        }
+        let all = &mut all[..count];
         if all.len() < 3 {
             return None;
         }
-        let middle = median(&mut all);
+        let middle = median(all);
         all.iter_mut().for_each(|m| *m = (*m - middle).abs());
-        let scale = 1.4826 * median(&mut all);
+        let scale = 1.4826 * median(all);
         Some((middle, (10.0 * scale).clamp(OFF.0, OFF.1)))
     })
+}
+
+/// Writes the residual of each pseudorange: what it misses its system's median by, NaN in a
+/// system without one. Returns the receiver's clock error, m.
+pub fn residuals(sights: &[Sight], out: &mut Vec<f64>) -> f64 {
+    let middles = middles(sights);
+    let middle = |s: &Sight| middles[s.band.system as usize].map(|(m, _)| m);
+    out.clear();
+    out.extend(
+        sights
+            .iter()
+            .map(|s| s.miss() - middle(s).unwrap_or(f64::NAN)),
+    );
+    let first = sights.iter().find_map(middle);
+    first
+        .or_else(|| sights.first().map(Sight::miss))
+        .unwrap_or(0.0)
 }
 
 /// Checks whether a pseudorange is an outlier.
@@ -264,4 +308,56 @@ fn screen(sights: &mut Vec<Sight>) -> u64 {
     let (before, middles) = (sights.len(), middles(sights));
     sights.retain(|s| !off(s, &middles));
     (before - sights.len()) as u64
+}
+
+#[cfg(test)]
+pub mod tests {
+    use super::super::signals::{Satellite, System};
+    use super::*;
+
+    /// Returns satellites all around whose pseudoranges meet at one place, with noise below 1 m.
+    pub fn sights(count: usize) -> Vec<Sight> {
+        let band = Band::of("G1").unwrap();
+        let place = [-3_976_219.508_2, 3_382_372.567_1, 3_652_512.984_9];
+        let sky = Sky::over(place);
+        let mut out = Vec::new();
+        for i in 0..400 {
+            let (a, b) = (2.399_963 * f64::from(i), 1.0 - f64::from(i) / 200.0);
+            let flat = (1.0 - b * b).sqrt();
+            let satellite = [flat * a.cos(), flat * a.sin(), b].map(|x| 2.66e7 * x);
+            let to = sky.direction(satellite);
+            if to.elevation.to_degrees() < 20.0 || i % 9 != 0 || out.len() == count {
+                continue;
+            }
+            let number = out.len() as u8 + 1;
+            let pseudorange = to.range + 0.5 * f64::from(i).sin();
+            out.push(Sight {
+                signal: Signal {
+                    satellite: Satellite {
+                        system: System::Gps,
+                        number,
+                    },
+                    band: 0,
+                    code: b'C',
+                    pseudorange,
+                    carrier: None,
+                    lost: 0,
+                    doppler: None,
+                },
+                band,
+                state: State {
+                    place: satellite,
+                    velocity: [0.0; 3],
+                },
+                clock: 0.0,
+                delay: 0.0,
+                channel: 0,
+                to,
+                ionosphere: 0.0,
+                troposphere: 0.0,
+            });
+        }
+        assert_eq!(out.len(), count);
+        out
+    }
 }

@@ -4,9 +4,10 @@ use crate::fault::{said, Run};
 use crate::orbit::{Earth, Glonass, Kepler, State};
 
 use super::ephemeris::{Ephemeris, Orbit};
+use super::grain;
 use super::head::{self, Version};
 use super::lines::Lines;
-use super::signals::{other, Satellite, System};
+use super::signals::{skipped, Satellite, System};
 use super::time::{Moment, Scale};
 
 /// A record: one satellite's ephemeris.
@@ -30,7 +31,7 @@ impl Record {
             (_, b'G') => b'R',
             _ => b'G',
         };
-        if System::of(letter).is_none() && !other(letter) {
+        if System::of(letter).is_none() && !skipped(letter) {
             return Err(lines.fault("the line does not begin with a satellite"));
         }
         let number = lines.whole(shift, shift + 2, "the number of a satellite")?;
@@ -40,7 +41,13 @@ impl Record {
         // Blank fields count as 0.
         let field = |lines: &Lines, i: usize| {
             let from = 3 + shift + 19 * i;
-            lines.float_or_0(from, from + 19, "a number")
+            let x = lines.float_or_0(from, from + 19, "a number")?;
+            // Numbers end in the last of their columns.
+            let text = lines.field(from, from + 19);
+            match text.is_empty() || lines.column(from + 18).is_ascii_digit() {
+                true => Ok(x),
+                false => Err(lines.fault_in(text, "a number of 19 columns")),
+            }
         };
         for i in 1..4 {
             numbers.push(field(lines, i)?);
@@ -84,6 +91,36 @@ impl Record {
             _ => self.kepler(satellite)?,
         };
         Ok(Some((satellite, ephemeris)))
+    }
+
+    /// The line where the record begins.
+    pub fn line(&self) -> u64 {
+        self.line
+    }
+
+    /// The numbers after the date.
+    pub fn numbers(&self) -> &[f64] {
+        &self.numbers
+    }
+
+    /// Returns bits for what a broadcast message would not say: numbers that are no multiples of
+    /// their units, and times, weeks and issues that contradict each other.
+    pub fn odd(&self, of: Satellite, found: &Ephemeris) -> u64 {
+        let n = |i: usize| self.numbers.get(i).copied().unwrap_or(0.0);
+        let apart = match of.system {
+            // GLONASS ephemerides are a quarter of an hour apart in UTC.
+            System::Glonass => self.time.second_of_week() % 900.0 >= 30.0,
+            _ => found.toe.since(found.toc) != 0.0,
+        };
+        let weeks = match of.system {
+            System::Glonass => 0.0,
+            System::Beidou => n(21) + 1_356.0 - found.toe.week() as f64,
+            _ => n(21) - found.toe.week() as f64,
+        };
+        let week = (weeks + 1.0).rem_euclid(1024.0) > 2.0;
+        let issue = of.system == System::Gps && (n(26) - n(3)).rem_euclid(256.0) != 0.0;
+        let rest = u64::from(apart) << 61 | u64::from(week) << 62 | u64::from(issue) << 63;
+        grain::odd(of.system, &self.numbers) | rest
     }
 
     fn wrong<T>(&self, why: &str) -> Run<T> {
@@ -150,10 +187,7 @@ impl Record {
             place: km([3, 7, 11]),
             velocity: km([4, 8, 12]),
         };
-        let orbit = Glonass {
-            start,
-            pull: km([5, 9, 13]),
-        };
+        let orbit = Glonass::new(start, km([5, 9, 13]));
         if !orbit.sound() {
             return self.wrong("not the position of a GLONASS satellite");
         }

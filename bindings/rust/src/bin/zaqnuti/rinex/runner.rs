@@ -3,11 +3,13 @@
 use crate::atmosphere::{Direction, Sky};
 use crate::orbit::LIGHT;
 
+use super::codes::{Codes, Jump};
 use super::left::Left;
-use super::lock::{excess, rate, Locks, Passage, VALID};
+use super::lock::{excess, rate, Held, Locks, Passage, VALID};
 use super::navigation::Ephemerides;
 use super::observations::{Epoch, Observations, Signal};
-use super::place::{Models, Places, Sight};
+use super::place::{self, Models, Places, Sight};
+use super::rhythm::Rhythm;
 use super::signals::{Band, Satellite, System};
 use super::time::Moment;
 use super::written::{self, Carrier, Frame};
@@ -19,6 +21,10 @@ pub struct Runner {
     models: Models,
     places: Places,
     locks: Locks,
+    rhythm: Rhythm,
+    codes: Codes,
+    residuals: Vec<f64>,
+    held: Vec<Option<Held>>,
     /// The carriers of the last written epoch, by satellite and band.
     passages: Vec<Option<Passage>>,
     /// The last epoch, if some of its range rates need the next one.
@@ -39,8 +45,9 @@ struct Lines {
 fn channel(ephemerides: &Ephemerides, file: &Observations, of: Satellite) -> Option<i8> {
     match of.system {
         System::Glonass => {
-            let own = file.channel(of.number);
-            own.or_else(|| ephemerides.channel(of))
+            let (own, sent) = (file.channel(of.number), ephemerides.channel(of));
+            let differ = own.is_some() && sent.is_some() && own != sent;
+            own.or(sent).filter(|_| !differ)
         }
         _ => Some(0),
     }
@@ -58,6 +65,10 @@ impl Runner {
             models,
             places: Places::new(told),
             locks: Locks::new(bands.len()),
+            rhythm: Rhythm::of(&[]),
+            codes: Codes::new(bands.len()),
+            residuals: Vec::new(),
+            held: Vec::new(),
             passages: vec![None; Satellite::PLACES * bands.len()],
             pending: None,
             sights: Vec::new(),
@@ -66,6 +77,11 @@ impl Runner {
             bands,
             ephemerides,
         }
+    }
+
+    /// Learns the receiver's rhythm from the times of the first epochs.
+    pub fn learn(&mut self, times: &[Moment]) {
+        self.rhythm = Rhythm::of(times);
     }
 
     /// Tracks the carriers of an epoch, whether or not it will be written.
@@ -84,7 +100,14 @@ impl Runner {
             sights.extend(self.sight(file, epoch.time, *signal));
         }
         if let Some(sky) = self.sky(file, epoch.time, &mut sights) {
-            self.epoch(epoch.time, sky, &sights);
+            let clock = place::residuals(&sights, &mut self.residuals);
+            match self.rhythm.keeps(epoch.time, clock / LIGHT) {
+                true => {
+                    self.compare(&mut sights);
+                    self.epoch(epoch.time, sky, &sights);
+                }
+                false => self.left.untimely(),
+            }
         }
         self.sights = sights;
         std::str::from_utf8(&self.text).unwrap_or_default()
@@ -157,6 +180,24 @@ impl Runner {
                 None
             }
         }
+    }
+
+    /// Removes sights whose pseudoranges jump against their carriers.
+    fn compare(&mut self, sights: &mut Vec<Sight>) {
+        self.held.clear();
+        let held = sights.iter().map(|s| self.locks.held(&s.signal));
+        self.held.extend(held);
+        let found = self.codes.check(sights, &self.held, &self.residuals);
+        for (sight, found) in sights.iter().zip(found) {
+            match found {
+                Some(Jump::Either) => self.locks.jumped(&sight.signal),
+                Some(Jump::Pseudorange) => self.left.off += 1,
+                Some(Jump::Back) => self.left.spikes += 1,
+                None => {}
+            }
+        }
+        let mut found = found.iter();
+        sights.retain(|_| found.next() != Some(&Some(Jump::Pseudorange)));
     }
 
     /// Computes the lines of an epoch. Writes pending lines, and its own if they are complete.

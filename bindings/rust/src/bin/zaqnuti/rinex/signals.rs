@@ -60,8 +60,13 @@ impl Satellite {
     }
 }
 
-/// Checks for systems that are skipped: SBAS, QZSS, NavIC.
-pub fn other(letter: u8) -> bool {
+/// Checks for satellites of systems that are skipped: SBAS, QZSS, NavIC.
+pub fn other(letter: u8, number: u8) -> bool {
+    matches!((letter, number), (b'S', 20..) | (b'J' | b'I', 1..=14))
+}
+
+/// Checks for the letters of systems that are skipped.
+pub fn skipped(letter: u8) -> bool {
     matches!(letter, b'S' | b'J' | b'I')
 }
 

@@ -111,6 +111,11 @@ impl Moment {
         (ticks.div_euclid(week), ticks.rem_euclid(week))
     }
 
+    /// Returns the GPS week.
+    pub fn week(self) -> i64 {
+        self.seconds.div_euclid(WEEK)
+    }
+
     /// Returns the time of week in s.
     pub fn second_of_week(self) -> f64 {
         self.seconds.rem_euclid(WEEK) as f64 + self.rest

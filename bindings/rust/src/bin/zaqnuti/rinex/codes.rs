@@ -1,0 +1,260 @@
+//! Pseudoranges against carriers, from one written epoch to the next.
+
+use super::lock::{median, Held};
+use super::place::Sight;
+use super::signals::Satellite;
+
+/// The least and the greatest limit of a jump at the zenith, m, and how many robust sigmas it has.
+const LIMIT: (f64, f64) = (0.6, 15.0);
+const SIGMAS: f64 = 8.0;
+/// The same of a jump that goes back at once: the least limit, and robust sigmas.
+const BACK: (f64, f64) = (0.4, 4.5);
+/// The part of a jump that the pseudorange's residual must have if the pseudorange is at fault.
+const PART: f64 = 0.3;
+/// The least number of signals whose jumps can be compared.
+const LEAST: usize = 4;
+
+/// A jump in robust sigmas, and in m as it would be at the zenith.
+#[derive(Clone, Copy, Default)]
+struct Size {
+    sigmas: f64,
+    metres: f64,
+}
+
+impl Size {
+    /// Checks for a jump that undoes the one before.
+    fn back(self, before: Self) -> bool {
+        let both = |a: f64, b: f64, limit: f64| a * b < 0.0 && a.abs().min(b.abs()) > limit;
+        both(self.sigmas, before.sigmas, BACK.1) && both(self.metres, before.metres, BACK.0)
+    }
+}
+
+/// A signal at the last epoch in which its pseudorange was accepted.
+#[derive(Clone, Copy)]
+struct Kept {
+    /// Pseudorange minus carrier, and the pseudorange's residual, m.
+    apart: f64,
+    residual: f64,
+    /// The last jump, in robust sigmas and as at the zenith, m.
+    jump: Size,
+    /// Epochs accepted since the carrier was locked, and those left out since.
+    accepted: u32,
+    out: u32,
+}
+
+/// What is wrong with a signal.
+#[derive(Clone, Copy, Debug, PartialEq)]
+pub enum Jump {
+    /// Its pseudorange jumps: it is left out.
+    Pseudorange,
+    /// Its pseudorange or its carrier jumps, or did so in the epoch before.
+    Either,
+    /// Its pseudorange jumped a little in the epoch before, and is back.
+    Back,
+}
+
+/// The signals of the last written epochs.
+pub struct Codes {
+    kept: Vec<Option<Kept>>,
+    bands: usize,
+    /// The usual size of jumps at the zenith, m.
+    noise: Option<f64>,
+    /// Buffers for the jumps, their medians and the answers.
+    jumps: Vec<Option<f64>>,
+    sorted: Vec<f64>,
+    found: Vec<Option<Jump>>,
+}
+
+/// Returns how much noisier a pseudorange is than at the zenith.
+fn noisier(sight: &Sight) -> f64 {
+    0.5 + 0.5 / sight.to.elevation.sin().max(0.1)
+}
+
+impl Codes {
+    /// Starts with no signals, for a number of bands.
+    pub fn new(bands: usize) -> Self {
+        Self {
+            kept: vec![None; Satellite::PLACES * bands],
+            bands,
+            noise: None,
+            jumps: Vec::new(),
+            sorted: Vec::new(),
+            found: Vec::new(),
+        }
+    }
+
+    fn place(&self, sight: &Sight) -> usize {
+        sight.signal.satellite.place() * self.bands + sight.signal.band
+    }
+
+    /// Compares the signals of an epoch with those before. Each has its sight, its carrier and
+    /// its residual in m. The answers are in the same order.
+    pub fn check(
+        &mut self,
+        sights: &[Sight],
+        carriers: &[Option<Held>],
+        residuals: &[f64],
+    ) -> &[Option<Jump>] {
+        self.measure(sights, carriers);
+        let (noise, limit) = self.limit();
+        self.found.clear();
+        for (i, sight) in sights.iter().enumerate() {
+            let place = self.place(sight);
+            let metres = self.jumps[i].unwrap_or(0.0);
+            let sigmas = metres / noise.max(1e-6);
+            let jump = Size { sigmas, metres };
+            let found = match metres.abs() > limit {
+                true => self.fault(place, metres * noisier(sight), residuals[i]),
+                false => {
+                    let back = self.kept[place].is_some_and(|b| jump.back(b.jump));
+                    back.then_some(Jump::Back)
+                }
+            };
+            self.keep(place, sight, carriers[i], (residuals[i], jump), found);
+            self.found.push(found);
+        }
+        &self.found
+    }
+
+    /// Computes how far each pseudorange moved from its carrier, beyond what they all moved, as it
+    /// would be at the zenith.
+    fn measure(&mut self, sights: &[Sight], carriers: &[Option<Held>]) {
+        self.jumps.clear();
+        self.sorted.clear();
+        for (sight, carrier) in sights.iter().zip(carriers) {
+            let before = self.kept[self.place(sight)];
+            let locked = carrier.filter(|c| c.locked).zip(before);
+            let moved = locked.map(|(c, b)| sight.signal.pseudorange - c.metres - b.apart);
+            self.jumps.push(moved);
+            self.sorted.extend(moved);
+        }
+        if self.sorted.len() < LEAST {
+            self.jumps.fill(None);
+            return;
+        }
+        // A step of the receiver's clock may move all pseudoranges alike.
+        let middle = median(&mut self.sorted);
+        for (jump, sight) in self.jumps.iter_mut().zip(sights) {
+            *jump = jump.map(|j| (j - middle) / noisier(sight));
+        }
+    }
+
+    /// Returns the noise and the limit at the zenith, from the jumps so far.
+    fn limit(&mut self) -> (f64, f64) {
+        self.sorted.clear();
+        self.sorted
+            .extend(self.jumps.iter().flatten().map(|j| j.abs()));
+        if !self.sorted.is_empty() {
+            let now = 1.4826 * median(&mut self.sorted);
+            self.noise = Some(self.noise.map_or(now, |old| old + 0.1 * (now - old)));
+        }
+        let noise = self.noise.unwrap_or(LIMIT.1);
+        (noise, (SIGMAS * noise).clamp(LIMIT.0, LIMIT.1))
+    }
+
+    /// Tells a pseudorange that jumps from a carrier that does; nothing where a jump has lasted.
+    fn fault(&self, place: usize, jump: f64, residual: f64) -> Option<Jump> {
+        let before = self.kept[place]?;
+        let own = (residual - before.residual) * jump.signum() > PART * jump.abs();
+        match before.out {
+            0 | 1 if own && before.accepted >= 2 => Some(Jump::Pseudorange),
+            0 => Some(Jump::Either),
+            _ => None,
+        }
+    }
+
+    fn keep(
+        &mut self,
+        place: usize,
+        sight: &Sight,
+        carrier: Option<Held>,
+        (residual, jump): (f64, Size),
+        found: Option<Jump>,
+    ) {
+        let before = self.kept[place];
+        self.kept[place] = match (found, carrier, before) {
+            (Some(Jump::Pseudorange), _, Some(b)) => Some(Kept {
+                out: b.out + 1,
+                ..b
+            }),
+            (_, Some(carrier), _) => {
+                let jumped = found == Some(Jump::Either);
+                let lasting = before.filter(|b| !jumped && carrier.locked && b.out < 2);
+                Some(Kept {
+                    apart: sight.signal.pseudorange - carrier.metres,
+                    residual,
+                    jump,
+                    accepted: lasting.map_or(1, |b| b.accepted + 1),
+                    out: 0,
+                })
+            }
+            _ => None,
+        };
+    }
+}
+
+#[cfg(test)]
+mod tests {
+    use super::super::place::tests::sights;
+    use super::*;
+
+    /// Runs over epochs of eight satellites whose pseudoranges have a noise of 0.1 m. `change` edits
+    /// pseudoranges, carriers and residuals. Returns what is found, with its epoch and satellite.
+    fn found(change: impl Fn(usize, &mut Sight, &mut f64, &mut f64)) -> Vec<(usize, usize, Jump)> {
+        let mut codes = Codes::new(1);
+        let mut out = Vec::new();
+        for epoch in 0..20 {
+            let mut all = sights(8);
+            let (mut carriers, mut residuals) = (Vec::new(), Vec::new());
+            for (i, sight) in all.iter_mut().enumerate() {
+                // Some noise without a pattern.
+                let noise = 0.1 * ((7 * i + 13 * epoch * epoch) as f64).sin();
+                let (mut metres, mut residual) = (sight.signal.pseudorange, noise);
+                sight.signal.pseudorange += noise;
+                change(epoch, sight, &mut metres, &mut residual);
+                let locked = epoch > 0;
+                carriers.push(Some(Held { metres, locked }));
+                residuals.push(residual);
+            }
+            let jumps = codes.check(&all, &carriers, &residuals);
+            let told = jumps.iter().enumerate();
+            out.extend(told.filter_map(|(i, jump)| Some((epoch, i, (*jump)?))));
+        }
+        out
+    }
+
+    /// Adds to the pseudorange of the fourth satellite in an epoch, and to its residual.
+    fn spike(at: usize, metres: f64) -> impl Fn(usize, &mut Sight, &mut f64, &mut f64) {
+        move |epoch, sight, _, residual| {
+            if epoch == at && sight.signal.satellite.number == 4 {
+                sight.signal.pseudorange += metres;
+                *residual += 0.6 * metres;
+            }
+        }
+    }
+
+    #[test]
+    fn a_pseudorange_that_jumps_is_left_out() {
+        assert_eq!(found(|_, _, _, _| {}), []);
+        assert_eq!(found(spike(9, 5.0)), [(9, 3, Jump::Pseudorange)]);
+        assert_eq!(found(spike(19, -5.0)), [(19, 3, Jump::Pseudorange)]);
+        // A smaller one is seen when it is back.
+        assert_eq!(found(spike(9, 0.95)), [(10, 3, Jump::Back)]);
+        // In the first epoch there is nothing to compare with.
+        assert_eq!(found(spike(0, 5.0)), [(1, 3, Jump::Either)]);
+    }
+
+    #[test]
+    fn a_carrier_that_jumps_is_told_once() {
+        let slip = |epoch: usize, sight: &mut Sight, metres: &mut f64, _: &mut f64| {
+            let own = epoch >= 9 && sight.signal.satellite.number == 4;
+            *metres += if own { 5.0 } else { 0.0 };
+        };
+        assert_eq!(found(slip), [(9, 3, Jump::Either)]);
+        // The receiver's clock moves all pseudoranges.
+        let clock = |epoch: usize, sight: &mut Sight, _: &mut f64, _: &mut f64| {
+            sight.signal.pseudorange += if epoch >= 9 { 3e5 } else { 0.0 };
+        };
+        assert_eq!(found(clock), []);
+    }
+}
