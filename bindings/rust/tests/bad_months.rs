@@ -120,7 +120,7 @@ fn bad_options_of_a_trip() {
     );
     assert_eq!(
         of(&["--rounds", "51"]),
-        "the settings are refused by 3: a setting is out of range"
+        "the settings are refused by 3: a setting is not finite or above 1e9 in magnitude, or the rounds are not allowed"
     );
     assert_eq!(
         of(&["--csv", "--json"]),
@@ -177,7 +177,7 @@ fn bad_settings() {
         "settings:3: tow: week 2500, 8.000 s is not after week 2500, 9.000 s"
     );
     let range = of("2443,9,0.5,0.008,0.002,1.5,10,51\n");
-    assert_eq!(range, "settings:2: refused by 3: a setting is out of range");
+    assert_eq!(range, "settings:2: refused by 3: a setting is not finite or above 1e9 in magnitude, or the rounds are not allowed");
     assert_eq!(
         of("2443,9,wide,0.008,0.002,1.5,10,4\n"),
         "settings:2: screen: \"wide\" is not a number"

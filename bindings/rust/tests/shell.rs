@@ -101,7 +101,7 @@ fn fixes() {
         assert!(words.contains(&format!("{:.3} {:.3} {:.3} m", f[2], f[3], f[4])));
     }
     let high = answered(&["fix", "--mask", "50", &rover], 1);
-    let refused = "refused by 8: there are too few rows for the unknowns";
+    let refused = "refused by 8: there are fewer rows than 4 plus the clock slots";
     assert!(high.lines().next().unwrap().ends_with(refused));
     let csv = answered(&["fix", "--mask", "50", "--csv", &rover], 1);
     assert_eq!(csv.lines().nth(1), Some("1316,518400.0,,,,,,,8"));
