@@ -54,27 +54,27 @@ static inline const char *zaqnuti_refusal_text(uint8_t number)
 {
     switch (number) {
     case 0: return "answered";
-    case ZAQNUTI_BROKEN_FORM: return "the text is above 32,768 bytes, or a line of it breaks the form";
-    case ZAQNUTI_TOO_MANY: return "more records than are allowed, or a buffer shorter than its count needs";
-    case ZAQNUTI_SETTING_OUT_OF_RANGE: return "a setting is not finite or above 1e9, or the rounds are not allowed";
-    case ZAQNUTI_RECORD_OUT_OF_RANGE: return "a float of a record, a coordinate or a time is out of range, or a table is not sorted";
+    case ZAQNUTI_BROKEN_FORM: return "the text is longer than 32,768 bytes, or a line breaks the form";
+    case ZAQNUTI_TOO_MANY: return "there are too many records, or a buffer is too short";
+    case ZAQNUTI_SETTING_OUT_OF_RANGE: return "a setting is not finite or above 1e9 in magnitude, or the rounds are not allowed";
+    case ZAQNUTI_RECORD_OUT_OF_RANGE: return "a number in a record, a coordinate or a time is out of range, or a table is not sorted";
     case ZAQNUTI_BAD_INTERVAL: return "the interval is not above 0 and at most 604,800 s";
-    case ZAQNUTI_BAD_TRACK: return "a track without epochs or anchor, a sigma not above 0, or an index beyond the epochs";
-    case ZAQNUTI_TOO_FEW_PAIRS: return "fewer than six carrier pairs";
-    case ZAQNUTI_TOO_FEW_ROWS: return "fewer rows than 4 plus the clock slots";
-    case ZAQNUTI_TOO_MANY_SLOTS: return "more than six clock slots";
+    case ZAQNUTI_BAD_TRACK: return "the track has no epochs or no anchor, a sigma not above 0, or an index beyond its epochs";
+    case ZAQNUTI_TOO_FEW_PAIRS: return "there are fewer than six carrier pairs";
+    case ZAQNUTI_TOO_FEW_ROWS: return "there are fewer rows than 4 plus the clock slots";
+    case ZAQNUTI_TOO_MANY_SLOTS: return "there are more than six clock slots";
     case ZAQNUTI_FIT_FAILED: return "the fit fails";
     case ZAQNUTI_TABLE_FULL: return "the epoch's corrections do not all fit in the table";
     case ZAQNUTI_NO_CORRECTION: return "the table gives no correction for the signal and time";
     case ZAQNUTI_BAD_TIME: return "a week is above 15,000, a time of week is not in 0 to below 604,800 s, or a time is past the start of week 15,001";
-    case ZAQNUTI_QUALITY_NOT_FINITE: return "chi or pdop of the fix is not finite";
+    case ZAQNUTI_QUALITY_NOT_FINITE: return "chi or pdop is not finite";
     case ZAQNUTI_ON_RECEIVER: return "the range of a satellite is zero or not finite";
-    case ZAQNUTI_BAD_TRIP: return "a displacement not finite or longer than 1,000 m, a full trip, a pulse rate of 0, or a trip out of its limits";
-    case ZAQNUTI_NO_DISTANCE: return "fuel per kilometre at zero carrier distance";
+    case ZAQNUTI_BAD_TRIP: return "a displacement is not finite or longer than 1,000 m, the trip is full, its pulse rate is 0, or it is out of its limits";
+    case ZAQNUTI_NO_DISTANCE: return "no distance was measured";
     case ZAQNUTI_BAD_DROP_TIME: return "the time to drop samples before is not finite";
-    case ZAQNUTI_NOT_CERTIFIED: return "GPS or Galileo is absent among the pairs kept";
-    case ZAQNUTI_BROKEN_RECORDS: return "the bytes of carrier records are no multiple of 59";
-    case ZAQNUTI_NOT_TURNED: return "a coordinate is not finite or above 1e9, or there is no north, east and down at the place";
+    case ZAQNUTI_NOT_CERTIFIED: return "the kept pairs lack GPS or Galileo";
+    case ZAQNUTI_BROKEN_RECORDS: return "the length of the carrier records is not a multiple of 59";
+    case ZAQNUTI_NOT_TURNED: return "a coordinate or the result is not finite, or a coordinate is above 1e9 in magnitude";
     default: return "no such number";
     }
 }

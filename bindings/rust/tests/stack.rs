@@ -459,7 +459,7 @@ fn directions(position: [f64; 3], displacement: [f64; 3]) -> usize {
     })
 }
 
-/// The text of both epochs, of which the last byte is replaced, and a buffer of so many bytes for the line.
+/// The text of both epochs with its last byte replaced, and a buffer of so many bytes for the line.
 fn line(rounds: usize, last: &[u8], room: usize) -> usize {
     let (before, after) = epochs();
     let set = Settings {
@@ -489,7 +489,7 @@ fn line(rounds: usize, last: &[u8], room: usize) -> usize {
     })
 }
 
-/// An epoch of 64 ranges to a table of so much room, of which `full` samples are there.
+/// An epoch of 64 ranges to a table of so much room that holds `full` samples.
 fn add_epoch(k: usize, room: usize, full: usize) -> usize {
     let sky = observations(64);
     let (c, b) = (vec![1u8; 64], vec![1u32; 64]);
