@@ -1,8 +1,9 @@
 use core::fmt;
 
-/// Why a call refuses, each number under its one name.
+/// Why a call turns back, each number under its one name.
 ///
-/// The library returns 1 to 21. More may follow, so a `match` needs an arm for the rest.
+/// The library of today gives 1 to 21. The others have their names already, so that a caller who
+/// writes them down needs no change later; a `match` has an arm for what is not named here yet.
 #[derive(Clone, Copy, Debug, PartialEq, Eq, PartialOrd, Ord, Hash)]
 #[repr(u8)]
 #[non_exhaustive]
