@@ -1,4 +1,4 @@
-// Corrections from a base station: one base epoch added to the table by each call (`build` of differential.rs). The query is the crate table's.
+// Corrections from a base station: each call adds one base epoch to a directory of samples (`build` of differential.rs).
 pub mod add_epoch;
 pub mod raw;
 pub mod record;
