@@ -135,7 +135,7 @@ uint32_t zaqnuti_version(void);
 enum zaqnuti_refusal {
     ZAQNUTI_BROKEN_FORM = 1,           /* the text is too long or breaks the line form */
     ZAQNUTI_TOO_MANY = 2,              /* there are too many records, or a buffer is too short */
-    ZAQNUTI_SETTING_OUT_OF_RANGE = 3,  /* a setting is not finite or above 1e9, or the rounds are not allowed */
+    ZAQNUTI_SETTING_OUT_OF_RANGE = 3,  /* a setting is not finite or above 1e9 in magnitude, or the rounds are not allowed */
     ZAQNUTI_RECORD_OUT_OF_RANGE = 4,   /* a float of a record, a coordinate or a time is not finite or above 1e9; a table is at fault */
     ZAQNUTI_BAD_INTERVAL = 5,          /* dt is not above 0 and at most 604,800 s */
     ZAQNUTI_BAD_TRACK = 6,             /* no epochs, no anchor, a sigma not above 0, an index beyond the epochs */
