@@ -1,4 +1,4 @@
--- The records that are handed over with a base epoch, those that count, and number 4 for each (docs/SCOPE.md, "Why a call turns back"). Definitions only.
+-- The records that are handed over with a base epoch, those that count, and number 4 for each (docs/REFUSALS.md). Definitions only.
 use Prim.Native.Nat.{ℕ}
 use mathlib.Core.Bool.{Bool, cond, _&&_}
 use mathlib.Core.List.{List}

@@ -1,4 +1,4 @@
--- Why a call turns back (docs/SCOPE.md): in checking order, the first rule that applies is given, and only then. Definitions only.
+-- Refusals (docs/REFUSALS.md): rules are checked in order, and the first that applies refuses. Definitions only.
 use Prim.Native.Nat.{ℕ, _+_}
 use mathlib.Core.Bool.{Bool, cond}
 use mathlib.Core.List.{List, [], _∷_}

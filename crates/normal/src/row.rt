@@ -11,7 +11,7 @@ pub struct Row {
     pub sigma: f64,
 }
 
-// An array of rows, of which the first `count` are used.
+// Holds rows; the first `count` are used.
 pub struct Rows {
     pub count: usize,
     pub row: [Row; 64],

@@ -1,4 +1,4 @@
--- Which records a call takes, and which carriers a displacement can use (docs/SCOPE.md, "Why a call turns back", 4, and "Displacement"). Definitions only.
+-- Which records a call takes (docs/REFUSALS.md, 4) and which carriers a displacement can use (docs/SCOPE.md, "Displacement"). Definitions only.
 use Prim.Native.Nat.{ℕ, suc, _-_, _/_, _%_, _^_}
 use mathlib.Core.Bool.{Bool, not, cond, _&&_, _||_}
 use mathlib.Core.List.{List, [], _∷_}

@@ -57,7 +57,7 @@ pub record Put (c : Carrier) (i : ℕ) (ss : List ℕ) (ts : List ℤ) (fs : Lis
   pub signals-below : (k : ℕ) → k < i → getD ss' k 0 ≡ getD ss k 0
   pub below : (k : ℕ) → k < i → carrierIn ss' ts' fs' k ≡ carrierIn ss ts fs k
 
--- 64 signals and states and their floats, of which the first n are those of xs
+-- 64 signals and states and their floats; the first n are those of xs
 pub record Laid (xs : List Carrier) (n : ℕ) (ss : List ℕ) (ts : List ℤ) (fs : List Float) : Type 0 where
   pub signals-long : length ss ≡ 64
   pub states-long : length ts ≡ 64

@@ -29,7 +29,7 @@ pub struct Pair {
 }
 
 // The first `count` of the pairs count, and `seen` is whether rule 15 lets each of them pass: where a caller asks that of the array, the compiler copies it.
-// It stands behind the array, as one before it is a copy more too.
+// It comes after the array; before the array it would cost a copy.
 pub struct Pairs {
     pub count: usize,
     pub pair: [Pair; 64],
@@ -80,7 +80,7 @@ pub fn is_looked_at(c: Carrier, profile: Profile) -> bool
     }
 }
 
-// Whether the current carrier c is looked at: usable, at or above the mask, and of the profile.
+// Checks whether the current carrier c is considered: usable, at or above the mask, and of the profile.
 pub fn is_wanted(c: Carrier, mask: f64, profile: Profile) -> bool
     ensures { λ r. ⌜ r ≡ ((usable c && le mask (c .elevation)) && lookedAt profile c) ⌝ }
 {

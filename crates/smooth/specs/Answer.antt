@@ -1,4 +1,4 @@
--- What the call answers and leaves in the lent memory: docs/SCOPE.md, "Why a call turns back", as far as it is about a track. Definitions only.
+-- The answer of a track (docs/REFUSALS.md) and what lent memory holds after it. Definitions only.
 use mathlib.Core.Path.{_≡_}
 use mathlib.Core.Bool.{Bool, true, _&&_, cond}
 use mathlib.Core.List.{List, _++_, map}
@@ -62,7 +62,7 @@ trackOk p = placesOk (p .n) (p .anchors .count) (p .anchors .index) (p .anchors 
 
 -- ---- the answer
 
--- why the call turns back, or the track
+-- the refusal, or the track
 pub data Tracked : Type 0 where
   Refused : Refusal → Tracked
   Points : List Float → Tracked
@@ -79,7 +79,7 @@ trackOf p s r w =
     (unless (recordsOk p) RecordOutOfRange
     (unless (trackOk p) BadTrack (unless (passes p ones) FitFailed (Points (points (smoothed p (s .huber) (s .iterations)) (p .n)))))))
 
--- the answer's enum, without the points, which stand in the result
+-- the enum of the answer, without the points, which the result holds
 abbrev pub trackAnswer : Tracked → Track
 trackAnswer (Refused x) = Track.Refused x
 trackAnswer (Points ps) = Track.Smoothed
@@ -93,7 +93,7 @@ trackNumber Track.Smoothed = 0
 
 -- Both are lists of patterns, so that what is said of them is said of every bit.
 
--- the result holds the patterns of the track, or what it held; beyond the track it is as it was
+-- the result holds the patterns of the track, or is unchanged; beyond the track it is unchanged
 abbrev pub trackResultAfter : Tracked → List ℕ → List ℕ
 trackResultAfter (Refused x) r = r
 trackResultAfter (Points ps) r = map patternOf ps ++ drop (length ps) r
@@ -102,7 +102,7 @@ trackResultAfter (Points ps) r = map patternOf ps ++ drop (length ps) r
 abbrev pub cleared : ℕ → List ℕ → List ℕ
 cleared need w = replicate need 0 ++ drop need w
 
--- under 2 to 6 the work is as it was, and otherwise its needed part is all zero
+-- after 2 to 6 the work is unchanged, and otherwise the part that is needed is zero
 abbrev pub workAfter : ℕ → Tracked → List ℕ → List ℕ
 workAfter need (Refused x) w = cond (leb (numberOf x) 6) w (cleared need w)
 workAfter need (Points ps) w = cleared need w

@@ -28,12 +28,12 @@ pub record Numbers (r : List ℕ) : Type 0 where
 pub record Limit (h c : Float) : Type 0 where
   pub within : (q : Float) → T (fits binary64 q) → lt +0 q ≡ true → le q c ≡ true → le (rootOf q) h ≡ true
 
--- the scales f of the first m measurements stand at `from`
+-- the scales f of the first m measurements, from the place `from` on
 pub record Weighed (f : ℕ → Float) (from m : ℕ) (w w' : List ℕ) : Type 0 where
   pub kept : SameOutside from (from + m) w w'
   pub scales : (j : ℕ) → j < m → floatAt w' (from + j) ≡ f j
 
--- the scales of all measurements by the fit in r stand after the rows
+-- the scales of all measurements by the fit in r, after the rows
 pub record Reweighed (p : Trajectory) (h : Float) (r w w' : List ℕ) : Type 0 where
   pub kept : SameOutside 0 (workNeed p) w w'
   pub anchors : (j : ℕ) → j < p .anchors .count → floatAt w' (p .n * 9 + j) ≡ anchorScale (p .anchors) h (fitIn r) j
@@ -63,7 +63,7 @@ pub record Published (w : List ℕ) (m : ℕ) (x y z : Float) (r r' : List ℕ) 
   pub ys : (k : ℕ) → k < m → getD r' (k * 3 + 1) 0 ≡ patternOf (rowCell w 7 k ⊕ y)
   pub zs : (k : ℕ) → k < m → getD r' (k * 3 + 2) 0 ≡ patternOf (rowCell w 8 k ⊕ z)
 
--- The track, or a first pass that failed and r as it was.
+-- The track, or a first pass that failed and left r unchanged.
 pub record FitDone (p : Trajectory) (h : Float) (iterations : ℕ) (w w' r : List ℕ) (ok : Bool) (r' : List ℕ) : Type 0 where
   pub work-kept : SameOutside 0 (workNeed p) w w'
   pub kept : SameOutside 0 (p .n * 3) r r'

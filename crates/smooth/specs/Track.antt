@@ -48,7 +48,7 @@ unfoldable pub refined : Trajectory → Float → ℕ → (ℕ → ℕ → Float
 refined p h zero f = f
 refined p h (suc r) f = cond (passes p (scalesOf p h f)) (refined p h r (fitOf p (scalesOf p h f))) f
 
--- The fit of so many iterations, of which the first pass is one. No iterations run that pass too.
+-- The fit after the given iterations. The first pass is one of them, and also runs with none.
 unfoldable pub smoothed : Trajectory → Float → ℕ → ℕ → ℕ → Float
 smoothed p h iterations = refined p h (iterations - 1) (fitOf p ones)
 
@@ -64,7 +64,7 @@ unfoldable pub passesFrom : Trajectory → Float → ℕ → Scales → List Sca
 passesFrom p h zero s = s ∷ []
 passesFrom p h (suc r) s = let s' = scalesOf p h (fitOf p s) in s ∷ cond (passes p s') (passesFrom p h r s') []
 
--- the scales of pass i, where all before it are good: the first counts each measurement once, and each later one goes by the fit before
+-- the scales of pass i, where all before it are good: the first counts each measurement once, and each later one weighs by the fit before it
 unfoldable pub passAt : Trajectory → Float → ℕ → Scales
 passAt p h zero = ones
 passAt p h (suc i) = scalesOf p h (fitOf p (passAt p h i))

@@ -1,4 +1,4 @@
-// Why a call turns back.
+// Checks the rules of a track in order.
 ghost use mathlib.Core.Path.{_≡_};
 ghost use Prim.Native.Nat.{_*_, _≤_};
 ghost use lib.Dec.{ltb};

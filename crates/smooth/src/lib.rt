@@ -21,7 +21,7 @@ pub struct Settings {
     pub iterations: usize,
 }
 
-// Why a call turns back, or that the result holds the track.
+// The refusal, or that the result holds the track.
 pub enum Track {
     Refused(Refusal),
     Smoothed,

@@ -1,4 +1,4 @@
--- The rules of a displacement, in the numbers and order of docs/SCOPE.md, "Why a call turns back". Definitions only.
+-- The rules of a displacement, in the numbers and order of docs/REFUSALS.md. Definitions only.
 use Prim.Native.Nat.{ℕ}
 use mathlib.Core.Bool.{Bool, true, not, _&&_, _||_}
 use mathlib.Core.List.{List, [], _∷_}

@@ -1,5 +1,5 @@
 -- What each step of a pass leaves in the lent work. Definitions only.
--- The rows of nine stand first, then the scales of the anchors, then those of the links.
+-- The rows of nine come first, then the scales of the anchors, then those of the links.
 use mathlib.Core.Path.{_≡_}
 use mathlib.Core.Bool.{Bool, true, false, not, _&&_, cond}
 use mathlib.Core.Logic.{_⊎_}
@@ -52,14 +52,14 @@ pub record Lent (m : Measured) (bound : ℕ) : Type 0 where
   pub sigmas : m .count * 3 ≤ length (m .sigma)
   pub below : (j : ℕ) → j < m .count → indexAt m j < bound
 
--- there are epochs and anchors, and what is measured stands in its columns
+-- there are epochs and anchors, and the columns hold the measurements
 pub record Valid (p : Trajectory) : Type 0 where
   pub epochs : 0 < p .n
   pub some : 0 < p .anchors .count
   pub anchors : Lent (p .anchors) (p .n)
   pub links : Lent (p .links) (p .n - 1)
 
--- ---- one measurement, of weight a and pull b, on the row of one axis whose diagonal stands at a place
+-- ---- one measurement, of weight a and pull b, on the row of one axis, by the place of its diagonal
 
 -- x is the float that is to be stored at k: not a NaN
 abbrev pub number : Float → Bool
@@ -92,11 +92,11 @@ pub record AddDone (c : Change) (w : List ℕ) (n count : ℕ) (ok : Bool) (w' :
   pub done : ok ≡ true → Added c w n count w'
   pub ends : ok ≡ false → (Spoilt (changedBy c (axisIn w 0) 0 count) n) ⊎ ((Spoilt (changedBy c (axisIn w 1) 1 count) n) ⊎ (Spoilt (changedBy c (axisIn w 2) 2 count) n))
 
--- the scales that stand after the rows
+-- the scales after the rows
 abbrev pub scalesIn : Trajectory → List ℕ → Scales
 scalesIn p w = record { anchors = λ j. floatAt w (p .n * 9 + j); links = λ j. floatAt w (p .n * 9 + p .anchors .count + j) }
 
--- A pass: true where it does not fail, and then the solutions stand in place of the right sides.
+-- A pass: true where it does not fail, and then the solutions replace the right sides.
 pub record PassDone (p : Trajectory) (w : List ℕ) (ok : Bool) (w' : List ℕ) : Type 0 where
   pub kept : SameOutside 0 (p .n * 9) w w'
   pub answer : ok ≡ passes p (scalesIn p w)

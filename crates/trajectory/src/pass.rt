@@ -8,7 +8,7 @@ use crate::system::add_links;
 use tridiagonal::fill::fill;
 use tridiagonal::solve::solve;
 
-// Makes one pass by the scales that stand after the rows: the solutions take the places of the right sides. False where the pass fails.
+// Makes one pass by the scales after the rows: the solutions replace the right sides. False where the pass fails.
 pub fn pass(
     w: &mut [u64],
     n: usize,

@@ -10,7 +10,7 @@ ghost use Rattle.trajectory.specs.Input.{measured};
 ghost use Rattle.trajectory.specs.Steps.{Lent, AnchorAdded, LinkAdded, AddDone, anchorChange, linkChange};
 use numeric::order::float;
 
-// Adds an anchor to the row of one axis whose diagonal stands at `at`: its scale c, sigma s and place v from the origin. False where a NaN would be stored.
+// Adds an anchor to the row of one axis with its diagonal at `at`: its scale c, sigma s and place v from the origin. False where a NaN would be stored.
 fn add_anchor(w: &mut [u64], at: usize, c: f64, s: f64, v: f64) -> bool
     requires { ⌜ (at + 6 < length (now w)) × NumbersAt (now w) at (at + 6) (at + 6) ⌝ }
     ensures { λ r. ⌜ AnchorAdded (now (w .entry)) at (c ⊘ (s ⊗ s)) (c ⊘ (s ⊗ s) ⊗ v) r (now (w .exit)) ⌝ }
@@ -26,7 +26,7 @@ fn add_anchor(w: &mut [u64], at: usize, c: f64, s: f64, v: f64) -> bool
     true
 }
 
-// Adds a link to the row of one axis whose diagonal stands at `at` and to the next: its scale c, sigma s and change in position v. False where a NaN would be stored.
+// Adds a link to the row of one axis with its diagonal at `at` and to the next: its scale c, sigma s and change in position v. False where a NaN would be stored.
 fn add_link(w: &mut [u64], at: usize, c: f64, s: f64, v: f64) -> bool
     requires { ⌜ (at + 15 < length (now w)) × NumbersAt (now w) at (at + 3) (at + 6) × NumbersAt (now w) (at + 9) (at + 9) (at + 15) ⌝ }
     ensures { λ r. ⌜ LinkAdded (now (w .entry)) at (c ⊘ (s ⊗ s)) (c ⊘ (s ⊗ s) ⊗ v) r (now (w .exit)) ⌝ }
@@ -49,7 +49,7 @@ fn add_link(w: &mut [u64], at: usize, c: f64, s: f64, v: f64) -> bool
     true
 }
 
-// Adds the anchors, whose scales stand after the n rows. False where a NaN would be stored.
+// Adds the anchors, whose scales come after the n rows. False where a NaN would be stored.
 pub(crate) fn add_anchors(
     w: &mut [u64],
     n: usize,

@@ -8,7 +8,7 @@ use lib.Ieee.{Float}
 use Rattle.exact.specs.Float.{bits}
 use Rattle.tridiagonal.specs.Tridiagonal.{Equations, solution, axisSolved}
 
--- the float whose pattern stands at a place
+-- the float whose pattern is at a place
 abbrev pub floatAt : List ℕ → ℕ → Float
 floatAt w k = bits (getD w k 0)
 
@@ -41,7 +41,7 @@ pub record SameOutside (lo hi : ℕ) (w w' : List ℕ) : Type 0 where
 abbrev pub allSolved : List ℕ → ℕ → Bool
 allSolved w n = onAxes (λ t. axisSolved (axisIn w t) n)
 
--- The elimination and the back substitution: true where each axis is solved, and then the solutions stand in place of the right sides.
+-- The elimination and the back substitution: true where each axis is solved, and then the solutions replace the right sides.
 pub record Solved (w : List ℕ) (n : ℕ) (ok : Bool) (w' : List ℕ) : Type 0 where
   pub kept : SameOutside 0 (n * 9) w w'
   pub answer : ok ≡ allSolved w n

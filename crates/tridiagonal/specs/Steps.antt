@@ -30,7 +30,7 @@ pub record Alike (e e' : Equations) (n : ℕ) : Type 0 where
   pub upper : (k : ℕ) → k < n → e' .upper k ≡ e .upper k
   pub right : (k : ℕ) → k < n → e' .right k ≡ e .right k
 
--- ---- one row of one axis, whose diagonal stands at a place
+-- ---- one row of one axis, by the place of its diagonal
 
 -- the floats at three places are no NaNs
 pub record NumbersAt (w : List ℕ) (a b c : ℕ) : Type 0 where
@@ -68,7 +68,7 @@ pub record Eliminated (w : List ℕ) (n : ℕ) (ok : Bool) (w' : List ℕ) : Typ
   pub left : ok ≡ true → Axes (λ t. Left (axisIn w t) n (axisIn w' t))
   pub ends : ok ≡ false → allSolved w n ≡ false
 
--- The back substitution: true where each unknown is finite, and then they stand in place of the right sides.
+-- The back substitution: true where each unknown is finite, and then they replace the right sides.
 pub record Substituted (w : List ℕ) (n : ℕ) (ok : Bool) (w' : List ℕ) : Type 0 where
   pub kept : SameOutside 0 (n * 9) w w'
   pub answer : ok ≡ onAxes (λ t. eachBelow (λ k. finite (back (axisIn w t) (n - 1) (n - 1 - k))) n)

@@ -48,7 +48,7 @@ fn first_row(w: &[u64], at: usize) -> Row
     }
 }
 
-// Eliminates an unknown from the row below. Its own row, whose diagonal stands at `at`, is `above`.
+// Eliminates an unknown from the row below. Its own row, with its diagonal at `at`, is `above`.
 fn eliminate_row(w: &mut [u64], at: usize, above: Row) -> Row
     requires { ⌜ (at + 15 < length (now w)) × NumbersAt (now w) (at + 3) (at + 9) (at + 15) ⌝ }
     ensures { λ r. ⌜ RowEliminated (now (w .entry)) at above r (now (w .exit)) ⌝ }
@@ -107,7 +107,7 @@ fn unknown(last: bool, d: f64, u: f64, r: f64, x: f64) -> f64
     (r - u * x) / d
 }
 
-// Solves the row whose diagonal stands at `at`, by the unknown x of the next row, and puts its unknown, if finite, in place of the right side.
+// Solves the row with its diagonal at `at`, by the unknown x of the next row, and replaces the right side by its unknown, if finite.
 fn solve_row(w: &mut [u64], at: usize, last: bool, x: f64) -> f64
     requires { ⌜ (at + 6 < length (now w)) × NumbersAt (now w) at (at + 3) (at + 6) ⌝ }
     ensures { λ v. ⌜ RowSolved (now (w .entry)) at last x v (now (w .exit)) ⌝ }

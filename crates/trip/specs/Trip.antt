@@ -120,7 +120,7 @@ fuelled t millilitres =
 
 -- ---- what the calls promise: the definition by the trip handed in and, wherever that is the trip of a list of epochs, the definition by the list
 
--- an accepted epoch stands at the end of the list
+-- an accepted epoch comes at the end of the list
 pub record Adds (t : Trip) (l : Leg) (r : Step) : Type 0 where
   pub is : r ≡ added t (l .displacement) (l .pulses)
   pub of-list : (legs : List Leg) → t ≡ tripOf (t .rate) legs

@@ -59,7 +59,7 @@ fuelledHeld (Step.Goes t) millilitres = fuelled t millilitres
 abbrev pub fuelledWords : List ℕ → ℕ → Fuel
 fuelledWords w millilitres = fuelledHeld (heldOf w) millilitres
 
--- ---- the number, and what the lent words hold afterwards: a refusal leaves them as they were
+-- ---- the number, and what the lent words hold afterwards: a refusal leaves them unchanged
 
 abbrev pub stepNumber : Step → ℕ
 stepNumber (Step.Refused r) = numberOf r

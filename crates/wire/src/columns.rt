@@ -82,7 +82,7 @@ fn fill(
 }
 
 // Returns 0 and writes the records of `s` to the columns and their number to `count`. On refusal, returns its number and changes nothing: 21 where the length of `s`
-// is no multiple of 59, then 2 where there are more than 64 records or a column is too short.
+// is not a multiple of 59, then 2 where there are more than 64 records or a column is too short.
 pub fn read_records(
     s: &[u8],
     constellation: &mut [u8],

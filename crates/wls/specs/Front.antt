@@ -1,4 +1,4 @@
--- What comes before the rounds: the rows, and the rules on them in the order of docs/SCOPE.md, "Why a call turns back". Definitions only.
+-- What comes before the rounds: the rows, and the rules on them in the order of docs/REFUSALS.md. Definitions only.
 use mathlib.Core.List.{List, _++_}
 use lib.ListN.{length}
 use Rattle.numeric.specs.declared.vec3.Vec3.{Vec3}

@@ -1,4 +1,4 @@
--- The rules of a fix, in the numbers and order of docs/SCOPE.md, "Why a call turns back". Definitions only.
+-- The rules of a fix, in the numbers and order of docs/REFUSALS.md. Definitions only.
 use mathlib.Core.Bool.{Bool, not, _&&_}
 use mathlib.Core.List.{List, [], _∷_}
 use lib.Dec.{eqb, ltb}
