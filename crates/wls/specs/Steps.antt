@@ -67,7 +67,7 @@ abbrev pub endingCounts : Ending → List ℕ
 endingCounts (NotEnded r) = []
 endingCounts (EndedBy n) = n ∷ []
 
--- the figures at the end of a fit whose last round has these rows
+-- the counts at the end of a fit whose last round has these rows
 abbrev pub endCounts : List Row → End → List ℕ
 endCounts rows (Stopped r) = []
 endCounts rows (Reached x) = length rows ∷ []
