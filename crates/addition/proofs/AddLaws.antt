@@ -12,7 +12,7 @@ use Rattle.walk.specs.Walk.{every}
 use Rattle.numeric.specs.declared.refusal.Refusal.{Refusal}
 use Rattle.numeric.specs.declared.refusal.Refusal.the-variants.{TooMany, RecordOutOfRange, TableFull}
 use Rattle.table.specs.Table.{ranged}
-use Rattle.table.specs.Add.{counted, insertAll}
+use Rattle.table.specs.Add.{countedSamples, insertAll}
 use Rattle.table.specs.declared.add.Samples.{Samples}
 use Rattle.table.specs.declared.add.Test.{Test}
 use Rattle.table.specs.declared.add.Test.the-variants as Test
@@ -55,7 +55,7 @@ module _ (m n room r : ℕ) (e : r ≡ room) (d : Directory) (new : Samples) whe
     unfolding testIn
     test-sound u = rw (← e, h, sym ex ∙ not-true x u)
 
-    module _ (u : not x ≡ false) {y : Bool} (ey : y ≡ every ranged (counted new)) where
+    module _ (u : not x ≡ false) {y : Bool} (ey : y ≡ every ranged (countedSamples new)) where
       pub test-ranged : not y ≡ true → Test.Refused RecordOutOfRange ≡ testIn m n room d new
       unfolding testIn
       test-ranged v = rw (← e, h, sym ex ∙ not-false x u, sym ey ∙ not-true y v)
@@ -76,14 +76,14 @@ refused-not r e = absurd (let z : _≡_ {A = ℕ} 0 1 = cc in omega arith)
 pub record PassedAddition (m n room : ℕ) (d : Directory) (new : Samples) : Type 0 where
   pub few : Few m n room (new .count)
   pub steady : soundDirectory d ≡ true
-  pub every-ranged : every ranged (counted new) ≡ true
+  pub every-ranged : every ranged (countedSamples new) ≡ true
   pub fit : n + new .count ≤ room
 
 pub passed : (m n room : ℕ) (d : Directory) (new : Samples) → testIn m n room d new ≡ Test.Passed → PassedAddition m n room d new
 unfolding testIn
-passed m n room d new e = go ((ltb room m || ltb room n) || ltb 64 (new .count)) (soundDirectory d && every ranged (counted new)) (ltb room (n + new .count)) refl refl refl e
+passed m n room d new e = go ((ltb room m || ltb room n) || ltb 64 (new .count)) (soundDirectory d && every ranged (countedSamples new)) (ltb room (n + new .count)) refl refl refl e
   where
-    go : (x y z : Bool) → ((ltb room m || ltb room n) || ltb 64 (new .count)) ≡ x → (soundDirectory d && every ranged (counted new)) ≡ y → ltb room (n + new .count) ≡ z
+    go : (x y z : Bool) → ((ltb room m || ltb room n) || ltb 64 (new .count)) ≡ x → (soundDirectory d && every ranged (countedSamples new)) ≡ y → ltb room (n + new .count) ≡ z
         → cond x (Test.Refused TooMany) (cond (not y) (Test.Refused RecordOutOfRange) (cond z (Test.Refused TableFull) Test.Passed)) ≡ Test.Passed → PassedAddition m n room d new
     go true y z a b c e = refused-not TooMany e
     go false false z a b c e = refused-not RecordOutOfRange e
@@ -115,7 +115,7 @@ module _ (m n room : ℕ) (d : Directory) (new : Samples) (l : Blocks) (ts xs : 
   add-refused r e = rw (← e) (refl, (record { number-is = refl; entries-are = refl; samples-are = refl; columns = refl }, (refl, refl)))
 
   pub add-passed : (k : ℕ) (l′ : Blocks) {ts′ xs′ : List ℕ} → Test.Passed ≡ testIn m n room d new
-      → (let d′ = directoryWith d (counted new) in
+      → (let d′ = directoryWith d (countedSamples new) in
       k ≡ length (d′ .entries) → n + new .count ≡ length (d′ .readings) → l′ ≡ blocksWith d′ l → PatternsWith d′ ts xs ts′ xs′
       → (let a = Addition.Added record { entries = k; samples = n + new .count } in
       let o = addIn m n room d new in
@@ -123,11 +123,11 @@ module _ (m n room : ℕ) (d : Directory) (new : Samples) (l : Blocks) (ts xs : 
   unfolding addIn
   add-passed k l′ e qk qn ql qp = rw (← e) (rw (qk, qn), (record { number-is = refl; entries-are = qk; samples-are = qn; columns = ql }, qp))
 
-pub samples-left : (m n : ℕ) (l : Blocks) (new : Samples) → Fitting m n (new .count) l → new .count ≤ 64 → length (new .samples) ≡ 64 → n + new .count ≡ length ((directoryWith (directoryIn m n l) (counted new)) .readings)
+pub samples-left : (m n : ℕ) (l : Blocks) (new : Samples) → Fitting m n (new .count) l → new .count ≤ 64 → length (new .samples) ≡ 64 → n + new .count ≡ length ((directoryWith (directoryIn m n l) (countedSamples new)) .readings)
 unfolding directoryOf
 samples-left m n l new f h e =
     let d = directoryIn m n l in
     sym
-    (length-map (insertAll (flat d) (counted new)) readingOf
-    ∙ insertAll-length (flat d) (counted new)
+    (length-map (insertAll (flat d) (countedSamples new)) readingOf
+    ∙ insertAll-length (flat d) (countedSamples new)
     ∙ rw (flat-length d (f .steady), length-take-le n (readingsIn l) (omega (arith, f .room-readings)), length-take-le (new .count) (new .samples) (omega arith)))

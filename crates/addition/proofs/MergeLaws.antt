@@ -13,7 +13,7 @@ use Rattle.exact.specs.Float.{bits}
 use Rattle.numeric.specs.Order.{patternOf}
 use borrow.Author.Tests.{eqb-true, eqb-false}
 use Rattle.walk.specs.Walk.{collect, every}
-use Rattle.table.specs.Table.{blank, lent, rows, ranged, signalOf, sorted, soundTable, standsBefore, tableOf, timeBefore}
+use Rattle.table.specs.Table.{blank, lentSamples, rows, ranged, signalOf, sorted, soundTable, standsBefore, tableOf, timeBefore}
 use Rattle.table.specs.Add.{insertAll}
 use Rattle.table.specs.declared.sample.Sample.{Sample}
 use Rattle.table.proofs.TableLaws.{and-right}
@@ -205,9 +205,9 @@ module _ {es : List Entry} {rs : List Reading} {t u : List Sample} {ts₀ xs₀ 
 -- ---- from the columns
 module _ (dc dv db df dn : List ℕ) (m : ℕ) (ts xs : List ℕ) (n : ℕ) (cs vs bs : List ℕ) (us ys : List Float) (k : ℕ) where
   pub given-by : n + k ≤ length (readingRows (floats ts) (floats xs)) → soundDirectory (directoryIn m n (lentBlocks dc dv db df dn (floats ts) (floats xs))) ≡ true
-      → k ≤ length (rows (lent cs vs bs us ys)) → sorted (tableOf k (lent cs vs bs us ys)) ≡ true
+      → k ≤ length (rows (lentSamples cs vs bs us ys)) → sorted (tableOf k (lentSamples cs vs bs us ys)) ≡ true
       → ((x : ℕ) → getD ts x 0 < 2 ^ 64) → ((x : ℕ) → getD xs x 0 < 2 ^ 64) → ((x : ℕ) → T (fits binary64 (getD us x nan))) → ((x : ℕ) → T (fits binary64 (getD ys x nan)))
-      → Given (take m (entryRows dc dv db df dn)) (take n (readingRows (floats ts) (floats xs))) (flat (directoryIn m n (lentBlocks dc dv db df dn (floats ts) (floats xs)))) (tableOf k (lent cs vs bs us ys)) ts xs n k
+      → Given (take m (entryRows dc dv db df dn)) (take n (readingRows (floats ts) (floats xs))) (flat (directoryIn m n (lentBlocks dc dv db df dn (floats ts) (floats xs)))) (tableOf k (lentSamples cs vs bs us ys)) ts xs n k
   given-by h s f o bt bx fu fy =
       let d = directoryIn m n (lentBlocks dc dv db df dn (floats ts) (floats xs)) in
       let p = sound-parts d s in
@@ -222,14 +222,14 @@ module _ (dc dv db df dn : List ℕ) (m : ℕ) (ts xs : List ℕ) (n : ℕ) (cs 
       let et : map (λ (s : Sample). s .time) (flat d) ≡ take n (floats ts) = field-times (flat d) ∙ ap (map (λ (r : Reading). r .time)) r ∙ times-in n (floats ts) (floats xs) nr in
       let ec : map (λ (s : Sample). s .correction) (flat d) ≡ take n (floats xs) = field-corrections (flat d) ∙ ap (map (λ (r : Reading). r .correction)) r ∙ corrections-in n (floats ts) (floats xs) nr in
       let c = flat-length d s ∙ z in
-      let ku = length-take-le k (rows (lent cs vs bs us ys)) f in
+      let ku = length-take-le k (rows (lentSamples cs vs bs us ys)) f in
       record {
         tiled = p .tiled;
         blocks = unfold flat in refl;
         sizes = z;
         old-rise = sym (sorted-rises (flat d)) ∙ sorted-of (flat d) (sound-flat d s);
         old-count = c;
-        new-rise = sym (sorted-rises (tableOf k (lent cs vs bs us ys))) ∙ o;
+        new-rise = sym (sorted-rises (tableOf k (lentSamples cs vs bs us ys))) ∙ o;
         new-count = ku;
         times-are = map-of patternOf (λ (s : Sample). s .time) (flat d) ∙ ap (map patternOf) et ∙ patterns-back ts n nt bt (numbers-in ts xs n nr (p .in-reach));
         corrections-are = map-of patternOf (λ (s : Sample). s .correction) (flat d) ∙ ap (map patternOf) ec ∙ patterns-back xs n nx bx (numbers-of ts xs n nr (p .in-reach));
@@ -244,11 +244,11 @@ module _ (dc dv db df dn : List ℕ) (m : ℕ) (ts xs : List ℕ) (n : ℕ) (cs 
       sorted-of : (l : List Sample) → soundTable l ≡ true → sorted l ≡ true
       sorted-of l e = and-right (every ranged l) (sorted l) (unfold soundTable in e)
 
-      new-at : (x : ℕ) → x < k → _≡_ {A = Sample} (record { constellation = getD cs x 0; svid = getD vs x 0; band = getD bs x 0; time = getD us x nan; correction = getD ys x nan }) (getD (tableOf k (lent cs vs bs us ys)) x blank)
-      new-at x q = rows-at (lent cs vs bs us ys) x (omega arith) ∙ sym (getD-take k (rows (lent cs vs bs us ys)) x blank q)
+      new-at : (x : ℕ) → x < k → _≡_ {A = Sample} (record { constellation = getD cs x 0; svid = getD vs x 0; band = getD bs x 0; time = getD us x nan; correction = getD ys x nan }) (getD (tableOf k (lentSamples cs vs bs us ys)) x blank)
+      new-at x q = rows-at (lentSamples cs vs bs us ys) x (omega arith) ∙ sym (getD-take k (rows (lentSamples cs vs bs us ys)) x blank q)
 
-      new-fit : (g : Sample → Float) → ((x : ℕ) → x < k → T (fits binary64 (g (getD (tableOf k (lent cs vs bs us ys)) x blank)))) → every (λ (s : Sample). fits binary64 (g s)) (tableOf k (lent cs vs bs us ys)) ≡ true
-      new-fit g e = every-all _ _ (λ x q. T-true _ (e x (omega (arith, length-take-le k (rows (lent cs vs bs us ys)) f))))
+      new-fit : (g : Sample → Float) → ((x : ℕ) → x < k → T (fits binary64 (g (getD (tableOf k (lentSamples cs vs bs us ys)) x blank)))) → every (λ (s : Sample). fits binary64 (g s)) (tableOf k (lentSamples cs vs bs us ys)) ≡ true
+      new-fit g e = every-all _ _ (λ x q. T-true _ (e x (omega (arith, length-take-le k (rows (lentSamples cs vs bs us ys)) f))))
 
       field-times : (l : List Sample) → map (λ (s : Sample). s .time) l ≡ map (λ (r : Reading). r .time) (map readingOf l)
       field-times [] = refl
@@ -270,11 +270,11 @@ pub record Sizes (dc dv db df cs vs bs : List ℕ) (us ys : List Float) (m k : �
   pub in-us : k ≤ length us
   pub in-ys : k ≤ length ys
 
-module _ (dc dv db df dn : List ℕ) (m : ℕ) (cs vs bs : List ℕ) (us ys : List Float) (k : ℕ) (hm : m ≤ length (entryRows dc dv db df dn)) (hk : k ≤ length (rows (lent cs vs bs us ys))) where
+module _ (dc dv db df dn : List ℕ) (m : ℕ) (cs vs bs : List ℕ) (us ys : List Float) (k : ℕ) (hm : m ≤ length (entryRows dc dv db df dn)) (hk : k ≤ length (rows (lentSamples cs vs bs us ys))) where
   pub sizes-by : Sizes dc dv db df cs vs bs us ys m k
   sizes-by =
       let a = entries-length dc dv db df dn in
-      let b = rows-length (lent cs vs bs us ys) in
+      let b = rows-length (lentSamples cs vs bs us ys) in
       record {
         in-dc = omega (arith, a);
         in-dv = omega (arith, a);
@@ -290,5 +290,5 @@ module _ (dc dv db df dn : List ℕ) (m : ℕ) (cs vs bs : List ℕ) (us ys : Li
   pub old-row : (x : ℕ) → x < m → _≡_ {A = Entry} (record { constellation = getD dc x 0; svid = getD dv x 0; band = getD db x 0; start = getD df x 0; count = getD dn x 0 }) (getD (take m (entryRows dc dv db df dn)) x noEntry)
   old-row x h = entry-at dc dv db df dn x (omega arith) ∙ sym (getD-take m (entryRows dc dv db df dn) x noEntry h)
 
-  pub new-row : (x : ℕ) → x < k → _≡_ {A = Sample} (record { constellation = getD cs x 0; svid = getD vs x 0; band = getD bs x 0; time = getD us x nan; correction = getD ys x nan }) (getD (tableOf k (lent cs vs bs us ys)) x blank)
-  new-row x h = rows-at (lent cs vs bs us ys) x (omega arith) ∙ sym (getD-take k (rows (lent cs vs bs us ys)) x blank h)
+  pub new-row : (x : ℕ) → x < k → _≡_ {A = Sample} (record { constellation = getD cs x 0; svid = getD vs x 0; band = getD bs x 0; time = getD us x nan; correction = getD ys x nan }) (getD (tableOf k (lentSamples cs vs bs us ys)) x blank)
+  new-row x h = rows-at (lentSamples cs vs bs us ys) x (omega arith) ∙ sym (getD-take k (rows (lentSamples cs vs bs us ys)) x blank h)

@@ -9,7 +9,7 @@ use lib.Seq.{length-take-le, take-take}
 use lib.Ieee.{Float}
 use Rattle.numeric.specs.Order.{patternOf}
 use Rattle.walk.specs.Walk.{every}
-use Rattle.table.specs.Table.{Columns, lent, rows, sorted, soundTable, tableOf}
+use Rattle.table.specs.Table.{Columns, lentSamples, rows, sorted, soundTable, tableOf}
 use Rattle.table.specs.Add.{insertAll}
 use Rattle.table.specs.Steps.{InsertedAll}
 use Rattle.table.specs.declared.sample.Sample.{Sample}
@@ -54,11 +54,11 @@ module _ {dc dv db df dn : List ℕ} {ts xs : List Float} {m n k : ℕ} (f : Fit
       let p = sound-parts (directoryIn m n (lentBlocks dc dv db df dn ts xs)) (f .steady) in
       record { few = f .entries-fit; ascending = p .ascending; tiling = rw sizes at (p .tiled) }
 
-  module _ (cs vs bs : List ℕ) (us ys : List Float) (h : k ≤ length (rows (lent cs vs bs us ys))) (o : sorted (tableOf k (lent cs vs bs us ys)) ≡ true) where
-    pub signals-by : OfSignals cs vs bs k (tableOf k (lent cs vs bs us ys))
+  module _ (cs vs bs : List ℕ) (us ys : List Float) (h : k ≤ length (rows (lentSamples cs vs bs us ys))) (o : sorted (tableOf k (lentSamples cs vs bs us ys)) ≡ true) where
+    pub signals-by : OfSignals cs vs bs k (tableOf k (lentSamples cs vs bs us ys))
     signals-by =
         record {
-          count = length-take-le k (rows (lent cs vs bs us ys)) h;
+          count = length-take-le k (rows (lentSamples cs vs bs us ys)) h;
           constellations = λ x l. sym (ap (λ (s : Sample). s .constellation) (new-row dc dv db df dn m cs vs bs us ys k (f .entries-fit) h x l));
           svids = λ x l. sym (ap (λ (s : Sample). s .svid) (new-row dc dv db df dn m cs vs bs us ys k (f .entries-fit) h x l));
           bands = λ x l. sym (ap (λ (s : Sample). s .band) (new-row dc dv db df dn m cs vs bs us ys k (f .entries-fit) h x l));
@@ -66,25 +66,25 @@ module _ {dc dv db df dn : List ℕ} {ts xs : List Float} {m n k : ℕ} (f : Fit
         }
 
     -- the entries of all blocks with all new samples
-    pub entries-all : entriesUpTo (take n (readingRows ts xs)) (take m (entryRows dc dv db df dn)) (tableOf k (lent cs vs bs us ys)) m k ≡ (directoryWith (directoryIn m n (lentBlocks dc dv db df dn ts xs)) (tableOf k (lent cs vs bs us ys))) .entries
+    pub entries-all : entriesUpTo (take n (readingRows ts xs)) (take m (entryRows dc dv db df dn)) (tableOf k (lentSamples cs vs bs us ys)) m k ≡ (directoryWith (directoryIn m n (lentBlocks dc dv db df dn ts xs)) (tableOf k (lentSamples cs vs bs us ys))) .entries
     unfolding flat directoryOf
-    entries-all = rw (take-take m m (entryRows dc dv db df dn) (omega arith), take-take k k (rows (lent cs vs bs us ys)) (omega arith))
+    entries-all = rw (take-take m m (entryRows dc dv db df dn) (omega arith), take-take k k (rows (lentSamples cs vs bs us ys)) (omega arith))
 
-    pub count-fits : length ((directoryWith (directoryIn m n (lentBlocks dc dv db df dn ts xs)) (tableOf k (lent cs vs bs us ys))) .entries) ≤ n + k
+    pub count-fits : length ((directoryWith (directoryIn m n (lentBlocks dc dv db df dn ts xs)) (tableOf k (lentSamples cs vs bs us ys))) .entries) ≤ n + k
     unfolding directoryOf
     count-fits =
         let d = directoryIn m n (lentBlocks dc dv db df dn ts xs) in
-        let u = tableOf k (lent cs vs bs us ys) in
+        let u = tableOf k (lentSamples cs vs bs us ys) in
         omega (arith, entries-fewer 0 (insertAll (flat d) u), insertAll-length (flat d) u, flat-length d (f .steady), sizes, signals-by .count)
 
     pub columns-all : {dc′ dv′ db′ df′ dn′ : List ℕ} {ts′ xs′ : List Float}
-        → EntriesMerged (entriesUpTo (take n (readingRows ts xs)) (take m (entryRows dc dv db df dn)) (tableOf k (lent cs vs bs us ys)) m k) dc dv db df dn dc′ dv′ db′ df′ dn′
-        → (let t = insertAll (flat (directoryIn m n (lentBlocks dc dv db df dn ts xs))) (tableOf k (lent cs vs bs us ys)) in
+        → EntriesMerged (entriesUpTo (take n (readingRows ts xs)) (take m (entryRows dc dv db df dn)) (tableOf k (lentSamples cs vs bs us ys)) m k) dc dv db df dn dc′ dv′ db′ df′ dn′
+        → (let t = insertAll (flat (directoryIn m n (lentBlocks dc dv db df dn ts xs))) (tableOf k (lentSamples cs vs bs us ys)) in
         ts′ ≡ columnOf (λ (s : Sample). s .time) t ts → xs′ ≡ columnOf (λ (s : Sample). s .correction) t xs
-        → lentBlocks dc′ dv′ db′ df′ dn′ ts′ xs′ ≡ blocksWith (directoryWith (directoryIn m n (lentBlocks dc dv db df dn ts xs)) (tableOf k (lent cs vs bs us ys))) (lentBlocks dc dv db df dn ts xs))
+        → lentBlocks dc′ dv′ db′ df′ dn′ ts′ xs′ ≡ blocksWith (directoryWith (directoryIn m n (lentBlocks dc dv db df dn ts xs)) (tableOf k (lentSamples cs vs bs us ys))) (lentBlocks dc dv db df dn ts xs))
     unfolding directoryOf
     columns-all {ts′ = ts′} {xs′ = xs′} e rt rx =
-        let t = insertAll (flat (directoryIn m n (lentBlocks dc dv db df dn ts xs))) (tableOf k (lent cs vs bs us ys)) in
+        let t = insertAll (flat (directoryIn m n (lentBlocks dc dv db df dn ts xs))) (tableOf k (lentSamples cs vs bs us ys)) in
         let a : ts′ ≡ columnOf (λ (r : Reading). r .time) (map readingOf t) ts = rt ∙ by-reading (λ (r : Reading). r .time) t ts in
         let b : xs′ ≡ columnOf (λ (r : Reading). r .correction) (map readingOf t) xs = rx ∙ by-reading (λ (r : Reading). r .correction) t xs in
         rw (e .constellations, e .svids, e .bands, e .firsts, e .counts, a, b, entries-all)

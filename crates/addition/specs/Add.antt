@@ -10,13 +10,13 @@ use Rattle.numeric.specs.Refusal.{numberOf}
 use Rattle.numeric.specs.declared.refusal.Refusal.{Refusal}
 use Rattle.numeric.specs.declared.refusal.Refusal.the-variants.{TooMany, RecordOutOfRange, TableFull}
 use Rattle.table.specs.Table.{ranged}
-use Rattle.table.specs.Add.{Outcome, refused, added, insertAll, counted}
+use Rattle.table.specs.Add.{AddOutcome, refused, added, insertAll, countedSamples}
 use Rattle.table.specs.declared.sample.Sample.{Sample}
 use Rattle.table.specs.declared.add.Samples.{Samples}
 use Rattle.table.specs.declared.add.Test.{Test}
 use Rattle.table.specs.declared.add.Test.the-variants as Test
 use Rattle.directory.specs.Directory.{Directory, Blocks, PatternsWith, blocksWith, directoryOf, flat, soundDirectory}
-use Rattle.directory.specs.Lent.{Lent}
+use Rattle.directory.specs.Lent.{LentTable}
 use Rattle.addition.specs.declared.add.Addition.{Addition}
 use Rattle.addition.specs.declared.add.Addition.the-variants as Addition
 
@@ -28,7 +28,7 @@ directoryWith d ss = directoryOf (insertAll (flat d) ss)
 unfoldable pub testIn : ℕ → ℕ → ℕ → Directory → Samples → Test
 testIn m n room d new =
     cond ((ltb room m || ltb room n) || ltb 64 (new .count)) (Test.Refused TooMany)
-    (cond (not (soundDirectory d && every ranged (counted new))) (Test.Refused RecordOutOfRange)
+    (cond (not (soundDirectory d && every ranged (countedSamples new))) (Test.Refused RecordOutOfRange)
     (cond (ltb room (n + new .count)) (Test.Refused TableFull)
     Test.Passed))
 
@@ -44,7 +44,7 @@ placedOf Test.Passed d = addedIn d
 
 -- new samples to a directory
 unfoldable pub addIn : ℕ → ℕ → ℕ → Directory → Samples → Placed
-addIn m n room d new = placedOf (testIn m n room d new) (directoryWith d (counted new))
+addIn m n room d new = placedOf (testIn m n room d new) (directoryWith d (countedSamples new))
 
 -- ---- what a call leaves
 
@@ -86,14 +86,14 @@ PatternsAfter (refusedIn r) ts xs ts′ xs′ = (ts′ ≡ ts) × (xs′ ≡ xs)
 PatternsAfter (addedIn d) ts xs ts′ xs′ = PatternsWith d ts xs ts′ xs′
 
 -- the number, the counts, the columns and the patterns after a call on lent columns are those of the outcome
-abbrev pub AddsIn : Placed → ℕ → ℕ → ℕ → ℕ → ℕ → Lent → Type 0
+abbrev pub AddsIn : Placed → ℕ → ℕ → ℕ → ℕ → ℕ → LentTable → Type 0
 AddsIn o number m m′ n n′ t = Places o number m m′ n n′ (t .before) (t .after) × PatternsAfter o (t .times) (t .corrections) (t .timesAfter) (t .correctionsAfter)
 
 -- so are those of an answer by value, and the answer is the outcome's
-abbrev pub AddedBy : Placed → Addition → ℕ → ℕ → Lent → Type 0
+abbrev pub AddedBy : Placed → Addition → ℕ → ℕ → LentTable → Type 0
 AddedBy o r m n t = (r ≡ additionOf o) × AddsIn o (additionNumber r) m (entriesNow r m) n (samplesNow r n) t
 
 -- ---- the outcome for the table that the directory stands for
-abbrev pub flatOutcome : Placed → Outcome
+abbrev pub flatOutcome : Placed → AddOutcome
 flatOutcome (refusedIn r) = refused r
 flatOutcome (addedIn d) = added (flat d)

@@ -15,7 +15,7 @@ use Rattle.table.specs.Table.{blank, rows, sorted, tableOf, timeBefore}
 use Rattle.table.specs.Add.{insertAll}
 use Rattle.table.specs.declared.sample.Sample.{Sample}
 use Rattle.directory.specs.Directory.{Blocks, Directory, Entry, PatternsWith, Reading, ascends, block, blocksWith, columnOf, directoryIn, entriesFrom, entriesIn, entryRows, flat, floats, lentBlocks, noEntry, readingRows, readingsIn, soundDirectory, tiles}
-use Rattle.directory.specs.Lent.{Lent}
+use Rattle.directory.specs.Lent.{LentTable}
 use Rattle.table.specs.Lent.{LentColumn, LentFloats, columnsBefore, columnsNow}
 use Rattle.addition.specs.declared.entries.Last.{Last}
 
@@ -228,5 +228,5 @@ abbrev pub lentSamples : ℕ → LentColumn → LentColumn → LentColumn → Le
 lentSamples k c v b t x = tableOf k (columnsBefore c v b t x)
 
 -- the columns have the directory d, of r entries, and its patterns
-abbrev pub Becomes : Directory → ℕ → Lent → Type 0
+abbrev pub Becomes : Directory → ℕ → LentTable → Type 0
 Becomes d r t = (r ≡ length (d .entries)) × ((t .after ≡ blocksWith d (t .before)) × PatternsWith d (t .times) (t .corrections) (t .timesAfter) (t .correctionsAfter))

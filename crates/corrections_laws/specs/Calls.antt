@@ -12,15 +12,15 @@ use Rattle.directory.specs.Directory.{blockCapacity, Blocks, blocksWith, Direct
 use Rattle.addition.specs.Add.{PatternsAfter, Placed, Places}
 use Rattle.query.specs.Query.{answerAt, Answers, queryIn}
 use Rattle.query.specs.declared.query.Correction.{Correction}
-use Rattle.forget.specs.Forget.{Outcome, Forgets, forgetIn}
+use Rattle.forget.specs.Forget.{ForgetOutcome, Forgets, forgetIn}
 use Rattle.forget.specs.History.{Event, add, drop}
 use Rattle.differential.specs.Sample.{epochSamples}
 use Rattle.differential.specs.AddEpoch.{recordsInRange, settingsInRange}
-use Rattle.differential.specs.Build.{Input}
+use Rattle.differential.specs.Build.{EpochInput}
 use Rattle.differential.specs.declared.record.BaseEpoch.{BaseEpoch}
 use Rattle.differential.specs.declared.record.States.{States}
 use Rattle.differential.specs.declared.record.Settings.{Settings}
-use Rattle.epoch_columns.specs.Epoch.{entryIn, epochOf, recordsShort, statesIn}
+use Rattle.epoch_columns.specs.Epoch.{entryIn, baseEpochOf, recordsShort, statesIn}
 use Rattle.forget.specs.Forget as Forgetting
 use Rattle.corrections_laws.specs.Typed.{Typed}
 
@@ -84,7 +84,7 @@ heldSamples h = flat (directory h)
 
 -- the epoch and the states that the columns hold, and their samples
 abbrev pub baseEpoch : Epoch → BaseEpoch
-baseEpoch e = epochOf (e .time) (e .ranges) (e .range-constellations) (e .range-svids) (e .range-bands) (e .pseudoranges)
+baseEpoch e = baseEpochOf (e .time) (e .ranges) (e .range-constellations) (e .range-svids) (e .range-bands) (e .pseudoranges)
 
 abbrev pub statesBeside : Epoch → States
 statesBeside e = statesIn (e .present) (e .states) (e .state-constellations) (e .state-svids) (e .state-bands) (e .state-floats)
@@ -112,7 +112,7 @@ pub record AddsEpoch (h : Caller) (e : Epoch) (number : ℕ) (h′ : Caller) : T
   pub patterns : PatternsAfter (addingOf h e) (h .times) (h .corrections) (h′ .times) (h′ .corrections)
 
 -- the outcome of dropping the samples before the time
-abbrev pub droppingOf : Caller → Float → Outcome
+abbrev pub droppingOf : Caller → Float → ForgetOutcome
 droppingOf h time = forgetIn (h .entries) (h .samples) (room h) (directory h) time
 
 -- `zaqnuti_forget` gave the number, and left h′; the count of entries is not lent to it, nor are the three columns of signals lent to be written
@@ -208,7 +208,7 @@ AllBy base rover set (adding e ∷ cs) = ((e .base ≡ base) × (e .rover ≡ ro
 AllBy base rover set (dropping time ∷ cs) = ⊥
 
 -- the epochs that were accepted, as `build` is handed them
-unfoldable pub builtFrom : List Call → List ℕ → List Input
+unfoldable pub builtFrom : List Call → List ℕ → List EpochInput
 builtFrom [] ks = []
 builtFrom (c ∷ cs) [] = []
 builtFrom (adding e ∷ cs) (k ∷ ks) = cond (eqb k 0) (record { epoch = baseEpoch e; states = statesBeside e } ∷ builtFrom cs ks) (builtFrom cs ks)

@@ -8,8 +8,8 @@ use Rattle.walk.specs.Walk.{fold}
 use Rattle.numeric.specs.Order.{patternOf}
 use Rattle.numeric.specs.Refusal.{numberOf}
 use Rattle.numeric.specs.declared.refusal.Refusal.the-variants.{TooMany}
-use Rattle.table.specs.Table.{Columns, capacity, lent, sorted, tableOf}
-use Rattle.table.specs.Add.{Outcome, added, refused}
+use Rattle.table.specs.Table.{Columns, capacity, lentSamples, sorted, tableOf}
+use Rattle.table.specs.Add.{AddOutcome, added, refused}
 use Rattle.table.specs.declared.sample.Sample.{Sample}
 use Rattle.directory.specs.Directory.{columnOf, directoryOf, floats}
 use Rattle.query.specs.Query.{patternAfter, queryNumber, queryOf}
@@ -30,7 +30,7 @@ pub record Table : Type 0 where
 
 -- the columns as the calls read them
 abbrev pub fiveColumns : Table → Columns
-fiveColumns o = lent (o .constellations) (o .svids) (o .bands) (floats (o .times)) (floats (o .corrections))
+fiveColumns o = lentSamples (o .constellations) (o .svids) (o .bands) (floats (o .times)) (floats (o .corrections))
 
 abbrev pub roomIn : Table → ℕ
 roomIn o = capacity (fiveColumns o)
@@ -44,13 +44,13 @@ abbrev pub flatAnswer : Table → Query → Correction
 flatAnswer o q = queryOf (o .samples) (roomIn o) (samplesIn o) (q .gap) (q .constellation) (q .svid) (q .band) (q .time)
 
 -- an added epoch: the refusal, or the samples with the epoch's
-unfoldable pub flatAddition : Table → Epoch → Outcome
+unfoldable pub flatAddition : Table → Epoch → AddOutcome
 flatAddition o e =
     cond (shortOf e) (refused TooMany)
     (addedOf (o .samples) (roomIn o) (samplesIn o) (baseEpoch e) (statesBeside e) (e .base) (e .rover) (e .settings))
 
 -- 0, or the number of the refusal
-abbrev pub flatNumber : Outcome → ℕ
+abbrev pub flatNumber : AddOutcome → ℕ
 flatNumber (refused r) = numberOf r
 flatNumber (added t) = 0
 
@@ -67,7 +67,7 @@ tableWith t o =
     }
 
 -- count and columns afterwards: unchanged where adding is refused
-abbrev pub tableAfter : Outcome → Table → Table
+abbrev pub tableAfter : AddOutcome → Table → Table
 tableAfter (refused r) o = o
 tableAfter (added t) o = tableWith t o
 

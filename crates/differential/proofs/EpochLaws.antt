@@ -18,7 +18,7 @@ use Rattle.numeric.specs.declared.vec3.Vec3.{Vec3}
 use Rattle.numeric.specs.declared.refusal.Refusal.{Refusal}
 use Rattle.numeric.specs.declared.refusal.Refusal.the-variants.{TooMany, SettingOutOfRange, RecordOutOfRange, TableFull}
 use Rattle.table.specs.Table.{ranged}
-use Rattle.table.specs.Add.{counted}
+use Rattle.table.specs.Add.{countedSamples}
 use Rattle.table.specs.declared.add.Samples.{Samples}
 use Rattle.table.specs.declared.add.Test.the-variants.{Refused, Passed}
 use Rattle.table.proofs.TableLaws.{and-left, and-right}
@@ -27,10 +27,10 @@ use Rattle.directory.specs.Directory.{Blocks, Directory, soundDirectory}
 use Rattle.addition.specs.Add.{PatternsAfter, Placed, Places, addIn, addedIn, additionNumber, additionOf, directoryWith, entriesNow, placedOf, refusedIn, samplesNow, testIn}
 use Rattle.addition.specs.declared.add.Addition.{Addition}
 use Rattle.addition.specs.declared.add.Addition.the-variants as Addition
-use Rattle.differential.specs.Record.{rangesOf, statesCount, placeInRange, rangeInRange}
+use Rattle.differential.specs.Record.{rangesOf, statesCount, vectorInRange, rangeInRange}
 use Rattle.differential.specs.Raw.{rawsOf}
-use Rattle.differential.specs.Sample.{group, clockOf, kept, sampleOf, corrected, sampleAt, samplesOf, epochSamples}
-use Rattle.differential.specs.AddEpoch.{tooMany, settingsInRange, recordsInRange, epochIn}
+use Rattle.differential.specs.Sample.{group, clockOf, kept, correctedSample, corrected, sampleAt, samplesOf, epochSamples}
+use Rattle.differential.specs.AddEpoch.{tooMany, settingsInRange, recordsInRange, epochPlaced}
 use Rattle.differential.specs.Steps.{recordsTest}
 use Rattle.differential.specs.declared.record.BaseEpoch.{BaseEpoch}
 use Rattle.differential.specs.declared.record.States.{States}
@@ -90,7 +90,7 @@ module _ (time max : Float) (t : inRange time ≡ true) (m : inRange max ≡ tru
   unfolding corrected every ranged
   corrected-ranged r clock = go (kept max (r .value ⊖ clock)) refl
     where
-      go : (b : Bool) → kept max (r .value ⊖ clock) ≡ b → every ranged (cond b (sampleOf time r (r .value ⊖ clock) ∷ []) []) ≡ true
+      go : (b : Bool) → kept max (r .value ⊖ clock) ≡ b → every ranged (cond b (correctedSample time r (r .value ⊖ clock) ∷ []) []) ≡ true
       go true e = rw (t, kept-range max (r .value ⊖ clock) m e)
       go false e = refl
 
@@ -105,7 +105,7 @@ module _ (time max : Float) (t : inRange time ≡ true) (m : inRange max ≡ tru
 pub time-in-range : (e : BaseEpoch) (s : States) (base rover : Vec3) → recordsInRange e s base rover ≡ true → inRange (e .time) ≡ true
 unfolding recordsInRange
 time-in-range e s base rover q =
-    let p = placeInRange base && placeInRange rover in
+    let p = vectorInRange base && vectorInRange rover in
     let r = every rangeInRange (rangesOf e) in
     and-right p (inRange (e .time)) (and-left (p && inRange (e .time)) r (and-left (p && inRange (e .time) && r) _ q))
 
@@ -120,7 +120,7 @@ epoch-holds e s base rover set m em raws hr new hs =
     hs
 
 -- they are in range
-counted-ranged : (m n room : ℕ) (e : BaseEpoch) (s : States) (base rover : Vec3) (set : Settings) → PassedRecords m n room e s base rover set → (new : Samples) → Holds (new .count) (new .samples) (epochSamples base rover set e s) → every ranged (counted new) ≡ true
+counted-ranged : (m n room : ℕ) (e : BaseEpoch) (s : States) (base rover : Vec3) (set : Settings) → PassedRecords m n room e s base rover set → (new : Samples) → Holds (new .count) (new .samples) (epochSamples base rover set e s) → every ranged (countedSamples new) ≡ true
 unfolding epochSamples settingsInRange
 counted-ranged m n room e s base rover set p new h =
     rw (h .all) (samples-ranged (e .time) (set .«max_correction») (time-in-range e s base rover (p .records)) (and-right (inRange (set .«max_gap»)) _ (p .settings)) _)
@@ -136,8 +136,8 @@ pub told-nothing : {o : Placed} (r : Refusal) (m n : ℕ) (l : Blocks) (ts xs : 
 told-nothing r m n l ts xs e = rw (← e) (refl, (record { number-is = refl; entries-are = refl; samples-are = refl; columns = refl }, (refl, refl)))
 
 module _ (m n room : ℕ) (d : Directory) (e : BaseEpoch) (s : States) (base rover : Vec3) (set : Settings) where
-  pub placed-refused : (r : Refusal) → Refused r ≡ recordsTest m n room e s base rover set → refusedIn r ≡ epochIn m n room d e s base rover set
-  unfolding recordsTest epochIn
+  pub placed-refused : (r : Refusal) → Refused r ≡ recordsTest m n room e s base rover set → refusedIn r ≡ epochPlaced m n room d e s base rover set
+  unfolding recordsTest epochPlaced
   placed-refused r q = go (ltb room m || tooMany n room e s) (settingsInRange set) (recordsInRange e s base rover) q
     where
       go : (a b x : Bool) → Refused r ≡ cond a (Refused TooMany) (cond (not b) (Refused SettingOutOfRange) (cond (not x) (Refused RecordOutOfRange) Passed))
@@ -152,8 +152,8 @@ module _ (m n room : ℕ) (d : Directory) (e : BaseEpoch) (s : States) (base rov
       go false true true q = absurd (let z : _≡_ {A = ℕ} 0 1 = cc in omega arith)
 
   module _ (p : PassedRecords m n room e s base rover set) (new : Samples) (h : Holds (new .count) (new .samples) (epochSamples base rover set e s)) where
-    pub placed-passed : addIn m n room d new ≡ epochIn m n room d e s base rover set
-    unfolding addIn testIn epochIn
+    pub placed-passed : addIn m n room d new ≡ epochPlaced m n room d e s base rover set
+    unfolding addIn testIn epochPlaced
     placed-passed =
         rw (le-ltb room m (p .few-entries), le-ltb room n (p .few), le-ltb 64 (new .count) (h .room), counted-ranged m n room e s base rover set p new h, h .all, p .not-many, p .settings, p .records, ← (h .count)) (go (soundDirectory d) (ltb room (n + new .count)))
       where

@@ -20,7 +20,7 @@ use Rattle.addition.specs.Add.{addedIn, flatOutcome, refusedIn}
 use Rattle.addition.proofs.SameLaws.{few-entries}
 use Rattle.differential.specs.Record.{statesCount}
 use Rattle.differential.specs.Sample.{epochSamples}
-use Rattle.differential.specs.AddEpoch.{addedOf, epochIn, recordsInRange, settingsInRange, tooMany}
+use Rattle.differential.specs.AddEpoch.{addedOf, epochPlaced, recordsInRange, settingsInRange, tooMany}
 use Rattle.differential.specs.declared.record.BaseEpoch.{BaseEpoch}
 use Rattle.differential.specs.declared.record.States.{States}
 use Rattle.differential.specs.declared.record.Settings.{Settings}
@@ -36,8 +36,8 @@ many-same m n room e s h = go (ltb room m) refl
 
 -- t the n samples of a sorted table, with svids and bands of their columns' bits
 pub epoch-same : (t : List Sample) (n room : ℕ) (e : BaseEpoch) (s : States) (base rover : Vec3) (set : Settings) → every narrow t ≡ true → sorted t ≡ true → length t ≤ n
-    → flatOutcome (epochIn (length ((directoryOf t) .entries)) n room (directoryOf t) e s base rover set) ≡ addedOf n room t e s base rover set
-unfolding epochIn addedOf
+    → flatOutcome (epochPlaced (length ((directoryOf t) .entries)) n room (directoryOf t) e s base rover set) ≡ addedOf n room t e s base rover set
+unfolding epochPlaced addedOf
 epoch-same t n room e s base rover set w r l =
     let new = epochSamples base rover set e s in
     rw (many-same (length ((directoryOf t) .entries)) n room e s (few-entries t l), sound-directory t w (sym (sorted-rises t) ∙ r), flat-directory t)

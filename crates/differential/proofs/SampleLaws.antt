@@ -16,7 +16,7 @@ use Rattle.numeric.specs.Real.{abs}
 use Rattle.median.specs.Sorted.{medianOf}
 use Rattle.median.specs.Steps.{Front}
 use Rattle.table.specs.declared.sample.Sample.{Sample}
-use Rattle.differential.specs.Sample.{ofConstellation, group, patternsOf, clockOf, kept, sampleOf, corrected, sampleAt}
+use Rattle.differential.specs.Sample.{ofConstellation, group, patternsOf, clockOf, kept, correctedSample, corrected, sampleAt}
 use Rattle.differential.specs.Steps.{clockOrNan}
 use Rattle.differential.specs.declared.raw.Raw.{Raw}
 
@@ -89,11 +89,11 @@ module _ (time max : Float) (raws : List Raw) (r : Raw) where
     unfolding corrected
     sample-dropped t = by-group (λ e. refl) (λ e. rw (sym eb ∙ t))
 
-    pub sample-kept : b ≡ true → sampleAt time max raws r ≡ sampleOf time r (r .value ⊖ clock) ∷ []
+    pub sample-kept : b ≡ true → sampleAt time max raws r ≡ correctedSample time r (r .value ⊖ clock) ∷ []
     unfolding corrected clockOrNan
     sample-kept t = by-group low (λ e. rw (sym eb ∙ t))
       where
-        low : ltb (length (group (r .constellation) raws)) 3 ≡ true → [] ≡ sampleOf time r (r .value ⊖ clock) ∷ []
+        low : ltb (length (group (r .constellation) raws)) 3 ≡ true → [] ≡ correctedSample time r (r .value ⊖ clock) ∷ []
         low e =
             let n : clock ≡ nan = ec ∙ rw e in
             let z : true ≡ false = sym t ∙ eb ∙ rw (n, sub-nan (r .value)) (never-kept max) in

@@ -13,7 +13,7 @@ use Rattle.numeric.specs.declared.vec3.Vec3.{Vec3}
 use Rattle.numeric.specs.declared.refusal.Refusal.{Refusal}
 use Rattle.numeric.specs.declared.refusal.Refusal.the-variants.{TooMany, SettingOutOfRange, RecordOutOfRange}
 use Rattle.table.specs.declared.add.Test.the-variants.{Refused, Passed}
-use Rattle.differential.specs.Record.{statesCount, statesOf, placeInRange, rangeInRange, stateInRange}
+use Rattle.differential.specs.Record.{statesCount, statesOf, vectorInRange, rangeInRange, stateInRange}
 use Rattle.differential.specs.AddEpoch.{tooMany, settingsInRange, recordsInRange}
 use Rattle.differential.specs.Steps.{recordsTest}
 use Rattle.differential.specs.declared.record.BaseEpoch.{BaseEpoch}
@@ -46,7 +46,7 @@ module _ (m n room : ℕ) (e : BaseEpoch) (s : States) (base rover : Vec3) (set 
       unfolding recordsTest
       test-settings t = rw (sym many ∙ few, sym settings ∙ not-true (a && b) t)
 
-      module _ (good : not (a && b) ≡ false) {u v w : Bool} (eu : u ≡ placeInRange base) (ev : v ≡ placeInRange rover) (ew : w ≡ inRange (e .time)) where
+      module _ (good : not (a && b) ≡ false) {u v w : Bool} (eu : u ≡ vectorInRange base) (ev : v ≡ vectorInRange rover) (ew : w ≡ inRange (e .time)) where
         by-records : {r : _} → recordsInRange e s base rover ≡ false → r ≡ RecordOutOfRange → Refused r ≡ recordsTest m n room e s base rover set
         unfolding recordsTest
         by-records t q = rw (sym many ∙ few, sym settings ∙ not-false (a && b) good, t, q)

@@ -5,7 +5,7 @@ use Prim.Native.Nat.{ℕ}
 use lib.ListN.{length}
 use lib.Ieee.{Float}
 use Rattle.numeric.specs.declared.vec3.Vec3.{Vec3}
-use Rattle.table.specs.Table.{lent, capacity, tableOf}
+use Rattle.table.specs.Table.{lentSamples, capacity, tableOf}
 use Rattle.table.specs.Widen.{widened}
 use Rattle.table.proofs.WidenLaws.{Roomy, table-widened, capacity-widened}
 use Rattle.differential.specs.AddEpoch.{addedOf}
@@ -16,6 +16,6 @@ use Rattle.differential.specs.declared.record.Settings.{Settings}
 -- a new column as long as the old one, so that there is as much room: the same refusal, or the same table
 pub added-widened : (n : ℕ) (cs vs narrow wide : List ℕ) (ts xs : List Float) → Roomy n narrow wide → length wide ≡ length narrow
     → (e : BaseEpoch) (s : States) (base rover : Vec3) (set : Settings)
-    → addedOf n (capacity (lent cs vs (widened n narrow wide) ts xs)) (tableOf n (lent cs vs (widened n narrow wide) ts xs)) e s base rover set
-    ≡ addedOf n (capacity (lent cs vs narrow ts xs)) (tableOf n (lent cs vs narrow ts xs)) e s base rover set
+    → addedOf n (capacity (lentSamples cs vs (widened n narrow wide) ts xs)) (tableOf n (lentSamples cs vs (widened n narrow wide) ts xs)) e s base rover set
+    ≡ addedOf n (capacity (lentSamples cs vs narrow ts xs)) (tableOf n (lentSamples cs vs narrow ts xs)) e s base rover set
 added-widened n cs vs narrow wide ts xs r l e s base rover set = rw (capacity-widened n cs vs narrow wide ts xs r l, table-widened n cs vs narrow wide ts xs r)

@@ -9,11 +9,11 @@ use Rattle.numeric.specs.Real.{inRange}
 use Rattle.numeric.specs.declared.vec3.Vec3.{Vec3}
 use Rattle.numeric.specs.declared.refusal.Refusal.the-variants.{TooMany, SettingOutOfRange, RecordOutOfRange, TableFull}
 use Rattle.table.specs.Table.{soundTable}
-use Rattle.table.specs.Add.{Outcome, refused, added, insertAll}
+use Rattle.table.specs.Add.{AddOutcome, refused, added, insertAll}
 use Rattle.table.specs.declared.sample.Sample.{Sample}
 use Rattle.directory.specs.Directory.{Directory, soundDirectory}
 use Rattle.addition.specs.Add.{Placed, refusedIn, addedIn, directoryWith}
-use Rattle.differential.specs.Record.{rangesOf, statesCount, statesOf, placeInRange, rangeInRange, stateInRange}
+use Rattle.differential.specs.Record.{rangesOf, statesCount, statesOf, vectorInRange, rangeInRange, stateInRange}
 use Rattle.differential.specs.Sample.{epochSamples}
 use Rattle.differential.specs.declared.record.BaseEpoch.{BaseEpoch}
 use Rattle.differential.specs.declared.record.States.{States}
@@ -30,10 +30,10 @@ settingsInRange set = inRange (set .«max_gap») && inRange (set .«max_correcti
 -- number 4 passes for all but the table
 unfoldable pub recordsInRange : BaseEpoch → States → Vec3 → Vec3 → Bool
 recordsInRange e s base rover =
-    placeInRange base && placeInRange rover && inRange (e .time) && every rangeInRange (rangesOf e) && every stateInRange (statesOf s)
+    vectorInRange base && vectorInRange rover && inRange (e .time) && every rangeInRange (rangesOf e) && every stateInRange (statesOf s)
 
 -- the epoch to the first n samples, t, of columns with the capacity room: the refusal, or the table with the epoch's samples
-unfoldable pub addedOf : ℕ → ℕ → List Sample → BaseEpoch → States → Vec3 → Vec3 → Settings → Outcome
+unfoldable pub addedOf : ℕ → ℕ → List Sample → BaseEpoch → States → Vec3 → Vec3 → Settings → AddOutcome
 addedOf n room t e s base rover set =
     let new = epochSamples base rover set e s in
     cond (tooMany n room e s) (refused TooMany)
@@ -43,8 +43,8 @@ addedOf n room t e s base rover set =
     (added (insertAll t new)))))
 
 -- the epoch to m entries and n samples of a directory, in columns with the capacity room: the refusal, or the directory with the epoch's samples
-unfoldable pub epochIn : ℕ → ℕ → ℕ → Directory → BaseEpoch → States → Vec3 → Vec3 → Settings → Placed
-epochIn m n room d e s base rover set =
+unfoldable pub epochPlaced : ℕ → ℕ → ℕ → Directory → BaseEpoch → States → Vec3 → Vec3 → Settings → Placed
+epochPlaced m n room d e s base rover set =
     let new = epochSamples base rover set e s in
     cond (ltb room m || tooMany n room e s) (refusedIn TooMany)
     (cond (not (settingsInRange set)) (refusedIn SettingOutOfRange)

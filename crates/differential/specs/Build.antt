@@ -10,10 +10,10 @@ use Rattle.differential.specs.declared.record.States.{States}
 use Rattle.differential.specs.declared.record.Settings.{Settings}
 
 -- an epoch and the states beside it
-pub record Input : Type 0 where
+pub record EpochInput : Type 0 where
   pub epoch : BaseEpoch
   pub states : States
 
 -- the samples of all epochs as they arrive, a series for each signal, sorted by time
-unfoldable pub buildOf : Vec3 → Vec3 → Settings → List Input → List Sample
-buildOf base rover set inputs = builtOf (collect (λ (i : Input). epochSamples base rover set (i .epoch) (i .states)) inputs)
+unfoldable pub buildOf : Vec3 → Vec3 → Settings → List EpochInput → List Sample
+buildOf base rover set inputs = builtOf (collect (λ (i : EpochInput). epochSamples base rover set (i .epoch) (i .states)) inputs)

@@ -20,8 +20,8 @@ unfoldable pub enabled : Settings → ℕ → Bool
 enabled set c = getD (set .constellations) (min c 7) false
 
 -- the state s is that of the range's satellite and signal
-unfoldable pub same : Range → State → Bool
-same r s = eqb (s .constellation) (r .constellation) && eqb (s .svid) (r .svid) && eqb (s .band) (r .band)
+unfoldable pub isStateOf : Range → State → Bool
+isStateOf r s = eqb (s .constellation) (r .constellation) && eqb (s .svid) (r .svid) && eqb (s .band) (r .band)
 
 unfoldable pub distance : Vec3 → Vec3 → Float
 distance p o = norm (sub p o)
@@ -49,7 +49,7 @@ rawOf base rover r s = record { constellation = r .constellation; svid = r .svid
 
 -- the raw correction by the first state of the range's satellite and signal, if there is one
 unfoldable pub firstRaw : Vec3 → Vec3 → List State → Range → List Raw
-firstRaw base rover states r = first (same r) (λ s. rawOf base rover r s ∷ []) [] states
+firstRaw base rover states r = first (isStateOf r) (λ s. rawOf base rover r s ∷ []) [] states
 
 -- what a range gives: that correction, if its constellation is enabled
 unfoldable pub rawAt : Settings → Vec3 → Vec3 → List State → Range → List Raw

@@ -23,12 +23,12 @@ abbrev pub statesOf : States → List State
 statesOf s = take (statesCount s) (s .states)
 
 -- each coordinate is finite and not above 1e9 in magnitude
-unfoldable pub placeInRange : Vec3 → Bool
-placeInRange p = inRange (p .x) && inRange (p .y) && inRange (p .z)
+unfoldable pub vectorInRange : Vec3 → Bool
+vectorInRange p = inRange (p .x) && inRange (p .y) && inRange (p .z)
 
 abbrev pub rangeInRange : Range → Bool
 rangeInRange r = inRange (r .pseudorange)
 
 -- a state's `modelled` is checked like its other floats
 unfoldable pub stateInRange : State → Bool
-stateInRange s = placeInRange (s .position) && placeInRange (s .velocity) && inRange (s .clock) && inRange (s .modelled)
+stateInRange s = vectorInRange (s .position) && vectorInRange (s .velocity) && inRange (s .clock) && inRange (s .modelled)

@@ -39,12 +39,12 @@ clockOf g = bits (medianOf (patternsOf g))
 unfoldable pub kept : Float → Float → Bool
 kept max x = not (lt max (abs x)) && finite x
 
-abbrev pub sampleOf : Float → Raw → Float → Sample
-sampleOf time r x = record { constellation = r .constellation; svid = r .svid; band = r .band; time = time; correction = x }
+abbrev pub correctedSample : Float → Raw → Float → Sample
+correctedSample time r x = record { constellation = r .constellation; svid = r .svid; band = r .band; time = time; correction = x }
 
 -- what a raw correction gives once the clock is removed
 unfoldable pub corrected : Float → Float → Raw → Float → List Sample
-corrected time max r clock = cond (kept max (r .value ⊖ clock)) (sampleOf time r (r .value ⊖ clock) ∷ []) []
+corrected time max r clock = cond (kept max (r .value ⊖ clock)) (correctedSample time r (r .value ⊖ clock) ∷ []) []
 
 -- the same by the clock of its group: groups under three yield nothing, nor do constellations 8 and above
 unfoldable pub sampleAt : Float → Float → List Raw → Raw → List Sample

@@ -3,7 +3,7 @@ ghost use mathlib.Core.Path.{_≡_};
 ghost use Rattle.directory.specs.Directory.{blockCapacity, directoryIn};
 ghost use Rattle.directory.specs.Lent.{lentTable};
 ghost use Rattle.addition.specs.Add.{AddedBy};
-ghost use Rattle.differential.specs.AddEpoch.{epochIn};
+ghost use Rattle.differential.specs.AddEpoch.{epochPlaced};
 ghost use Rattle.differential.specs.Steps.{recordsTest};
 use crate::raw::raws_of;
 use crate::record::BaseEpoch;
@@ -74,7 +74,7 @@ pub fn add_epoch(
 ) -> Addition
     ensures { λ r. ⌜ (let t = lentTable «block_constellation» «block_svid» «block_band» «block_first» «block_samples» «table_time» «table_metres» in
         let d = directoryIn blocks «table_count» (t .before) in
-        AddedBy (epochIn blocks «table_count» (blockCapacity (t .before)) d epoch states base rover settings) r blocks «table_count» t) ⌝ }
+        AddedBy (epochPlaced blocks «table_count» (blockCapacity (t .before)) d epoch states base rover settings) r blocks «table_count» t) ⌝ }
 {
     let room = capacity_of(
         block_constellation,

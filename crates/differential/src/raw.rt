@@ -40,7 +40,7 @@ pub(crate) fn is_enabled(settings: Settings, constellation: u8) -> bool
 
 // Checks that the state is that of the range's satellite and signal.
 pub(crate) fn is_same(s: State, r: Range) -> bool
-    ensures { λ b. ⌜ b ≡ spec.same r s ⌝ }
+    ensures { λ b. ⌜ b ≡ spec.isStateOf r s ⌝ }
 {
     (s.constellation == r.constellation) & (s.svid == r.svid) & (s.band == r.band)
 }

@@ -56,7 +56,7 @@ pub(crate) fn states_count(states: States) -> usize
 
 // Checks that each component is in range.
 pub(crate) fn place_in_range(p: Vec3) -> bool
-    ensures { λ r. ⌜ r ≡ spec.placeInRange p ⌝ }
+    ensures { λ r. ⌜ r ≡ spec.vectorInRange p ⌝ }
 {
     in_range(p.x) & in_range(p.y) & in_range(p.z)
 }

@@ -8,7 +8,7 @@ use native.Mathlib.Omega.{arith}
 use lib.ListN.{length, getD, take, drop, length-map}
 use lib.Seq.{length-take-le}
 use lib.Ieee.{Float, nan}
-use Rattle.table.specs.Table.{Columns, beside, lent, rows, tableOf}
+use Rattle.table.specs.Table.{Columns, beside, lentSamples, rows, tableOf}
 use Rattle.table.specs.declared.sample.Sample.{Sample}
 use Rattle.directory.specs.Directory.{Entry, Reading, Directory, Blocks, blocksWith, directoryIn, directoryOf, entriesFrom, entryRows, flat, lentBlocks, noEntry, noReading, readingOf, readingRows, readingsIn, soundDirectory}
 use Rattle.directory.specs.Rearrange.{entriesWith, signalsWith}
@@ -122,11 +122,11 @@ flat-length d h = sym (length-map (flat d) readingOf) ∙ ap length (flat-readin
 
 -- for every sound directory of lent columns: with its samples' signals at the front of columns beside its own times and corrections, the columns hold its table
 pub restored : (m n : ℕ) (l : Blocks) (cs vs bs : List ℕ) → n ≤ length (readingsIn l) → soundDirectory (directoryIn m n l) ≡ true
-    → tableOf n (signalsWith (flat (directoryIn m n l)) (lent cs vs bs (l .times) (l .corrections))) ≡ flat (directoryIn m n l)
+    → tableOf n (signalsWith (flat (directoryIn m n l)) (lentSamples cs vs bs (l .times) (l .corrections))) ≡ flat (directoryIn m n l)
 unfolding rows
 restored m n l cs vs bs k h =
     let d = directoryIn m n l in
     let z : length (flat d) ≡ n = flat-length d h ∙ length-take-le n (readingsIn l) k in
     let r : map readingOf (flat d) ≡ take (length (flat d)) (readingsIn l) = rw z (flat-readings d h) in
-    ap (λ (j : ℕ). tableOf j (signalsWith (flat d) (lent cs vs bs (l .times) (l .corrections)))) (sym z)
+    ap (λ (j : ℕ). tableOf j (signalsWith (flat d) (lentSamples cs vs bs (l .times) (l .corrections)))) (sym z)
     ∙ signals-written (flat d) (drop (length (flat d)) cs) (drop (length (flat d)) vs) (drop (length (flat d)) bs) (l .times) (l .corrections) r

@@ -6,7 +6,7 @@ use Rattle.table.specs.Lent.{LentColumn}
 use Rattle.directory.specs.Directory.{Blocks, floats, lentBlocks}
 
 -- a table's columns before a call and after it; times and corrections also as the 64-bit patterns that are lent
-pub record Lent : Type 0 where
+pub record LentTable : Type 0 where
   pub before : Blocks
   pub after : Blocks
   pub times : List ℕ
@@ -15,7 +15,7 @@ pub record Lent : Type 0 where
   pub correctionsAfter : List ℕ
 
 -- the columns of a directory, of times and of corrections
-abbrev pub lentTable : LentColumn → LentColumn → LentColumn → LentColumn → LentColumn → LentColumn → LentColumn → Lent
+abbrev pub lentTable : LentColumn → LentColumn → LentColumn → LentColumn → LentColumn → LentColumn → LentColumn → LentTable
 lentTable c v b f n t x =
     record {
       before = lentBlocks (now (c .entry)) (now (v .entry)) (now (b .entry)) (now (f .entry)) (now (n .entry)) (floats (now (t .entry))) (floats (now (x .entry)));

@@ -11,7 +11,7 @@ use Rattle.clocks.specs.Clocks.{has}
 use Rattle.numeric.specs.declared.vec3.Vec3.{Vec3}
 use Rattle.numeric.specs.declared.refusal.Refusal.{Refusal}
 use Rattle.numeric.specs.declared.refusal.Refusal.the-variants.{TooMany, NotCertified}
-use Rattle.records.specs.Record.{counted}
+use Rattle.records.specs.Record.{countedCarriers}
 use Rattle.records.specs.Carriers.{CarrierColumns, carrierAt, carriersOf, epochOf, epochFits}
 use Rattle.records.specs.City.{certifiedOf}
 use Rattle.records.specs.Screen.{constellations}
@@ -45,7 +45,7 @@ epoch n xs = record { count = n; carriers = xs }
 
 same-epoch : {band : ℕ} {c : CarrierColumns} {n : ℕ} {c′ : CarrierColumns} {n′ : ℕ} → Certified band c n c′ n′ → epochOf c′ n′ ≡ certifiedEpoch band (epochOf c n)
 same-epoch {band} {c} {n} {c′} {n′} h =
-    let all : carriersOf c′ n′ ≡ certifiedOf band (counted (epochOf c n)) = h .carriers ∙ ap (certifiedOf band) (sym (places-all (carrierAt c) n)) in
+    let all : carriersOf c′ n′ ≡ certifiedOf band (countedCarriers (epochOf c n)) = h .carriers ∙ ap (certifiedOf band) (sym (places-all (carrierAt c) n)) in
     ap₂ epoch (sym (places-length (carrierAt c′) n′) ∙ ap length all) all
 
 -- 2 to 5, 15 and 7 to 9 of a call
@@ -129,7 +129,7 @@ module _ (previous : CarrierColumns) (m : ℕ) (current : CarrierColumns) (n : �
           record {
             numbers = answers .leaves .number-is ∙ ap displacementNumber is ∙ sym (b .leaves .number-is);
             deltas = answers .leaves .delta-is ∙ ap (λ (d : Displacement). deltaAfter d delta₀) is ∙ sym (b .leaves .delta-is);
-            counted = answers .leaves .counts-are ∙ ap (λ (d : Displacement). countsAfter d counts₀) is ∙ sym (b .leaves .counts-are);
+            countedCarriers = answers .leaves .counts-are ∙ ap (λ (d : Displacement). countsAfter d counts₀) is ∙ sym (b .leaves .counts-are);
           }
 
       -- and 20 nowhere else

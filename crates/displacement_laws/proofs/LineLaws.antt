@@ -13,7 +13,7 @@ use Rattle.numeric.specs.Refusal.{numberOf}
 use Rattle.numeric.specs.Order.{patternOf}
 use Rattle.numeric.proofs.OrderLaws.{pattern-bits}
 use Rattle.numeric.specs.declared.refusal.Refusal.the-variants.{TooMany}
-use Rattle.records.specs.Record.{counted}
+use Rattle.records.specs.Record.{countedCarriers}
 use Rattle.records.specs.Carriers.{CarrierColumns, carrierAt, carriersOf, epochOf, epochFits}
 use Rattle.records.specs.declared.record.Epoch.{Epoch}
 use Rattle.records.specs.declared.pair.Profile.the-variants.{General}
@@ -40,7 +40,7 @@ line-broken text e = rw e
 pub record Columned (e : Epoch) (c : CarrierColumns) (n : ℕ) : Type 0 where
   pub count : n ≡ e .count
   pub fits : n ≤ 64 → epochFits c n ≡ true
-  pub carriers : n ≤ 64 → carriersOf c n ≡ counted e
+  pub carriers : n ≤ 64 → carriersOf c n ≡ countedCarriers e
 
 -- the line of a call's number, counts and patterns
 abbrev pub lineBy : ℕ → List ℕ → List ℕ → List ℕ

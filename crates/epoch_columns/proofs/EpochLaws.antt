@@ -17,17 +17,17 @@ use Rattle.directory.specs.Directory.{Blocks, Directory, blockCapacity, directo
 use Rattle.addition.specs.Add.{PatternsAfter, Placed, Places, addedIn, additionNumber, additionOf, directoryWith, entriesNow, refusedIn, samplesNow}
 use Rattle.addition.specs.declared.add.Addition.{Addition}
 use Rattle.addition.specs.declared.add.Addition.the-variants as Addition
-use Rattle.differential.specs.Record.{placeInRange, rangeInRange, rangesOf, stateInRange, statesCount, statesOf}
+use Rattle.differential.specs.Record.{vectorInRange, rangeInRange, rangesOf, stateInRange, statesCount, statesOf}
 use Rattle.differential.specs.Raw.{rawsOf}
 use Rattle.differential.specs.Sample.{epochSamples, samplesOf}
-use Rattle.differential.specs.AddEpoch.{tooMany, settingsInRange, recordsInRange, epochIn}
+use Rattle.differential.specs.AddEpoch.{tooMany, settingsInRange, recordsInRange, epochPlaced}
 use Rattle.differential.proofs.EpochLaws.{told-nothing}
 use Rattle.differential.specs.declared.record.Range.{Range}
 use Rattle.differential.specs.declared.record.State.{State}
 use Rattle.differential.specs.declared.record.BaseEpoch.{BaseEpoch}
 use Rattle.differential.specs.declared.record.States.{States}
 use Rattle.differential.specs.declared.record.Settings.{Settings}
-use Rattle.epoch_columns.specs.Epoch.{rangeAt, epochOf, stateAt, statesIn, recordsShort, entryIn}
+use Rattle.epoch_columns.specs.Epoch.{rangeAt, baseEpochOf, stateAt, statesIn, recordsShort, entryIn}
 use Rattle.epoch_columns.specs.Steps.{CountsWritten, EpochRead, StatesRead, rangesShort, statesShort}
 
 -- ---- columns that are long enough
@@ -119,17 +119,17 @@ placedBy m n room d k time ranges j states base rover set =
     let new = samplesOf time (set .«max_correction») (rawsOf set base rover states ranges) in
     cond (ltb room m || (ltb room n || ltb 64 k || ltb 64 j)) (refusedIn TooMany)
     (cond (not (settingsInRange set)) (refusedIn SettingOutOfRange)
-    (cond (not (placeInRange base && placeInRange rover && inRange time && every rangeInRange ranges && every stateInRange states && soundDirectory d)) (refusedIn RecordOutOfRange)
+    (cond (not (vectorInRange base && vectorInRange rover && inRange time && every rangeInRange ranges && every stateInRange states && soundDirectory d)) (refusedIn RecordOutOfRange)
     (cond (ltb room (n + length new)) (refusedIn TableFull)
     (addedIn (directoryWith d new)))))
 
 module _ (m n room : ℕ) (d : Directory) (base rover : Vec3) (set : Settings) where
-  placed-by : (e : BaseEpoch) (s : States) → epochIn m n room d e s base rover set ≡ placedBy m n room d (e .count) (e .time) (rangesOf e) (statesCount s) (statesOf s) base rover set
-  unfolding epochIn placedBy tooMany recordsInRange epochSamples
+  placed-by : (e : BaseEpoch) (s : States) → epochPlaced m n room d e s base rover set ≡ placedBy m n room d (e .count) (e .time) (rangesOf e) (statesCount s) (statesOf s) base rover set
+  unfolding epochPlaced placedBy tooMany recordsInRange epochSamples
   placed-by e s = refl
 
   placed-same : (e e′ : BaseEpoch) (s s′ : States) → e .count ≡ e′ .count → e .time ≡ e′ .time → rangesOf e ≡ rangesOf e′ → statesCount s ≡ statesCount s′ → statesOf s ≡ statesOf s′
-      → epochIn m n room d e s base rover set ≡ epochIn m n room d e′ s′ base rover set
+      → epochPlaced m n room d e s base rover set ≡ epochPlaced m n room d e′ s′ base rover set
   placed-same e e′ s s′ a b c f g =
       placed-by e s
       ∙ go (e .count) (e .time) (rangesOf e) (statesCount s) (statesOf s) (e′ .count) (e′ .time) (rangesOf e′) (statesCount s′) (statesOf s′) a b c f g
@@ -143,7 +143,7 @@ module _ (m n room : ℕ) (d : Directory) (base rover : Vec3) (set : Settings) w
 module _ (m n : ℕ) (l : Blocks) (ts xs : List ℕ) (time : Float) (k : ℕ) (rc rv rb : List ℕ) (rp : List Float) (present : Bool) (j : ℕ) (sc sv sb : List ℕ) (sf : List Float) (base rover : Vec3) (set : Settings) where
   entry-unreadable : unreadable k rc rv rb rp (cond present j 0) sc sv sb sf ≡ true
       → refusedIn TooMany ≡ entryIn m n (blockCapacity l) (directoryIn m n l) time k rc rv rb rp present j sc sv sb sf base rover set
-  unfolding entryIn epochIn tooMany unreadable
+  unfolding entryIn epochPlaced tooMany unreadable
   entry-unreadable h = go (recordsShort k rc rv rb rp (cond present j 0) sc sv sb sf) h
     where
       either : (z a b c : Bool) → (b || c) ≡ true → (z || (a || b || c)) ≡ true
@@ -152,7 +152,7 @@ module _ (m n : ℕ) (l : Blocks) (ts xs : List ℕ) (time : Float) (k : ℕ) (r
       either false false b c e = e
 
       go : (b : Bool) → (ltb 64 k || ltb 64 (cond present j 0) || b) ≡ true
-          → refusedIn TooMany ≡ cond b (refusedIn TooMany) (epochIn m n (blockCapacity l) (directoryIn m n l) (epochOf time k rc rv rb rp) (statesIn present j sc sv sb sf) base rover set)
+          → refusedIn TooMany ≡ cond b (refusedIn TooMany) (epochPlaced m n (blockCapacity l) (directoryIn m n l) (baseEpochOf time k rc rv rb rp) (statesIn present j sc sv sb sf) base rover set)
       go true e = refl
       go false e = rw (either (ltb (blockCapacity l) m) (ltb (blockCapacity l) n) (ltb 64 k) (ltb 64 (cond present j 0)) (rw or-false at e))
 
@@ -169,11 +169,11 @@ module _ (m n : ℕ) (l : Blocks) (ts xs : List ℕ) (time : Float) (k : ℕ) (r
 
   entry-added : (e : BaseEpoch) (s : States) → unreadable k rc rv rb rp (cond present j 0) sc sv sb sf ≡ false → EpochRead time k (places (rangeAt rc rv rb rp) k) e
       → StatesRead present (cond present j 0) (places (stateAt sc sv sb sf) (cond present j 0)) s
-      → epochIn m n (blockCapacity l) (directoryIn m n l) e s base rover set ≡ entryIn m n (blockCapacity l) (directoryIn m n l) time k rc rv rb rp present j sc sv sb sf base rover set
+      → epochPlaced m n (blockCapacity l) (directoryIn m n l) e s base rover set ≡ entryIn m n (blockCapacity l) (directoryIn m n l) time k rc rv rb rp present j sc sv sb sf base rover set
   unfolding entryIn unreadable
   entry-added e s h er sr =
       rw (or-no (ltb 64 k || ltb 64 (cond present j 0)) _ h .1)
-      (placed-same m n (blockCapacity l) (directoryIn m n l) base rover set e (epochOf time k rc rv rb rp) s (statesIn present j sc sv sb sf) (er .count) (er .time-is)
+      (placed-same m n (blockCapacity l) (directoryIn m n l) base rover set e (baseEpochOf time k rc rv rb rp) s (statesIn present j sc sv sb sf) (er .count) (er .time-is)
       (ap (λ (i : ℕ). take i (e .ranges)) (er .count) ∙ er .ranges ∙ sym (places-all (rangeAt rc rv rb rp) k))
       count
       (ap (λ (i : ℕ). take i (s .states)) count ∙ sr .states-are ∙ states present))
@@ -192,7 +192,7 @@ module _ (m n : ℕ) (l : Blocks) (ts xs : List ℕ) (time : Float) (k : ℕ) (r
   pub adds-as : {w : ℕ} → w ≡ cond present j 0 → (ts′ xs′ : List ℕ) {e : BaseEpoch} {s : States} {from to : Vec3} {given : Settings} {x : Addition} {l′ : Blocks}
       → unreadable k rc rv rb rp w sc sv sb sf ≡ false → EpochRead time k (places (rangeAt rc rv rb rp) k) e
       → StatesRead present w (places (stateAt sc sv sb sf) w) s → from ≡ base → to ≡ rover → given ≡ set
-      → (let o = epochIn m n (blockCapacity l) (directoryIn m n l) e s from to given in (x ≡ additionOf o) × (Places o (additionNumber x) m (entriesNow x m) n (samplesNow x n) l l′ × PatternsAfter o ts xs ts′ xs′))
+      → (let o = epochPlaced m n (blockCapacity l) (directoryIn m n l) e s from to given in (x ≡ additionOf o) × (Places o (additionNumber x) m (entriesNow x m) n (samplesNow x n) l l′ × PatternsAfter o ts xs ts′ xs′))
       → (let o = entryIn m n (blockCapacity l) (directoryIn m n l) time k rc rv rb rp present j sc sv sb sf base rover set in
       (x ≡ additionOf o) × (Places o (additionNumber x) m (entriesNow x m) n (samplesNow x n) l l′ × PatternsAfter o ts xs ts′ xs′))
   adds-as ew ts′ xs′ {e = e} {s = s} h er sr f t g a =

@@ -14,7 +14,7 @@ use Rattle.numeric.specs.declared.refusal.Refusal.the-variants.{TooMany}
 use Rattle.directory.specs.Directory.{Blocks, Directory, blockCapacity, directoryIn}
 use Rattle.table.specs.Lent.{LentColumn, LentFloats}
 use Rattle.addition.specs.Add.{Placed, refusedIn}
-use Rattle.differential.specs.AddEpoch.{epochIn}
+use Rattle.differential.specs.AddEpoch.{epochPlaced}
 use Rattle.differential.specs.declared.record.Range.{Range}
 use Rattle.differential.specs.declared.record.BaseEpoch.{BaseEpoch}
 use Rattle.differential.specs.declared.record.State.{State}
@@ -31,8 +31,8 @@ LentBools = Both (RefT (List Bool)) (RefT (List Bool))
 abbrev pub rangeAt : List ℕ → List ℕ → List ℕ → List Float → ℕ → Range
 rangeAt cs vs bs ps i = record { constellation = getD cs i 0; svid = getD vs i 0; band = getD bs i 0; pseudorange = getD ps i nan }
 
-abbrev pub epochOf : Float → ℕ → List ℕ → List ℕ → List ℕ → List Float → BaseEpoch
-epochOf time k cs vs bs ps = record { count = k; time = time; ranges = places (rangeAt cs vs bs ps) k }
+abbrev pub baseEpochOf : Float → ℕ → List ℕ → List ℕ → List ℕ → List Float → BaseEpoch
+baseEpochOf time k cs vs bs ps = record { count = k; time = time; ranges = places (rangeAt cs vs bs ps) k }
 
 -- the state at i of columns of constellations, svids and bands, and of eight floats for each: position, velocity, clock, modelled
 abbrev pub stateAt : List ℕ → List ℕ → List ℕ → List Float → ℕ → State
@@ -63,7 +63,7 @@ recordsShort k rc rv rb rp m sc sv sb sf =
 unfoldable pub entryIn : ℕ → ℕ → ℕ → Directory → Float → ℕ → List ℕ → List ℕ → List ℕ → List Float → Bool → ℕ → List ℕ → List ℕ → List ℕ → List Float → Vec3 → Vec3 → Settings → Placed
 entryIn m n room d time k rc rv rb rp present j sc sv sb sf base rover set =
     cond (recordsShort k rc rv rb rp (cond present j 0) sc sv sb sf) (refusedIn TooMany)
-    (epochIn m n room d (epochOf time k rc rv rb rp) (statesIn present j sc sv sb sf) base rover set)
+    (epochPlaced m n room d (baseEpochOf time k rc rv rb rp) (statesIn present j sc sv sb sf) base rover set)
 
 -- the outcome for columns that a call is lent, added to the m entries and n samples of l
 abbrev pub lentEntry : ℕ → ℕ → Blocks → Float → ℕ → LentColumn → LentColumn → LentColumn → LentFloats → Bool → ℕ → LentColumn → LentColumn → LentColumn → LentFloats → LentFloats → LentFloats → Float → Float → LentBools → Placed

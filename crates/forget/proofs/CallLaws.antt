@@ -25,7 +25,7 @@ use Rattle.table.specs.declared.add.Test.the-variants as Test
 use Rattle.directory.specs.Directory.{Directory, Blocks, Reading, blockCapacity, blocksWith, directoryIn, directoryOf, entriesIn, flat, floats, inReach, readingOf, readingsIn, soundDirectory}
 use Rattle.directory.proofs.DirectoryLaws.{sound-flat}
 use Rattle.query.proofs.PlaceLaws.{held-flat}
-use Rattle.forget.specs.Forget.{Forgets, Outcome, PatternsAfter, countAfter, forget, forgetIn, forgettingNumber, forgettingOf, leaves, testIn}
+use Rattle.forget.specs.Forget.{Forgets, ForgetOutcome, PatternsAfter, countAfter, forget, forgetIn, forgettingNumber, forgettingOf, leaves, testIn}
 use Rattle.forget.specs.Steps.{Fit, retained, trimmed}
 use Rattle.forget.specs.declared.forget.Forgetting.{Forgetting}
 use Rattle.forget.specs.declared.forget.Forgetting.the-variants as Forgetting
@@ -145,7 +145,7 @@ module _ (m n : ℕ) (l : Blocks) (time : Float) (ts xs : List ℕ) where
           ap (λ (d : Directory). every inReach (d .readings)) (sym q) ∙ w
 
 -- ---- the number and the count, by the answer
-module _ {o : Outcome} {m n : ℕ} {l l′ : Blocks} {a : Forgetting} (f : Forgets o (forgettingNumber a) m n (countAfter a n) l l′) where
+module _ {o : ForgetOutcome} {m n : ℕ} {l l′ : Blocks} {a : Forgetting} (f : Forgets o (forgettingNumber a) m n (countAfter a n) l l′) where
   pub call-refused : {r : Refusal} → a ≡ Forgetting.Refused r → {k : ℕ} → k ≡ numberOf r → Forgets o k m n n l l′
   call-refused e q = rw q (rw e at f)
 

@@ -6,10 +6,10 @@ use Rattle.table.specs.declared.add.Test.the-variants as Test
 use Rattle.directory.specs.Directory.{Blocks, Directory, blockCapacity, directoryIn, directoryOf, flat}
 use Rattle.directory.proofs.DirectoryLaws.{flat-directory}
 use Rattle.directory.proofs.ColumnLaws.{blocks-hold}
-use Rattle.forget.specs.Forget.{Forgets, Outcome, forget, forgetIn, leaves, testIn}
+use Rattle.forget.specs.Forget.{Forgets, ForgetOutcome, forget, forgetIn, leaves, testIn}
 
 -- ---- the columns hold what is left, with the same m entries
-pub columns-hold : {o : Outcome} {number m n n′ : ℕ} {l l′ : Blocks} → Forgets o number m n n′ l l′ → (d : Directory) → o ≡ leaves d → directoryIn m n′ l′ ≡ d
+pub columns-hold : {o : ForgetOutcome} {number m n n′ : ℕ} {l l′ : Blocks} → Forgets o number m n n′ l l′ → (d : Directory) → o ≡ leaves d → directoryIn m n′ l′ ≡ d
 columns-hold {o} {number} {m} {n} {n′} {l} {l′} f d e =
     let g : Forgets (leaves d) number m n n′ l l′ = rw e at f in
     ap (λ (k : Blocks). directoryIn m n′ k) (g .columns) ∙ rw (g .entries-stay, g .count) (blocks-hold d l)

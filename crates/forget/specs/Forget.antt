@@ -15,7 +15,7 @@ use Rattle.table.specs.declared.sample.Sample.{Sample}
 use Rattle.table.specs.declared.add.Test.{Test}
 use Rattle.table.specs.declared.add.Test.the-variants as Test
 use Rattle.directory.specs.Directory.{Directory, Blocks, PatternsWith, blocksWith, directoryOf, flat, soundDirectory}
-use Rattle.directory.specs.Lent.{Lent}
+use Rattle.directory.specs.Lent.{LentTable}
 use Rattle.query.specs.Query.{before}
 use Rattle.forget.specs.declared.forget.Forgetting.{Forgetting}
 use Rattle.forget.specs.declared.forget.Forgetting.the-variants as Forgetting
@@ -47,21 +47,21 @@ testIn m n room d time =
     Test.Passed))
 
 -- a refusal, or the directory afterwards
-pub data Outcome : Type 0 where
-  refused : Refusal → Outcome
-  leaves : Directory → Outcome
+pub data ForgetOutcome : Type 0 where
+  refused : Refusal → ForgetOutcome
+  leaves : Directory → ForgetOutcome
 
 -- what comes of a test, where the directory d is left if it is passed
-abbrev pub outcomeOf : Test → Directory → Outcome
+abbrev pub outcomeOf : Test → Directory → ForgetOutcome
 outcomeOf (Test.Refused r) d = refused r
 outcomeOf Test.Passed d = leaves d
 
 -- a drop: the refusal, or the directory of what is retained of the samples that d stands for
-unfoldable pub forgetIn : ℕ → ℕ → ℕ → Directory → Float → Outcome
+unfoldable pub forgetIn : ℕ → ℕ → ℕ → Directory → Float → ForgetOutcome
 forgetIn m n room d time = outcomeOf (testIn m n room d time) (directoryOf (forget time (flat d)))
 
 -- the answer: the refusal, or how many samples there are now
-abbrev pub forgettingOf : Outcome → Forgetting
+abbrev pub forgettingOf : ForgetOutcome → Forgetting
 forgettingOf (refused r) = Forgetting.Refused r
 forgettingOf (leaves d) = Forgetting.Count (length (d .readings))
 
@@ -76,27 +76,27 @@ countAfter (Forgetting.Refused r) n = n
 countAfter (Forgetting.Count k) n = k
 
 -- how many entries there are afterwards, m before
-abbrev pub entriesAfter : Outcome → ℕ → ℕ
+abbrev pub entriesAfter : ForgetOutcome → ℕ → ℕ
 entriesAfter (refused r) m = m
 entriesAfter (leaves d) m = length (d .entries)
 
 -- the columns afterwards: unchanged where it is refused, else with the directory, and past it the bytes that were there
-abbrev pub blocksAfter : Outcome → Blocks → Blocks
+abbrev pub blocksAfter : ForgetOutcome → Blocks → Blocks
 blocksAfter (refused r) l = l
 blocksAfter (leaves d) l = blocksWith d l
 
 -- the patterns of times and corrections afterwards, to the last bit: unchanged where it is refused, else with those of the directory's readings
-abbrev pub PatternsAfter : Outcome → List ℕ → List ℕ → List ℕ → List ℕ → Type 0
+abbrev pub PatternsAfter : ForgetOutcome → List ℕ → List ℕ → List ℕ → List ℕ → Type 0
 PatternsAfter (refused r) ts xs ts′ xs′ = (ts′ ≡ ts) × (xs′ ≡ xs)
 PatternsAfter (leaves d) ts xs ts′ xs′ = PatternsWith d ts xs ts′ xs′
 
 -- the number, the count and the columns afterwards are those of the outcome, and the directory keeps its m entries
-pub record Forgets (o : Outcome) (number m n n′ : ℕ) (l l′ : Blocks) : Type 0 where
+pub record Forgets (o : ForgetOutcome) (number m n n′ : ℕ) (l l′ : Blocks) : Type 0 where
   pub number-is : number ≡ forgettingNumber (forgettingOf o)
   pub entries-stay : m ≡ entriesAfter o m
   pub count : n′ ≡ countAfter (forgettingOf o) n
   pub columns : l′ ≡ blocksAfter o l
 
 -- the number, the count, the columns and the patterns after a call on lent columns are those of the outcome
-abbrev pub ForgetsIn : Outcome → ℕ → ℕ → ℕ → ℕ → Lent → Type 0
+abbrev pub ForgetsIn : ForgetOutcome → ℕ → ℕ → ℕ → ℕ → LentTable → Type 0
 ForgetsIn o number m n n′ t = Forgets o number m n n′ (t .before) (t .after) × PatternsAfter o (t .times) (t .corrections) (t .timesAfter) (t .correctionsAfter)

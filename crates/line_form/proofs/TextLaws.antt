@@ -15,8 +15,8 @@ use Rattle.walk.specs.Walk.{fold}
 use Rattle.walk.proofs.Walk.{places-all, places-take}
 use Rattle.numeric.specs.declared.vec3.Vec3.{Vec3}
 use Rattle.numeric.specs.declared.refusal.Refusal.the-variants.{TooMany, BrokenForm}
-use Rattle.records.specs.Record.{counted}
-use Rattle.records.specs.Signals.{epochIn, Fit, Put, Laid}
+use Rattle.records.specs.Record.{countedCarriers}
+use Rattle.records.specs.Signals.{epochIn, SignalsFit, Put, Laid}
 use Rattle.records.specs.declared.record.Carrier.{Carrier}
 use Rattle.records.specs.declared.record.Epoch.{Epoch}
 use Rattle.records.specs.declared.pair.Profile.the-variants.{General}
@@ -141,10 +141,10 @@ unfolding noCarriers
 nothing a b c = record { count-is = refl; laid = record { signals-long = a; states-long = b; floats-long = c; small = λ i l. absurd (omega arith); all = λ i l d. absurd (omega arith) } }
 
 -- the first n signals with their states and floats count what the epoch counts
-cut-counted : (e : Epoch) {n : ℕ} {ss : List ℕ} {ts : List ℤ} {fs : List Float} → Laid (e .carriers) n ss ts fs → n ≤ 64 → n ≡ e .count → length (e .carriers) ≡ 64 → counted (epochIn (take n ss) ts fs) ≡ counted e
+cut-counted : (e : Epoch) {n : ℕ} {ss : List ℕ} {ts : List ℤ} {fs : List Float} → Laid (e .carriers) n ss ts fs → n ≤ 64 → n ≡ e .count → length (e .carriers) ≡ 64 → countedCarriers (epochIn (take n ss) ts fs) ≡ countedCarriers e
 cut-counted e {n} {ss} {ts} {fs} h few is long =
     let g : ℕ → Carrier = λ k. getD (e .carriers) k blank in
-    ap counted (cut-is ss ts fs n (h .signals-long) few g (λ k l. h .all k l blank))
+    ap countedCarriers (cut-is ss ts fs n (h .signals-long) few g (λ k l. h .all k l blank))
     ∙ places-all g n
     ∙ places-take (e .carriers) blank n (omega (arith, few, long))
     ∙ ap (λ (k : ℕ). take k (e .carriers)) is
@@ -291,10 +291,10 @@ module _ (s : List ℕ) (f : ℕ) (dt : Float) (receiver : Vec3) (settings : Set
       pub cut-room′ : length (take n ss′) ≡ n
       cut-room′ = cut-count ss′ ts′ fs′ n (laid′ .signals-long) few′
 
-      pub fits : Fit (take m ss) ts fs
+      pub fits : SignalsFit (take m ss) ts fs
       fits = cut-fits ss ts fs m (laid .signals-long) few (omega (arith, laid .states-long)) (omega (arith, laid .floats-long)) (laid .small)
 
-      pub fits′ : Fit (take n ss′) ts′ fs′
+      pub fits′ : SignalsFit (take n ss′) ts′ fs′
       fits′ = cut-fits ss′ ts′ fs′ n (laid′ .signals-long) few′ (omega (arith, laid′ .states-long)) (omega (arith, laid′ .floats-long)) (laid′ .small)
 
       pub lines-are : (d : Displacement) → Promised (general (epochIn (take m ss) ts fs) (epochIn (take n ss′) ts′ fs′) dt receiver settings) d → LinesDisplace (drop f s) dt receiver settings d

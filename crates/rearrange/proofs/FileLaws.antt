@@ -11,7 +11,7 @@ use lib.Ieee.{Float, nan}
 use lib.Seq.{drop-cons, length-take-le, set-at, take-all, take-take}
 use borrow.Author.Tests.{eq-eqb, eqb-true, eqb-false}
 use Rattle.walk.specs.Walk.{every}
-use Rattle.table.specs.Table.{blank, lent, ranged, rows, signalOf, sorted, soundTable, tableOf}
+use Rattle.table.specs.Table.{blank, lentSamples, ranged, rows, signalOf, sorted, soundTable, tableOf}
 use Rattle.table.specs.Add.{insertAll}
 use Rattle.table.specs.declared.sample.Sample.{Sample}
 use Rattle.table.proofs.ColumnLaws.{rows-at, rows-length}
@@ -187,21 +187,21 @@ pub filed-beside : (dc dv db df dn : List ℕ) {dc′ dv′ db′ df′ dn′ : 
 filed-beside dc dv db df dn es ts xs e = ap (λ (l : Blocks). lentBlocks (l .constellations) (l .svids) (l .bands) (l .firsts) (l .counts) ts xs) e
 
 -- ---- from the columns
-module _ (cs vs bs : List ℕ) (ts xs : List Float) (n : ℕ) (h : n ≤ length (rows (lent cs vs bs ts xs))) where
-  pub signals-by : soundTable (tableOf n (lent cs vs bs ts xs)) ≡ true → ((x : ℕ) → getD vs x 0 < 2 ^ 16) → ((x : ℕ) → getD bs x 0 < 2 ^ 32) → Signals cs vs bs n (tableOf n (lent cs vs bs ts xs))
+module _ (cs vs bs : List ℕ) (ts xs : List Float) (n : ℕ) (h : n ≤ length (rows (lentSamples cs vs bs ts xs))) where
+  pub signals-by : soundTable (tableOf n (lentSamples cs vs bs ts xs)) ≡ true → ((x : ℕ) → getD vs x 0 < 2 ^ 16) → ((x : ℕ) → getD bs x 0 < 2 ^ 32) → Signals cs vs bs n (tableOf n (lentSamples cs vs bs ts xs))
   signals-by ok fv fb =
       record {
-        count = length-take-le n (rows (lent cs vs bs ts xs)) h;
+        count = length-take-le n (rows (lentSamples cs vs bs ts xs)) h;
         constellations = λ x l. ap (λ (s : Sample). s .constellation) (row x l);
         svids = λ x l. ap (λ (s : Sample). s .svid) (row x l);
         bands = λ x l. ap (λ (s : Sample). s .band) (row x l);
-        in-order = and-right (every ranged (tableOf n (lent cs vs bs ts xs))) (sorted (tableOf n (lent cs vs bs ts xs))) (unfold soundTable in ok);
+        in-order = and-right (every ranged (tableOf n (lentSamples cs vs bs ts xs))) (sorted (tableOf n (lentSamples cs vs bs ts xs))) (unfold soundTable in ok);
         svids-fit = fv;
         bands-fit = fb;
       }
     where
-      row : (x : ℕ) → x < n → _≡_ {A = Sample} (record { constellation = getD cs x 0; svid = getD vs x 0; band = getD bs x 0; time = getD ts x nan; correction = getD xs x nan }) (getD (tableOf n (lent cs vs bs ts xs)) x blank)
-      row x l = rows-at (lent cs vs bs ts xs) x (omega arith) ∙ sym (lib.Seq.getD-take n (rows (lent cs vs bs ts xs)) x blank l)
+      row : (x : ℕ) → x < n → _≡_ {A = Sample} (record { constellation = getD cs x 0; svid = getD vs x 0; band = getD bs x 0; time = getD ts x nan; correction = getD xs x nan }) (getD (tableOf n (lentSamples cs vs bs ts xs)) x blank)
+      row x l = rows-at (lentSamples cs vs bs ts xs) x (omega arith) ∙ sym (lib.Seq.getD-take n (rows (lentSamples cs vs bs ts xs)) x blank l)
 
 -- ---- a run, sample by sample
 abbrev pub SameUp : List ℕ → List ℕ → List ℕ → ℕ → ℕ → Type 0
@@ -227,5 +227,5 @@ module _ (cs vs bs : List ℕ) (i j : ℕ) where
   pub other-at : ((not (eqb (getD cs j 0) (getD cs i 0)) || not (eqb (getD vs j 0) (getD vs i 0))) || not (eqb (getD bs j 0) (getD bs i 0))) ≡ true → SameAt cs vs bs j i → ⊥
   other-at q s = never (rw (eq-eqb (getD cs j 0) (getD cs i 0) (s .0), eq-eqb (getD vs j 0) (getD vs i 0) (s .1 .0), eq-eqb (getD bs j 0) (getD bs i 0) (s .1 .1)) at q)
 
-pub rows-within-n : (cs vs bs : List ℕ) (ts xs : List Float) (n : ℕ) → n ≤ length (rows (lent cs vs bs ts xs)) → (n ≤ length cs) × ((n ≤ length vs) × (n ≤ length bs))
-rows-within-n cs vs bs ts xs n h = let z = rows-length (lent cs vs bs ts xs) in (omega arith, (omega arith, omega arith))
+pub rows-within-n : (cs vs bs : List ℕ) (ts xs : List Float) (n : ℕ) → n ≤ length (rows (lentSamples cs vs bs ts xs)) → (n ≤ length cs) × ((n ≤ length vs) × (n ≤ length bs))
+rows-within-n cs vs bs ts xs n h = let z = rows-length (lentSamples cs vs bs ts xs) in (omega arith, (omega arith, omega arith))

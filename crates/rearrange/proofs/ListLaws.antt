@@ -10,7 +10,7 @@ use lib.ListN.{length, getD, take, drop, set, length-map, length-set, List·getD
 use lib.Seq.{ext-getD, getD-append-add, getD-drop, getD-set-other, getD-set-same, length-take-le}
 use lib.Ieee.{Float}
 use borrow.Author.Tests.{eqb-true, eqb-false, ltb-true, ltb-false}
-use Rattle.table.specs.Table.{blank, lent}
+use Rattle.table.specs.Table.{blank, lentSamples}
 use Rattle.table.specs.declared.sample.Sample.{Sample}
 use Rattle.directory.specs.Directory.{Entry, columnOf, directoryIn, entryRows, flat, lentBlocks, noEntry, noReading, readingRows, sampleOf, soundDirectory, tiles}
 use Rattle.directory.specs.Rearrange.{signalsWith}
@@ -175,7 +175,7 @@ module _ (dc dv db df dn : List ℕ) (m : ℕ) (ts xs : List Float) (n : ℕ) (h
       flat-at (take n (readingRows ts xs)) (take m (entryRows dc dv db df dn)) j k tiled (omega (arith, long)) (omega (arith, s)) (omega (arith, e))
 
   pub listed : {cs vs bs cs′ vs′ bs′ : List ℕ} → n ≤ length cs → n ≤ length vs → n ≤ length bs → Laid dc dn m cs cs′ → Laid dv dn m vs vs′ → Laid db dn m bs bs′
-      → lent cs′ vs′ bs′ ts xs ≡ signalsWith (flat (directoryIn m n (lentBlocks dc dv db df dn ts xs))) (lent cs vs bs ts xs)
+      → lentSamples cs′ vs′ bs′ ts xs ≡ signalsWith (flat (directoryIn m n (lentBlocks dc dv db df dn ts xs))) (lentSamples cs vs bs ts xs)
   listed {cs} {vs} {bs} rc rv rb c v b =
       let t = flat (directoryIn m n (lentBlocks dc dv db df dn ts xs)) in
       let e : length t ≡ startOf dn m = count ∙ sym start-end in

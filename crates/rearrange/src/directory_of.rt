@@ -3,7 +3,7 @@ ghost use mathlib.Core.Path.{_≡_};
 ghost use mathlib.Core.List.{List};
 ghost use Prim.Native.Nat.{_≤_, _<_, min};
 ghost use lib.ListN.{length};
-ghost use Rattle.table.specs.Table.{lent};
+ghost use Rattle.table.specs.Table.{lentSamples};
 ghost use Rattle.table.specs.declared.sample.Sample.{Sample};
 ghost use Rattle.directory.specs.Directory.{lentBlocks, entriesIn, entryRows, entriesFrom};
 ghost use Rattle.directory.specs.Rearrange.{filedOf, filedColumns, entriesWith};
@@ -119,7 +119,7 @@ pub fn directory_of(
     block_first: &mut [usize],
     block_samples: &mut [usize],
 ) -> Filing
-    ensures { λ r. ⌜ (let t = lent
+    ensures { λ r. ⌜ (let t = lentSamples
         (now (constellation .entry)) (now (svid .entry)) (now (band .entry)) (now («table_time» .entry)) (now («table_metres» .entry)) in
         let l = lentBlocks
         (now («block_constellation» .entry)) (now («block_svid» .entry)) (now («block_band» .entry)) (now («block_first» .entry)) (now («block_samples» .entry))

@@ -2,7 +2,7 @@
 ghost use mathlib.Core.Path.{_≡_};
 ghost use Prim.Native.Nat.{_≤_, min};
 ghost use lib.ListN.{length};
-ghost use Rattle.table.specs.Table.{lent};
+ghost use Rattle.table.specs.Table.{lentSamples};
 ghost use Rattle.directory.specs.Directory.{lentBlocks};
 ghost use Rattle.directory.specs.Rearrange.{listedOf, listedColumns};
 ghost use Rattle.rearrange.specs.Lent.{listingOf};
@@ -91,9 +91,9 @@ pub fn signals_of(
     ensures { λ r. ⌜ (let l = lentBlocks
         (now («block_constellation» .entry)) (now («block_svid» .entry)) (now («block_band» .entry)) (now («block_first» .entry)) (now («block_samples» .entry))
         (now («table_time» .entry)) (now («table_metres» .entry)) in
-        let t = lent (now (constellation .entry)) (now (svid .entry)) (now (band .entry)) (l .times) (l .corrections) in
+        let t = lentSamples (now (constellation .entry)) (now (svid .entry)) (now (band .entry)) (l .times) (l .corrections) in
         let o = listedOf blocks «table_count» (min (length (t .constellations)) (min (length (t .svids)) (length (t .bands)))) l in
-        (r ≡ listingOf o) × (lent (now (constellation .exit)) (now (svid .exit)) (now (band .exit)) (l .times) (l .corrections) ≡ listedColumns o t)) ⌝ }
+        (r ≡ listingOf o) × (lentSamples (now (constellation .exit)) (now (svid .exit)) (now (band .exit)) (l .times) (l .corrections) ≡ listedColumns o t)) ⌝ }
 {
     let long = lesser(constellation.len(), lesser(svid.len(), band.len()));
     let room = block_capacity(

@@ -16,8 +16,8 @@ use Rattle.records.specs.declared.record.Observation.{Observation}
 use Rattle.records.specs.declared.record.Observations.{Observations}
 
 -- the counted records of an epoch
-abbrev pub counted : Epoch → List Carrier
-counted e = take (e .count) (e .carriers)
+abbrev pub countedCarriers : Epoch → List Carrier
+countedCarriers e = take (e .count) (e .carriers)
 
 abbrev pub countedObservations : Observations → List Observation
 countedObservations o = take (o .count) (o .observation)

@@ -36,7 +36,7 @@ abbrev pub epochIn : List ℕ → List ℤ → List Float → Epoch
 epochIn ss ts fs = record { count = length ss; carriers = carriersIn ss ts fs }
 
 -- there are at most 64 signals, each of them one, and for each a state and six floats
-pub record Fit (ss : List ℕ) (ts : List ℤ) (fs : List Float) : Type 0 where
+pub record SignalsFit (ss : List ℕ) (ts : List ℤ) (fs : List Float) : Type 0 where
   pub few : length ss ≤ 64
   pub states : length ss ≤ length ts
   pub floats : 6 * length ss ≤ length fs

@@ -58,7 +58,7 @@ pub(crate) fn carrier_in(signals: &[u64], states: &[i32], floats: &[f64], i: usi
 
 // Whether rule 4 lets each of the carriers pass.
 pub fn sound_in(signals: &[u64], states: &[i32], floats: &[f64]) -> bool
-    requires { ⌜ spec.Fit (now signals) (now states) (now floats) ⌝ }
+    requires { ⌜ spec.SignalsFit (now signals) (now states) (now floats) ⌝ }
     ensures { λ r. ⌜ r ≡ every soundCarrier (spec.carriersIn (now (signals .entry)) (now (states .entry)) (now (floats .entry))) ⌝ }
 {
     let n = signals.len();

@@ -6,7 +6,7 @@ ghost use lib.Dec.{eqb};
 ghost use lib.ListN.{getD, length};
 ghost use lib.Ieee.{le};
 ghost use Rattle.records.specs.Record.{usable};
-ghost use Rattle.records.specs.Signals.{carrierIn, carriersIn, Fit};
+ghost use Rattle.records.specs.Signals.{carrierIn, carriersIn, SignalsFit};
 ghost use Rattle.records.specs.City.{lookedAt, looked};
 ghost use Rattle.records.specs.Pair as spec;
 use crate::carriers::carrier_in;
@@ -102,7 +102,7 @@ fn is_partner(signal: u64, signals: &[u64], states: &[i32], floats: &[f64], j: u
 
 // Where the first of them stands, or past the last.
 fn partner_in(signal: u64, signals: &[u64], states: &[i32], floats: &[f64]) -> usize
-    requires { ⌜ Fit (now signals) (now states) (now floats) ⌝ }
+    requires { ⌜ SignalsFit (now signals) (now states) (now floats) ⌝ }
     ensures { λ r. ⌜ spec.Finds signal (now (signals .entry)) (now (states .entry)) (now (floats .entry)) r ⌝ }
 {
     let n = signals.len();
@@ -160,8 +160,8 @@ pub fn pairs_in(
     dt: f64,
     profile: Profile,
 ) -> Pairs
-    requires { ⌜ Fit (now «previous_signals») (now «previous_states») (now «previous_floats») ⌝ }
-    requires { ⌜ Fit (now «current_signals») (now «current_states») (now «current_floats») ⌝ }
+    requires { ⌜ SignalsFit (now «previous_signals») (now «previous_states») (now «previous_floats») ⌝ }
+    requires { ⌜ SignalsFit (now «current_signals») (now «current_states») (now «current_floats») ⌝ }
     ensures { λ r. ⌜ spec.Paired r (spec.pairsOf receiver mask dt
         (carriersIn (now («previous_signals» .entry)) (now («previous_states» .entry)) (now («previous_floats» .entry)))
         (looked profile (carriersIn (now («current_signals» .entry)) (now («current_states» .entry)) (now («current_floats» .entry))))) ⌝ }

@@ -12,7 +12,7 @@ use borrow.Author.Tests.{ltb-true, ltb-false, lt-ltb, le-ltb}
 use lib.Ieee.{Float}
 use Rattle.walk.proofs.Walk.{or-no}
 use Rattle.numeric.specs.declared.refusal.Refusal.the-variants.{TooMany}
-use Rattle.table.specs.Table.{lent, beside, rows, capacity, tableOf, soundTable}
+use Rattle.table.specs.Table.{lentSamples, beside, rows, capacity, tableOf, soundTable}
 use Rattle.table.specs.Widen.{bandsShort, widened, widenOf}
 use Rattle.table.specs.declared.sample.Sample.{Sample}
 use Rattle.table.specs.declared.widen.Widening.the-variants.{Refused, Widened}
@@ -116,30 +116,30 @@ under n a k j e = go (ltb j n) refl e
 
 module _ (n : ℕ) (cs vs narrow wide : List ℕ) (ts xs : List Float) (r : Roomy n narrow wide) where
   -- the samples are those of the old table: none is lost, and each has the band that it had
-  pub table-widened : tableOf n (lent cs vs (widened n narrow wide) ts xs) ≡ tableOf n (lent cs vs narrow ts xs)
+  pub table-widened : tableOf n (lentSamples cs vs (widened n narrow wide) ts xs) ≡ tableOf n (lentSamples cs vs narrow ts xs)
   unfolding rows
   table-widened = rows-widened n cs vs narrow wide ts xs (r .in-narrow) (r .in-wide)
 
   -- it is sound, so also sorted, where the old one is
-  pub sound-widened : soundTable (tableOf n (lent cs vs (widened n narrow wide) ts xs)) ≡ soundTable (tableOf n (lent cs vs narrow ts xs))
+  pub sound-widened : soundTable (tableOf n (lentSamples cs vs (widened n narrow wide) ts xs)) ≡ soundTable (tableOf n (lentSamples cs vs narrow ts xs))
   sound-widened = ap soundTable table-widened
 
   -- number 2 of the table itself is met where it was
-  pub fits-widened : ltb (capacity (lent cs vs (widened n narrow wide) ts xs)) n ≡ ltb (capacity (lent cs vs narrow ts xs)) n
+  pub fits-widened : ltb (capacity (lentSamples cs vs (widened n narrow wide) ts xs)) n ≡ ltb (capacity (lentSamples cs vs narrow ts xs)) n
   fits-widened =
       let new = length (widened n narrow wide) in
       let old = length narrow in
       let k = min (length ts) (length xs) in
       let long : n ≤ new = rw (widened-length n narrow wide (r .in-narrow) (r .in-wide)) (r .in-wide) in
-      rw (rows-length (lent cs vs (widened n narrow wide) ts xs), rows-length (lent cs vs narrow ts xs))
+      rw (rows-length (lentSamples cs vs (widened n narrow wide) ts xs), rows-length (lentSamples cs vs narrow ts xs))
       (under n 2048 (min (length cs) (min (length vs) (min new k))) (min (length cs) (min (length vs) (min old k)))
       (under n (length cs) (min (length vs) (min new k)) (min (length vs) (min old k))
       (under n (length vs) (min new k) (min old k)
       (enough n new old k long (r .in-narrow)))))
 
   -- with a new column as long as the old one the capacity is the old one
-  pub capacity-widened : length wide ≡ length narrow → capacity (lent cs vs (widened n narrow wide) ts xs) ≡ capacity (lent cs vs narrow ts xs)
+  pub capacity-widened : length wide ≡ length narrow → capacity (lentSamples cs vs (widened n narrow wide) ts xs) ≡ capacity (lentSamples cs vs narrow ts xs)
   capacity-widened e =
       ap (min 2048)
-      (rows-length (lent cs vs (widened n narrow wide) ts xs)
-      ∙ rw (widened-length n narrow wide (r .in-narrow) (r .in-wide), e) (sym (rows-length (lent cs vs narrow ts xs))))
+      (rows-length (lentSamples cs vs (widened n narrow wide) ts xs)
+      ∙ rw (widened-length n narrow wide (r .in-narrow) (r .in-wide), e) (sym (rows-length (lentSamples cs vs narrow ts xs))))

@@ -20,10 +20,10 @@ insertAll t (s ∷ ss) = insertAll (insert s t) ss
 -- ---- the outcome of adding
 
 -- a refusal, or the table afterwards
-pub data Outcome : Type 0 where
-  refused : Refusal → Outcome
-  added : List Sample → Outcome
+pub data AddOutcome : Type 0 where
+  refused : Refusal → AddOutcome
+  added : List Sample → AddOutcome
 
 -- the samples that are counted
-abbrev pub counted : Samples → List Sample
-counted new = take (new .count) (new .samples)
+abbrev pub countedSamples : Samples → List Sample
+countedSamples new = take (new .count) (new .samples)

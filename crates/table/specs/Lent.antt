@@ -4,7 +4,7 @@ use mathlib.Core.List.{List}
 use lib.Ieee.{Float}
 use denote.Ref.{RefT, now}
 use denote.Triple.Both.{Both}
-use Rattle.table.specs.Table.{Columns, lent}
+use Rattle.table.specs.Table.{Columns, lentSamples}
 
 -- a column of numbers, before a call and after it
 abbrev pub LentColumn : Type 0
@@ -16,8 +16,8 @@ LentFloats = Both (RefT (List Float)) (RefT (List Float))
 
 -- the columns of a table before a call
 abbrev pub columnsBefore : LentColumn → LentColumn → LentColumn → LentFloats → LentFloats → Columns
-columnsBefore c v b t x = lent (now (c .entry)) (now (v .entry)) (now (b .entry)) (now (t .entry)) (now (x .entry))
+columnsBefore c v b t x = lentSamples (now (c .entry)) (now (v .entry)) (now (b .entry)) (now (t .entry)) (now (x .entry))
 
 -- the same columns in a condition on the caller
 abbrev pub columnsNow : RefT (List ℕ) → RefT (List ℕ) → RefT (List ℕ) → RefT (List Float) → RefT (List Float) → Columns
-columnsNow c v b t x = lent (now c) (now v) (now b) (now t) (now x)
+columnsNow c v b t x = lentSamples (now c) (now v) (now b) (now t) (now x)

@@ -6,7 +6,7 @@ use mathlib.Core.List.{List, [], _∷_}
 use lib.ListN.{length, take, drop}
 use denote.Ref.{now}
 use Rattle.walk.specs.Walk.{every}
-use Rattle.table.specs.Table.{Columns, lent, ranged, rows, soundTable, standsBefore, tableOf}
+use Rattle.table.specs.Table.{Columns, lentSamples, ranged, rows, soundTable, standsBefore, tableOf}
 use Rattle.table.specs.Add.{insertAll}
 use Rattle.table.specs.Lent.{LentColumn, LentFloats, columnsBefore}
 use Rattle.table.specs.declared.sample.Sample.{Sample}
@@ -52,7 +52,7 @@ Inserted n s = InsertedAll n 1 (s ∷ [])
 
 -- the columns of a table after a call
 abbrev pub columnsAfter : LentColumn → LentColumn → LentColumn → LentFloats → LentFloats → Columns
-columnsAfter c v b t x = lent (now (c .exit)) (now (v .exit)) (now (b .exit)) (now (t .exit)) (now (x .exit))
+columnsAfter c v b t x = lentSamples (now (c .exit)) (now (v .exit)) (now (b .exit)) (now (t .exit)) (now (x .exit))
 
 -- the columns have a sound table of n samples
 abbrev pub SoundRows : ℕ → Columns → Type 0

@@ -22,8 +22,8 @@ pub record Columns : Type 0 where
   pub corrections : List Float
 
 -- the columns as a call is lent them
-abbrev pub lent : List ℕ → List ℕ → List ℕ → List Float → List Float → Columns
-lent cs vs bs ts xs = record { constellations = cs; svids = vs; bands = bs; times = ts; corrections = xs }
+abbrev pub lentSamples : List ℕ → List ℕ → List ℕ → List Float → List Float → Columns
+lentSamples cs vs bs ts xs = record { constellations = cs; svids = vs; bands = bs; times = ts; corrections = xs }
 
 -- the samples that lie side by side in five columns: as many as the shortest has
 unfoldable pub beside : List ℕ → List ℕ → List ℕ → List Float → List Float → List Sample

@@ -5,7 +5,7 @@ ghost use Prim.Native.Nat.{_-_, _≤_, _<_};
 ghost use lib.ListN.{length, take};
 ghost use Rattle.walk.specs.Walk.{every};
 ghost use Rattle.table.specs.Table.{ranged, tableOf};
-ghost use Rattle.table.specs.Add.{counted};
+ghost use Rattle.table.specs.Add.{countedSamples};
 ghost use Rattle.table.specs.Lent.{columnsBefore, columnsNow};
 ghost use Rattle.table.specs.Steps.{Inserts, RoomForAll, RoomForOne, SoundRows, opened, spotOf};
 use crate::sample::Sample;
@@ -140,7 +140,7 @@ pub fn insert_all(
 // Checks that every counted sample is in range (rule 4).
 pub fn all_ranged(new: Samples) -> bool
     requires { ⌜ new .count ≤ 64 ⌝ }
-    ensures { λ r. ⌜ r ≡ every ranged (counted new) ⌝ }
+    ensures { λ r. ⌜ r ≡ every ranged (countedSamples new) ⌝ }
 {
     let m = new.count;
     let mut i: usize = 0;

@@ -6,7 +6,7 @@ use borrow.Author.Tests.{lt-ltb}
 use lib.Dec.{ltb}
 use Rattle.numeric.specs.declared.vec3.Vec3.{Vec3}
 use Rattle.numeric.specs.declared.refusal.Refusal.the-variants.{TooMany, SettingOutOfRange}
-use Rattle.records.specs.Record.{counted}
+use Rattle.records.specs.Record.{countedCarriers}
 use Rattle.records.specs.declared.record.Epoch.{Epoch}
 use Rattle.records.specs.declared.pair.Profile.{Profile}
 use Rattle.estimator.specs.Rules.{ruled}
@@ -19,7 +19,7 @@ use Rattle.tdcp.specs.declared.displacement.Interval.{Interval}
 use Rattle.tdcp.specs.declared.displacement.Displacement.the-variants.{Refused}
 
 module _ (p q c d : Epoch) (since : Interval) (receiver : Vec3) (settings : Settings) (profile : Profile)
-    (m : p .count ≡ q .count) (n : c .count ≡ d .count) (e : counted p ≡ counted q) (f : counted c ≡ counted d) where
+    (m : p .count ≡ q .count) (n : c .count ≡ d .count) (e : countedCarriers p ≡ countedCarriers q) (f : countedCarriers c ≡ countedCarriers d) where
   rules-counted : epochRules p c receiver settings ≡ epochRules q d receiver settings
   unfolding epochRules
   rules-counted = rw (e, f, m, n)

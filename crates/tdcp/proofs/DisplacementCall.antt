@@ -14,7 +14,7 @@ use Rattle.numeric.specs.declared.refusal.Refusal.the-variants.{TooMany, NotCer
 use Rattle.walk.specs.Walk.{every}
 use Rattle.time.specs.declared.time.Seconds.{Seconds}
 use Rattle.time.specs.declared.time.Seconds.the-variants.{Refused as NoSeconds, Since}
-use Rattle.records.specs.Record.{counted, soundCarrier, placeable}
+use Rattle.records.specs.Record.{countedCarriers, soundCarrier, placeable}
 use Rattle.records.specs.City.{isCity, looked}
 use Rattle.records.specs.Pair.{pairsOf, Paired}
 use Rattle.clocks.specs.Clocks.{has, clocksOf}
@@ -146,10 +146,10 @@ since-is (r ∷ rs) {dt} {x} e = go (r .applies) e (since-is rs)
 
 -- the code's pairs are those of the call
 pub paired : (i : Input) {all : Pairs} {dt : Float} → dt ≡ dtOf (i .since)
-    → Paired all (pairsOf (i .receiver) (i .settings .mask) dt (counted (i .previous)) (looked (i .profile) (counted (i .current)))) → take (all .count) (all .pair) ≡ pairs i
+    → Paired all (pairsOf (i .receiver) (i .settings .mask) dt (countedCarriers (i .previous)) (looked (i .profile) (countedCarriers (i .current)))) → take (all .count) (all .pair) ≡ pairs i
 paired i {dt = dt} e h =
-    let p = counted (i .previous) in
-    let c = counted (i .current) in
+    let p = countedCarriers (i .previous) in
+    let c = countedCarriers (i .current) in
     h .held .all
     ∙ looked-alone (i .profile) (i .receiver) (i .settings .mask) dt p c
     ∙ ap (λ (x : Float). pairsOf (i .receiver) (i .settings .mask) x (looked (i .profile) p) (looked (i .profile) c)) e
@@ -173,7 +173,7 @@ module _ (i : Input) where
 
   -- where 2 does not apply the rules are those on what is given
   module _ (few : ltb 64 (i .previous .count) ≡ false) (few′ : ltb 64 (i .current .count) ≡ false) {sound : Bool}
-      (is : sound ≡ (every soundCarrier (counted (i .previous)) && every soundCarrier (counted (i .current)) && placeable (i .receiver))) where
+      (is : sound ≡ (every soundCarrier (countedCarriers (i .previous)) && every soundCarrier (countedCarriers (i .current)) && placeable (i .receiver))) where
     abbrev rules : List Rule
     rules = givenRules (i .settings) sound (i .since)
 

@@ -19,7 +19,7 @@ use Rattle.robust.specs.Sigma.{elevationSigma}
 use Rattle.normal.specs.declared.row.Row.{Row}
 use Rattle.clocks.specs.Clocks.{slot, clocksOf}
 use Rattle.estimator.specs.Rules.{Rule, rule, ruled}
-use Rattle.records.specs.Record.{counted}
+use Rattle.records.specs.Record.{countedCarriers}
 use Rattle.records.specs.City.{looked, isCity}
 use Rattle.records.specs.Pair.{pairsOf}
 use Rattle.records.specs.Screen.{keptOf, constellations}
@@ -97,7 +97,7 @@ fitBy settings ps =
 
 -- the pairs before screening: of all counted carriers, or in the city profile of those that it certifies
 abbrev pub pairs : Input → List Pair
-pairs i = pairsOf (i .receiver) (i .settings .mask) (dtOf (i .since)) (looked (i .profile) (counted (i .previous))) (looked (i .profile) (counted (i .current)))
+pairs i = pairsOf (i .receiver) (i .settings .mask) (dtOf (i .since)) (looked (i .profile) (countedCarriers (i .previous))) (looked (i .profile) (countedCarriers (i .current)))
 
 -- and after it
 abbrev pub keptPairs : Input → List Pair

@@ -12,7 +12,7 @@ use Rattle.numeric.specs.declared.vec3.Vec3.{Vec3}
 use Rattle.numeric.specs.declared.refusal.Refusal.the-variants.{TooMany, SettingOutOfRange, RecordOutOfRange, BadTime, BadInterval, TooFewPairs}
 use Rattle.time.specs.Time.{isDated, secondsBetween}
 use Rattle.estimator.specs.Rules.{Rule, rule, rowRules}
-use Rattle.records.specs.Record.{counted, placeable, soundCarrier}
+use Rattle.records.specs.Record.{countedCarriers, placeable, soundCarrier}
 use Rattle.records.specs.declared.record.Epoch.{Epoch}
 use Rattle.tdcp.specs.declared.displacement.Settings.{Settings}
 use Rattle.tdcp.specs.declared.displacement.Interval.{Interval}
@@ -29,7 +29,7 @@ unfoldable pub epochRules : Epoch → Epoch → Vec3 → Settings → List Rule
 epochRules previous current receiver settings =
     rule TooMany (ltb 64 (previous .count) || ltb 64 (current .count))
     ∷ rule SettingOutOfRange (not (settingsPass settings))
-    ∷ rule RecordOutOfRange (not (every soundCarrier (counted previous) && every soundCarrier (counted current) && placeable receiver))
+    ∷ rule RecordOutOfRange (not (every soundCarrier (countedCarriers previous) && every soundCarrier (countedCarriers current) && placeable receiver))
     ∷ []
 
 -- the seconds of an interval: so many, or those from the previous time to the current one

@@ -1,6 +1,6 @@
 // The displacement between two epochs: its types, the way that every call takes, and the calls by value.
 ghost use mathlib.Core.Path.{_≡_};
-ghost use Rattle.records.specs.Signals.{epochIn, Fit};
+ghost use Rattle.records.specs.Signals.{epochIn, SignalsFit};
 ghost use Rattle.tdcp.specs.Displacement as spec;
 ghost use Rattle.tdcp.specs.Rated as rated;
 use crate::moved::moved_by;
@@ -85,8 +85,8 @@ pub fn answered(
     profile: Profile,
     wanted: bool,
 ) -> Rated
-    requires { ⌜ Fit (now «previous_signals») (now «previous_states») (now «previous_floats») ⌝ }
-    requires { ⌜ Fit (now «current_signals») (now «current_states») (now «current_floats») ⌝ }
+    requires { ⌜ SignalsFit (now «previous_signals») (now «previous_states») (now «previous_floats») ⌝ }
+    requires { ⌜ SignalsFit (now «current_signals») (now «current_states») (now «current_floats») ⌝ }
     ensures { λ r. ⌜ r ≡ rated.answeredOf wanted (spec.input
         (epochIn (now («previous_signals» .entry)) (now («previous_states» .entry)) (now («previous_floats» .entry)))
         (epochIn (now («current_signals» .entry)) (now («current_states» .entry)) (now («current_floats» .entry)))
@@ -129,8 +129,8 @@ pub fn displaced(
     settings: Settings,
     profile: Profile,
 ) -> Displacement
-    requires { ⌜ Fit (now «previous_signals») (now «previous_states») (now «previous_floats») ⌝ }
-    requires { ⌜ Fit (now «current_signals») (now «current_states») (now «current_floats») ⌝ }
+    requires { ⌜ SignalsFit (now «previous_signals») (now «previous_states») (now «previous_floats») ⌝ }
+    requires { ⌜ SignalsFit (now «current_signals») (now «current_states») (now «current_floats») ⌝ }
     ensures { λ r. ⌜ spec.Promised (spec.input
         (epochIn (now («previous_signals» .entry)) (now («previous_states» .entry)) (now («previous_floats» .entry)))
         (epochIn (now («current_signals» .entry)) (now («current_states» .entry)) (now («current_floats» .entry)))

@@ -12,7 +12,7 @@ use borrow.Author.Tests.{leb-true}
 use Rattle.walk.proofs.Walk.{and-both}
 use Rattle.numeric.specs.declared.refusal.Refusal.the-variants.{TooMany}
 use Rattle.records.specs.Carriers.{CarrierColumns, carrierColumns, epochOf, epochFits}
-use Rattle.records.specs.Signals.{epochIn, Fit}
+use Rattle.records.specs.Signals.{epochIn, SignalsFit}
 use Rattle.records.proofs.EpochLaws.{signalled-fits, signalled-is}
 use Rattle.tdcp.specs.Rated.{answeredOf}
 use Rattle.tdcp.specs.declared.displacement.Rated.{Rated}
@@ -58,7 +58,7 @@ module _ (cs vs bs : List ℕ) (ts : List ℤ) (fs : List Float) (n : ℕ) {r : 
   into-count = length-take-le n ss into-long
 
   module _ (vl : (i : ℕ) → getD vs i 0 < 2 ^ 16) (bl : (i : ℕ) → getD bs i 0 < 2 ^ 32) where
-    pub into-fits : ((i : ℕ) → getD cs i 0 < 2 ^ 8) → Fit (take n ss) ts fs
+    pub into-fits : ((i : ℕ) → getD cs i 0 < 2 ^ 8) → SignalsFit (take n ss) ts fs
     into-fits cl = signalled-fits cs vs bs ts fs n ss (h .signalled t) (room .few) vl bl (room .state) (room .floats) cl
 
     pub into-is : epochIn (take n ss) ts fs ≡ epochOf (carrierColumns cs vs bs ts fs) n

@@ -13,7 +13,7 @@ use Rattle.numeric.specs.Order.{patternOf}
 use Rattle.numeric.specs.declared.refusal.Refusal.{Refusal}
 use Rattle.numeric.specs.declared.refusal.Refusal.the-variants.{TooMany, BrokenRecords}
 use Rattle.records.specs.Signals as signals
-use Rattle.records.specs.Signals.{Fit, Laid}
+use Rattle.records.specs.Signals.{SignalsFit, Laid}
 use Rattle.records.specs.declared.record.Carrier.{Carrier}
 use Rattle.records.proofs.RecordLaws.{blank}
 use Rattle.records.proofs.EpochLaws.{cut-count, cut-fits, cut-is}
@@ -37,7 +37,7 @@ module _ (s : List ℕ) {ss : List ℕ} {ts : List ℤ} {fs : List Float} (h : L
   pub laid-count : length (take (countIn s) ss) ≡ countIn s
   laid-count = cut-count ss ts fs (countIn s) (h .signals-long) few
 
-  pub laid-fits : Fit (take (countIn s) ss) ts fs
+  pub laid-fits : SignalsFit (take (countIn s) ss) ts fs
   laid-fits = cut-fits ss ts fs (countIn s) (h .signals-long) few (omega (arith, h .states-long, few)) (omega (arith, h .floats-long, few)) (h .small)
 
   pub laid-is : signals.epochIn (take (countIn s) ss) ts fs ≡ recordEpoch s

@@ -1,7 +1,7 @@
 // Entry points of the two forms of a table.
 ghost use Prim.Native.Nat.{min};
 ghost use lib.ListN.{length};
-ghost use Rattle.table.specs.Table.{lent};
+ghost use Rattle.table.specs.Table.{lentSamples};
 ghost use Rattle.directory.specs.Directory.{lentBlocks, entriesIn};
 ghost use Rattle.directory.specs.Rearrange.{filedOf, listedOf};
 ghost use Rattle.rearrange.specs.Lent.{Files, Lists};
@@ -28,7 +28,7 @@ pub extern "C" fn zaqnuti_directory_of(
     block_samples: &mut [usize],
     blocks: &mut usize,
 ) -> u8
-    ensures { λ r. ⌜ (let t = lent
+    ensures { λ r. ⌜ (let t = lentSamples
         (now (constellation .entry)) (now (svid .entry)) (now (band .entry)) (now («table_time» .entry)) (now («table_metres» .entry)) in
         let l = lentBlocks
         (now («block_constellation» .entry)) (now («block_svid» .entry)) (now («block_band» .entry)) (now («block_first» .entry)) (now («block_samples» .entry))
@@ -74,9 +74,9 @@ pub extern "C" fn zaqnuti_signals_of(
     ensures { λ r. ⌜ (let l = lentBlocks
         (now («block_constellation» .entry)) (now («block_svid» .entry)) (now («block_band» .entry)) (now («block_first» .entry)) (now («block_samples» .entry))
         (now («table_time» .entry)) (now («table_metres» .entry)) in
-        let t = lent (now (constellation .entry)) (now (svid .entry)) (now (band .entry)) (l .times) (l .corrections) in
+        let t = lentSamples (now (constellation .entry)) (now (svid .entry)) (now (band .entry)) (l .times) (l .corrections) in
         let o = listedOf blocks «table_count» (min (length (t .constellations)) (min (length (t .svids)) (length (t .bands)))) l in
-        Lists o r t (lent (now (constellation .exit)) (now (svid .exit)) (now (band .exit)) (l .times) (l .corrections))) ⌝ }
+        Lists o r t (lentSamples (now (constellation .exit)) (now (svid .exit)) (now (band .exit)) (l .times) (l .corrections))) ⌝ }
 {
     listing_number(signals_of(
         block_constellation,

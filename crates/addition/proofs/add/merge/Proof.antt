@@ -2,7 +2,7 @@
 use native.Mathlib.Omega.{arith}
 use mathlib.Core.Path.{ap, _∙_}
 use lib.ListN.{length, take}
-use Rattle.table.specs.Table.{lent, tableOf}
+use Rattle.table.specs.Table.{lentSamples, tableOf}
 use Rattle.table.proofs.ColumnLaws.{rows-length}
 use Rattle.directory.specs.Directory.{floats, readingRows}
 use Rattle.addition.proofs.PlaceLaws.{columns-all, count-fits, entries-all, patterns-all, signals-by, sizes, tiled-by}
@@ -16,7 +16,7 @@ entries-after-requires c κs =
     let a = s .args in
     let f = s .pre .0 in
     let o = signals-by f (a .new-constellation .now) (a .new-svid .now) (a .new-band .now) (a .new-time .now) (a .new-metres .now) (s .pre .1 .0) (s .pre .1 .1) in
-    let z = rows-length (lent (a .new-constellation .now) (a .new-svid .now) (a .new-band .now) (a .new-time .now) (a .new-metres .now)) in
+    let z = rows-length (lentSamples (a .new-constellation .now) (a .new-svid .now) (a .new-band .now) (a .new-time .now) (a .new-metres .now)) in
     (tiled-by f, (omega (arith, f .few, f .room), (omega (arith, z, s .pre .1 .0), (omega (arith, z, s .pre .1 .0), omega (arith, z, s .pre .1 .0)))))
 
 merge-readings-requires : tie.Need-merge-readings-requires
@@ -31,12 +31,12 @@ merge-entries-requires c κs =
     let a = s .args in
     let f = s .pre .0 in
     let o = signals-by f (a .new-constellation .now) (a .new-svid .now) (a .new-band .now) (a .new-time .now) (a .new-metres .now) (s .pre .1 .0) (s .pre .1 .1) in
-    let z = rows-length (lent (a .new-constellation .now) (a .new-svid .now) (a .new-band .now) (a .new-time .now) (a .new-metres .now)) in
-    let q = c .before .before .before .before .before .before .before .before .before .before .before .before .before .before .before .before .entries-after .ensures (take (a .table-count) (readingRows (floats (a .table-time .now)) (floats (a .table-metres .now)))) (tableOf (a .new-count) (lent (a .new-constellation .now) (a .new-svid .now) (a .new-band .now) (a .new-time .now) (a .new-metres .now))) (sizes f) o ∙ ap length (entries-all f (a .new-constellation .now) (a .new-svid .now) (a .new-band .now) (a .new-time .now) (a .new-metres .now) (s .pre .1 .0) (s .pre .1 .1)) in (
+    let z = rows-length (lentSamples (a .new-constellation .now) (a .new-svid .now) (a .new-band .now) (a .new-time .now) (a .new-metres .now)) in
+    let q = c .before .before .before .before .before .before .before .before .before .before .before .before .before .before .before .before .entries-after .ensures (take (a .table-count) (readingRows (floats (a .table-time .now)) (floats (a .table-metres .now)))) (tableOf (a .new-count) (lentSamples (a .new-constellation .now) (a .new-svid .now) (a .new-band .now) (a .new-time .now) (a .new-metres .now))) (sizes f) o ∙ ap length (entries-all f (a .new-constellation .now) (a .new-svid .now) (a .new-band .now) (a .new-time .now) (a .new-metres .now) (s .pre .1 .0) (s .pre .1 .1)) in (
       tiled-by f,
       (
         (omega (arith, f .room), (omega (arith, z, s .pre .1 .0), (omega (arith, z, s .pre .1 .0), omega (arith, z, s .pre .1 .0)))),
-        (record { samples = (tableOf (a .new-count) (lent (a .new-constellation .now) (a .new-svid .now) (a .new-band .now) (a .new-time .now) (a .new-metres .now))); of = o }, (omega (arith, q, count-fits f (a .new-constellation .now) (a .new-svid .now) (a .new-band .now) (a .new-time .now) (a .new-metres .now) (s .pre .1 .0) (s .pre .1 .1), f .room-entries), c .before .before .before .before .before .before .before .before .before .before .before .before .before .before .before .before .entries-after .ensures)),
+        (record { samples = (tableOf (a .new-count) (lentSamples (a .new-constellation .now) (a .new-svid .now) (a .new-band .now) (a .new-time .now) (a .new-metres .now))); of = o }, (omega (arith, q, count-fits f (a .new-constellation .now) (a .new-svid .now) (a .new-band .now) (a .new-time .now) (a .new-metres .now) (s .pre .1 .0) (s .pre .1 .1), f .room-entries), c .before .before .before .before .before .before .before .before .before .before .before .before .before .before .before .before .entries-after .ensures)),
       ),
     )
 
@@ -68,9 +68,9 @@ returns c =
     let f = s .pre .0 in
     let readings = c .before .before .before .before .before .before .before .before .before .before .before .before .before .before .before .before .before .before .before .before .merge-readings .ensures (a .block-samples .now) (record { few = f .entries-fit; steady = f .steady }) in
     let o = signals-by f (a .new-constellation .now) (a .new-svid .now) (a .new-band .now) (a .new-time .now) (a .new-metres .now) (s .pre .1 .0) (s .pre .1 .1) in
-    let z = rows-length (lent (a .new-constellation .now) (a .new-svid .now) (a .new-band .now) (a .new-time .now) (a .new-metres .now)) in (
-      c .before .before .before .before .before .before .before .before .before .before .before .before .before .before .before .before .before .before .before .before .before .before .before .before .before .before .before .entries-after .ensures (take (a .table-count) (readingRows (floats (a .table-time .now)) (floats (a .table-metres .now)))) (tableOf (a .new-count) (lent (a .new-constellation .now) (a .new-svid .now) (a .new-band .now) (a .new-time .now) (a .new-metres .now))) (sizes f) o ∙ ap length (entries-all f (a .new-constellation .now) (a .new-svid .now) (a .new-band .now) (a .new-time .now) (a .new-metres .now) (s .pre .1 .0) (s .pre .1 .1)),
-      (columns-all f (a .new-constellation .now) (a .new-svid .now) (a .new-band .now) (a .new-time .now) (a .new-metres .now) (s .pre .1 .0) (s .pre .1 .1) (c .before .before .before .before .before .before .before .before .before .before .merge-entries .ensures (take (a .table-count) (readingRows (floats (a .table-time .now)) (floats (a .table-metres .now)))) (tableOf (a .new-count) (lent (a .new-constellation .now) (a .new-svid .now) (a .new-band .now) (a .new-time .now) (a .new-metres .now))) (sizes f) o) (readings .times-read) (readings .corrections-read), patterns-all _ _ readings),
+    let z = rows-length (lentSamples (a .new-constellation .now) (a .new-svid .now) (a .new-band .now) (a .new-time .now) (a .new-metres .now)) in (
+      c .before .before .before .before .before .before .before .before .before .before .before .before .before .before .before .before .before .before .before .before .before .before .before .before .before .before .before .entries-after .ensures (take (a .table-count) (readingRows (floats (a .table-time .now)) (floats (a .table-metres .now)))) (tableOf (a .new-count) (lentSamples (a .new-constellation .now) (a .new-svid .now) (a .new-band .now) (a .new-time .now) (a .new-metres .now))) (sizes f) o ∙ ap length (entries-all f (a .new-constellation .now) (a .new-svid .now) (a .new-band .now) (a .new-time .now) (a .new-metres .now) (s .pre .1 .0) (s .pre .1 .1)),
+      (columns-all f (a .new-constellation .now) (a .new-svid .now) (a .new-band .now) (a .new-time .now) (a .new-metres .now) (s .pre .1 .0) (s .pre .1 .1) (c .before .before .before .before .before .before .before .before .before .before .merge-entries .ensures (take (a .table-count) (readingRows (floats (a .table-time .now)) (floats (a .table-metres .now)))) (tableOf (a .new-count) (lentSamples (a .new-constellation .now) (a .new-svid .now) (a .new-band .now) (a .new-time .now) (a .new-metres .now))) (sizes f) o) (readings .times-read) (readings .corrections-read), patterns-all _ _ readings),
     )
 
 pub merge-spec : {M : Type 1} → statement M

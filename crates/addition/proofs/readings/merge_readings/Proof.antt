@@ -7,7 +7,7 @@ use lib.Ieee.{nan}
 use lib.ListN.{length, getD, take}
 use lib.Seq.{length-take-le}
 use borrow.Author.Needs.{needs}
-use Rattle.table.specs.Table.{blank, lent, signalOf, tableOf}
+use Rattle.table.specs.Table.{blank, lentSamples, signalOf, tableOf}
 use Rattle.table.specs.declared.sample.Sample.{Sample}
 use Rattle.directory.specs.Directory.{Entry, directoryIn, entryRows, flat, floats, lentBlocks, noEntry, readingRows, signalIn}
 use Rattle.directory.proofs.ColumnLaws.{readings-length}
@@ -22,7 +22,7 @@ use Rattle.addition.proofs.readings.merge_readings.Tie as tie
 abbrev Inv-loop : tie.InvT-loop
 Inv-loop dc dv db df m ts₀ xs₀ n cs vs bs us ys k e₀ i₀ j₀ ts xs e i j =
     (dn : List ℕ) → Steady dc dv db df m ts₀ xs₀ n dn
-    → Merging (take m (entryRows dc dv db df dn)) (flat (directoryIn m n (lentBlocks dc dv db df dn (floats ts₀) (floats xs₀)))) (tableOf k (lent cs vs bs us ys)) ts₀ xs₀ n k ts xs e i j
+    → Merging (take m (entryRows dc dv db df dn)) (flat (directoryIn m n (lentBlocks dc dv db df dn (floats ts₀) (floats xs₀)))) (tableOf k (lentSamples cs vs bs us ys)) ts₀ xs₀ n k ts xs e i j
 
 abbrev μ-loop : tie.MeasureT-loop
 μ-loop dc dv db df m ts₀ xs₀ n cs vs bs us ys k e₀ i₀ j₀ ts xs e i j = i + j
@@ -35,7 +35,7 @@ abbrev entriesAt : tie.Start Inv-loop μ-loop → List ℕ → List Entry
 entriesAt s dn = let a = s .args in take (a .blocks) (entryRows (a .block-constellation .now) (a .block-svid .now) (a .block-band .now) (a .block-first .now) dn)
 
 abbrev newAt : tie.Start Inv-loop μ-loop → List Sample
-newAt s = let a = s .args in tableOf (a .new-count) (lent (a .new-constellation .now) (a .new-svid .now) (a .new-band .now) (a .new-time .now) (a .new-metres .now))
+newAt s = let a = s .args in tableOf (a .new-count) (lentSamples (a .new-constellation .now) (a .new-svid .now) (a .new-band .now) (a .new-time .now) (a .new-metres .now))
 
 entries-count : (s : tie.Start Inv-loop μ-loop) (dn : List ℕ) → Counts s dn → length (entriesAt s dn) ≡ s .args .blocks
 entries-count s dn w = length-take-le (s .args .blocks) _ (w .few)

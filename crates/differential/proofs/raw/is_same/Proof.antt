@@ -1,11 +1,11 @@
 -- `differential::raw::is_same` meets its contract. Assumes nothing.
 use mathlib.Core.Path.{refl}
-use Rattle.differential.specs.Raw.{same}
+use Rattle.differential.specs.Raw.{isStateOf}
 use Rattle.differential.proofs.raw.is_same.Statement.{statement}
 use Rattle.differential.proofs.raw.is_same.Tie as tie
 
 returns : tie.Need-returns
-unfolding same
+unfolding isStateOf
 returns c = refl
 
 pub is-same-spec : {M : Type 1} → statement M

@@ -1,5 +1,5 @@
 -- `differential::record::place_in_range` meets its contract. Assumes nothing.
-use Rattle.differential.specs.Record.{placeInRange}
+use Rattle.differential.specs.Record.{vectorInRange}
 use borrow.Author.Needs.{needs}
 use Rattle.differential.proofs.record.place_in_range.Statement.{statement}
 use Rattle.differential.proofs.record.place_in_range.Tie as tie
@@ -14,7 +14,7 @@ in-range-requires-3 : tie.Need-in-range-requires-3
 in-range-requires-3 c κs = search needs
 
 returns : tie.Need-returns
-unfolding placeInRange
+unfolding vectorInRange
 returns c = rw (c .in-range3 .ensures, c .before .in-range2 .ensures, c .before .before .in-range .ensures)
 
 pub place-in-range-spec : {M : Type 1} → statement M

@@ -4,7 +4,7 @@ use mathlib.Core.Path.{_≡_, sym, _∙_}
 use Prim.Native.Nat.{min}
 use lib.ListN.{length}
 use borrow.Author.Tests.{not-false}
-use Rattle.table.specs.Table.{lent}
+use Rattle.table.specs.Table.{lentSamples}
 use Rattle.directory.specs.Directory.{blockCapacity, lentBlocks}
 use Rattle.rearrange.proofs.AnswerLaws.{list-done, list-fits, list-many, list-unsound}
 use Rattle.addition.proofs.OwnLaws.{room-of}
@@ -27,7 +27,7 @@ returns c =
     let a = c .before .before .before .before .before .before .before .before .before .before .before .before .before .before .args in
     let long = (min (length (a .constellation .now)) (min (length (a .svid .now)) (length (a .band .now)))) in
     let d = (lentBlocks (a .block-constellation .now) (a .block-svid .now) (a .block-band .now) (a .block-first .now) (a .block-samples .now) (a .table-time .now) (a .table-metres .now)) in
-    let t = (lent (a .constellation .now) (a .svid .now) (a .band .now) (a .table-time .now) (a .table-metres .now)) in
+    let t = (lentSamples (a .constellation .now) (a .svid .now) (a .band .now) (a .table-time .now) (a .table-metres .now)) in
     let e : c .before .block-capacity .result ≡ blockCapacity d = c .before .block-capacity .ensures in
     let el : c .before .before .lesser2 .result ≡ long = c .before .before .lesser2 .ensures ∙ rw (c .before .before .before .lesser .ensures) in
     list-many (a .blocks) (a .table-count) long d t _ _ e el (c .if1 .taken)
@@ -37,7 +37,7 @@ is-sound-directory-requires c κs =
     let a = c .before .before .before .before .before .before .before .before .before .before .before .before .before .before .args in
     let long = (min (length (a .constellation .now)) (min (length (a .svid .now)) (length (a .band .now)))) in
     let d = (lentBlocks (a .block-constellation .now) (a .block-svid .now) (a .block-band .now) (a .block-first .now) (a .block-samples .now) (a .table-time .now) (a .table-metres .now)) in
-    let t = (lent (a .constellation .now) (a .svid .now) (a .band .now) (a .table-time .now) (a .table-metres .now)) in
+    let t = (lentSamples (a .constellation .now) (a .svid .now) (a .band .now) (a .table-time .now) (a .table-metres .now)) in
     let e : c .before .block-capacity .result ≡ blockCapacity d = c .before .block-capacity .ensures in
     let el : c .before .before .lesser2 .result ≡ long = c .before .before .lesser2 .ensures ∙ rw (c .before .before .before .lesser .ensures) in
     let f = list-fits (a .blocks) (a .table-count) long d t _ _ e el (c .if1 .left) in
@@ -48,7 +48,7 @@ returns-2 c =
     let a = c .before .before .before .before .before .before .before .before .before .before .before .before .before .before .before .before .args in
     let long = (min (length (a .constellation .now)) (min (length (a .svid .now)) (length (a .band .now)))) in
     let d = (lentBlocks (a .block-constellation .now) (a .block-svid .now) (a .block-band .now) (a .block-first .now) (a .block-samples .now) (a .table-time .now) (a .table-metres .now)) in
-    let t = (lent (a .constellation .now) (a .svid .now) (a .band .now) (a .table-time .now) (a .table-metres .now)) in
+    let t = (lentSamples (a .constellation .now) (a .svid .now) (a .band .now) (a .table-time .now) (a .table-metres .now)) in
     let e : c .before .before .before .block-capacity .result ≡ blockCapacity d = c .before .before .before .block-capacity .ensures in
     let el : c .before .before .before .before .lesser2 .result ≡ long = c .before .before .before .before .lesser2 .ensures ∙ rw (c .before .before .before .before .before .lesser .ensures) in
     list-unsound (a .blocks) (a .table-count) long d t _ _ e el (c .before .before .if1 .left) (c .before .is-sound-directory .ensures) (c .if2 .taken)
@@ -58,7 +58,7 @@ list-all-requires c κs =
     let a = c .before .before .before .before .before .before .before .before .before .before .before .before .before .before .before .before .before .before .before .args in
     let long = (min (length (a .constellation .now)) (min (length (a .svid .now)) (length (a .band .now)))) in
     let d = (lentBlocks (a .block-constellation .now) (a .block-svid .now) (a .block-band .now) (a .block-first .now) (a .block-samples .now) (a .table-time .now) (a .table-metres .now)) in
-    let t = (lent (a .constellation .now) (a .svid .now) (a .band .now) (a .table-time .now) (a .table-metres .now)) in
+    let t = (lentSamples (a .constellation .now) (a .svid .now) (a .band .now) (a .table-time .now) (a .table-metres .now)) in
     let e : c .before .before .before .before .before .before .block-capacity .result ≡ blockCapacity d = c .before .before .before .before .before .before .block-capacity .ensures in
     let el : c .before .before .before .before .before .before .before .lesser2 .result ≡ long = c .before .before .before .before .before .before .before .lesser2 .ensures ∙ rw (c .before .before .before .before .before .before .before .before .lesser .ensures) in
     let f = list-fits (a .blocks) (a .table-count) long d t _ _ e el (c .before .before .before .before .before .if1 .left) in
@@ -80,7 +80,7 @@ returns-3 c =
     let a = c .before .before .before .before .before .before .before .before .before .before .before .before .before .before .before .before .before .before .before .before .before .before .before .before .before .before .args in
     let long = (min (length (a .constellation .now)) (min (length (a .svid .now)) (length (a .band .now)))) in
     let d = (lentBlocks (a .block-constellation .now) (a .block-svid .now) (a .block-band .now) (a .block-first .now) (a .block-samples .now) (a .table-time .now) (a .table-metres .now)) in
-    let t = (lent (a .constellation .now) (a .svid .now) (a .band .now) (a .table-time .now) (a .table-metres .now)) in
+    let t = (lentSamples (a .constellation .now) (a .svid .now) (a .band .now) (a .table-time .now) (a .table-metres .now)) in
     let e : c .before .before .before .before .before .before .before .before .before .before .before .before .before .block-capacity .result ≡ blockCapacity d = c .before .before .before .before .before .before .before .before .before .before .before .before .before .block-capacity .ensures in
     let el : c .before .before .before .before .before .before .before .before .before .before .before .before .before .before .lesser2 .result ≡ long = c .before .before .before .before .before .before .before .before .before .before .before .before .before .before .lesser2 .ensures ∙ rw (c .before .before .before .before .before .before .before .before .before .before .before .before .before .before .before .lesser .ensures) in
     let f = list-fits (a .blocks) (a .table-count) long d t _ _ e el (c .before .before .before .before .before .before .before .before .before .before .before .before .if1 .left) in

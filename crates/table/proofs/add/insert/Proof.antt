@@ -1,7 +1,7 @@
 -- `table::add::insert` meets its contract. Assumes nothing.
 use Prim.Native.Nat.{_<_}
 use lib.ListN.{length}
-use Rattle.table.specs.Table.{lent, rows}
+use Rattle.table.specs.Table.{lentSamples, rows}
 use Rattle.table.proofs.ColumnLaws.{rows-within, spot-within, inserted}
 use borrow.Author.Needs.{needs}
 use Rattle.table.proofs.add.insert.Statement.{statement}
@@ -14,7 +14,7 @@ open-u8-requires : tie.Need-open-u8-requires
 open-u8-requires c κs =
     let s = c .before .before .before .before .before .before .before .before .before .before .before .before in
     let a = s .args in
-    let columns = lent (a .cs .now) (a .vs .now) (a .bs .now) (a .ts .now) (a .xs .now) in
+    let columns = lentSamples (a .cs .now) (a .vs .now) (a .bs .now) (a .ts .now) (a .xs .now) in
     let h : a .n < length (rows columns) = s .pre .0 in
     let b = spot-within (a .n) _ (a .s) columns h (c .before .spot-of .ensures) in
     (b, rows-within columns (a .n) h .in-c)
@@ -23,7 +23,7 @@ open-u16-requires : tie.Need-open-u16-requires
 open-u16-requires c κs =
     let s = c .before .before .before .before .before .before .before .before .before .before .before .before .before .before .before .before in
     let a = s .args in
-    let columns = lent (a .cs .now) (a .vs .now) (a .bs .now) (a .ts .now) (a .xs .now) in
+    let columns = lentSamples (a .cs .now) (a .vs .now) (a .bs .now) (a .ts .now) (a .xs .now) in
     let h : a .n < length (rows columns) = s .pre .0 in
     let b = spot-within (a .n) _ (a .s) columns h (c .before .before .before .before .before .spot-of .ensures) in
     (b, rows-within columns (a .n) h .in-v)
@@ -32,7 +32,7 @@ open-u32-requires : tie.Need-open-u32-requires
 open-u32-requires c κs =
     let s = c .before .before .before .before .before .before .before .before .before .before .before .before .before .before .before .before .before .before .before .before in
     let a = s .args in
-    let columns = lent (a .cs .now) (a .vs .now) (a .bs .now) (a .ts .now) (a .xs .now) in
+    let columns = lentSamples (a .cs .now) (a .vs .now) (a .bs .now) (a .ts .now) (a .xs .now) in
     let h : a .n < length (rows columns) = s .pre .0 in
     let b = spot-within (a .n) _ (a .s) columns h (c .before .before .before .before .before .before .before .before .before .spot-of .ensures) in
     (b, rows-within columns (a .n) h .in-b)
@@ -41,7 +41,7 @@ open-f64-requires : tie.Need-open-f64-requires
 open-f64-requires c κs =
     let s = c .before .before .before .before .before .before .before .before .before .before .before .before .before .before .before .before .before .before .before .before .before .before .before .before in
     let a = s .args in
-    let columns = lent (a .cs .now) (a .vs .now) (a .bs .now) (a .ts .now) (a .xs .now) in
+    let columns = lentSamples (a .cs .now) (a .vs .now) (a .bs .now) (a .ts .now) (a .xs .now) in
     let h : a .n < length (rows columns) = s .pre .0 in
     let b = spot-within (a .n) _ (a .s) columns h (c .before .before .before .before .before .before .before .before .before .before .before .before .before .spot-of .ensures) in
     (b, rows-within columns (a .n) h .in-t)
@@ -50,7 +50,7 @@ open-f64-requires-2 : tie.Need-open-f64-requires-2
 open-f64-requires-2 c κs =
     let s = c .before .before .before .before .before .before .before .before .before .before .before .before .before .before .before .before .before .before .before .before .before .before .before .before .before .before .before .before in
     let a = s .args in
-    let columns = lent (a .cs .now) (a .vs .now) (a .bs .now) (a .ts .now) (a .xs .now) in
+    let columns = lentSamples (a .cs .now) (a .vs .now) (a .bs .now) (a .ts .now) (a .xs .now) in
     let h : a .n < length (rows columns) = s .pre .0 in
     let b = spot-within (a .n) _ (a .s) columns h (c .before .before .before .before .before .before .before .before .before .before .before .before .before .before .before .before .before .spot-of .ensures) in
     (b, rows-within columns (a .n) h .in-x)
@@ -74,7 +74,7 @@ returns : tie.Need-returns
 returns c =
     let s = c .before .before .before .before .before .before .before .before .before .before .before .before .before .before .before .before .before .before .before .before .before .before .before .before .before .before .before .before .before .before .before in
     let a = s .args in
-    let columns = lent (a .cs .now) (a .vs .now) (a .bs .now) (a .ts .now) (a .xs .now) in
+    let columns = lentSamples (a .cs .now) (a .vs .now) (a .bs .now) (a .ts .now) (a .xs .now) in
     rw (c .before .before .before .before .before .before .before .before .before .before .before .before .before .before .before .before .before .before .open-u8 .ensures, c .before .before .before .before .before .before .before .before .before .before .before .before .before .before .open-u16 .ensures, c .before .before .before .before .before .before .before .before .before .before .open-u32 .ensures, c .before .before .before .before .before .before .open-f64 .ensures, c .before .before .open-f642 .ensures)
     (inserted (a .n) (c .before .before .before .before .before .before .before .before .before .before .before .before .before .before .before .before .before .before .before .before .spot-of .result) (a .s) columns (s .pre .0) (c .before .before .before .before .before .before .before .before .before .before .before .before .before .before .before .before .before .before .before .before .spot-of .ensures))
 

@@ -5,13 +5,13 @@ use Prim.Native.Nat.{_≤_, _-_}
 use native.Mathlib.Omega.{arith}
 use lib.ListN.{length}
 use Rattle.table.proofs.InsertLaws.{Inserting, inserting-start, inserting-next, inserting-end, inserting-room, ranged-at}
-use Rattle.table.specs.Table.{lent}
+use Rattle.table.specs.Table.{lentSamples}
 use Rattle.table.proofs.ColumnLaws.{rows-short}
 use Rattle.table.proofs.add.insert_all.Statement.{statement}
 use Rattle.table.proofs.add.insert_all.Tie as tie
 
 abbrev Inv-loop : tie.InvT-loop
-Inv-loop cs₀ vs₀ bs₀ ts₀ xs₀ n m new i₀ cs vs bs ts xs i = Inserting n m new (lent cs₀ vs₀ bs₀ ts₀ xs₀) (lent cs vs bs ts xs) i
+Inv-loop cs₀ vs₀ bs₀ ts₀ xs₀ n m new i₀ cs vs bs ts xs i = Inserting n m new (lentSamples cs₀ vs₀ bs₀ ts₀ xs₀) (lentSamples cs vs bs ts xs) i
 
 abbrev μ-loop : tie.MeasureT-loop
 μ-loop cs₀ vs₀ bs₀ ts₀ xs₀ n m new i₀ cs vs bs ts xs i = m - i
@@ -32,7 +32,7 @@ add-insert : tie.Need-add-insert Inv-loop μ-loop
 add-insert c =
     let s = c .before .before .before .before .before .before .before .before .before .before .before .before .before in
     let a = s .args in
-    let columns = lent (a .cs .now) (a .vs .now) (a .bs .now) (a .ts .now) (a .xs .now) in
+    let columns = lentSamples (a .cs .now) (a .vs .now) (a .bs .now) (a .ts .now) (a .xs .now) in
     omega (arith, s .pre .1 .0, rows-short columns, s .good .0 .0, c .before .before .before .before .before .before .loop-test .taken)
 
 insert-requires : tie.Need-insert-requires Inv-loop μ-loop

@@ -6,13 +6,13 @@ use Prim.Native.Nat.{_<_, _-_}
 use native.Mathlib.Omega.{arith}
 use borrow.Author.Needs.{needs}
 use lib.ListN.{take}
-use Rattle.table.specs.Table.{lent, blank, rows}
+use Rattle.table.specs.Table.{lentSamples, blank, rows}
 use Rattle.table.proofs.TableLaws.{sound-at}
 use Rattle.table.proofs.add.spot_of.Statement.{statement}
 use Rattle.table.proofs.add.spot_of.Tie as tie
 
 abbrev Inv-loop : tie.InvT-loop
-Inv-loop cs vs bs ts xs n s p₀ p = Spotting s (take n (rows (lent cs vs bs ts xs))) n p
+Inv-loop cs vs bs ts xs n s p₀ p = Spotting s (take n (rows (lentSamples cs vs bs ts xs))) n p
 
 abbrev μ-loop : tie.MeasureT-loop
 μ-loop cs vs bs ts xs n s p₀ p = p
@@ -33,7 +33,7 @@ returns : tie.Need-returns Inv-loop μ-loop
 returns c =
     let s = c .before .before .before .before .before .before .before .before .before .before in
     let a = s .args in
-    let columns = lent (a .cs .now) (a .vs .now) (a .bs .now) (a .ts .now) (a .xs .now) in
+    let columns = lentSamples (a .cs .now) (a .vs .now) (a .bs .now) (a .ts .now) (a .xs .now) in
     let h = c .before .before .before .before .loop in
     let t : 0 < h .p = c .before .before .before .loop-test .taken in
     let b : h .p - 1 < a .n = omega (arith, h .inv) in
@@ -50,7 +50,7 @@ loop-again : tie.Need-loop-again Inv-loop μ-loop
 loop-again c =
     let s = c .before .before .before .before .before .before .before .before .before .before in
     let a = s .args in
-    let columns = lent (a .cs .now) (a .vs .now) (a .bs .now) (a .ts .now) (a .xs .now) in
+    let columns = lentSamples (a .cs .now) (a .vs .now) (a .bs .now) (a .ts .now) (a .xs .now) in
     let h = c .before .before .before .before .loop in
     let t : 0 < h .p = c .before .before .before .loop-test .taken in
     let b : h .p - 1 < a .n = omega (arith, h .inv) in

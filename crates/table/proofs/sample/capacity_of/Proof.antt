@@ -1,5 +1,5 @@
 -- `table::sample::capacity_of` meets its contract. Assumes nothing.
-use Rattle.table.specs.Table.{lent}
+use Rattle.table.specs.Table.{lentSamples}
 use Rattle.table.proofs.ColumnLaws.{rows-length}
 use borrow.Author.Needs.{needs}
 use Rattle.table.proofs.sample.capacity_of.Statement.{statement}
@@ -23,7 +23,7 @@ lesser-requires-5 c κs = search needs
 returns : tie.Need-returns
 returns c =
     let a = c .before .before .before .before .before .before .before .before .before .before .args in
-    let columns = lent (a .cs .now) (a .vs .now) (a .bs .now) (a .ts .now) (a .xs .now) in
+    let columns = lentSamples (a .cs .now) (a .vs .now) (a .bs .now) (a .ts .now) (a .xs .now) in
     cc (rows-length columns)
 
 pub capacity-of-spec : {M : Type 1} → statement M

@@ -6,7 +6,7 @@ use native.Mathlib.Omega.{arith}
 use borrow.Author.Needs.{needs}
 use borrow.Author.Tests.{not-true, not-false, le-ltb}
 use lib.ListN.{take, drop}
-use Rattle.table.specs.Table.{lent, ranged, rows, soundTable}
+use Rattle.table.specs.Table.{lentSamples, ranged, rows, soundTable}
 use Rattle.table.proofs.Places.{timeKey, below-place}
 use Rattle.table.proofs.TableLaws.{soundFrom, sound-starts, pass-end, pass-low, pass-out, pass-on}
 use Rattle.table.proofs.sample.is_sound.Statement.{statement}
@@ -14,7 +14,7 @@ use Rattle.table.proofs.sample.is_sound.Tie as tie
 
 abbrev Inv-loop : tie.InvT-loop
 Inv-loop cs vs bs ts xs n signal₀ time₀ i₀ signal time i =
-    (i ≤ n) × (soundFrom (signal * 2 ^ 64 + timeKey time) (drop i (take n (rows (lent cs vs bs ts xs)))) ≡ soundTable (take n (rows (lent cs vs bs ts xs))))
+    (i ≤ n) × (soundFrom (signal * 2 ^ 64 + timeKey time) (drop i (take n (rows (lentSamples cs vs bs ts xs)))) ≡ soundTable (take n (rows (lentSamples cs vs bs ts xs))))
 
 abbrev μ-loop : tie.MeasureT-loop
 μ-loop cs vs bs ts xs n signal₀ time₀ i₀ signal time i = n - i
@@ -23,7 +23,7 @@ returns : tie.Need-returns Inv-loop μ-loop
 returns c =
     let s = c .before .before .before .before .before .before in
     let a = s .args in
-    let columns = lent (a .cs .now) (a .vs .now) (a .bs .now) (a .ts .now) (a .xs .now) in
+    let columns = lentSamples (a .cs .now) (a .vs .now) (a .bs .now) (a .ts .now) (a .xs .now) in
     pass-end (rows columns) (a .n) (s .pre) 0 0 (sound-starts _) (omega (arith, c .if1 .taken))
 
 sample-at-requires : tie.Need-sample-at-requires Inv-loop μ-loop
@@ -36,7 +36,7 @@ returns-2 : tie.Need-returns-2 Inv-loop μ-loop
 returns-2 c =
     let s = c .before .before .before .before .before .before .before .before .before in
     let a = s .args in
-    let columns = lent (a .cs .now) (a .vs .now) (a .bs .now) (a .ts .now) (a .xs .now) in
+    let columns = lentSamples (a .cs .now) (a .vs .now) (a .bs .now) (a .ts .now) (a .xs .now) in
     let z = c .before .before .before .if1 .left in
     pass-out (rows columns) (a .n) (s .pre) 0 0 (sound-starts _) (omega arith) _ _ refl
     (sym (ap ranged (c .before .before .sample-at .ensures)) ∙ sym (c .before .is-ranged .ensures) ∙ not-true (c .before .is-ranged .result) (c .if2 .taken))
@@ -48,7 +48,7 @@ loop-holds : tie.Need-loop-holds Inv-loop μ-loop
 loop-holds c =
     let s = c .before .before .before .before .before .before .before .before .before .before in
     let a = s .args in
-    let columns = lent (a .cs .now) (a .vs .now) (a .bs .now) (a .ts .now) (a .xs .now) in
+    let columns = lentSamples (a .cs .now) (a .vs .now) (a .bs .now) (a .ts .now) (a .xs .now) in
     let z = c .before .before .before .before .if1 .left in
     let r : ranged (c .before .before .before .sample-at .result) ≡ true = sym (c .before .before .is-ranged .ensures) ∙ not-false (c .before .before .is-ranged .result) (c .before .if2 .left) in (
       omega arith,
@@ -66,7 +66,7 @@ returns-3 c =
     let h = c .before .before .before .before .loop in
     let s = c .before .before .before .before .before .before .before .before .before .before .before .before .before .before .before in
     let a = s .args in
-    let columns = lent (a .cs .now) (a .vs .now) (a .bs .now) (a .ts .now) (a .xs .now) in
+    let columns = lentSamples (a .cs .now) (a .vs .now) (a .bs .now) (a .ts .now) (a .xs .now) in
     pass-out (rows columns) (a .n) (s .pre) (h .i) _ (h .inv .1) (c .before .before .before .loop-test .taken) _ _ refl
     (sym (ap ranged (c .before .before .sample-at2 .ensures)) ∙ sym (c .before .is-ranged2 .ensures) ∙ not-true (c .before .is-ranged2 .result) (c .if3 .taken))
 
@@ -81,7 +81,7 @@ returns-4 c =
     let h = c .before .before .before .before .before .before .before .loop in
     let s = c .before .before .before .before .before .before .before .before .before .before .before .before .before .before .before .before .before .before in
     let a = s .args in
-    let columns = lent (a .cs .now) (a .vs .now) (a .bs .now) (a .ts .now) (a .xs .now) in
+    let columns = lentSamples (a .cs .now) (a .vs .now) (a .bs .now) (a .ts .now) (a .xs .now) in
     pass-low (rows columns) (a .n) (s .pre) (h .i) _ (h .inv .1) (c .before .before .before .before .before .before .loop-test .taken) (c .before .before .signal-of2 .result) (timeKey (c .before .before .before .before .before .sample-at2 .result .time)) (cc) (sym (c .before .is-below .ensures ∙ below-place _ _ _ _) ∙ c .if4 .taken)
 
 add-i : tie.Need-add-i Inv-loop μ-loop
@@ -95,7 +95,7 @@ loop-again c =
     let h = c .before .before .before .before .before .before .before .loop in
     let s = c .before .before .before .before .before .before .before .before .before .before .before .before .before .before .before .before .before .before in
     let a = s .args in
-    let columns = lent (a .cs .now) (a .vs .now) (a .bs .now) (a .ts .now) (a .xs .now) in
+    let columns = lentSamples (a .cs .now) (a .vs .now) (a .bs .now) (a .ts .now) (a .xs .now) in
     let r : ranged (c .before .before .before .before .before .sample-at2 .result) ≡ true = sym (c .before .before .before .before .is-ranged2 .ensures) ∙ not-false (c .before .before .before .before .is-ranged2 .result) (c .before .before .before .if3 .left) in (
       omega arith,
       pass-on (rows columns) (a .n) (s .pre) (h .i) _ (h .inv .1) (c .before .before .before .before .before .before .loop-test .taken) (c .before .before .signal-of2 .result) (timeKey (c .before .before .before .before .before .sample-at2 .result .time)) (cc) (sym (c .before .is-below .ensures ∙ below-place _ _ _ _) ∙ c .if4 .left) (sym (ap ranged (c .before .before .before .before .before .sample-at2 .ensures)) ∙ r),

@@ -1,12 +1,12 @@
 -- `table::sample::sample_at` meets its contract. Assumes nothing.
 use native.Mathlib.Omega.{arith}
-use Rattle.table.specs.Table.{lent}
+use Rattle.table.specs.Table.{lentSamples}
 use Rattle.table.proofs.ColumnLaws.{rows-at, rows-within, Within}
 use Rattle.table.proofs.sample.sample_at.Statement.{statement}
 use Rattle.table.proofs.sample.sample_at.Tie as tie
 
-inside : (c : tie.Start) → Within (c .args .i) (lent (c .args .cs .now) (c .args .vs .now) (c .args .bs .now) (c .args .ts .now) (c .args .xs .now))
-inside c = rows-within (lent (c .args .cs .now) (c .args .vs .now) (c .args .bs .now) (c .args .ts .now) (c .args .xs .now)) (c .args .i) (c .pre)
+inside : (c : tie.Start) → Within (c .args .i) (lentSamples (c .args .cs .now) (c .args .vs .now) (c .args .bs .now) (c .args .ts .now) (c .args .xs .now))
+inside c = rows-within (lentSamples (c .args .cs .now) (c .args .vs .now) (c .args .bs .now) (c .args .ts .now) (c .args .xs .now)) (c .args .i) (c .pre)
 
 shared-slice-read-t8 : tie.Need-shared-slice-read-t8
 shared-slice-read-t8 c = omega (arith, inside (c .before))
@@ -36,7 +36,7 @@ shared-slice-read-t20 : tie.Need-shared-slice-read-t20
 shared-slice-read-t20 c = omega (arith, inside (c .before .before .before .before .before))
 
 returns : tie.Need-returns
-returns c = let a = c .before .before .before .before .before .args in rows-at (lent (a .cs .now) (a .vs .now) (a .bs .now) (a .ts .now) (a .xs .now)) (a .i) (c .before .before .before .before .before .pre)
+returns c = let a = c .before .before .before .before .before .args in rows-at (lentSamples (a .cs .now) (a .vs .now) (a .bs .now) (a .ts .now) (a .xs .now)) (a .i) (c .before .before .before .before .before .pre)
 
 pub sample-at-spec : {M : Type 1} → statement M
 sample-at-spec =

@@ -1,7 +1,7 @@
 -- `zaqnuti::forms::zaqnuti_directory_of` meets its contract. Assumes nothing.
 use lib.ListN.{length}
 use borrow.Author.Needs.{needs}
-use Rattle.table.specs.Table.{lent}
+use Rattle.table.specs.Table.{lentSamples}
 use Rattle.directory.specs.Directory.{entriesIn, lentBlocks}
 use Rattle.directory.specs.Rearrange.{filedOf}
 use Rattle.rearrange.proofs.NumberLaws.{files-number}
@@ -36,7 +36,7 @@ returns : tie.Need-returns
 returns c =
     let a = c .before .before .before .before .before .before .before .before .before .before .before .before .before .before .before .before .before .before .before .before .before .before .before .before .before .before .before .before .before .args in
     let l = lentBlocks (a .block-constellation .now) (a .block-svid .now) (a .block-band .now) (a .block-first .now) (a .block-samples .now) (a .table-time .now) (a .table-metres .now) in
-    files-number (filedOf (a .table-count) (length (entriesIn l)) (lent (a .constellation .now) (a .svid .now) (a .band .now) (a .table-time .now) (a .table-metres .now))) l (c .before .before .before .before .before .before .before .before .before .before .before .before .before .directory-of .ensures) _ (c .filing-number .ensures, c .before .filing-count .ensures)
+    files-number (filedOf (a .table-count) (length (entriesIn l)) (lentSamples (a .constellation .now) (a .svid .now) (a .band .now) (a .table-time .now) (a .table-metres .now))) l (c .before .before .before .before .before .before .before .before .before .before .before .before .before .directory-of .ensures) _ (c .filing-number .ensures, c .before .filing-count .ensures)
 
 pub zaqnuti-directory-of-spec : {M : Type 1} → statement M
 zaqnuti-directory-of-spec =

@@ -2,7 +2,7 @@
 use Prim.Native.Nat.{min}
 use lib.ListN.{length}
 use borrow.Author.Needs.{needs}
-use Rattle.table.specs.Table.{lent}
+use Rattle.table.specs.Table.{lentSamples}
 use Rattle.directory.specs.Directory.{lentBlocks}
 use Rattle.directory.specs.Rearrange.{listedOf}
 use Rattle.rearrange.proofs.NumberLaws.{lists-number}
@@ -28,7 +28,7 @@ returns : tie.Need-returns
 returns c =
     let a = c .before .before .before .before .before .before .before .before .before .before .before .before .before .before .before .before .before .before .before .before .before .args in
     lists-number (listedOf (a .blocks) (a .table-count) (min (length (a .constellation .now)) (min (length (a .svid .now)) (length (a .band .now)))) (lentBlocks (a .block-constellation .now) (a .block-svid .now) (a .block-band .now) (a .block-first .now) (a .block-samples .now) (a .table-time .now) (a .table-metres .now)))
-    (lent (a .constellation .now) (a .svid .now) (a .band .now) (a .table-time .now) (a .table-metres .now)) (c .before .before .before .before .before .before .before .signals-of .ensures) (c .listing-number .ensures)
+    (lentSamples (a .constellation .now) (a .svid .now) (a .band .now) (a .table-time .now) (a .table-metres .now)) (c .before .before .before .before .before .before .before .signals-of .ensures) (c .listing-number .ensures)
 
 pub zaqnuti-signals-of-spec : {M : Type 1} → statement M
 zaqnuti-signals-of-spec = tie.close (tie.spec signals-of-requires listing-number-requires same-length same-length-2 same-length-3 returns)
