@@ -14,7 +14,7 @@ use Rattle.numeric.specs.declared.refusal.Refusal.the-variants.{TooMany, Settin
 use Rattle.tridiagonal.specs.Steps.{Filled}
 use Rattle.tridiagonal.proofs.Cells.{fill-list}
 use Rattle.trajectory.specs.Input.{Trajectory, workNeed}
-use Rattle.trajectory.specs.Pass.{passes, fitAt}
+use Rattle.trajectory.specs.Pass.{passes, fittedAt}
 use Rattle.smooth.specs.declared.Settings.{Settings}
 use Rattle.smooth.specs.declared.Track.{Track}
 use Rattle.smooth.specs.declared.Track.the-variants as Track
@@ -40,7 +40,7 @@ passed false x t ps e = (cc, cc)
 -- what is known of a track that is given out
 record Known (p : Trajectory) (s : Settings) (ps : List Float) : Type 0 where
   coordinates : (k : ℕ) → k < length ps → finite (getD ps k nan) ≡ true
-  last : ps ≡ points (fitAt p (lastPass ones (goodPasses p (s .huber) (s .iterations)))) (p .n)
+  last : ps ≡ points (fittedAt p (lastPass ones (goodPasses p (s .huber) (s .iterations)))) (p .n)
 
 known : (p : Trajectory) (s : Settings) (r w : ℕ) (ps : List Float) → trackOf p s r w ≡ Points ps → Known p s ps
 unfolding trackOf listed

@@ -13,7 +13,7 @@ use Rattle.tridiagonal.specs.Tridiagonal.{Equations, eachBelow, eliminated, sol
 use Rattle.tridiagonal.proofs.EachBelow.{left-true, right-true, each-at}
 use Rattle.trajectory.specs.Input.{Trajectory, trackOrigin}
 use Rattle.trajectory.specs.Equations.{Scales, equationsOf}
-use Rattle.trajectory.specs.Pass.{passes, fitAt}
+use Rattle.trajectory.specs.Pass.{passes, fittedAt}
 use Rattle.smooth.specs.Track.{scalesOf, ones, refined, smoothed}
 use Rattle.smooth.specs.Answer.{measuredOk, recordsOk}
 use Rattle.smooth.proofs.FiniteSum.{add-finite}
@@ -60,8 +60,8 @@ solution-finite p s h t l k g =
     each-at (λ k. finite (solution e (p .n) k)) (p .n) (right-true B C (right-true A (B && C) (axis-of p s h t l))) k g
 
 module _ (p : Trajectory) (small-origin : (t : ℕ) → t < 3 → inRange (trackOrigin (p .anchors) t) ≡ true) where
-  pub pass-finite : (s : Scales) → passes p s ≡ true → (t : ℕ) → t < 3 → (k : ℕ) → k < p .n → finite (fitAt p s t k) ≡ true
-  unfolding fitAt
+  pub pass-finite : (s : Scales) → passes p s ≡ true → (t : ℕ) → t < 3 → (k : ℕ) → k < p .n → finite (fittedAt p s t k) ≡ true
+  unfolding fittedAt
   pass-finite s h t l k g =
       add-finite (solution (equationsOf p s t) (p .n) k) (trackOrigin (p .anchors) t) (solution-fits (equationsOf p s t) (p .n) k) (solution-finite p s h t l k g) (small-origin t l)
 
@@ -69,11 +69,11 @@ module _ (p : Trajectory) (small-origin : (t : ℕ) → t < 3 → inRange (track
   unfolding refined
   refined-finite h zero f s t l k g = s t l k g
   refined-finite h (suc r) f s t l k g =
-      pick (passes p (scalesOf p h f)) (refined p h r (fitAt p (scalesOf p h f))) f t k (λ e. refined-finite h r (fitAt p (scalesOf p h f)) (pass-finite (scalesOf p h f) e) t l k g) (s t l k g)
+      pick (passes p (scalesOf p h f)) (refined p h r (fittedAt p (scalesOf p h f))) f t k (λ e. refined-finite h r (fittedAt p (scalesOf p h f)) (pass-finite (scalesOf p h f) e) t l k g) (s t l k g)
 
   pub smoothed-finite : (h : Float) (its : ℕ) → passes p ones ≡ true → (t : ℕ) → t < 3 → (k : ℕ) → k < p .n → finite (smoothed p h its t k) ≡ true
   unfolding smoothed
-  smoothed-finite h its e = refined-finite h (its - 1) (fitAt p ones) (pass-finite ones e)
+  smoothed-finite h its e = refined-finite h (its - 1) (fittedAt p ones) (pass-finite ones e)
 
 -- the origin is one of the anchors' floats
 pub origin-small : (p : Trajectory) → 0 < p .anchors .count → recordsOk p ≡ true → (t : ℕ) → t < 3 → inRange (trackOrigin (p .anchors) t) ≡ true

@@ -7,14 +7,14 @@ use Prim.Native.Nat.{ℕ, zero, suc, _+_, _-_, _≤_, _<_}
 use native.Mathlib.Omega.{arith}
 use lib.Ieee.{Float}
 use Rattle.trajectory.specs.Input.{Trajectory}
-use Rattle.trajectory.specs.Pass.{passes, fitAt}
+use Rattle.trajectory.specs.Pass.{passes, fittedAt}
 use Rattle.smooth.specs.declared.Settings.{Settings}
 use Rattle.smooth.specs.Track.{ones, scalesOf, refined, smoothed, points, passAt}
 use Rattle.smooth.specs.Answer.{countsOk, settingsOk, recordsOk, trackOk, Points, trackOf}
 
 module _ (p : Trajectory) (h : Float) where
-  abbrev fitAt : ℕ → ℕ → ℕ → Float
-  fitAt i = fitAt p (passAt p h i)
+  abbrev fittedAt : ℕ → ℕ → ℕ → Float
+  fittedAt i = fittedAt p (passAt p h i)
 
   taken : (b : Bool) (f g : ℕ → ℕ → Float) → b ≡ true → cond b f g ≡ f
   taken b f g e = rw e
@@ -23,26 +23,26 @@ module _ (p : Trajectory) (h : Float) where
   left b f g e = rw e
 
   -- k good passes after pass i, and then none more is left or the next one fails
-  refined-at : (k i r : ℕ) → ((j : ℕ) → i < j → j ≤ i + k → passes p (passAt p h j) ≡ true) → k ≤ r → (k ≡ r) ⊎ (passes p (passAt p h (suc (i + k))) ≡ false) → refined p h r (fitAt i) ≡ fitAt (i + k)
+  refined-at : (k i r : ℕ) → ((j : ℕ) → i < j → j ≤ i + k → passes p (passAt p h j) ≡ true) → k ≤ r → (k ≡ r) ⊎ (passes p (passAt p h (suc (i + k))) ≡ false) → refined p h r (fittedAt i) ≡ fittedAt (i + k)
   unfolding refined passAt
-  refined-at zero i zero good l end = let e : i ≡ i + 0 = omega arith in ap fitAt e
+  refined-at zero i zero good l end = let e : i ≡ i + 0 = omega arith in ap fittedAt e
   refined-at zero i (suc r) good l end =
       let e : i ≡ i + 0 = omega arith in
       ⊎-elim
       (λ q. absurd (omega arith))
-      (λ q. left (passes p (scalesOf p h (fitAt i))) (refined p h r (fitAt p (scalesOf p h (fitAt i)))) (fitAt i) (ap (λ (j : ℕ). passes p (passAt p h (suc j))) e ∙ q) ∙ ap fitAt e)
+      (λ q. left (passes p (scalesOf p h (fittedAt i))) (refined p h r (fittedAt p (scalesOf p h (fittedAt i)))) (fittedAt i) (ap (λ (j : ℕ). passes p (passAt p h (suc j))) e ∙ q) ∙ ap fittedAt e)
       end
   refined-at (suc k) i zero good l end = absurd (omega arith)
   refined-at (suc k) i (suc r) good l end =
       let e : suc i + k ≡ i + suc k = omega arith in
-      taken (passes p (scalesOf p h (fitAt i))) (refined p h r (fitAt p (scalesOf p h (fitAt i)))) (fitAt i) (good (suc i) (omega arith) (omega arith))
+      taken (passes p (scalesOf p h (fittedAt i))) (refined p h r (fittedAt p (scalesOf p h (fittedAt i)))) (fittedAt i) (good (suc i) (omega arith) (omega arith))
       ∙ refined-at k (suc i) r (λ j a b. good j (omega arith) (omega arith)) (omega arith) (⊎-elim (λ q. inl (omega arith)) (λ q. inr (ap (λ (j : ℕ). passes p (passAt p h (suc j))) e ∙ q)) end)
-      ∙ ap fitAt e
+      ∙ ap fittedAt e
 
 pub track-of-last : (p : Trajectory) (s : Settings) (r w : ℕ) → countsOk p r w ≡ true → settingsOk s ≡ true → recordsOk p ≡ true → trackOk p ≡ true
     → (m : ℕ) → m ≤ s .iterations - 1 → ((j : ℕ) → j ≤ m → passes p (passAt p (s .huber) j) ≡ true)
     → (m ≡ s .iterations - 1) ⊎ (passes p (passAt p (s .huber) (suc m)) ≡ false)
-    → trackOf p s r w ≡ Points (points (fitAt p (passAt p (s .huber) m)) (p .n))
+    → trackOf p s r w ≡ Points (points (fittedAt p (passAt p (s .huber) m)) (p .n))
 unfolding trackOf smoothed passAt
 track-of-last p s r w e2 e3 e4 e6 m l good end =
     let first : passes p ones ≡ true = good 0 (omega arith) in
@@ -50,4 +50,4 @@ track-of-last p s r w e2 e3 e4 e6 m l good end =
     rw (e2, e3, e4, e6, first)
     (ap (λ (f : ℕ → ℕ → Float). Points (points f (p .n)))
     (refined-at p (s .huber) m 0 (s .iterations - 1) (λ j a b. good j (omega arith)) l (⊎-elim inl (λ q. inr (ap (λ (j : ℕ). passes p (passAt p (s .huber) (suc j))) z ∙ q)) end)
-    ∙ ap (λ (j : ℕ). fitAt p (passAt p (s .huber) j)) z))
+    ∙ ap (λ (j : ℕ). fittedAt p (passAt p (s .huber) j)) z))

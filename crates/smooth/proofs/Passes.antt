@@ -6,29 +6,29 @@ use Prim.Native.Nat.{ℕ, zero, suc, _-_}
 use lib.Ieee.{Float}
 use Rattle.trajectory.specs.Input.{Trajectory}
 use Rattle.trajectory.specs.Equations.{Scales}
-use Rattle.trajectory.specs.Pass.{passes, fitAt, PassAccurate}
+use Rattle.trajectory.specs.Pass.{passes, fittedAt, PassAccurate}
 use Rattle.trajectory.proofs.Accuracy.{pass-accurate}
 use Rattle.smooth.specs.Track.{scalesOf, ones, refined, smoothed, passesFrom, goodPasses, lastPass, EachPass}
 
-last-from : (p : Trajectory) (h : Float) (r : ℕ) (d s : Scales) → refined p h r (fitAt p s) ≡ fitAt p (lastPass d (passesFrom p h r s))
+last-from : (p : Trajectory) (h : Float) (r : ℕ) (d s : Scales) → refined p h r (fittedAt p s) ≡ fittedAt p (lastPass d (passesFrom p h r s))
 unfolding refined passesFrom lastPass
 last-from p h zero d s = refl
-last-from p h (suc r) d s = go (passes p (scalesOf p h (fitAt p s))) (last-from p h r s (scalesOf p h (fitAt p s)))
+last-from p h (suc r) d s = go (passes p (scalesOf p h (fittedAt p s))) (last-from p h r s (scalesOf p h (fittedAt p s)))
   where
-    go : (b : Bool) → refined p h r (fitAt p (scalesOf p h (fitAt p s))) ≡ fitAt p (lastPass s (passesFrom p h r (scalesOf p h (fitAt p s)))) → cond b (refined p h r (fitAt p (scalesOf p h (fitAt p s)))) (fitAt p s) ≡ fitAt p (lastPass s (cond b (passesFrom p h r (scalesOf p h (fitAt p s))) []))
+    go : (b : Bool) → refined p h r (fittedAt p (scalesOf p h (fittedAt p s))) ≡ fittedAt p (lastPass s (passesFrom p h r (scalesOf p h (fittedAt p s)))) → cond b (refined p h r (fittedAt p (scalesOf p h (fittedAt p s)))) (fittedAt p s) ≡ fittedAt p (lastPass s (cond b (passesFrom p h r (scalesOf p h (fittedAt p s))) []))
     go true e = e
     go false e = refl
 
-pub track-is-last : (p : Trajectory) (h : Float) (its : ℕ) → passes p ones ≡ true → smoothed p h its ≡ fitAt p (lastPass ones (goodPasses p h its))
+pub track-is-last : (p : Trajectory) (h : Float) (its : ℕ) → passes p ones ≡ true → smoothed p h its ≡ fittedAt p (lastPass ones (goodPasses p h its))
 unfolding smoothed goodPasses
 track-is-last p h its e = rw e (last-from p h (its - 1) ones ones)
 
 from-pass : (p : Trajectory) (h : Float) (r : ℕ) (s : Scales) → passes p s ≡ true → EachPass (λ s. passes p s ≡ true) (passesFrom p h r s)
 unfolding passesFrom EachPass
 from-pass p h zero s e = (e, tt)
-from-pass p h (suc r) s e = (e, go (passes p (scalesOf p h (fitAt p s))) (from-pass p h r (scalesOf p h (fitAt p s))))
+from-pass p h (suc r) s e = (e, go (passes p (scalesOf p h (fittedAt p s))) (from-pass p h r (scalesOf p h (fittedAt p s))))
   where
-    go : (b : Bool) → (b ≡ true → EachPass (λ s. passes p s ≡ true) (passesFrom p h r (scalesOf p h (fitAt p s)))) → EachPass (λ s. passes p s ≡ true) (cond b (passesFrom p h r (scalesOf p h (fitAt p s))) [])
+    go : (b : Bool) → (b ≡ true → EachPass (λ s. passes p s ≡ true) (passesFrom p h r (scalesOf p h (fittedAt p s)))) → EachPass (λ s. passes p s ≡ true) (cond b (passesFrom p h r (scalesOf p h (fittedAt p s))) [])
     go true f = f refl
     go false f = tt
 

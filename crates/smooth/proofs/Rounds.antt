@@ -23,7 +23,7 @@ use Rattle.tridiagonal.proofs.Cells.{place, same-float, hit, miss, miss2, miss3
 use Rattle.tridiagonal.proofs.Nan.{finite-number}
 use Rattle.trajectory.specs.Input.{Measured, Trajectory, trackOrigin, workNeed}
 use Rattle.trajectory.specs.Equations.{Scales, equationsOf}
-use Rattle.trajectory.specs.Pass.{passes, fitAt}
+use Rattle.trajectory.specs.Pass.{passes, fittedAt}
 use Rattle.trajectory.specs.Steps.{Lent, Valid, scalesIn, PassDone}
 use Rattle.trajectory.proofs.Passing.{passes-same, fit-same}
 use Rattle.smooth.specs.Track.{anchorScale, linkScale, scalesOf, ones, refined, smoothed}
@@ -79,8 +79,8 @@ module _ (r : List ℕ) (n : ℕ) (f : ℕ → ℕ → Float) (fits-all : (t k :
       at (suc (suc zero)) l = s .zs k h
       at (suc (suc (suc t))) l = absurd (omega arith)
 
-fit-fits : (p : Trajectory) (s : Scales) (t k : ℕ) → T (fits binary64 (fitAt p s t k))
-unfolding fitAt
+fit-fits : (p : Trajectory) (s : Scales) (t k : ℕ) → T (fits binary64 (fittedAt p s t k))
+unfolding fittedAt
 fit-fits p s t k = add-fits binary64 _ _
 
 -- ---- the scales by a fit
@@ -122,11 +122,11 @@ module _ (p : Trajectory) (s : Scales) (w w' : List ℕ) (ok : Bool) (d : PassDo
       }
 
   module _ (y : ok ≡ true) (r r' : List ℕ) (q : Published w' (p .n) (getD (p .anchors .value) 0 nan) (getD (p .anchors .value) 1 nan) (getD (p .anchors .value) 2 nan) r r') where
-    shifted : (t k : ℕ) (x : Float) → x ≡ solution (equationsOf p (scalesIn p w) t) (p .n) k → patternOf (x ⊕ trackOrigin (p .anchors) t) ≡ patternOf (fitAt p s t k)
-    unfolding fitAt
+    shifted : (t k : ℕ) (x : Float) → x ≡ solution (equationsOf p (scalesIn p w) t) (p .n) k → patternOf (x ⊕ trackOrigin (p .anchors) t) ≡ patternOf (fittedAt p s t k)
+    unfolding fittedAt
     shifted t k x g = ap patternOf (ap (λ (y : Float). y ⊕ trackOrigin (p .anchors) t) g ∙ fit-same p (scalesIn p w) s (e .anchors) (e .links) t k)
 
-    pub published-fit : Tabulated r' (p .n) (fitAt p s)
+    pub published-fit : Tabulated r' (p .n) (fittedAt p s)
     published-fit =
         let u = d .solutions y in
         record {
@@ -149,17 +149,17 @@ none-done n h = omega arith
 -- ---- the passes in turn
 
 refined-yes : (p : Trajectory) (h : Float) (m : ℕ) (f : ℕ → ℕ → Float) → passes p (scalesOf p h f) ≡ true → 0 < m
-    → refined p h m f ≡ refined p h (m - 1) (fitAt p (scalesOf p h f))
+    → refined p h m f ≡ refined p h (m - 1) (fittedAt p (scalesOf p h f))
 unfolding refined
 refined-yes p h m f e g =
     let q : m ≡ suc (m - 1) = omega arith in
-    ap (λ (i : ℕ). refined p h i f) q ∙ ap (λ (b : Bool). cond b (refined p h (m - 1) (fitAt p (scalesOf p h f))) f) e
+    ap (λ (i : ℕ). refined p h i f) q ∙ ap (λ (b : Bool). cond b (refined p h (m - 1) (fittedAt p (scalesOf p h f))) f) e
 
 refined-no : (p : Trajectory) (h : Float) (m : ℕ) (f : ℕ → ℕ → Float) → passes p (scalesOf p h f) ≡ false → 0 < m → refined p h m f ≡ f
 unfolding refined
 refined-no p h m f e g =
     let q : m ≡ suc (m - 1) = omega arith in
-    ap (λ (i : ℕ). refined p h i f) q ∙ ap (λ (b : Bool). cond b (refined p h (m - 1) (fitAt p (scalesOf p h f))) f) e
+    ap (λ (i : ℕ). refined p h i f) q ∙ ap (λ (b : Bool). cond b (refined p h (m - 1) (fittedAt p (scalesOf p h f))) f) e
 
 refined-none : (p : Trajectory) (h : Float) (m : ℕ) (f : ℕ → ℕ → Float) → m ≡ 0 → refined p h m f ≡ f
 unfolding refined
@@ -170,7 +170,7 @@ tabulated-is r n f g e s = rw e at s
 
 -- what a pass by the scales s leads to, after so many good ones: where it is good, the track is what the passes left make of its fit, and where it fails the track stands in r
 pub record Ahead (p : Trajectory) (h : Float) (its : ℕ) (r₀ r : List ℕ) (done : ℕ) (s : Scales) : Type 0 where
-  pub if-good : passes p s ≡ true → (passes p ones ≡ true) × (smoothed p h its ≡ refined p h (its - (done + 1)) (fitAt p s))
+  pub if-good : passes p s ≡ true → (passes p ones ≡ true) × (smoothed p h its ≡ refined p h (its - (done + 1)) (fittedAt p s))
   pub if-first : passes p s ≡ false → done ≡ 0 → (passes p ones ≡ false) × (r ≡ r₀)
   pub if-later : passes p s ≡ false → 0 < done → (passes p ones ≡ true) × Tabulated r (p .n) (smoothed p h its)
 
@@ -242,7 +242,7 @@ module _ (p : Trajectory) (v : Valid p) (small : (t : ℕ) → t < 3 → inRange
     good = sym ok-is ∙ y
 
     abbrev g : ℕ → ℕ → Float
-    g = fitAt p (s .scales)
+    g = fittedAt p (s .scales)
 
     holds : Tabulated r1 (p .n) g
     holds = published-fit p (s .scales) w w1 ok d (s .stand) y r r1 q
@@ -280,8 +280,8 @@ module _ (p : Trajectory) (v : Valid p) (small : (t : ℕ) → t < 3 → inRange
       fitting-more more w2 x lw1 lw2 lr =
           let m = its - (done + 1) in
           let so = s .ahead .if-good good in
-          let step : (e : passes p (scalesOf p h g) ≡ true) → refined p h m g ≡ refined p h (its - (done + 1 + 1)) (fitAt p (scalesOf p h g))
-          = λ e. let i : m - 1 ≡ its - (done + 1 + 1) = omega arith in refined-yes p h m g e (omega arith) ∙ ap (λ (i : ℕ). refined p h i (fitAt p (scalesOf p h g))) i in
+          let step : (e : passes p (scalesOf p h g) ≡ true) → refined p h m g ≡ refined p h (its - (done + 1 + 1)) (fittedAt p (scalesOf p h g))
+          = λ e. let i : m - 1 ≡ its - (done + 1 + 1) = omega arith in refined-yes p h m g e (omega arith) ∙ ap (λ (i : ℕ). refined p h i (fittedAt p (scalesOf p h g))) i in
           record {
             work-kept = kept-then 0 (workNeed p) 0 (workNeed p) w₀ w1 w2 (omega arith) (omega arith) work-then (x .kept);
             kept = kept-then-too;

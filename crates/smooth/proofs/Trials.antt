@@ -9,22 +9,22 @@ use Rattle.numeric.specs.declared.refusal.Refusal.the-variants.{BadTrack, Setti
 use Rattle.tridiagonal.specs.Tridiagonal.{eachBelow, pivot, reduced, vanishing, back, solution}
 use Rattle.trajectory.specs.Input.{measured, trajectory}
 use Rattle.trajectory.specs.Equations.{changed, diagonal, upper, right}
-use Rattle.trajectory.specs.Pass.{passes, fitAt}
+use Rattle.trajectory.specs.Pass.{passes, fittedAt}
 use Rattle.smooth.specs.Track.{huberOf, anchorScale, linkScale, refined, smoothed, points}
 use Rattle.smooth.specs.Answer.{countsOk, settingsOk, recordsOk, placesOk, Refused, Points, trackOf}
 use Rattle.smooth.specs.Trials.{usual, oneAnchor, noLink, m12, m13}
 
 pub one-point : m12
-unfolding trackOf countsOk settingsOk recordsOk placesOk eachBelow inRange abs passes diagonal upper right changed vanishing pivot reduced back solution fitAt huberOf max square anchorScale linkScale refined smoothed points rootOf add sub mul div lt le isNan ofBits ofInt
+unfolding trackOf countsOk settingsOk recordsOk placesOk eachBelow inRange abs passes diagonal upper right changed vanishing pivot reduced back solution fittedAt huberOf max square anchorScale linkScale refined smoothed points rootOf add sub mul div lt le isNan ofBits ofInt
 one-point = refl
 
 pub not-held : m13
-unfolding trackOf countsOk settingsOk recordsOk placesOk eachBelow inRange abs passes diagonal upper right changed vanishing pivot reduced back solution fitAt huberOf max square anchorScale linkScale refined smoothed points rootOf add sub mul div lt le isNan ofBits ofInt
+unfolding trackOf countsOk settingsOk recordsOk placesOk eachBelow inRange abs passes diagonal upper right changed vanishing pivot reduced back solution fittedAt huberOf max square anchorScale linkScale refined smoothed points rootOf add sub mul div lt le isNan ofBits ofInt
 not-held = refl
 
 -- two epochs, one anchor and a link of (1, 0, 0): no iterations run one pass, and the link carries the second epoch
 two-points : trackOf (trajectory 2 oneAnchor (measured 1 (0 ∷ []) (whole 1 ∷ whole 0 ∷ whole 0 ∷ []) (1·0 ∷ 1·0 ∷ 1·0 ∷ []))) (record { huber = whole 2; iterations = 0 }) 6 20 ≡ Points (whole 5 ∷ whole 6 ∷ whole 7 ∷ whole 6 ∷ whole 6 ∷ whole 7 ∷ [])
-unfolding trackOf countsOk settingsOk recordsOk placesOk eachBelow inRange abs passes diagonal upper right changed vanishing pivot reduced back solution fitAt huberOf max square anchorScale linkScale refined smoothed points rootOf add sub mul div lt le isNan ofBits ofInt
+unfolding trackOf countsOk settingsOk recordsOk placesOk eachBelow inRange abs passes diagonal upper right changed vanishing pivot reduced back solution fittedAt huberOf max square anchorScale linkScale refined smoothed points rootOf add sub mul div lt le isNan ofBits ofInt
 two-points = refl
 
 -- no epochs: 6

@@ -15,7 +15,7 @@ use Rattle.numeric.specs.declared.refusal.Refusal.{Refusal}
 use Rattle.numeric.specs.declared.refusal.Refusal.the-variants.{TooMany, SettingOutOfRange, RecordOutOfRange, BadTrack, FitFailed}
 use Rattle.tridiagonal.specs.Tridiagonal.{eachBelow}
 use Rattle.trajectory.specs.Input.{Measured, Trajectory, workNeed}
-use Rattle.trajectory.specs.Pass.{passes, fitAt, PassAccurate}
+use Rattle.trajectory.specs.Pass.{passes, fittedAt, PassAccurate}
 use Rattle.smooth.specs.declared.Settings.{Settings}
 use Rattle.smooth.specs.declared.Track.{Track}
 use Rattle.smooth.specs.declared.Track.the-variants as Track
@@ -114,5 +114,5 @@ pub record Called (p : Trajectory) (s : Settings) (r w : List ℕ) (x : Track) (
   pub result : r' ≡ trackResultAfter (trackOf p s (length r) (length w)) r
   pub work : w' ≡ workAfter (workNeed p) (trackOf p s (length r) (length w)) w
   pub all-finite : (ps : List Float) → trackOf p s (length r) (length w) ≡ Points ps → (k : ℕ) → k < length ps → finite (getD ps k nan) ≡ true
-  pub last-given : (ps : List Float) → trackOf p s (length r) (length w) ≡ Points ps → ps ≡ points (fitAt p (lastPass ones (goodPasses p (s .huber) (s .iterations)))) (p .n)
+  pub last-given : (ps : List Float) → trackOf p s (length r) (length w) ≡ Points ps → ps ≡ points (fittedAt p (lastPass ones (goodPasses p (s .huber) (s .iterations)))) (p .n)
   pub accurate : EachPass (PassAccurate p) (goodPasses p (s .huber) (s .iterations))

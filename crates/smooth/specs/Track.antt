@@ -9,7 +9,7 @@ use Rattle.root.specs.Root.{rootOf}
 use Rattle.numeric.specs.Real.{square, max}
 use Rattle.trajectory.specs.Input.{Measured, Trajectory, indexAt, valueAt, sigmaAt}
 use Rattle.trajectory.specs.Equations.{Scales, nextAt}
-use Rattle.trajectory.specs.Pass.{passes, fitAt}
+use Rattle.trajectory.specs.Pass.{passes, fittedAt}
 
 -- ---- how much a measurement counts, by the fit before
 
@@ -46,11 +46,11 @@ ones = record { anchors = λ j. 1·0; links = λ j. 1·0 }
 -- The fit after up to so many passes more, each by the fit before. A pass that fails ends the work and keeps the last good fit.
 unfoldable pub refined : Trajectory → Float → ℕ → (ℕ → ℕ → Float) → ℕ → ℕ → Float
 refined p h zero f = f
-refined p h (suc r) f = cond (passes p (scalesOf p h f)) (refined p h r (fitAt p (scalesOf p h f))) f
+refined p h (suc r) f = cond (passes p (scalesOf p h f)) (refined p h r (fittedAt p (scalesOf p h f))) f
 
 -- The fit after the given iterations. The first pass is one of them, and also runs with none.
 unfoldable pub smoothed : Trajectory → Float → ℕ → ℕ → ℕ → Float
-smoothed p h iterations = refined p h (iterations - 1) (fitAt p ones)
+smoothed p h iterations = refined p h (iterations - 1) (fittedAt p ones)
 
 -- a fit of n epochs as a list: x, y, z of the first epoch, then of the next, and so on
 unfoldable pub points : (ℕ → ℕ → Float) → ℕ → List Float
@@ -62,12 +62,12 @@ points f (suc k) = points f k ++ (f 0 k ∷ f 1 k ∷ f 2 k ∷ [])
 -- The passes from one with the scales s, which is good, on. A pass's equations on axis t are `equationsOf p s t`; `pivot`, `factor` and `solution` of them are its elimination's.
 unfoldable pub passesFrom : Trajectory → Float → ℕ → Scales → List Scales
 passesFrom p h zero s = s ∷ []
-passesFrom p h (suc r) s = let s' = scalesOf p h (fitAt p s) in s ∷ cond (passes p s') (passesFrom p h r s') []
+passesFrom p h (suc r) s = let s' = scalesOf p h (fittedAt p s) in s ∷ cond (passes p s') (passesFrom p h r s') []
 
 -- the scales of pass i, where all before it are good: the first counts each measurement once, and each later one weighs by the fit before it
 unfoldable pub passAt : Trajectory → Float → ℕ → Scales
 passAt p h zero = ones
-passAt p h (suc i) = scalesOf p h (fitAt p (passAt p h i))
+passAt p h (suc i) = scalesOf p h (fittedAt p (passAt p h i))
 
 -- all the good passes of a track, none where the first fails
 unfoldable pub goodPasses : Trajectory → Float → ℕ → List Scales

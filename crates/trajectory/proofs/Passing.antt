@@ -14,7 +14,7 @@ use Rattle.tridiagonal.proofs.Alike.{alike-then, spoilt-same, axis-same, soluti
 use Rattle.tridiagonal.proofs.Nan.{spoilt-fails}
 use Rattle.trajectory.specs.Input.{Trajectory}
 use Rattle.trajectory.specs.Equations.{Scales, equationsOf}
-use Rattle.trajectory.specs.Pass.{passes, fitAt}
+use Rattle.trajectory.specs.Pass.{passes, fittedAt}
 use Rattle.trajectory.specs.Steps.{AddDone, scalesIn, PassDone, anchorChange, linkChange, changedBy}
 use Rattle.trajectory.proofs.Assembly.{anchored-alike, anchored-spoilt, linked-alike, cleared-numbers, equations-same}
 
@@ -102,6 +102,6 @@ module _ (p : Trajectory) (s s' : Scales) (ea : (j : ℕ) → j < p .anchors .co
       at : (t : ℕ) → axisSolved (equationsOf p s t) (p .n) ≡ axisSolved (equationsOf p s' t) (p .n)
       at t = ap (λ (e : Equations). axisSolved e (p .n)) (equations-same p s s' ea el t)
 
-  pub fit-same : (t k : ℕ) → fitAt p s t k ≡ fitAt p s' t k
-  unfolding fitAt
+  pub fit-same : (t k : ℕ) → fittedAt p s t k ≡ fittedAt p s' t k
+  unfolding fittedAt
   fit-same t k = rw (equations-same p s s' ea el t)

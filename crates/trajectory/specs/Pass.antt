@@ -14,8 +14,8 @@ unfoldable pub passes : Trajectory → Scales → Bool
 passes p s = onAxes (λ t. axisSolved (equationsOf p s t) (p .n))
 
 -- what a good pass fits at epoch k on axis t: the unknown and the origin
-unfoldable pub fitAt : Trajectory → Scales → ℕ → ℕ → Float
-fitAt p s t k = solution (equationsOf p s t) (p .n) k ⊕ trackOrigin (p .anchors) t
+unfoldable pub fittedAt : Trajectory → Scales → ℕ → ℕ → Float
+fittedAt p s t k = solution (equationsOf p s t) (p .n) k ⊕ trackOrigin (p .anchors) t
 
 -- On each axis the solution, before the origin is added, meets the pass's equations as closely as `RowsAccurate` says.
 abbrev pub PassAccurate : Trajectory → Scales → Type 0
