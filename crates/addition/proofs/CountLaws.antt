@@ -12,7 +12,8 @@ use Rattle.walk.specs.Walk.{collect}
 use Rattle.table.specs.Add.{insertAll}
 use Rattle.table.specs.declared.sample.Sample.{Sample}
 use Rattle.table.proofs.TableLaws.{and-left, and-right}
-use Rattle.directory.specs.Directory.{Entry, Reading, ascends, block, columnOf, entriesFrom, entryRows, noEntry, readingOf, signalIn}
+use Rattle.directory.specs.Directory.{Entry, Reading, ascends, block, columnOf, entriesFrom, entryRows, readingOf, signalIn}
+use Rattle.directory.specs.Steps.{noEntry}
 use Rattle.directory.proofs.DirectoryLaws.{readings-from}
 use Rattle.directory.proofs.SoundLaws.{tiles-at}
 use Rattle.addition.specs.Steps.{LastIs, LastOf, Lies, OfSignals, Tiled, blocksUpTo, entriesUpTo, lastEntry}

@@ -6,7 +6,8 @@ use Prim.Native.Nat.{ℕ, zero, suc, _+_, _-_, _≤_, _<_}
 use native.Mathlib.Omega.{arith}
 use lib.ListN.{length, getD}
 use borrow.Author.Tests.{eqb-true}
-use Rattle.directory.specs.Directory.{Entry, noEntry, tiles}
+use Rattle.directory.specs.Directory.{Entry, tiles}
+use Rattle.directory.specs.Steps.{noEntry}
 use Rattle.directory.proofs.SoundLaws.{tiles-at}
 use Rattle.directory.proofs.EntryLaws.{tiles-first, tiles-next, tiles-last}
 

@@ -16,7 +16,8 @@ use Rattle.table.proofs.TableLaws.{and-left, and-right, rises-at}
 use Rattle.table.proofs.Places.{timeKey, rises, key-lt}
 use Rattle.table.proofs.SeriesLaws.{insertAll-append}
 use Rattle.table.proofs.InsertLaws.{insertAll-length}
-use Rattle.directory.specs.Directory.{Entry, Reading, ascends, block, entriesFrom, entryOf, isMine, joined, noEntry, readingOf, sampleOf, signalIn, tiles}
+use Rattle.directory.specs.Directory.{Entry, Reading, ascends, block, entriesFrom, entryOf, isMine, joined, readingOf, sampleOf, signalIn, tiles}
+use Rattle.directory.specs.Steps.{noEntry}
 use Rattle.directory.proofs.DirectoryLaws.{Same, Narrow, same-of, same-signal, signal-same, run}
 use Rattle.directory.proofs.SoundLaws.{tiles-at}
 use Rattle.directory.proofs.EntryLaws.{ascends-at, block-length, tiles-first, tiles-next}

@@ -19,7 +19,8 @@ use Rattle.table.specs.declared.sample.Sample.{Sample}
 use Rattle.table.proofs.TableLaws.{and-right}
 use Rattle.table.proofs.Places.{placeOf, rises, sorted-rises}
 use Rattle.table.proofs.ColumnLaws.{rows-at, rows-length}
-use Rattle.directory.specs.Directory.{Entry, Reading, block, columnOf, directoryIn, entryRows, flat, floats, lentBlocks, noEntry, noReading, readingOf, readingRows, sampleOf, signalIn, soundDirectory, tiles}
+use Rattle.directory.specs.Directory.{Entry, Reading, block, columnOf, directoryIn, entryRows, flat, floats, lentBlocks, readingOf, readingRows, sampleOf, signalIn, soundDirectory, tiles}
+use Rattle.directory.specs.Steps.{noEntry, noReading}
 use Rattle.directory.proofs.DirectoryLaws.{sound-parts, sound-flat, flat-readings}
 use Rattle.directory.proofs.ColumnLaws.{entries-length, entry-at, flat-length, readings-length}
 use Rattle.directory.proofs.PatternLaws.{T-true, every-of, floats-at, floats-column, floats-fit-all, floats-length, map-of, numbers-in, numbers-of, patterns-back}

@@ -11,7 +11,8 @@ use Rattle.signal.specs.Signal.{signal}
 use Rattle.table.specs.Table.{blank, signalOf}
 use Rattle.table.specs.declared.sample.Sample.{Sample}
 use Rattle.table.proofs.Places.{rises, sorted-rises}
-use Rattle.directory.specs.Directory.{Entry, Reading, ascends, entriesFrom, entryRows, isMine, noEntry, signalIn}
+use Rattle.directory.specs.Directory.{Entry, Reading, ascends, entriesFrom, entryRows, isMine, signalIn}
+use Rattle.directory.specs.Steps.{noEntry}
 use Rattle.directory.proofs.DirectoryLaws.{Narrow}
 use Rattle.directory.proofs.ColumnLaws.{entries-length, entry-at}
 use Rattle.addition.specs.Steps.{LastOf, Lies, NewLast, OfSignals, OwnFrom, blocksUpTo, entriesUpTo, lastEntry}

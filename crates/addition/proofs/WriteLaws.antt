@@ -6,7 +6,8 @@ use native.Mathlib.Omega.{arith}
 use lib.ListN.{length, getD, take, set, replicate, length-append, length-map, length-replicate}
 use lib.Seq.{take-take}
 use Rattle.table.specs.declared.sample.Sample.{Sample}
-use Rattle.directory.specs.Directory.{Entry, Reading, entryRows, noEntry, noReading}
+use Rattle.directory.specs.Directory.{Entry, Reading, entryRows}
+use Rattle.directory.specs.Steps.{noEntry, noReading}
 use Rattle.directory.proofs.DirectoryLaws.{Narrow}
 use Rattle.directory.proofs.ColumnLaws.{entries-length}
 use Rattle.addition.specs.Steps.{EntriesMerged, LastIs, LastOf, OfSignals, SomeSignals, Tiled, blocksUpTo, entriesUpTo, lastEntry}

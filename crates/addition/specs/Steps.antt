@@ -14,7 +14,8 @@ use Rattle.signal.specs.Signal.{signal}
 use Rattle.table.specs.Table.{blank, rows, sorted, tableOf, timeBefore}
 use Rattle.table.specs.Add.{insertAll}
 use Rattle.table.specs.declared.sample.Sample.{Sample}
-use Rattle.directory.specs.Directory.{Blocks, Directory, Entry, PatternsWith, Reading, ascends, block, blocksWith, columnOf, directoryIn, entriesFrom, entriesIn, entryRows, flat, floats, lentBlocks, noEntry, readingRows, readingsIn, soundDirectory, tiles}
+use Rattle.directory.specs.Directory.{Blocks, Directory, Entry, PatternsWith, Reading, ascends, block, blocksWith, columnOf, directoryIn, entriesFrom, entriesIn, entryRows, flat, floats, lentBlocks, readingRows, readingsIn, soundDirectory, tiles}
+use Rattle.directory.specs.Steps.{noEntry}
 use Rattle.directory.specs.Lent.{LentTable}
 use Rattle.table.specs.Lent.{LentColumn, LentFloats, columnsBefore, columnsNow}
 use Rattle.addition.specs.declared.entries.Last.{Last}

@@ -10,7 +10,8 @@ use lib.Seq.{length-take-le}
 use lib.Ieee.{Float, nan}
 use Rattle.table.specs.Table.{Columns, beside, lentSamples, rows, tableOf}
 use Rattle.table.specs.declared.sample.Sample.{Sample}
-use Rattle.directory.specs.Directory.{Entry, Reading, Directory, Blocks, blocksWith, directoryIn, directoryOf, entriesFrom, entryRows, flat, lentBlocks, noEntry, noReading, readingOf, readingRows, readingsIn, soundDirectory}
+use Rattle.directory.specs.Directory.{Entry, Reading, Directory, Blocks, blocksWith, directoryIn, directoryOf, entriesFrom, entryRows, flat, lentBlocks, readingOf, readingRows, readingsIn, soundDirectory}
+use Rattle.directory.specs.Steps.{noEntry, noReading}
 use Rattle.directory.specs.Rearrange.{entriesWith, signalsWith}
 use Rattle.directory.proofs.DirectoryLaws.{flat-readings}
 

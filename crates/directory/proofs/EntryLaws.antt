@@ -9,7 +9,8 @@ use lib.ListN.{length, getD, take, drop, length-drop, length-map, List·getD-app
 use lib.Seq.{getD-append-add, getD-drop, getD-take, length-take-le}
 use Rattle.walk.specs.Walk.{collect}
 use Rattle.table.specs.Table.{blank}
-use Rattle.directory.specs.Directory.{Entry, Reading, ascends, block, noEntry, noReading, sampleOf, signalIn, tiles}
+use Rattle.directory.specs.Directory.{Entry, Reading, ascends, block, sampleOf, signalIn, tiles}
+use Rattle.directory.specs.Steps.{noEntry, noReading}
 use Rattle.directory.proofs.DirectoryLaws.{ascends-low, ascends-rest, tiles-start, tiles-rest}
 use Rattle.directory.proofs.SoundLaws.{tiles-at}
 

@@ -22,8 +22,8 @@ use Rattle.numeric.proofs.RealLaws.{between}
 use Rattle.walk.specs.Walk.{every, places}
 use Rattle.walk.proofs.Walk.{places-ext, places-map, places-take}
 use Rattle.table.proofs.TableLaws.{and-left, and-right}
-use Rattle.directory.specs.Directory.{Entry, Reading, blockTimes, columnOf, entryRows, floats, inOrder, inReach, noEntry, noReading, readingRows, tiles, timely}
-use Rattle.directory.specs.Steps.{timelyBlocks}
+use Rattle.directory.specs.Directory.{Entry, Reading, blockTimes, columnOf, entryRows, floats, inOrder, inReach, readingRows, tiles, timely}
+use Rattle.directory.specs.Steps.{noEntry, noReading, timelyBlocks}
 use Rattle.directory.proofs.ColumnLaws.{entry-at, reading-at, readings-length}
 use Rattle.directory.proofs.SoundLaws.{tile-at, times-at}
 use Rattle.directory.proofs.EntryLaws.{getD-map-in}

@@ -20,7 +20,8 @@ use Rattle.table.specs.Table.{timeBefore}
 use Rattle.table.proofs.TableLaws.{and-left, and-right}
 use Rattle.table.proofs.UnitLaws.{never}
 use Rattle.table.proofs.Places.{numbers-after}
-use Rattle.directory.specs.Directory.{Entry, Reading, Blocks, ascends, blockTimes, directoryIn, entriesIn, inOrder, inReach, noEntry, noReading, readingRows, readingsIn, signalIn, soundDirectory, tiles, timely, timelyFrom}
+use Rattle.directory.specs.Directory.{Entry, Reading, Blocks, ascends, blockTimes, directoryIn, entriesIn, inOrder, inReach, readingRows, readingsIn, signalIn, soundDirectory, tiles, timely, timelyFrom}
+use Rattle.directory.specs.Steps.{noEntry, noReading}
 use Rattle.directory.proofs.DirectoryLaws.{tiles-le, tiles-start, tiles-count, tiles-rest}
 use Rattle.directory.proofs.ColumnLaws.{reading-at}
 

@@ -77,13 +77,6 @@ entriesIn l = entryRows (l .constellations) (l .svids) (l .bands) (l .firsts) (l
 abbrev pub readingsIn : Blocks → List Reading
 readingsIn l = readingRows (l .times) (l .corrections)
 
--- what a read past the end gives
-abbrev pub noEntry : Entry
-noEntry = record { constellation = 0; svid = 0; band = 0; start = 0; count = 0 }
-
-abbrev pub noReading : Reading
-noReading = record { time = nan; correction = nan }
-
 -- numbers 2 and 11 by request (ix): the capacity is the shortest lent column, the directory's too, at most 2,048
 abbrev pub blockCapacity : Blocks → ℕ
 blockCapacity l = min 2048 (min (length (entriesIn l)) (length (readingsIn l)))

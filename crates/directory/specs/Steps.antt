@@ -1,14 +1,19 @@
 -- What the contracts of inner functions say: no promise of a call for users reaches these. Definitions only.
-use Prim.Native.Nat.{ℕ, _+_, _≤_, _<_}
+use Prim.Native.Nat.{ℕ, _+_, _≤_, _<_, suc, min}
 use mathlib.Core.Path.{_≡_}
-use mathlib.Core.Bool.{Bool, false}
-use mathlib.Core.List.{List}
+use mathlib.Core.Bool.{Bool, false, true, cond, not, _&&_}
+use mathlib.Core.List.{List, [], _∷_, _++_, map}
 use lib.ListN.{length, getD, take, drop}
-use lib.Ieee.{Float}
-use Rattle.walk.specs.Walk.{every, places}
-use Rattle.numeric.specs.Order.{isNanPattern}
+use lib.Ieee.{Float, nan}
+use Rattle.walk.specs.Walk.{every, places, collect}
+use Rattle.numeric.specs.Order.{isNanPattern, patternOf}
 use Rattle.signal.specs.Signal.{signal}
-use Rattle.directory.specs.Directory.{timely}
+use Rattle.directory.specs.Directory.{timely, Entry, Reading}
+use lib.Dec.{eqb, leb, ltb}
+use Rattle.exact.specs.Float.{bits}
+use Rattle.numeric.specs.Real.{inRange}
+use Rattle.table.specs.Table.{timeBefore}
+use Rattle.table.specs.declared.sample.Sample.{Sample}
 
 -- the place i lies in the three columns of signals
 abbrev pub InSignals : List ℕ → List ℕ → List ℕ → ℕ → Type 0
@@ -38,3 +43,10 @@ pub record EachBlock (P : ℕ → ℕ → Type 0) (firsts counts : List ℕ) (m 
 -- the times of each of the first m blocks are in order
 unfoldable pub timelyBlocks : List ℕ → List ℕ → List Float → ℕ → Bool
 timelyBlocks firsts counts ts m = every timely (places (λ (j : ℕ). take (getD counts j 0) (drop (getD firsts j 0) ts)) m)
+
+-- what a read past the end gives
+abbrev pub noEntry : Entry
+noEntry = record { constellation = 0; svid = 0; band = 0; start = 0; count = 0 }
+
+abbrev pub noReading : Reading
+noReading = record { time = nan; correction = nan }

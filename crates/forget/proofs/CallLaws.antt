@@ -25,8 +25,8 @@ use Rattle.table.specs.declared.add.Test.the-variants as Test
 use Rattle.directory.specs.Directory.{Directory, Blocks, Reading, blockCapacity, blocksWith, directoryIn, directoryOf, entriesIn, flat, floats, inReach, readingOf, readingsIn, soundDirectory}
 use Rattle.directory.proofs.DirectoryLaws.{sound-flat}
 use Rattle.query.proofs.PlaceLaws.{held-flat}
-use Rattle.forget.specs.Forget.{Forgets, ForgetOutcome, PatternsAfter, countAfter, forget, forgetIn, forgettingNumber, forgettingOf, leaves, testIn}
-use Rattle.forget.specs.Steps.{Fit, retained, trimmed}
+use Rattle.forget.specs.Forget.{Forgets, ForgetOutcome, PatternsAfter, countAfter, forget, forgetIn, forgettingNumber, forgettingOf, leaves, testIn, retained, trimmed}
+use Rattle.forget.specs.Steps.{Fit}
 use Rattle.forget.specs.declared.forget.Forgetting.{Forgetting}
 use Rattle.forget.specs.declared.forget.Forgetting.the-variants as Forgetting
 use Rattle.forget.proofs.LayoutLaws.{forget-trimmed}

@@ -19,8 +19,7 @@ use Rattle.directory.proofs.DirectoryLaws.{block-keyed, keyed, run, readings-ma
 use Rattle.directory.proofs.BlockLaws.{front-le}
 use Rattle.query.specs.Query.{before}
 use Rattle.query.proofs.QueryLaws.{TimesHeld}
-use Rattle.forget.specs.Forget.{earlier, some, forget}
-use Rattle.forget.specs.Steps.{laid, retained, trimmed}
+use Rattle.forget.specs.Forget.{earlier, some, forget, laid, retained, trimmed}
 use Rattle.forget.proofs.ForgetLaws.{some-series}
 use Rattle.forget.proofs.BlockLaws.{Only, forget-block, heldAll, held-all}
 

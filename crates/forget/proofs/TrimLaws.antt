@@ -12,13 +12,15 @@ use Rattle.walk.specs.Walk.{collect}
 use Rattle.walk.proofs.Walk.{left-at, left-end}
 use Rattle.table.specs.Table.{blank}
 use Rattle.table.specs.declared.sample.Sample.{Sample}
-use Rattle.directory.specs.Directory.{Entry, Reading, Blocks, block, blocksWith, columnOf, directoryIn, entriesIn, entryRows, lentBlocks, noEntry, readingRows, readingsIn, soundDirectory, tiles}
+use Rattle.directory.specs.Directory.{Entry, Reading, Blocks, block, blocksWith, columnOf, directoryIn, entriesIn, entryRows, lentBlocks, readingRows, readingsIn, soundDirectory, tiles}
+use Rattle.directory.specs.Steps.{noEntry}
 use Rattle.directory.specs.Series.{front}
 use Rattle.directory.proofs.DirectoryLaws.{sound-parts, tiles-count, tiles-le, tiles-rest, tiles-start}
 use Rattle.directory.proofs.ColumnLaws.{entries-length, entry-at, readings-length}
 use Rattle.directory.proofs.SoundLaws.{part-is}
 use Rattle.query.proofs.PlaceLaws.{Lies, lies}
-use Rattle.forget.specs.Steps.{Outdated, laid, movedDown, retained, trimmed}
+use Rattle.forget.specs.Steps.{Outdated, movedDown}
+use Rattle.forget.specs.Forget.{laid, retained, trimmed}
 use Rattle.forget.proofs.MoveLaws.{Going, going-at, going-count, going-end, going-many, going-one, going-start}
 
 -- ---- fields of rows are the columns

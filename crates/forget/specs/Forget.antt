@@ -1,11 +1,11 @@
 -- Forgetting the samples before a time (request (x)). Definitions only.
-use Prim.Native.Nat.{ℕ}
+use Prim.Native.Nat.{ℕ, _+_, _-_, _≤_, _<_}
 use mathlib.Core.Path.{_≡_}
-use mathlib.Core.Bool.{Bool, false, cond, not, _&&_, _||_}
+use mathlib.Core.Bool.{Bool, false, cond, not, _&&_, _||_, true}
 use mathlib.Core.List.{List, [], _∷_}
 use lib.Dec.{eqb, ltb}
-use lib.ListN.{length}
-use lib.Ieee.{Float}
+use lib.ListN.{length, getD, take, drop}
+use lib.Ieee.{Float, nan, lt}
 use lib.Ieee.Scale.{finite}
 use Rattle.numeric.specs.Refusal.{numberOf}
 use Rattle.numeric.specs.declared.refusal.Refusal.{Refusal}
@@ -14,11 +14,16 @@ use Rattle.table.specs.Table.{signalOf}
 use Rattle.table.specs.declared.sample.Sample.{Sample}
 use Rattle.table.specs.declared.add.Test.{Test}
 use Rattle.table.specs.declared.add.Test.the-variants as Test
-use Rattle.directory.specs.Directory.{Directory, Blocks, PatternsWith, blocksWith, directoryOf, flat, soundDirectory}
+use Rattle.directory.specs.Directory.{Directory, Blocks, PatternsWith, blocksWith, directoryOf, flat, soundDirectory, Entry, Reading, block, directoryIn, entriesIn, floats, lentBlocks, readingsIn}
 use Rattle.directory.specs.Lent.{LentTable}
 use Rattle.query.specs.Query.{before}
 use Rattle.forget.specs.declared.forget.Forgetting.{Forgetting}
 use Rattle.forget.specs.declared.forget.Forgetting.the-variants as Forgetting
+use lib.Seq.{paste}
+use Rattle.walk.specs.Walk.{collect}
+use denote.Ref.{RefT, now}
+use Rattle.table.specs.Lent.{LentColumn}
+use Rattle.directory.specs.Series.{front}
 
 -- ---- the table
 
@@ -100,3 +105,17 @@ pub record Forgets (o : ForgetOutcome) (number m n n′ : ℕ) (l l′ : Blocks)
 -- the number, the count, the columns and the patterns after a call on lent columns are those of the outcome
 abbrev pub ForgetsIn : ForgetOutcome → ℕ → ℕ → ℕ → ℕ → LentTable → Type 0
 ForgetsIn o number m n n′ t = Forgets o number m n n′ (t .before) (t .after) × PatternsAfter o (t .times) (t .corrections) (t .timesAfter) (t .correctionsAfter)
+
+-- what a drop leaves of an entry's block: of the samples at its front that are before the time all but the last go
+abbrev pub retained : Float → List Reading → Entry → List Reading
+retained time rs e = drop (front time (block rs e) - 1) (take (e .count) (drop (e .start) rs))
+
+-- entries with their blocks laid one after the other from the place on, the block of each being its part
+unfoldable pub laid : (Entry → List Reading) → ℕ → List Entry → List Entry
+laid part place [] = []
+laid part place (e ∷ es) =
+    record { constellation = e .constellation; svid = e .svid; band = e .band; start = place; count = length (part e) } ∷ laid part (place + length (part e)) es
+
+-- a directory in which each block is what the drop leaves of it
+unfoldable pub trimmed : Float → Directory → Directory
+trimmed time d = record { entries = laid (retained time (d .readings)) 0 (d .entries); readings = collect (retained time (d .readings)) (d .entries) }

@@ -22,20 +22,6 @@ pub record Outdated (ts : List Float) (first count : ℕ) (time : Float) (r : �
 abbrev pub movedDown : {A : Type 0} → ℕ → ℕ → ℕ → List A → List A
 movedDown to from k l = paste l to (drop from l) k
 
--- what a drop leaves of an entry's block: of the samples at its front that are before the time all but the last go
-abbrev pub retained : Float → List Reading → Entry → List Reading
-retained time rs e = drop (front time (block rs e) - 1) (take (e .count) (drop (e .start) rs))
-
--- entries with their blocks laid one after the other from the place on, the block of each being its part
-unfoldable pub laid : (Entry → List Reading) → ℕ → List Entry → List Entry
-laid part place [] = []
-laid part place (e ∷ es) =
-    record { constellation = e .constellation; svid = e .svid; band = e .band; start = place; count = length (part e) } ∷ laid part (place + length (part e)) es
-
--- a directory in which each block is what the drop leaves of it
-unfoldable pub trimmed : Float → Directory → Directory
-trimmed time d = record { entries = laid (retained time (d .readings)) 0 (d .entries); readings = collect (retained time (d .readings)) (d .entries) }
-
 -- ---- what the contract of the pass says
 
 -- m entries and n samples in columns that have them all, and number 4 finds nothing in them

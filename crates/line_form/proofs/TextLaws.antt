@@ -16,7 +16,8 @@ use Rattle.walk.proofs.Walk.{places-all, places-take}
 use Rattle.numeric.specs.declared.vec3.Vec3.{Vec3}
 use Rattle.numeric.specs.declared.refusal.Refusal.the-variants.{TooMany, BrokenForm}
 use Rattle.records.specs.Record.{countedCarriers}
-use Rattle.records.specs.Signals.{epochIn, SignalsFit, Put, Laid}
+use Rattle.records.specs.Signals.{epochIn, SignalsFit}
+use Rattle.records.specs.Steps.{Put, Laid}
 use Rattle.records.specs.declared.record.Carrier.{Carrier}
 use Rattle.records.specs.declared.record.Epoch.{Epoch}
 use Rattle.records.specs.declared.pair.Profile.the-variants.{General}

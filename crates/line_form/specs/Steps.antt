@@ -9,7 +9,7 @@ use Rattle.line_form.specs.Line.{eleven, isVector, vectorIn, settingsFor
 use Rattle.line_form.specs.declared.split.Fields.{Fields}
 use lib.IntN.{ℤ}
 use lib.Ieee.{Float, isNan}
-use Rattle.records.specs.Signals.{Laid}
+use Rattle.records.specs.Steps.{Laid}
 use Rattle.numeric.specs.declared.vec3.Vec3.{Vec3}
 use Rattle.records.specs.declared.record.Carrier.{Carrier}
 use Rattle.records.specs.declared.record.Epoch.{Epoch}

@@ -9,7 +9,7 @@ use lib.Seq.{take-all, getD-take, length-take-le}
 use lib.Ieee.{Float, nan}
 use Rattle.walk.specs.Walk.{places}
 use Rattle.walk.proofs.Walk.{places-map, places-take, places-ext}
-use Rattle.normal.specs.Columns.{RoundColumns, columns, rowIn, rowsIn}
+use Rattle.normal.specs.Steps.{RoundColumns, columns, rowIn, rowsIn}
 use Rattle.normal.specs.declared.row.Row.{Row}
 use Rattle.normal.proofs.Sums.{mapped-next}
 

@@ -4,8 +4,8 @@ use Prim.Native.Nat.{ℕ}
 use mathlib.Core.Bool.{cond, _&&_}
 use mathlib.Core.List.{List}
 use lib.Dec.{ltb, leb, eqb}
-use lib.ListN.{set}
-use lib.Ieee.{Float}
+use lib.ListN.{set, getD, length}
+use lib.Ieee.{Float, nan}
 use Rattle.exact.specs.Float.{_⊕_, _⊗_, +0, 1·0}
 use Rattle.cholesky.specs.Factor.{at, cell}
 use Rattle.cholesky.specs.Steps.{store}
@@ -14,6 +14,7 @@ use Rattle.normal.specs.Nine.{nine}
 use Rattle.normal.specs.Equations.{matrixOf, rightOf}
 use Rattle.normal.specs.declared.row.Row.{Row}
 use Rattle.normal.specs.declared.equations.Corner.{Corner}
+use Rattle.walk.specs.Walk.{places}
 
 -- the matrix of n unknowns before any row is added: 1 on the diagonal of the unused ones
 unfoldable pub unused : ℕ → List (List Float)
@@ -78,3 +79,29 @@ cornerPut s a = store (store (store (store (store (store a 0 0 (s .xx)) 1 0 (s .
 
 abbrev pub cornerSides : Corner → List Float → List Float
 cornerSides s b = set (set (set b 0 (s .x)) 1 (s .y)) 2 (s .z)
+
+-- the coordinates of the lines of sight, and the rows' other numbers
+pub record RoundColumns : Type 0 where
+  pub x : List Float
+  pub y : List Float
+  pub z : List Float
+  pub clock : List ℕ
+  pub sigma : List Float
+  pub residual : List ℕ
+
+abbrev pub columns : List Float → List Float → List Float → List ℕ → List Float → List ℕ → RoundColumns
+columns x y z clock sigma residual = record { x = x; y = y; z = z; clock = clock; sigma = sigma; residual = residual }
+
+-- row k
+abbrev pub rowIn : RoundColumns → ℕ → Row
+rowIn c k =
+    record {
+      unit = record { x = getD (c .x) k nan; y = getD (c .y) k nan; z = getD (c .z) k nan };
+      clock = getD (c .clock) k 0;
+      residual = getD (c .residual) k 0;
+      sigma = getD (c .sigma) k nan;
+    }
+
+-- as many rows as there are residuals
+abbrev pub rowsIn : RoundColumns → List Row
+rowsIn c = places (rowIn c) (length (c .residual))

@@ -6,7 +6,7 @@ ghost use lib.ListN.{length};
 ghost use Rattle.normal.specs.Nine.{Square};
 ghost use Rattle.normal.specs.Weight as spec;
 ghost use Rattle.normal.specs.Steps as code;
-ghost use Rattle.normal.specs.Columns.{columns, rowIn, rowsIn};
+ghost use Rattle.normal.specs.Steps.{columns, rowIn, rowsIn};
 use crate::row::Row;
 use crate::row::wide;
 use crate::weight::weight;

@@ -22,11 +22,10 @@ use Rattle.numeric.specs.declared.refusal.Refusal.the-variants.{FitFailed, Qual
 use Rattle.root.specs.Root.{rootOf}
 use Rattle.normal.specs.Nine.{nine}
 use Rattle.normal.specs.Equations.{wide, total, triangleOf}
-use Rattle.normal.specs.Columns.{RoundColumns, rowIn, rowsIn}
+use Rattle.normal.specs.Steps.{RoundColumns, rowIn, rowsIn, unused, triangleAdded}
 use Rattle.normal.specs.declared.row.Row.{Row}
 use Rattle.normal.proofs.NineLaws.{nine-is}
 use Rattle.normal.proofs.Sums.{sumTo, sumTo-zero, sumTo-next, sum-places}
-use Rattle.normal.specs.Steps.{unused, triangleAdded}
 use Rattle.normal.proofs.AddedLaws.{triangle-zero, triangle-more}
 use Rattle.normal.proofs.FormedLaws.{sums, sums-zero, sums-next, sums-triangle, triangle-unused}
 use Rattle.estimator.specs.Rules.{ruled}

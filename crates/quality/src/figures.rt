@@ -5,7 +5,7 @@ ghost use lib.Ieee.{Float};
 ghost use Prim.Native.Nat.{ℕ, _≤_};
 ghost use lib.ListN.{length};
 ghost use Rattle.cholesky.specs.Factor.{Unused};
-ghost use Rattle.normal.specs.Columns.{columns, rowsIn};
+ghost use Rattle.normal.specs.Steps.{columns, rowsIn};
 ghost use Rattle.quality.specs.Quality as spec;
 ghost use Rattle.quality.specs.Steps.{Diluted, Qualified};
 use cholesky::factor::factor_used;

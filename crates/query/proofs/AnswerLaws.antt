@@ -13,8 +13,8 @@ use borrow.Author.Tests.{eqb-true, le-ltb}
 use Rattle.numeric.specs.Real.{inRange}
 use Rattle.numeric.specs.declared.refusal.Refusal.the-variants.{NoCorrection, RecordOutOfRange}
 use Rattle.table.specs.Table.{seriesOf}
-use Rattle.directory.specs.Directory.{Blocks, Entry, block, blockCapacity, directoryIn, entriesIn, flat, noEntry, readingsIn, tiles}
-use Rattle.directory.specs.Steps.{Filled, InSignals, signalAt}
+use Rattle.directory.specs.Directory.{Blocks, Entry, block, blockCapacity, directoryIn, entriesIn, flat, readingsIn, tiles}
+use Rattle.directory.specs.Steps.{noEntry, Filled, InSignals, signalAt}
 use Rattle.directory.proofs.ColumnLaws.{entries-length}
 use Rattle.directory.proofs.DirectoryLaws.{sound-flat, sound-parts, tiles-rest}
 use Rattle.query.specs.Query.{GivesFinite, PassedQuery, answerIn, guarded, signalQuery}

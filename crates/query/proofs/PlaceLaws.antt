@@ -18,7 +18,8 @@ use Rattle.table.specs.declared.sample.Sample.{Sample}
 use Rattle.table.proofs.Places.{timeKey}
 use Rattle.table.proofs.TableLaws.{and-left, and-right}
 use Rattle.table.proofs.UnitLaws.{earlier-of}
-use Rattle.directory.specs.Directory.{Entry, Reading, Blocks, block, blockTimes, directoryIn, entriesIn, flat, inReach, noEntry, noReading, readingOf, readingRows, readingsIn, sampleOf, signalIn, soundDirectory, timely}
+use Rattle.directory.specs.Directory.{Entry, Reading, Blocks, block, blockTimes, directoryIn, entriesIn, flat, inReach, readingOf, readingRows, readingsIn, sampleOf, signalIn, soundDirectory, timely}
+use Rattle.directory.specs.Steps.{noEntry, noReading}
 use Rattle.directory.proofs.DirectoryLaws.{sound-parts, flat-readings, keyed, block-keyed}
 use Rattle.directory.proofs.SeriesLaws.{blockOf}
 use Rattle.directory.proofs.SoundLaws.{part-is, tiles-at}

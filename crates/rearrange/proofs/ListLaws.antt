@@ -12,7 +12,8 @@ use lib.Ieee.{Float}
 use borrow.Author.Tests.{eqb-true, eqb-false, ltb-true, ltb-false}
 use Rattle.table.specs.Table.{blank, lentSamples}
 use Rattle.table.specs.declared.sample.Sample.{Sample}
-use Rattle.directory.specs.Directory.{Entry, columnOf, directoryIn, entryRows, flat, lentBlocks, noEntry, noReading, readingRows, sampleOf, soundDirectory, tiles}
+use Rattle.directory.specs.Directory.{Entry, columnOf, directoryIn, entryRows, flat, lentBlocks, readingRows, sampleOf, soundDirectory, tiles}
+use Rattle.directory.specs.Steps.{noEntry, noReading}
 use Rattle.directory.specs.Rearrange.{signalsWith}
 use Rattle.directory.proofs.DirectoryLaws.{sound-parts}
 use Rattle.directory.proofs.ColumnLaws.{flat-length}

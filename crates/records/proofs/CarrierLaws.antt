@@ -15,7 +15,8 @@ use Rattle.signal.proofs.SignalLaws.{same-digits}
 use Rattle.numeric.specs.declared.vec3.Vec3.{Vec3}
 use Rattle.records.specs.Record.{usable, same}
 use Rattle.records.specs.Signals.{carrierWith, carrierIn, carriersIn}
-use Rattle.records.specs.Pair.{pairOf, firstPair, Finds}
+use Rattle.records.specs.Pair.{pairOf, firstPair}
+use Rattle.records.specs.Steps.{Finds}
 use Rattle.records.specs.declared.record.Carrier.{Carrier}
 use Rattle.records.proofs.RecordLaws.{blank}
 

@@ -12,7 +12,8 @@ use Rattle.walk.proofs.Walk.{places-all, places-take, places-ext}
 use Rattle.signal.proofs.SignalLaws.{constellation-is, svid-is, band-is, signal-small}
 use Rattle.records.specs.Record.{countedCarriers}
 use Rattle.records.specs.Carriers.{carrierColumns, carrierAt, epochOf}
-use Rattle.records.specs.Signals.{carrierWith, carrierIn, epochIn, SignalsFit, Signalled, Laid}
+use Rattle.records.specs.Signals.{carrierWith, carrierIn, epochIn, SignalsFit}
+use Rattle.records.specs.Steps.{Signalled, Laid}
 use Rattle.records.specs.declared.record.Carrier.{Carrier}
 use Rattle.records.specs.declared.record.Epoch.{Epoch}
 use Rattle.records.proofs.RecordLaws.{blank}

@@ -22,11 +22,6 @@ abbrev pub isCity : Profile → Bool
 isCity General = false
 isCity (City band) = true
 
--- whether the profile has the carrier looked at
-abbrev pub lookedAt : Profile → Carrier → Bool
-lookedAt General c = true
-lookedAt (City band) c = certified band c
-
 -- the carriers that a displacement looks at: all, or in the city profile those
 abbrev pub looked : Profile → List Carrier → List Carrier
 looked General cs = cs

@@ -54,12 +54,6 @@ pairsOf receiver mask dt previous current = collect (pairAt receiver mask dt pre
 unfoldable pub seen : Pair → Bool
 seen q = not (onReceiver (q .range)) && not (onReceiver (q .«previous_range»))
 
--- r is where the first previous carrier stands that is usable and of the signal g, or past the last
-pub record Finds (g : ℕ) (ss : List ℕ) (ts : List ℤ) (fs : List Float) (r : ℕ) : Type 0 where
-  pub found :
-      (receiver : Vec3) (dt : Float) (state : ℤ) (gs : List Float) (i : ℕ) →
-      firstPair receiver dt (carriersIn ss ts fs) (carrierWith g state gs i) ≡ cond (ltb r (length ss)) (pairOf receiver dt (carrierWith g state gs i) (carrierIn ss ts fs r) ∷ []) []
-
 -- what the code has of the pairs ps: they are the first of its array, and whether 15 lets each pass
 pub record Paired (r : Pairs) (ps : List Pair) : Type 0 where
   pub held : Holds (r .count) (r .pair) ps

@@ -17,7 +17,7 @@ use Rattle.normal.specs.Weight.{weight}
 use Rattle.robust.specs.Round.{RoundOutcome, Refused, Solved, roundBy, roundOf}
 use Rattle.robust.specs.Steps.{Solving}
 use Rattle.robust.specs.Step.{countedRows, indexed, paddedStep, refused, outcome, stepOf}
-use Rattle.normal.specs.Columns.{RoundColumns, rowsIn}
+use Rattle.normal.specs.Steps.{RoundColumns, rowsIn}
 use Rattle.normal.specs.declared.row.Rows.{Rows}
 use Rattle.robust.specs.declared.round.Stepping.{Stepping}
 use Rattle.robust.specs.declared.round.Stepping.the-variants as Stepping

@@ -4,7 +4,7 @@ ghost use Prim.Native.Nat.{_≤_, _<_};
 ghost use lib.ListN.{length};
 ghost use Rattle.robust.specs.Round as spec;
 ghost use Rattle.robust.specs.Steps.{Solving};
-ghost use Rattle.normal.specs.Columns.{columns, rowsIn};
+ghost use Rattle.normal.specs.Steps.{columns, rowsIn};
 ghost use Rattle.robust.specs.Step.{paddedStep, steppingNumber, stepOf, StepPromised};
 use cholesky::factor::factor_used;
 use cholesky::factor::solve_used;

@@ -26,12 +26,3 @@ rootParts m y =
 unfoldable pub rootUnits : ℕ → Float
 unfolding rootParts size
 rootUnits a = let y = size a - 1 in rootParts (a * 2 ^ 52 / 2 ^ y) y
-
--- x is a / 2 ^ 1074, and that is m * 2 ^ y / 2 ^ 1126 with an m of 53 digits
-pub record IsParts (x : Float) (m y : ℕ) : Type 0 where
-  pub a : ℕ
-  pub is : HasValue x false a (2 ^ 1074)
-  pub same : a * 2 ^ 52 ≡ m * 2 ^ y
-  pub from : 2 ^ 52 ≤ m
-  pub below : m < 2 ^ 53
-  pub small : y < 2098

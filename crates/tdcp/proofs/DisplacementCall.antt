@@ -19,7 +19,8 @@ use Rattle.records.specs.City.{isCity, looked}
 use Rattle.records.specs.Pair.{pairsOf, Paired}
 use Rattle.clocks.specs.Clocks.{has, clocksOf}
 use Rattle.records.specs.Screen.{keptOf, constellations}
-use Rattle.records.specs.Kept.{pairIn, pairsIn, Kept}
+use Rattle.records.specs.Kept.{Kept}
+use Rattle.records.specs.Steps.{pairIn, pairsIn}
 use Rattle.estimator.specs.Rules.{Rule, rule, ruled}
 use Rattle.tdcp.specs.Valid.{dtOf, epochRules, fewRules}
 use Rattle.tdcp.specs.Front.{sightRules, countRules, cityRules, pairRules}

@@ -9,8 +9,8 @@ use lib.Ieee.{Float, nan}
 use Rattle.walk.proofs.Walk.{places-map, places-take, places-ext}
 use Rattle.walk.specs.Walk.{places}
 use Rattle.robust.specs.Round.{roundOf}
-use Rattle.normal.specs.Columns.{RoundColumns, columns, rowsIn}
-use Rattle.normal.specs.Columns as round
+use Rattle.normal.specs.Steps.{RoundColumns, columns, rowsIn}
+use Rattle.normal.specs.Steps as round
 use Rattle.normal.proofs.ColumnLaws.{filled-at}
 use Rattle.robust.specs.Steps.{Solving}
 use Rattle.normal.specs.declared.row.Row.{Row}
@@ -20,7 +20,8 @@ use Rattle.records.specs.declared.pair.Pair.{Pair}
 use Rattle.tdcp.specs.declared.displacement.Settings.{Settings}
 use Rattle.cholesky.specs.Factor.{zeros}
 use Rattle.estimator.specs.Rounds.{fitFrom}
-use Rattle.records.specs.Kept.{pairIn, pairsIn, Kept}
+use Rattle.records.specs.Kept.{Kept}
+use Rattle.records.specs.Steps.{pairIn, pairsIn}
 use Rattle.tdcp.specs.Displacement.{pairSigma, rowWith, rowAt, roundAt, stopLimit, fitOver}
 use Rattle.tdcp.specs.Steps.{ClocksAt, SigmasAt, ResidualsAt}
 use Rattle.estimator.proofs.RoundsLaws.{Left, left-start}

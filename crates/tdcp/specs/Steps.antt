@@ -22,7 +22,7 @@ use Rattle.tdcp.specs.declared.displacement.Interval.{Interval}
 use Rattle.tdcp.specs.Displacement.{fitOver, fitBy, deltaAt, endRules}
 use Rattle.tdcp.specs.Rated.{qualityAt}
 use Rattle.quality.specs.declared.figures.Quality.{Quality}
-use Rattle.records.specs.Kept.{pairsIn}
+use Rattle.records.specs.Steps.{pairsIn}
 use Rattle.records.specs.Screen.{keptOf, constellations}
 use Rattle.tdcp.specs.declared.displacement.Settings.{Settings}
 use Rattle.tdcp.specs.declared.displacement.Displacement.{Displacement}

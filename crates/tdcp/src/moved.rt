@@ -4,7 +4,7 @@ ghost use lib.ListN.{length, take};
 ghost use Prim.Native.Nat.{_≤_};
 ghost use Rattle.walk.specs.Walk.{every};
 ghost use Rattle.records.specs.City.{isCity};
-ghost use Rattle.records.specs.Kept.{pairsIn};
+ghost use Rattle.records.specs.Steps.{pairsIn};
 ghost use Rattle.records.specs.Pair.{seen};
 ghost use Rattle.tdcp.specs.Displacement as spec;
 ghost use Rattle.tdcp.specs.Rated as rated;

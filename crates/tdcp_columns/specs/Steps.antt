@@ -7,7 +7,7 @@ use lib.Ieee.Scale.{finite}
 use Rattle.walk.specs.Walk.{every}
 use Rattle.numeric.specs.declared.refusal.Refusal.the-variants.{TooMany}
 use Rattle.records.specs.Carriers.{CarrierColumns, epochFits}
-use Rattle.records.specs.Signals.{Signalled}
+use Rattle.records.specs.Steps.{Signalled}
 use Rattle.tdcp.specs.Displacement.{displacementFloats, Accepted}
 use Rattle.tdcp.specs.Rated.{answeredOf}
 use Rattle.tdcp.specs.declared.displacement.Delta.{Delta}

@@ -13,7 +13,8 @@ use Rattle.numeric.specs.Order.{patternOf}
 use Rattle.numeric.specs.declared.refusal.Refusal.{Refusal}
 use Rattle.numeric.specs.declared.refusal.Refusal.the-variants.{TooMany, BrokenRecords}
 use Rattle.records.specs.Signals as signals
-use Rattle.records.specs.Signals.{SignalsFit, Laid}
+use Rattle.records.specs.Signals.{SignalsFit}
+use Rattle.records.specs.Steps.{Laid}
 use Rattle.records.specs.declared.record.Carrier.{Carrier}
 use Rattle.records.proofs.RecordLaws.{blank}
 use Rattle.records.proofs.EpochLaws.{cut-count, cut-fits, cut-is}

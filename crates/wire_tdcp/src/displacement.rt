@@ -2,7 +2,7 @@
 ghost use mathlib.Core.Path.{_≡_};
 ghost use Prim.Native.Nat.{_*_, _≤_};
 ghost use lib.ListN.{length};
-ghost use Rattle.records.specs.Signals.{Laid};
+ghost use Rattle.records.specs.Steps.{Laid};
 ghost use Rattle.tdcp.specs.Displacement.{Promised};
 ghost use Rattle.wire.specs.Record.{countIn};
 ghost use Rattle.wire_tdcp.specs.Displacement as spec;

@@ -9,7 +9,7 @@ use lib.Ieee.{Float, nan}
 use Rattle.robust.specs.Round.{Round, RoundOutcome, Solved, roundOf}
 use Rattle.robust.specs.Steps.{Solving}
 use Rattle.walk.proofs.Walk.{places-length}
-use Rattle.normal.specs.Columns.{columns, rowIn, rowsIn}
+use Rattle.normal.specs.Steps.{columns, rowIn, rowsIn}
 use Rattle.normal.specs.declared.row.Row.{Row}
 use Rattle.robust.specs.declared.round.Stepping.{Stepping}
 use Rattle.numeric.specs.declared.refusal.Refusal.{Refusal}

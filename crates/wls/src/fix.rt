@@ -4,7 +4,7 @@ ghost use mathlib.Core.List.{List, map};
 ghost use lib.ListN.{length, take};
 ghost use Prim.Native.Nat.{ℕ, _≤_};
 ghost use lib.Ieee.{Float};
-ghost use Rattle.normal.specs.Columns.{columns, rowsIn};
+ghost use Rattle.normal.specs.Steps.{columns, rowsIn};
 ghost use Rattle.estimator.specs.Rules.{Rule, ruled};
 ghost use Rattle.wls.specs.Fix as spec;
 ghost use Rattle.wls.specs.Steps.{Long, Rowed, Fitted, concludedAt, ratedFix};

@@ -9,7 +9,8 @@ use lib.Seq.{length-take-le}
 use borrow.Author.Needs.{needs}
 use Rattle.table.specs.Table.{blank, lentSamples, signalOf, tableOf}
 use Rattle.table.specs.declared.sample.Sample.{Sample}
-use Rattle.directory.specs.Directory.{Entry, directoryIn, entryRows, flat, floats, lentBlocks, noEntry, readingRows, signalIn}
+use Rattle.directory.specs.Directory.{Entry, directoryIn, entryRows, flat, floats, lentBlocks, readingRows, signalIn}
+use Rattle.directory.specs.Steps.{noEntry}
 use Rattle.directory.proofs.ColumnLaws.{readings-length}
 use Rattle.directory.proofs.PatternLaws.{floats-length}
 use Rattle.addition.specs.Steps.{Steady}

@@ -6,7 +6,7 @@ use Rattle.exact.specs.Float.{bits}
 use Rattle.normal.specs.Nine.{nine}
 use Rattle.normal.specs.Weight.{weight}
 use Rattle.normal.specs.Equations.{wide, triangleOf}
-use Rattle.normal.specs.Columns.{columns, rowIn}
+use Rattle.normal.specs.Steps.{columns, rowIn}
 use Rattle.normal.specs.declared.row.Row.{Row}
 use Rattle.normal.proofs.AddedLaws.{triangle-zero, triangle-wide, inSides, side-zero, side-long}
 use Rattle.normal.proofs.FormedLaws.{cells, sides, cells-zero, sides-zero, triangle-row, side-row, formed-last}

@@ -5,7 +5,7 @@ use mathlib.Core.Bool.{Bool, true, false, _&&_}
 use lib.Dec.{T}
 use lib.ListN.{length}
 use lib.Ieee.Fits.{and-l, and-r}
-use Rattle.normal.specs.Columns.{columns, rowIn}
+use Rattle.normal.specs.Steps.{columns, rowIn}
 use Rattle.normal.specs.declared.row.Row.{Row}
 use Rattle.normal.proofs.Places.{Placed, placed-start, placed-row}
 use Rattle.normal.proofs.AllPlaces.{formed-by-places}

@@ -2,7 +2,7 @@
 use mathlib.Core.Path.{_≡_, ap, _∙_}
 use Prim.Native.Nat.{_-_, _≤_}
 use Rattle.normal.specs.Equations.{wide, triangleOf}
-use Rattle.normal.specs.Columns.{RoundColumns, columns}
+use Rattle.normal.specs.Steps.{RoundColumns, columns}
 use Rattle.normal.proofs.AddedLaws.{triangle-wide}
 use Rattle.quality.proofs.QualityLaws.{plain, plain-start, plain-next, plain-end}
 use borrow.Author.Needs.{needs}

@@ -3,7 +3,7 @@ use borrow.Author.Needs.{needs}
 use mathlib.Core.Path.{_≡_, refl}
 use Prim.Native.Nat.{_≤_, _-_}
 use lib.ListN.{length}
-use Rattle.records.specs.Signals.{Laid}
+use Rattle.records.specs.Steps.{Laid}
 use native.Mathlib.Omega.{arith}
 use Rattle.records.proofs.PutLaws.{laid-next, getD-any}
 use Rattle.walk.proofs.Walk.{length-mapped}

@@ -5,7 +5,7 @@ use lib.Ieee.{Float}
 use Rattle.normal.specs.Weight.{weight}
 use Rattle.robust.specs.Round.{roundBy, roundOf}
 use Rattle.robust.specs.Steps.{Solving}
-use Rattle.normal.specs.Columns.{RoundColumns, columns, rowsIn}
+use Rattle.normal.specs.Steps.{RoundColumns, columns, rowsIn}
 use Rattle.robust.specs.declared.round.Stepping.{Stepping}
 use Rattle.robust.proofs.SolvingLaws.{solving-yes, solving-no}
 use Rattle.normal.proofs.FormedLaws.{matrix-unused, right-unused}

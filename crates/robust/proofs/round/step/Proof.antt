@@ -11,7 +11,7 @@ use Rattle.walk.specs.Walk.{every}
 use Rattle.walk.proofs.Walk.{length-mapped, every-end, every-yes, every-no}
 use Rattle.robust.specs.Round.{roundOf}
 use Rattle.robust.specs.Steps.{Solving}
-use Rattle.normal.specs.Columns.{columns, rowsIn}
+use Rattle.normal.specs.Steps.{columns, rowsIn}
 use Rattle.robust.specs.Step.{countedRows, indexed, steppingNumber, Stepped, StepPromised}
 use Rattle.normal.specs.declared.row.Row.{Row}
 use Rattle.robust.specs.declared.round.Stepping.{Stepping}

@@ -3,7 +3,7 @@ use mathlib.Core.Path.{sym}
 use native.Mathlib.Omega.{arith}
 use lib.ListN.{length}
 use lib.Seq.{length-take-le}
-use Rattle.records.specs.Kept.{pairsIn}
+use Rattle.records.specs.Steps.{pairsIn}
 use Rattle.tdcp.proofs.DisplacementLaws.{rows-in}
 use Rattle.tdcp.proofs.RatedLaws.{quality-made}
 use borrow.Author.Needs.{needs}

@@ -5,9 +5,9 @@ use mathlib.Core.List.{List, map}
 use lib.ListN.{length, take}
 use lib.Seq.{length-take-le}
 use lib.Ieee.{Float}
-use Rattle.normal.specs.Columns.{columns, rowsIn}
+use Rattle.normal.specs.Steps.{columns, rowsIn}
 use Rattle.estimator.specs.Rounds.{shortStep}
-use Rattle.records.specs.Kept.{pairsIn}
+use Rattle.records.specs.Steps.{pairsIn}
 use Rattle.clocks.specs.declared.clocks.Clocks.{Clocks}
 use Rattle.tdcp.specs.Displacement.{rowAt, roundAt, stopLimit, fitOver}
 use Rattle.tdcp.specs.Steps.{ClocksAt, SigmasAt}

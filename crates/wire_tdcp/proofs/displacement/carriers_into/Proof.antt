@@ -4,7 +4,7 @@ use Prim.Native.Nat.{ℕ, _≤_, _-_}
 use native.Mathlib.Omega.{arith}
 use denote.Ref.{now}
 use borrow.Author.Needs.{needs}
-use Rattle.records.specs.Signals.{Laid}
+use Rattle.records.specs.Steps.{Laid}
 use Rattle.records.proofs.PutLaws.{laid-next}
 use Rattle.wire_tdcp.specs.Displacement.{recordCarrier, recordCarriers}
 use Rattle.wire_tdcp.proofs.DisplacementLaws.{carrier-in}

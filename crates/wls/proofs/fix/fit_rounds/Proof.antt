@@ -8,7 +8,7 @@ use lib.Ieee.{Float}
 use Rattle.walk.specs.Walk.{places}
 use Rattle.walk.proofs.Walk.{length-mapped}
 use Rattle.robust.specs.Round.{RoundOutcome}
-use Rattle.normal.specs.Columns.{columns, rowsIn}
+use Rattle.normal.specs.Steps.{columns, rowsIn}
 use Rattle.records.specs.declared.record.Observation.{Observation}
 use Rattle.estimator.specs.Rounds.{Fit, shortStep}
 use Rattle.estimator.specs.declared.rules.Check.the-variants.{Passed}

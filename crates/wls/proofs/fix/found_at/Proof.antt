@@ -2,7 +2,7 @@
 use mathlib.Core.Path.{sym, _∙_}
 use lib.ListN.{length}
 use Rattle.walk.proofs.Walk.{places-length}
-use Rattle.normal.specs.Columns.{RoundColumns, columns, rowIn, rowsIn}
+use Rattle.normal.specs.Steps.{RoundColumns, columns, rowIn, rowsIn}
 use Rattle.wls.proofs.FixCall.{found-no, found-refused, found-rated}
 use borrow.Author.Needs.{needs}
 use Rattle.wls.proofs.fix.found_at.Statement.{statement}
