@@ -5,7 +5,7 @@ use mathlib.Core.Bool.{Bool, true, cond, not, _&&_}
 use mathlib.Core.List.{List, [], _∷_, _++_, map}
 use lib.Dec.{eqb, leb, ltb}
 use lib.ListN.{length, take, drop}
-use lib.Ieee.{Float, nan}
+use lib.Ieee.{Float}
 use Rattle.exact.specs.Float.{bits}
 use Rattle.walk.specs.Walk.{every, collect}
 use Rattle.numeric.specs.Order.{patternOf}

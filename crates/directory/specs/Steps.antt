@@ -1,19 +1,14 @@
 -- What the contracts of inner functions say: no promise of a call for users reaches these. Definitions only.
-use Prim.Native.Nat.{ℕ, _+_, _≤_, _<_, suc, min}
+use Prim.Native.Nat.{ℕ, _+_, _≤_, _<_}
 use mathlib.Core.Path.{_≡_}
-use mathlib.Core.Bool.{Bool, false, true, cond, not, _&&_}
-use mathlib.Core.List.{List, [], _∷_, _++_, map}
+use mathlib.Core.Bool.{Bool, false}
+use mathlib.Core.List.{List}
 use lib.ListN.{length, getD, take, drop}
 use lib.Ieee.{Float, nan}
-use Rattle.walk.specs.Walk.{every, places, collect}
-use Rattle.numeric.specs.Order.{isNanPattern, patternOf}
+use Rattle.walk.specs.Walk.{every, places}
+use Rattle.numeric.specs.Order.{isNanPattern}
 use Rattle.signal.specs.Signal.{signal}
 use Rattle.directory.specs.Directory.{timely, Entry, Reading}
-use lib.Dec.{eqb, leb, ltb}
-use Rattle.exact.specs.Float.{bits}
-use Rattle.numeric.specs.Real.{inRange}
-use Rattle.table.specs.Table.{timeBefore}
-use Rattle.table.specs.declared.sample.Sample.{Sample}
 
 -- the place i lies in the three columns of signals
 abbrev pub InSignals : List ℕ → List ℕ → List ℕ → ℕ → Type 0

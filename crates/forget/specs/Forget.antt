@@ -1,11 +1,11 @@
 -- Forgetting the samples before a time (request (x)). Definitions only.
-use Prim.Native.Nat.{ℕ, _+_, _-_, _≤_, _<_}
+use Prim.Native.Nat.{ℕ, _+_, _-_}
 use mathlib.Core.Path.{_≡_}
-use mathlib.Core.Bool.{Bool, false, cond, not, _&&_, _||_, true}
+use mathlib.Core.Bool.{Bool, false, cond, not, _&&_, _||_}
 use mathlib.Core.List.{List, [], _∷_}
 use lib.Dec.{eqb, ltb}
-use lib.ListN.{length, getD, take, drop}
-use lib.Ieee.{Float, nan, lt}
+use lib.ListN.{length, take, drop}
+use lib.Ieee.{Float}
 use lib.Ieee.Scale.{finite}
 use Rattle.numeric.specs.Refusal.{numberOf}
 use Rattle.numeric.specs.declared.refusal.Refusal.{Refusal}
@@ -14,15 +14,12 @@ use Rattle.table.specs.Table.{signalOf}
 use Rattle.table.specs.declared.sample.Sample.{Sample}
 use Rattle.table.specs.declared.add.Test.{Test}
 use Rattle.table.specs.declared.add.Test.the-variants as Test
-use Rattle.directory.specs.Directory.{Directory, Blocks, PatternsWith, blocksWith, directoryOf, flat, soundDirectory, Entry, Reading, block, directoryIn, entriesIn, floats, lentBlocks, readingsIn}
+use Rattle.directory.specs.Directory.{Directory, Blocks, PatternsWith, blocksWith, directoryOf, flat, soundDirectory, Entry, Reading, block}
 use Rattle.directory.specs.Lent.{LentTable}
 use Rattle.query.specs.Query.{before}
 use Rattle.forget.specs.declared.forget.Forgetting.{Forgetting}
 use Rattle.forget.specs.declared.forget.Forgetting.the-variants as Forgetting
-use lib.Seq.{paste}
 use Rattle.walk.specs.Walk.{collect}
-use denote.Ref.{RefT, now}
-use Rattle.table.specs.Lent.{LentColumn}
 use Rattle.directory.specs.Series.{front}
 
 -- ---- the table

@@ -1,16 +1,14 @@
 -- Forgetting in a directory, block by block: what the contracts of the steps say. Definitions only.
-use Prim.Native.Nat.{ℕ, _+_, _-_, _≤_, _<_}
+use Prim.Native.Nat.{ℕ, _+_, _≤_, _<_}
 use mathlib.Core.Path.{_≡_}
 use mathlib.Core.Bool.{true, false}
-use mathlib.Core.List.{List, [], _∷_}
-use lib.ListN.{length, getD, take, drop}
+use mathlib.Core.List.{List}
+use lib.ListN.{length, getD, drop}
 use lib.Seq.{paste}
 use lib.Ieee.{Float, nan, lt}
-use Rattle.walk.specs.Walk.{collect}
 use denote.Ref.{RefT, now}
-use Rattle.directory.specs.Directory.{Entry, Reading, Directory, Blocks, block, blocksWith, directoryIn, entriesIn, floats, lentBlocks, readingsIn, soundDirectory}
+use Rattle.directory.specs.Directory.{Blocks, blocksWith, directoryIn, entriesIn, floats, lentBlocks, readingsIn, soundDirectory}
 use Rattle.table.specs.Lent.{LentColumn}
-use Rattle.directory.specs.Series.{front}
 
 -- the first r of the count times from the place first on are before the time, and the next one is not
 pub record Outdated (ts : List Float) (first count : ℕ) (time : Float) (r : ℕ) : Type 0 where

@@ -2,9 +2,8 @@
 use mathlib.Core.Path.{_≡_}
 use Prim.Native.Nat.{ℕ, _≤_}
 use mathlib.Core.List.{List, map}
-use lib.ListN.{getD, length, take}
-use lib.Ieee.{Float, nan}
-use Rattle.walk.specs.Walk.{places}
+use lib.ListN.{length, take}
+use lib.Ieee.{Float}
 use Rattle.records.specs.declared.pair.Pair.{Pair}
 
 -- the first n places of the columns are the numbers of the pairs ps

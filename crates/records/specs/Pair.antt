@@ -2,17 +2,12 @@
 use mathlib.Core.Path.{_≡_}
 use mathlib.Core.Bool.{Bool, not, cond, _&&_}
 use mathlib.Core.List.{List, [], _∷_}
-use Prim.Native.Nat.{ℕ}
-use lib.Dec.{ltb}
-use lib.ListN.{length}
-use lib.IntN.{ℤ}
 use lib.Ieee.{Float, le}
 use Rattle.exact.specs.Float.{_⊕_, _⊖_, _⊗_, bits}
 use Rattle.walk.specs.Walk.{every, first, collect, Holds}
 use Rattle.numeric.specs.Sight.{sightOf, onReceiver}
 use Rattle.numeric.specs.declared.vec3.Vec3.{Vec3}
 use Rattle.records.specs.Record.{usable, same}
-use Rattle.records.specs.Signals.{carrierWith, carrierIn, carriersIn}
 use Rattle.records.specs.declared.record.Carrier.{Carrier}
 use Rattle.records.specs.declared.pair.Pair.{Pair}
 use Rattle.records.specs.declared.pair.Pairs.{Pairs}

@@ -1,5 +1,4 @@
 -- The carriers of an epoch as signals, states and floats, place by place. Definitions only.
-use mathlib.Core.Path.{_≡_}
 use Prim.Native.Nat.{ℕ, _+_, _*_, _^_, _<_, _≤_}
 use mathlib.Core.List.{List}
 use lib.ListN.{getD, length}
@@ -7,7 +6,7 @@ use lib.IntN.{ℤ, pos}
 use lib.Ieee.{Float, nan}
 use Rattle.walk.specs.Walk.{places}
 use Rattle.numeric.specs.Vec3.{vectorAt}
-use Rattle.signal.specs.Signal.{signal, constellationIn, svidIn, bandIn}
+use Rattle.signal.specs.Signal.{constellationIn, svidIn, bandIn}
 use Rattle.records.specs.declared.record.Carrier.{Carrier}
 use Rattle.records.specs.declared.record.Epoch.{Epoch}
 

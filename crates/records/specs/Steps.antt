@@ -1,28 +1,22 @@
 -- What only contracts of inner functions cite. Definitions only.
-use Prim.Native.Nat.{ℕ, _≤_, _+_, _*_, _^_, _<_}
-use mathlib.Core.Bool.{Bool, true, false, _&&_, _||_, not, cond}
-use mathlib.Core.List.{List, map, [], _∷_}
-use lib.Dec.{eqb, ltb}
-use Rattle.walk.specs.Walk.{collect, places, every, first, Holds}
-use Rattle.records.specs.Record.{keep, usable, same}
+use Prim.Native.Nat.{ℕ, _^_, _<_}
+use mathlib.Core.Bool.{Bool, true, cond}
+use mathlib.Core.List.{List, [], _∷_}
+use lib.Dec.{ltb}
+use Rattle.walk.specs.Walk.{places}
 use Rattle.records.specs.declared.record.Carrier.{Carrier}
 use Rattle.records.specs.declared.pair.Profile.{Profile}
 use Rattle.records.specs.declared.pair.Profile.the-variants.{General, City}
-use Rattle.records.specs.City.{certified, looked}
+use Rattle.records.specs.City.{certified}
 use mathlib.Core.Path.{_≡_}
-use lib.ListN.{getD, length, take}
-use lib.Ieee.{Float, nan, le}
+use lib.ListN.{getD, length}
+use lib.Ieee.{Float, nan}
 use Rattle.records.specs.declared.pair.Pair.{Pair}
-use lib.IntN.{ℤ, pos}
-use Rattle.exact.specs.Float.{_⊕_, _⊖_, _⊗_, bits}
-use Rattle.numeric.specs.Sight.{sightOf, onReceiver}
+use lib.IntN.{ℤ}
 use Rattle.numeric.specs.declared.vec3.Vec3.{Vec3}
 use Rattle.records.specs.Signals.{carrierWith, carrierIn, carriersIn}
-use Rattle.records.specs.declared.pair.Pairs.{Pairs}
 use Rattle.records.specs.Pair.{pairOf, firstPair}
-use Rattle.numeric.specs.Vec3.{vectorAt}
-use Rattle.signal.specs.Signal.{signal, constellationIn, svidIn, bandIn}
-use Rattle.records.specs.declared.record.Epoch.{Epoch}
+use Rattle.signal.specs.Signal.{signal}
 
 -- whether the profile has the carrier looked at
 abbrev pub lookedAt : Profile → Carrier → Bool

@@ -1,10 +1,8 @@
 -- The digits of a root, one after the other, and what the proofs of `sqrt` say of the parts of a float. Root.antt says what a root is. Definitions only.
-use mathlib.Core.Path.{_≡_}
-use Prim.Native.Nat.{ℕ, zero, suc, _+_, _-_, _*_, _/_, _%_, _^_, _≤_, _<_}
+use Prim.Native.Nat.{ℕ, zero, suc, _+_, _-_, _*_, _/_, _%_, _^_}
 use mathlib.Core.Bool.{false, cond}
 use lib.Dec.{leb}
 use lib.Ieee.{Float, size, odd}
-use lib.Ieee.Exact.{HasValue}
 
 -- the whole part of √n for an n below 4 ^ b, digit by digit
 unfoldable pub isqrt : ℕ → ℕ → ℕ

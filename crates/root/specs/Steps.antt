@@ -1,9 +1,8 @@
 -- What only contracts of inner functions cite. Definitions only.
 use mathlib.Core.Path.{_≡_}
-use Prim.Native.Nat.{ℕ, zero, suc, _+_, _-_, _*_, _/_, _%_, _^_, _≤_, _<_}
+use Prim.Native.Nat.{ℕ, _*_, _^_, _≤_, _<_}
 use mathlib.Core.Bool.{false, cond}
-use lib.Dec.{leb}
-use lib.Ieee.{Float, size, odd, binary64, inf, le, ofBits}
+use lib.Ieee.{Float, binary64, inf, le, ofBits}
 use lib.Ieee.Exact.{HasValue}
 
 -- x is a / 2 ^ 1074, and that is m * 2 ^ y / 2 ^ 1126 with an m of 53 digits
