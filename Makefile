@@ -10,7 +10,8 @@
 # make arm-test   [N=1000000]: runs it under qemu-aarch64 (Debian's qemu-user) beside the one for x86-64, with N answers of the
 #                 Rust of each kind; with a million about 20 minutes of a processor
 # make boxes      the library for every target of docs/BOXES.md whose packages are installed
-# make deb        target/deb/*.deb: libzaqnuti0.MINOR, libzaqnuti-dev, zaqnuti, python3-zaqnuti; `packaging/deb test` tries them
+# make deb        target/deb/*.deb: libzaqnuti0.MINOR, libzaqnuti-dev, zaqnuti, python3-zaqnuti; `packaging/deb test` tries them,
+#                 `packaging/deb test --fresh` in a fresh system by debootstrap
 # make web        target/web/zaqnuti.html, one file for a browser, with the library as WebAssembly in it: needs Debian's nodejs
 # make clean      removes target/
 

@@ -488,6 +488,49 @@ fn ephemerides_that_no_satellite_sent_are_told() {
     );
 }
 
+/// Splits a file after its header.
+fn parts(path: &str) -> (String, String) {
+    let text = fs::read_to_string(path).unwrap();
+    let end = text.find("END OF HEADER").unwrap();
+    let end = end + text[end..].find('\n').unwrap() + 1;
+    (text[..end].to_string(), text[end..].to_string())
+}
+
+#[test]
+fn files_of_two_versions_are_told() {
+    let ([obs_2, nav_2], [obs_3, nav_3]) = (hour(), sky());
+    let mixed = |name: &str, head: &str, body: &str| {
+        file(name, (parts(head).0 + &parts(body).1).as_bytes())
+    };
+    let obs_23 = mixed("23.obs", &obs_2, &obs_3);
+    let obs_32 = mixed("32.obs", &obs_3, &obs_2);
+    let nav_23 = mixed("23.nav", &nav_2, &nav_3);
+    let nav_32 = mixed("32.nav", &nav_3, &nav_2);
+    for (observations, navigation, want) in [
+        (&obs_23, &nav_2, "23.obs:18: \"10  0.0000\" is not a second"),
+        (&obs_32, &nav_3, "32.obs:10: not the first line of an epoch"),
+        (
+            &obs_2,
+            &nav_23,
+            "23.nav:14: \"E0\" is not the number of a satellite",
+        ),
+        (
+            &obs_3,
+            &nav_32,
+            "32.nav:6: the line does not begin with a satellite",
+        ),
+    ] {
+        let (status, why) = told(&[observations, navigation]);
+        assert!(status == Some(2) && why.contains(want), "{why}");
+    }
+    // Observations of version 2 go with navigation of version 3.
+    let (status, why) = told(&[&obs_2, &nav_3]);
+    assert!(
+        status == Some(2) && why.contains("nothing to write"),
+        "{why}"
+    );
+}
+
 #[test]
 fn a_file_without_its_end_is_told() {
     let text = fs::read_to_string(&hour()[0]).unwrap();

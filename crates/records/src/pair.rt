@@ -8,7 +8,7 @@ ghost use lib.Ieee.{le};
 ghost use Rattle.records.specs.Record.{usable};
 ghost use Rattle.records.specs.Signals.{carrierIn, carriersIn, SignalsFit};
 ghost use Rattle.records.specs.City.{looked};
-ghost use Rattle.records.specs.Steps.{lookedAt};
+ghost use Rattle.records.specs.Steps.{lookedAt, Finds};
 ghost use Rattle.records.specs.Pair as spec;
 use crate::carriers::carrier_in;
 use crate::record::Carrier;
@@ -104,7 +104,7 @@ fn is_partner(signal: u64, signals: &[u64], states: &[i32], floats: &[f64], j: u
 // Where the first of them stands, or past the last.
 fn partner_in(signal: u64, signals: &[u64], states: &[i32], floats: &[f64]) -> usize
     requires { ⌜ SignalsFit (now signals) (now states) (now floats) ⌝ }
-    ensures { λ r. ⌜ spec.Finds signal (now (signals .entry)) (now (states .entry)) (now (floats .entry)) r ⌝ }
+    ensures { λ r. ⌜ Finds signal (now (signals .entry)) (now (states .entry)) (now (floats .entry)) r ⌝ }
 {
     let n = signals.len();
     let mut j: usize = 0;

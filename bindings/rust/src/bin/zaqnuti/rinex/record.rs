@@ -38,19 +38,8 @@ impl Record {
         let time = date(lines, version, letter)?;
         let (name, line) = (lines.name().to_string(), lines.number());
         let mut numbers = Vec::with_capacity(36);
-        // Blank fields count as 0.
-        let field = |lines: &Lines, i: usize| {
-            let from = 3 + shift + 19 * i;
-            let x = lines.float_or_0(from, from + 19, "a number")?;
-            // Numbers end in the last of their columns.
-            let text = lines.field(from, from + 19);
-            match text.is_empty() || lines.column(from + 18).is_ascii_digit() {
-                true => Ok(x),
-                false => Err(lines.fault_in(text, "a number of 19 columns")),
-            }
-        };
         for i in 1..4 {
-            numbers.push(field(lines, i)?);
+            numbers.push(field(lines, shift, i)?);
         }
         while lines.next()? {
             let begins = !lines.field(0, 3 + shift).is_empty();
@@ -59,7 +48,7 @@ impl Record {
                 break;
             }
             for i in 0..4 {
-                numbers.push(field(lines, i)?);
+                numbers.push(field(lines, shift, i)?);
             }
         }
         Ok(Self {
@@ -230,6 +219,18 @@ impl Record {
             true => Ok(found),
             false => self.wrong("not the clock of a navigation satellite"),
         }
+    }
+}
+
+/// Reads a number of the current line; a blank counts as 0.
+fn field(lines: &Lines, shift: usize, index: usize) -> Run<f64> {
+    let from = 3 + shift + 19 * index;
+    let x = lines.float_or_0(from, from + 19, "a number")?;
+    // Numbers end in the last of their columns.
+    let text = lines.field(from, from + 19);
+    match text.is_empty() || lines.column(from + 18).is_ascii_digit() {
+        true => Ok(x),
+        false => Err(lines.fault_in(text, "a number of 19 columns")),
     }
 }
 
