@@ -20,7 +20,8 @@ pub(crate) fn rows_fit(
     sigmas: &[f64],
     n: usize,
 ) -> bool
-    ensures { λ r. ⌜ (let c = spec.rowColumns (now (units .entry)) (now (clocks .entry)) (now (residuals .entry)) (now (sigmas .entry)) in r ≡ spec.rowsFit c n) ⌝ }
+    ensures { λ r. ⌜ (let c = spec.rowColumns (now (units .entry)) (now (clocks .entry)) (now (residuals .entry)) (now (sigmas .entry)) in
+        r ≡ spec.rowsFit c n) ⌝ }
 {
     if n > 64 {
         return false;
@@ -32,7 +33,8 @@ pub(crate) fn rows_fit(
 fn row_at(units: &[f64], clocks: &[usize], residuals: &[u64], sigmas: &[f64], i: usize) -> Row
     requires { ⌜ 3 * i + 2 < length (now units) ⌝ }
     requires { ⌜ (i < length (now clocks)) × (i < length (now residuals)) × (i < length (now sigmas)) ⌝ }
-    ensures { λ r. ⌜ (let c = spec.rowColumns (now (units .entry)) (now (clocks .entry)) (now (residuals .entry)) (now (sigmas .entry)) in r ≡ spec.rowFrom c i) ⌝ }
+    ensures { λ r. ⌜ (let c = spec.rowColumns (now (units .entry)) (now (clocks .entry)) (now (residuals .entry)) (now (sigmas .entry)) in
+        r ≡ spec.rowFrom c i) ⌝ }
 {
     let unit = vector_at(units, 3 * i);
     Row {
