@@ -25,7 +25,8 @@ use Rattle.forget.specs.History.{Event, add, allowed, drop, happen, history, un
 use Rattle.forget.proofs.HistoryLaws.{history-law, sorted-of}
 use Rattle.forget.proofs.ForgetLaws.{forget-every}
 use Rattle.differential.specs.AddEpoch.{recordsInRange, settingsInRange}
-use Rattle.corrections_laws.specs.Calls.{AddsEpoch, Asks, Call, Caller, Does, Drops, Epoch, Query, CallRun, TypedCalls, TypedTable, acceptedCalls, adding, answerBy, queryOn, baseEpoch, asBlocks, directory, done, dropping, epochNumbers, epochsOf, heldSamples, newSamples, next, room, shortOf, statesBeside}
+use Rattle.corrections_laws.proofs.Hypotheses.{TypedCalls}
+use Rattle.corrections_laws.specs.Calls.{AddsEpoch, Asks, Call, Caller, Does, Drops, Epoch, Query, CallRun, TypedTable, acceptedCalls, adding, answerBy, queryOn, baseEpoch, asBlocks, directory, done, dropping, epochNumbers, epochsOf, heldSamples, newSamples, next, room, shortOf, statesBeside}
 use Rattle.corrections_laws.proofs.StepLaws.{Added, Dropped, add-accepted, add-refused, drop-accepted, drop-refused, number-by, same-number, zero-or}
 use Rattle.corrections_laws.proofs.NarrowLaws.{flat-narrow, insertAll-pass, new-narrow}
 use Rattle.corrections_laws.proofs.RunLaws.{none-accepted, run-held}

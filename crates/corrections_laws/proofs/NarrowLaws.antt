@@ -24,7 +24,8 @@ use Rattle.differential.specs.declared.record.Range.{Range}
 use Rattle.differential.specs.declared.record.Settings.{Settings}
 use Rattle.differential.specs.declared.record.State.{State}
 use Rattle.epoch_columns.specs.Epoch.{rangeAt}
-use Rattle.corrections_laws.specs.Calls.{Epoch, TypedEpoch, newSamples}
+use Rattle.corrections_laws.proofs.Hypotheses.{TypedEpoch}
+use Rattle.corrections_laws.specs.Calls.{Epoch, newSamples}
 use Rattle.corrections_laws.specs.Typed.{Typed}
 
 every-append : {A : Type 0} (p : A → Bool) (xs ys : List A) → every p xs ≡ true → every p ys ≡ true → every p (xs ++ ys) ≡ true

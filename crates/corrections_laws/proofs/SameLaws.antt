@@ -33,9 +33,10 @@ use Rattle.differential.specs.declared.record.Settings.{Settings}
 use Rattle.differential.specs.declared.record.States.{States}
 use Rattle.differential.proofs.SameLaws.{epoch-same}
 use Rattle.epoch_columns.specs.Epoch.{entryIn}
+use Rattle.corrections_laws.proofs.Hypotheses.{BlockRun, TypedSteps, asked, done, entered}
 use Rattle.corrections_laws.specs.Typed.{Typed}
 use Rattle.corrections_laws.specs.Calls.{AddsEpoch, Caller, Epoch, Query, addingOf, queryOn, baseEpoch, directory, heldSamples, newSamples, room, shortOf, statesBeside}
-use Rattle.corrections_laws.specs.Flat.{BlockRun, BothForms, Step, Table, Told, TypedSteps, answered, asked, done, fiveColumns, flatAddition, flatAnswer, flatEnd, flatNumber, flatTells, numbered, roomIn, samplesIn, tableAfter, tableWith, entered}
+use Rattle.corrections_laws.specs.Flat.{BothForms, Step, Table, Told, answered, fiveColumns, flatAddition, flatAnswer, flatEnd, flatNumber, flatTells, numbered, roomIn, samplesIn, tableAfter, tableWith}
 use Rattle.directory.proofs.PatternLaws.{floats-length, map-of}
 use Rattle.corrections_laws.proofs.ColumnLaws.{column-length, table-narrow}
 use Rattle.corrections_laws.proofs.NarrowLaws.{insertAll-pass, new-narrow}

@@ -35,7 +35,8 @@ use Rattle.differential.specs.AddEpoch.{epochPlaced, recordsInRange, settingsIn
 use Rattle.differential.specs.Sample.{epochSamples}
 use Rattle.differential.proofs.EpochLaws.{samples-ranged, time-in-range}
 use Rattle.epoch_columns.specs.Epoch.{entryIn}
-use Rattle.corrections_laws.specs.Calls.{Caller, Epoch, AddsEpoch, Drops, EpochPasses, addingOf, baseEpoch, asBlocks, directory, droppingOf, heldSamples, newSamples, room, shortOf, statesBeside}
+use Rattle.corrections_laws.proofs.Hypotheses.{EpochPasses}
+use Rattle.corrections_laws.specs.Calls.{Caller, Epoch, AddsEpoch, Drops, addingOf, baseEpoch, asBlocks, directory, droppingOf, heldSamples, newSamples, room, shortOf, statesBeside}
 use Rattle.forget.specs.Forget as Forgetting
 use Rattle.corrections_laws.proofs.NumberLaws.{not-zero}
 use Rattle.corrections_laws.proofs.ColumnLaws.{same-capacity, with-holds}

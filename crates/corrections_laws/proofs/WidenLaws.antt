@@ -23,9 +23,10 @@ use Rattle.directory.specs.Rearrange.{filedOf}
 use Rattle.forget.proofs.HistoryLaws.{sorted-of}
 use Rattle.differential.specs.AddEpoch.{addedOf, recordsInRange, settingsInRange, tooMany}
 use Rattle.rearrange.specs.Lent.{Files}
+use Rattle.corrections_laws.proofs.Hypotheses.{BlockRun, TypedSteps}
 use Rattle.corrections_laws.specs.Typed.{Typed}
 use Rattle.corrections_laws.specs.Calls.{Caller, Epoch, baseEpoch, asBlocks, newSamples, room, shortOf, statesBeside}
-use Rattle.corrections_laws.specs.Flat.{BlockRun, BothForms, ByteSteps, InBytes, Step, Table, Told, TypedSteps, ask, flatAddition, flatEnd, flatTells, roomIn, samplesIn, tableAfter, enter}
+use Rattle.corrections_laws.specs.Flat.{BothForms, ByteSteps, InBytes, Step, Table, Told, ask, flatAddition, flatEnd, flatTells, roomIn, samplesIn, tableAfter, enter}
 use Rattle.corrections_laws.proofs.NumberLaws.{not-zero}
 use Rattle.corrections_laws.proofs.FormLaws.{files-count, files-fit, files-hold, files-steady}
 use Rattle.corrections_laws.proofs.NarrowLaws.{insertAll-pass, new-pass}

@@ -1,21 +1,20 @@
 -- The calls on one caller's table, by the contracts' own statements, and lists of them, each call on what the last one left. Definitions only.
-use Prim.Native.Nat.{ℕ, _^_, _≤_, _<_}
+use Prim.Native.Nat.{ℕ, _^_, _<_}
 use mathlib.Core.Path.{_≡_}
-use mathlib.Core.Bool.{Bool, true, false, cond}
+use mathlib.Core.Bool.{Bool, cond}
 use mathlib.Core.List.{List, [], _∷_}
 use lib.Dec.{eqb}
 use lib.ListN.{length, getD}
 use lib.Ieee.{Float}
 use Rattle.numeric.specs.declared.vec3.Vec3.{Vec3}
 use Rattle.table.specs.declared.sample.Sample.{Sample}
-use Rattle.directory.specs.Directory.{blockCapacity, Blocks, blocksWith, Directory, directoryIn, directoryOf, flat, floats, lentBlocks, PatternsWith, soundDirectory}
+use Rattle.directory.specs.Directory.{blockCapacity, Blocks, blocksWith, Directory, directoryIn, directoryOf, flat, floats, lentBlocks, PatternsWith}
 use Rattle.addition.specs.Add.{PatternsAfter, Placed, Places}
 use Rattle.query.specs.Query.{answerAt, Answers, queryIn}
 use Rattle.query.specs.declared.query.Correction.{Correction}
 use Rattle.forget.specs.Forget.{ForgetOutcome, Forgets, forgetIn}
 use Rattle.forget.specs.History.{Event, add, drop}
 use Rattle.differential.specs.Sample.{epochSamples}
-use Rattle.differential.specs.AddEpoch.{recordsInRange, settingsInRange}
 use Rattle.differential.specs.Build.{EpochInput}
 use Rattle.differential.specs.declared.record.BaseEpoch.{BaseEpoch}
 use Rattle.differential.specs.declared.record.States.{States}
@@ -133,17 +132,6 @@ answerBy t q = answerAt t (q .gap) (q .constellation) (q .svid) (q .band) (q .ti
 abbrev pub Asks : Caller → Query → ℕ → ℕ → ℕ → Type 0
 Asks h q number metres metres′ = Answers (queryOn h q) number metres metres′
 
--- ---- numbers 2 to 4 let an epoch pass
-pub record EpochPasses (h : Caller) (e : Epoch) : Type 0 where
-  pub few-entries : h .entries ≤ room h
-  pub few-samples : h .samples ≤ room h
-  pub few-ranges : e .ranges ≤ 64
-  pub few-states : cond (e .present) (e .states) 0 ≤ 64
-  pub long-columns : shortOf e ≡ false
-  pub settings-in-range : settingsInRange (e .settings) ≡ true
-  pub records-in-range : recordsInRange (baseEpoch e) (statesBeside e) (e .base) (e .rover) ≡ true
-  pub steady : soundDirectory (directory h) ≡ true
-
 -- ---- lists of calls
 pub data Call : Type 0 where
   adding : Epoch → Call
@@ -189,17 +177,6 @@ pub record TypedTable (h : Caller) : Type 0 where
   pub signals : Typed (h .svids) (h .bands)
   pub time : (i : ℕ) → getD (h .times) i 0 < 2 ^ 64
   pub correction : (i : ℕ) → getD (h .corrections) i 0 < 2 ^ 64
-
-abbrev pub TypedEpoch : Epoch → Type 0
-TypedEpoch e = Typed (e .range-svids) (e .range-bands)
-
-abbrev pub TypedCall : Call → Type 0
-TypedCall (adding e) = TypedEpoch e
-TypedCall (dropping time) = Unit {0}
-
-abbrev pub TypedCalls : List Call → Type 0
-TypedCalls [] = Unit {0}
-TypedCalls (c ∷ cs) = TypedCall c × TypedCalls cs
 
 -- ---- `build`: epochs with the same base, rover and settings
 abbrev pub AllBy : Vec3 → Vec3 → Settings → List Call → Type 0

@@ -15,7 +15,7 @@ use Rattle.directory.specs.Directory.{columnOf, directoryOf, floats}
 use Rattle.query.specs.Query.{patternAfter, queryNumber, queryOf}
 use Rattle.query.specs.declared.query.Correction.{Correction}
 use Rattle.differential.specs.AddEpoch.{addedOf}
-use Rattle.corrections_laws.specs.Calls.{AddsEpoch, Asks, Caller, Epoch, Query, TypedEpoch, baseEpoch, directory, room, shortOf, statesBeside}
+use Rattle.corrections_laws.specs.Calls.{Caller, Epoch, Query, baseEpoch, directory, room, shortOf, statesBeside}
 
 -- ---- the old form
 
@@ -99,20 +99,6 @@ flatTells o (s ∷ ss) = flatTold o s ∷ flatTells (flatLeft o s) ss
 
 abbrev pub flatEnd : Table → List Step → Table
 flatEnd o ss = fold flatLeft o ss
-
--- steps on the second form, by the contracts of its calls
-pub data BlockRun : Caller → List Step → List Told → Caller → Type 0 where
-  done : {h : Caller} → BlockRun h [] [] h
-  asked : {h h′ : Caller} {q : Query} {metres number metres′ : ℕ} {ss : List Step} {ts : List Told} → Asks h q number metres metres′ → BlockRun h ss ts h′
-      → BlockRun h (ask q metres ∷ ss) (answered number metres′ ∷ ts) h′
-  entered : {h h′ h″ : Caller} {e : Epoch} {number : ℕ} {ss : List Step} {ts : List Told} → AddsEpoch h e number h′ → BlockRun h′ ss ts h″
-      → BlockRun h (enter e ∷ ss) (numbered number ∷ ts) h″
-
--- what the types of the lent columns guarantee
-abbrev pub TypedSteps : List Step → Type 0
-TypedSteps [] = Unit {0}
-TypedSteps (ask q metres ∷ ss) = TypedSteps ss
-TypedSteps (enter e ∷ ss) = TypedEpoch e × TypedSteps ss
 
 -- ---- one table in both forms
 

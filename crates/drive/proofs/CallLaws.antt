@@ -5,12 +5,12 @@ use mathlib.Core.Bool.{Bool, true, false, cond, _&&_}
 use mathlib.Core.List.{List, [], _∷_, _++_, map, append-nil}
 use Prim.Native.Nat.{ℕ, zero, suc, _≤_, _<_}
 use native.Mathlib.Omega.{arith}
-use lib.Dec.{leb, ltb, T, lit≤}
+use lib.Dec.{ltb, T}
 use lib.ListN.{getD}
 use lib.Ieee.{Float, nan, binary64, fits}
 use lib.Ieee.Fits.{nan-fits}
 use borrow.Author.Tests.{ltb-true}
-use Rattle.exact.specs.Float.{+0, bits}
+use Rattle.exact.specs.Float.{+0}
 use Rattle.walk.specs.Walk.{every, collect, fold}
 use Rattle.walk.proofs.Walk.{and-both}
 use Rattle.numeric.specs.Order.{patternOf}
@@ -20,10 +20,9 @@ use Rattle.records.specs.Carriers.{epochFits}
 use Rattle.tdcp.specs.Valid.{settingsPass}
 use Rattle.tdcp.specs.Displacement.{displacementOf}
 use Rattle.tdcp.specs.declared.displacement.Settings.{Settings}
-use Rattle.tdcp.specs.declared.displacement.Displacement.{Displacement}
 use Rattle.tdcp.specs.declared.displacement.Displacement.the-variants.{Refused as Still}
 use Rattle.tdcp_columns.specs.Displacement.{columnsDisplaced, displacementSettings}
-use Rattle.trip.specs.Trip.{Leg, tripOf, soundTrip, started, withLeg, counting}
+use Rattle.trip.specs.Trip.{tripOf, soundTrip, started, withLeg, counting}
 use Rattle.trip.specs.Words.{heldOf, wordsOf}
 use Rattle.trip.specs.declared.trip.Trip.{Trip}
 use Rattle.trip.specs.declared.trip.Step.{Step}
@@ -31,16 +30,19 @@ use Rattle.trip.specs.declared.trip.Step.the-variants as Step
 use Rattle.trip.proofs.TripLaws.{start-sound, trip-law, fold-sound}
 use Rattle.trip.proofs.HeldLaws.{WordsHeld, words-held, fold-held, start-held, Answers, list-answers}
 use Rattle.drive.specs.Drive as drive
-use Rattle.drive.specs.Drive.{underNew, drivenBy, tested, begunOf, travelBy, travelledOf}
-use Rattle.drive.specs.Events.{TripEvent, epoch, change, moveInput, driveNext, changedTo, inForce, legsOf, legsUnder, EachAccepted, narrowEvent}
-use Rattle.drive.specs.Lent.{settingsFloats, DrivingAnswers, BegunAnswers, TravelAnswers, inForceAfter, roundsAfter, travelledBy, travelNumber, tripAfter, drivingNumber}
-use Rattle.drive.specs.Calls.{TripMemory, memoryOf, settingsIn, Ride, TripCall, travelCall, settingsCall, rideLent, travelIn, drivingIn, callNumber, memoryAfter, moveOf, callEvents, lendable}
-use Rattle.drive.specs.declared.drive.Drive.{Drive}
+use Rattle.drive.specs.Drive.{underNew, drivenBy, tested, begunOf, travelBy}
+use Rattle.drive.specs.Events.{TripEvent, epoch, change, moveInput, changedTo, inForce, legsOf, legsUnder, EachAccepted, narrowEvent}
+use Rattle.drive.specs.Lent.{settingsFloats, DrivingAnswers, BegunAnswers, TravelAnswers, inForceAfter, roundsAfter, travelNumber, tripAfter, drivingNumber}
+use Rattle.drive.specs.Calls.{TripMemory, settingsIn, Ride, TripCall, travelCall, settingsCall, rideLent, travelIn, drivingIn, callNumber, memoryAfter, moveOf, callEvents, lendable}
 use Rattle.drive.specs.declared.drive.Driving.{Driving}
 use Rattle.drive.specs.declared.drive.Driving.the-variants as Driving
 use Rattle.drive.specs.declared.drive.Travel.{Travel}
 use Rattle.drive.specs.declared.drive.Travel.the-variants as Travel
 use Rattle.drive.proofs.EventLaws.{move-after, fold-append, legs-narrow, legs-split, each-accepted, begun-goes}
+
+-- that of a trip and its settings
+unfoldable pub memoryOf : Trip → Settings → TripMemory
+memoryOf t s = record { words = wordsOf t; patterns = map patternOf (settingsFloats s); rounds = s .rounds }
 
 -- ---- settings that memory holds
 

@@ -6,18 +6,16 @@ use lib.Dec.{leb}
 use lib.Ieee.{Float, binary64, fits}
 use Rattle.exact.specs.Float.{bits}
 use Rattle.walk.specs.Walk.{every}
-use Rattle.numeric.specs.Order.{patternOf}
 use Rattle.numeric.specs.Vec3.{vectorAt}
 use Rattle.records.specs.Carriers.{CarrierColumns, epochOf, epochFits}
 use Rattle.records.specs.declared.pair.Profile.the-variants.{General}
 use Rattle.tdcp.specs.declared.displacement.Settings.{Settings}
 use Rattle.tdcp.specs.declared.displacement.Interval.the-variants.{Seconds}
 use Rattle.tdcp_columns.specs.Displacement.{Lent, lent, columnsDisplaced, displacementSettings}
-use Rattle.trip.specs.Words.{heldOf, wordsOf}
-use Rattle.trip.specs.declared.trip.Trip.{Trip}
+use Rattle.trip.specs.Words.{heldOf}
 use Rattle.drive.specs.Drive.{underNew, tested}
 use Rattle.drive.specs.Events.{Move, TripEvent, epoch, change}
-use Rattle.drive.specs.Lent.{settingsFloats, drivingNumber, inForceAfter, roundsAfter, travelledBy, travelNumber, tripAfter}
+use Rattle.drive.specs.Lent.{drivingNumber, inForceAfter, roundsAfter, travelledBy, travelNumber, tripAfter}
 use Rattle.drive.specs.declared.drive.Driving.{Driving}
 use Rattle.drive.specs.declared.drive.Travel.{Travel}
 
@@ -28,10 +26,6 @@ pub record TripMemory : Type 0 where
   pub words : List ℕ
   pub patterns : List ℕ
   pub rounds : ℕ
-
--- that of a trip and its settings
-unfoldable pub memoryOf : Trip → Settings → TripMemory
-memoryOf t s = record { words = wordsOf t; patterns = map patternOf (settingsFloats s); rounds = s .rounds }
 
 -- the settings that a displacement reads there: the floats whose bits the patterns are
 unfoldable pub settingsIn : TripMemory → Settings

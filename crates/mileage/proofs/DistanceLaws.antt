@@ -16,12 +16,12 @@ use Rattle.trip.specs.Measure.{measurable}
 use Rattle.trip.specs.Trip.{Leg, carrierMillimetres, measurables, counting, narrow as trip-narrow}
 use Rattle.trip.specs.Words.{Addition, legOf as legIn, wordsAfterCalls, countedLegs}
 use Rattle.trip.proofs.HeldLaws.{calls-law}
-use Rattle.mileage.specs.Mileage.{isRefused, isUsable, isAside, moves, lengthOf, PlacedEpoch, nearPulse, isStanding, isCounted, nextMoves, noEpochs, inPlaces, sum, countPlaced, mileageReport, mileageOf, scaled, distanceHeld, distanceOf, isTaken, takens, taking, narrowEpoch}
+use Rattle.mileage.proofs.MileageLaws.{narrowEpoch, Given, words-law, distance-law, counted-bound}
+use Rattle.mileage.specs.Mileage.{isRefused, isUsable, isAside, moves, lengthOf, PlacedEpoch, nearPulse, isStanding, isCounted, nextMoves, noEpochs, inPlaces, sum, countPlaced, mileageReport, mileageOf, scaled, distanceHeld, distanceOf, isTaken, takens, taking}
 use Rattle.mileage.specs.Words.{distanceWords, called}
 use Rattle.mileage.specs.declared.mileage.Epoch.{Epoch}
 use Rattle.mileage.specs.declared.mileage.Report.{Report}
 use Rattle.mileage.specs.declared.mileage.Distance.the-variants.{Millimetres}
-use Rattle.mileage.proofs.MileageLaws.{Given, words-law, distance-law, counted-bound}
 
 -- ---- 4. classes
 

@@ -5,7 +5,7 @@ use mathlib.Core.List.{List, [], _∷_, _++_, append-assoc, append-nil}
 use mathlib.Core.Bool.{Bool, true, false, cond, not, _&&_, _||_, and-false, false≢true}
 use Prim.Native.Nat.{ℕ, suc, _+_, _-_, _≤_, _<_}
 use native.Mathlib.Omega.{arith}
-use lib.Dec.{T, ltb, lit≤}
+use lib.Dec.{T, leb, ltb, lit≤}
 use lib.ListN.{length, take, length-append}
 use lib.Seq.{take-nil}
 use borrow.Author.Tests.{ltb-true, ltb-false, leb-true}
@@ -16,13 +16,17 @@ use Rattle.numeric.specs.Real.{inRange}
 use Rattle.numeric.proofs.OrderLaws.{pattern-back}
 use Rattle.trip.specs.Measure.{measurable}
 use Rattle.trip.proofs.MeasureLaws.{measured}
-use Rattle.mileage.specs.Mileage.{isRefused, isUsable, lengthOf, sum, inPlaces, mileageReport, mileageOf, soundMileage, mileageStarted, grown, isTaken, mileageAdded, mileageReported, mileageDistance, fuelOver, mileageFuelled, distanceOf, takens, taking, narrowEpoch}
+use Rattle.mileage.specs.Mileage.{isRefused, isUsable, lengthOf, sum, inPlaces, mileageReport, mileageOf, soundMileage, mileageStarted, grown, isTaken, mileageAdded, mileageReported, mileageDistance, fuelOver, mileageFuelled, distanceOf, takens, taking}
 use Rattle.mileage.specs.Words.{mileageFrom, mileageWords, mileageReportedWords, distanceWords, mileageFuelledWords, mileageAfter, mileageNext, called}
 use Rattle.mileage.specs.declared.mileage.Epoch.{Epoch}
 use Rattle.mileage.specs.declared.mileage.Mileage.{Mileage}
 use Rattle.mileage.specs.declared.mileage.Reported.the-variants.{Totals}
 use Rattle.mileage.proofs.BoundsLaws.{bounds, bounded}
 use Rattle.mileage.proofs.ListLaws.{more, reported-of}
+
+-- pulses per epoch are 16-bit
+unfoldable pub narrowEpoch : Epoch → Bool
+narrowEpoch e = leb (e .pulses) 65535
 
 -- ---- an addition keeps a mileage sound
 

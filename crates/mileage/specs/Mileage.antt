@@ -214,7 +214,3 @@ taking es = take 65535 (takens es)
 unfoldable pub distanceOf : Float → List Epoch → Distance
 distanceOf limit es =
     let r = mileageReport limit es in cond (eqb (r .covered) 0) (Unmeasured NoDistance) (distanceHeld (scaled (r .counted) (r .pulses) (r .covered)))
-
--- pulses per epoch are 16-bit
-unfoldable pub narrowEpoch : Epoch → Bool
-narrowEpoch e = leb (e .pulses) 65535
