@@ -69,9 +69,8 @@ pub fn line(b: &mut Bytes) {
     let line = lender.lend(&memory);
     let written = lender.lend(&[before]);
     // SAFETY: each pointer leads to what its length says.
-    let number = unsafe {
-        sys::zaqnuti_line(text.at(), text.len(), line.at(), line.len(), written.at())
-    };
+    let number =
+        unsafe { sys::zaqnuti_line(text.at(), text.len(), line.at(), line.len(), written.at()) };
     text.kept();
     let fits = expected.len() <= memory.len();
     assert_eq!(number, if fits { 0 } else { 2 });
