@@ -36,7 +36,7 @@ query-requires c κs = search needs
 
 returns : tie.Need-returns
 unfolding entryRows readingRows ofBits ofInt
-returns c = rw (c .before .signal-of .ensures) at (c .query .ensures .0) ∙ signal-query _ _ _ _ _ _ _ _ _
+returns c = rw (c .before .before .before .before .before .before .before .before .signal-of .ensures) at (c .query .ensures .0) ∙ signal-query _ _ _ _ _ _ _ _ _
 
 pub half-way-spec : {M : Type 1} → statement M
 half-way-spec =
