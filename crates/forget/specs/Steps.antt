@@ -9,6 +9,7 @@ use lib.Ieee.{Float, nan, lt}
 use denote.Ref.{RefT, now}
 use Rattle.directory.specs.Directory.{Blocks, blocksWith, directoryIn, entriesIn, floats, lentBlocks, readingsIn, soundDirectory}
 use Rattle.table.specs.Lent.{LentColumn}
+use Rattle.forget.specs.Forget.{trimmed}
 
 -- the first r of the count times from the place first on are before the time, and the next one is not
 pub record Outdated (ts : List Float) (first count : ℕ) (time : Float) (r : ℕ) : Type 0 where

@@ -13,8 +13,8 @@ use Rattle.smooth.specs.Track.{ones, scalesOf, refined, smoothed, points
 use Rattle.smooth.specs.Answer.{countsOk, settingsOk, recordsOk, trackOk, Points, trackOf}
 
 module _ (p : Trajectory) (h : Float) where
-  abbrev fittedAt : ℕ → ℕ → ℕ → Float
-  fittedAt i = fittedAt p (passAt p h i)
+  abbrev passFit : ℕ → ℕ → ℕ → Float
+  passFit i = fittedAt p (passAt p h i)
 
   taken : (b : Bool) (f g : ℕ → ℕ → Float) → b ≡ true → cond b f g ≡ f
   taken b f g e = rw e
@@ -23,21 +23,21 @@ module _ (p : Trajectory) (h : Float) where
   left b f g e = rw e
 
   -- k good passes after pass i, and then none more is left or the next one fails
-  refined-at : (k i r : ℕ) → ((j : ℕ) → i < j → j ≤ i + k → passes p (passAt p h j) ≡ true) → k ≤ r → (k ≡ r) ⊎ (passes p (passAt p h (suc (i + k))) ≡ false) → refined p h r (fittedAt i) ≡ fittedAt (i + k)
+  refined-at : (k i r : ℕ) → ((j : ℕ) → i < j → j ≤ i + k → passes p (passAt p h j) ≡ true) → k ≤ r → (k ≡ r) ⊎ (passes p (passAt p h (suc (i + k))) ≡ false) → refined p h r (passFit i) ≡ passFit (i + k)
   unfolding refined passAt
-  refined-at zero i zero good l end = let e : i ≡ i + 0 = omega arith in ap fittedAt e
+  refined-at zero i zero good l end = let e : i ≡ i + 0 = omega arith in ap passFit e
   refined-at zero i (suc r) good l end =
       let e : i ≡ i + 0 = omega arith in
       ⊎-elim
       (λ q. absurd (omega arith))
-      (λ q. left (passes p (scalesOf p h (fittedAt i))) (refined p h r (fittedAt p (scalesOf p h (fittedAt i)))) (fittedAt i) (ap (λ (j : ℕ). passes p (passAt p h (suc j))) e ∙ q) ∙ ap fittedAt e)
+      (λ q. left (passes p (scalesOf p h (passFit i))) (refined p h r (fittedAt p (scalesOf p h (passFit i)))) (passFit i) (ap (λ (j : ℕ). passes p (passAt p h (suc j))) e ∙ q) ∙ ap passFit e)
       end
   refined-at (suc k) i zero good l end = absurd (omega arith)
   refined-at (suc k) i (suc r) good l end =
       let e : suc i + k ≡ i + suc k = omega arith in
-      taken (passes p (scalesOf p h (fittedAt i))) (refined p h r (fittedAt p (scalesOf p h (fittedAt i)))) (fittedAt i) (good (suc i) (omega arith) (omega arith))
+      taken (passes p (scalesOf p h (passFit i))) (refined p h r (fittedAt p (scalesOf p h (passFit i)))) (passFit i) (good (suc i) (omega arith) (omega arith))
       ∙ refined-at k (suc i) r (λ j a b. good j (omega arith) (omega arith)) (omega arith) (⊎-elim (λ q. inl (omega arith)) (λ q. inr (ap (λ (j : ℕ). passes p (passAt p h (suc j))) e ∙ q)) end)
-      ∙ ap fittedAt e
+      ∙ ap passFit e
 
 pub track-of-last : (p : Trajectory) (s : Settings) (r w : ℕ) → countsOk p r w ≡ true → settingsOk s ≡ true → recordsOk p ≡ true → trackOk p ≡ true
     → (m : ℕ) → m ≤ s .iterations - 1 → ((j : ℕ) → j ≤ m → passes p (passAt p (s .huber) j) ≡ true)
