@@ -2,12 +2,9 @@
 ghost use Rattle.directory.specs.Directory.{lentBlocks, blockCapacity, directoryIn};
 ghost use Rattle.query.specs.Query.{queryIn, Answers};
 ghost use Rattle.query_calls.specs.Queries.{queriesIn, Replies};
-use query::query::query;
+use query_calls::queries::Asking;
 use query_calls::queries::call_number;
-use query_calls::queries::number_of;
-use query_calls::queries::pattern_of;
 use query_calls::queries::queries;
-use signal::signal::signal_of;
 
 // Returns 0, with the correction of a signal at a time in metres, or the number of the refusal, with metres unchanged.
 #[no_mangle]
@@ -34,8 +31,13 @@ pub extern "C" fn zaqnuti_query(
         Answers (queryIn blocks «table_count» (blockCapacity l) (directoryIn blocks «table_count» l) «max_gap» constellation svid band time) r
         (now (metres .entry)) (now (metres .exit))) ⌝ }
 {
-    let signal = signal_of(constellation, svid, band);
-    let answer = query(
+    let constellations = [constellation; 1];
+    let svids = [svid; 1];
+    let bands = [band; 1];
+    let times = [time; 1];
+    let mut numbers = [0u8; 1];
+    let mut given = [*metres; 1];
+    let answer = queries(
         block_constellation,
         block_svid,
         block_band,
@@ -46,12 +48,21 @@ pub extern "C" fn zaqnuti_query(
         table_metres,
         table_count,
         max_gap,
-        signal,
-        time,
+        &constellations,
+        &svids,
+        &bands,
+        &times,
+        1,
+        &mut numbers,
+        &mut given,
     );
-    let old = *metres;
-    *metres = pattern_of(answer, old);
-    number_of(answer)
+    match answer {
+        Asking::Refused(why) => why.number(),
+        Asking::Answered => {
+            *metres = given[0];
+            numbers[0]
+        }
+    }
 }
 
 // Returns 0, with the number of each of the first count places of constellation, svid, band and time and, where it is given, its correction in metres;
