@@ -129,7 +129,7 @@ module _ (previous : CarrierColumns) (m : ℕ) (current : CarrierColumns) (n : �
           record {
             numbers = answers .leaves .number-is ∙ ap displacementNumber is ∙ sym (b .leaves .number-is);
             deltas = answers .leaves .delta-is ∙ ap (λ (d : Displacement). deltaAfter d delta₀) is ∙ sym (b .leaves .delta-is);
-            countedCarriers = answers .leaves .counts-are ∙ ap (λ (d : Displacement). countsAfter d counts₀) is ∙ sym (b .leaves .counts-are);
+            counted = answers .leaves .counts-are ∙ ap (λ (d : Displacement). countsAfter d counts₀) is ∙ sym (b .leaves .counts-are);
           }
 
       -- and 20 nowhere else
