@@ -1,7 +1,7 @@
 // Many queries of one table, which is tested once.
 ghost use mathlib.Core.Path.{_≡_};
 ghost use Rattle.directory.specs.Directory.{lentBlocks, blockCapacity, directoryIn};
-ghost use Rattle.query.specs.Query.{queryNumber, patternAfter};
+ghost use Rattle.query.specs.Query.{queryIn, queryNumber, patternAfter, Answers};
 ghost use Rattle.query_calls.specs.Queries.{placesShort, queriesIn, askingOf, askingNumber, Replies};
 use numeric::order::pattern;
 use numeric::refusal::Refusal;
@@ -17,8 +17,14 @@ pub enum Asking {
     Answered,
 }
 
+// The answer to one query on lent memory: its number, and the pattern of its correction or the old one.
+pub struct OneAnswer {
+    pub number: u8,
+    pub metres: u64,
+}
+
 // Returns 0, or the number of the refusal.
-pub fn number_of(a: Correction) -> u8
+fn number_of(a: Correction) -> u8
     ensures { λ r. ⌜ r ≡ queryNumber a ⌝ }
 {
     match a {
@@ -28,7 +34,7 @@ pub fn number_of(a: Correction) -> u8
 }
 
 // Returns the pattern of the correction, or the old one where there is none.
-pub fn pattern_of(a: Correction, old: u64) -> u64
+fn pattern_of(a: Correction, old: u64) -> u64
     ensures { λ r. ⌜ r ≡ patternAfter a old ⌝ }
 {
     match a {
@@ -135,4 +141,64 @@ pub fn queries(
         i += 1;
     }
     Asking::Answered
+}
+
+// Answers one query as one place of many, so that the search has one caller and is merged into its loop.
+pub fn one_query(
+    block_constellation: &[u8],
+    block_svid: &[u16],
+    block_band: &[u32],
+    block_first: &[usize],
+    block_samples: &[usize],
+    blocks: usize,
+    table_time: &[f64],
+    table_metres: &[f64],
+    table_count: usize,
+    max_gap: f64,
+    constellation: u8,
+    svid: u16,
+    band: u32,
+    time: f64,
+    old: u64,
+) -> OneAnswer
+    ensures { λ r. ⌜ (let l = lentBlocks
+        (now («block_constellation» .entry)) (now («block_svid» .entry)) (now («block_band» .entry)) (now («block_first» .entry)) (now («block_samples» .entry))
+        (now («table_time» .entry)) (now («table_metres» .entry)) in
+        Answers (queryIn blocks «table_count» (blockCapacity l) (directoryIn blocks «table_count» l) «max_gap» constellation svid band time) (r .number) old (r .metres)) ⌝ }
+{
+    let constellations = [constellation; 1];
+    let svids = [svid; 1];
+    let bands = [band; 1];
+    let times = [time; 1];
+    let mut numbers = [0u8; 1];
+    let mut metres = [old; 1];
+    let answer = queries(
+        block_constellation,
+        block_svid,
+        block_band,
+        block_first,
+        block_samples,
+        blocks,
+        table_time,
+        table_metres,
+        table_count,
+        max_gap,
+        &constellations,
+        &svids,
+        &bands,
+        &times,
+        1,
+        &mut numbers,
+        &mut metres,
+    );
+    match answer {
+        Asking::Refused(why) => OneAnswer {
+            number: why.number(),
+            metres: old,
+        },
+        Asking::Answered => OneAnswer {
+            number: numbers[0],
+            metres: metres[0],
+        },
+    }
 }

@@ -2,8 +2,8 @@
 ghost use Rattle.directory.specs.Directory.{lentBlocks, blockCapacity, directoryIn};
 ghost use Rattle.query.specs.Query.{queryIn, Answers};
 ghost use Rattle.query_calls.specs.Queries.{queriesIn, Replies};
-use query_calls::queries::Asking;
 use query_calls::queries::call_number;
+use query_calls::queries::one_query;
 use query_calls::queries::queries;
 
 // Returns 0, with the correction of a signal at a time in metres, or the number of the refusal, with metres unchanged.
@@ -31,13 +31,7 @@ pub extern "C" fn zaqnuti_query(
         Answers (queryIn blocks «table_count» (blockCapacity l) (directoryIn blocks «table_count» l) «max_gap» constellation svid band time) r
         (now (metres .entry)) (now (metres .exit))) ⌝ }
 {
-    let constellations = [constellation; 1];
-    let svids = [svid; 1];
-    let bands = [band; 1];
-    let times = [time; 1];
-    let mut numbers = [0u8; 1];
-    let mut given = [*metres; 1];
-    let answer = queries(
+    let answer = one_query(
         block_constellation,
         block_svid,
         block_band,
@@ -48,21 +42,14 @@ pub extern "C" fn zaqnuti_query(
         table_metres,
         table_count,
         max_gap,
-        &constellations,
-        &svids,
-        &bands,
-        &times,
-        1,
-        &mut numbers,
-        &mut given,
+        constellation,
+        svid,
+        band,
+        time,
+        *metres,
     );
-    match answer {
-        Asking::Refused(why) => why.number(),
-        Asking::Answered => {
-            *metres = given[0];
-            numbers[0]
-        }
-    }
+    *metres = answer.metres;
+    answer.number
 }
 
 // Returns 0, with the number of each of the first count places of constellation, svid, band and time and, where it is given, its correction in metres;

@@ -1,8 +1,8 @@
--- `zaqnuti::queries::zaqnuti_query` meets its contract. Assumes nothing.
+-- `query_calls::queries::one_query` meets its contract. Assumes nothing.
 use borrow.Author.Needs.{needs}
 use Rattle.query_calls.proofs.CallLaws.{one-refused, one-answered}
-use Rattle.zaqnuti.proofs.queries.zaqnuti_query.Statement.{statement}
-use Rattle.zaqnuti.proofs.queries.zaqnuti_query.Tie as tie
+use Rattle.query_calls.proofs.queries.one_query.Statement.{statement}
+use Rattle.query_calls.proofs.queries.one_query.Tie as tie
 
 returns : tie.Need-returns
 returns c = one-refused _ _ _ _ _ _ _ _ _ _ _ _ _ (c .before .before .answer .given .1) (c .number .ensures) (c .before .before .before .before .before .before .queries .ensures .0)
@@ -10,8 +10,8 @@ returns c = one-refused _ _ _ _ _ _ _ _ _ _ _ _ _ (c .before .before .answer .gi
 returns-2 : tie.Need-returns-2
 returns-2 c = one-answered _ _ _ _ _ _ _ _ _ _ _ _ _ (c .enum-told .given .1) (c .before .before .before .before .queries .ensures)
 
-pub zaqnuti-query-spec : {M : Type 1} → statement M
-zaqnuti-query-spec =
+pub one-query-spec : {M : Type 1} → statement M
+one-query-spec =
     tie.close
     (tie.spec
     (λ c. search needs)
