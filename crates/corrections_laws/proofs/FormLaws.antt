@@ -9,19 +9,19 @@ use lib.ListN.{length, take, drop}
 use lib.Seq.{length-take-le}
 use borrow.Author.Tests.{ltb-false, le-ltb}
 use lib.Ieee.{Float}
-use Rattle.walk.proofs.Walk.{or-no}
+use Rattle.lists.proofs.Walk.{or-no}
 use Rattle.numeric.specs.declared.refusal.Refusal.the-variants.{TooMany, RecordOutOfRange}
-use Rattle.table.specs.Table.{Columns, capacity, lentSamples, rows, soundTable, tableOf}
-use Rattle.table.specs.declared.sample.Sample.{Sample}
-use Rattle.table.proofs.ColumnLaws.{rows-length}
-use Rattle.directory.specs.Directory.{Blocks, Directory, Entry, blockCapacity, directoryIn, directoryOf, entriesFrom, entriesIn, entryRows, flat, lentBlocks, readingsIn, readingRows, soundDirectory}
-use Rattle.directory.specs.Rearrange.{entriesAre, entriesWith, filedNumber, filedOf, listedNumber, listedOf, samplesAre, signalsWith, unfiled, unlisted}
-use Rattle.directory.proofs.DirectoryLaws.{directory-flat, flat-directory, sound-directory, sound-flat}
-use Rattle.directory.proofs.ColumnLaws.{entries-length, readings-length, flat-length, rearranged, restored}
-use Rattle.forget.proofs.HistoryLaws.{sorted-of}
-use Rattle.addition.proofs.CountLaws.{fields-of}
-use Rattle.addition.proofs.PlaceLaws.{entries-fewer}
-use Rattle.rearrange.specs.Lent.{Files, Lists}
+use Rattle.corrections_table.specs.Table.{Columns, capacity, lentSamples, rows, soundTable, tableOf}
+use Rattle.corrections_table.specs.declared.sample.Sample.{Sample}
+use Rattle.corrections_table.proofs.ColumnLaws.{rows-length}
+use Rattle.corrections_directory.specs.Directory.{Blocks, Directory, Entry, blockCapacity, directoryIn, directoryOf, entriesFrom, entriesIn, entryRows, flat, lentBlocks, readingsIn, readingRows, soundDirectory}
+use Rattle.corrections_directory.specs.Rearrange.{entriesAre, entriesWith, filedNumber, filedOf, listedNumber, listedOf, samplesAre, signalsWith, unfiled, unlisted}
+use Rattle.corrections_directory.proofs.DirectoryLaws.{directory-flat, flat-directory, sound-directory, sound-flat}
+use Rattle.corrections_directory.proofs.ColumnLaws.{entries-length, readings-length, flat-length, rearranged, restored}
+use Rattle.corrections_forget.proofs.HistoryLaws.{sorted-of}
+use Rattle.corrections_add.proofs.CountLaws.{fields-of}
+use Rattle.corrections_add.proofs.PlaceLaws.{entries-fewer}
+use Rattle.corrections_convert.specs.Lent.{Files, Lists}
 use Rattle.corrections_laws.specs.Typed.{Typed}
 use Rattle.corrections_laws.proofs.NumberLaws.{not-zero}
 use Rattle.corrections_laws.proofs.ColumnLaws.{column-length, signals-of, table-narrow}

@@ -3,8 +3,8 @@ use Prim.Native.Nat.{ℕ, _≤_}
 use mathlib.Core.Path.{_≡_}
 use mathlib.Core.Bool.{true, false, cond}
 use mathlib.Core.List.{List, [], _∷_}
-use Rattle.directory.specs.Directory.{soundDirectory}
-use Rattle.differential.specs.AddEpoch.{recordsInRange, settingsInRange}
+use Rattle.corrections_directory.specs.Directory.{soundDirectory}
+use Rattle.corrections_epoch.specs.AddEpoch.{recordsInRange, settingsInRange}
 use Rattle.corrections_laws.specs.Typed.{Typed}
 use Rattle.corrections_laws.specs.Calls.{Epoch, Query, Caller, room, directory, baseEpoch, statesBeside, shortOf, AddsEpoch, Asks, Call, adding, dropping}
 use Rattle.corrections_laws.specs.Flat.{Step, Told, ask, enter, answered, numbered}

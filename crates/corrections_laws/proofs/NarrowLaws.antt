@@ -8,22 +8,22 @@ use lib.ListN.{length, getD, take, drop}
 use borrow.Author.Tests.{lt-ltb}
 use lib.Ieee.{Float}
 use Rattle.exact.specs.Float.{_⊖_}
-use Rattle.walk.specs.Walk.{collect, every, first, places}
+use Rattle.lists.specs.Walk.{collect, every, first, places}
 use Rattle.numeric.specs.declared.vec3.Vec3.{Vec3}
-use Rattle.table.specs.Table.{standsBefore}
-use Rattle.table.specs.Add.{insert, insertAll}
-use Rattle.table.specs.declared.sample.Sample.{Sample}
-use Rattle.table.proofs.TableLaws.{and-left, and-right}
-use Rattle.directory.specs.Directory.{Blocks, Entry, Reading, block, directoryIn, entriesIn, entryRows, flat, readingsIn, sampleOf}
-use Rattle.directory.proofs.DirectoryLaws.{narrow}
-use Rattle.differential.specs.Raw.{enabled, firstRaw, rawAt, rawOf, rawsOf, isStateOf}
-use Rattle.differential.specs.Sample as Samples
-use Rattle.differential.specs.Sample.{clockOf, corrected, epochSamples, group, kept, sampleAt, samplesOf}
-use Rattle.differential.specs.declared.raw.Raw.{Raw}
-use Rattle.differential.specs.declared.record.Range.{Range}
-use Rattle.differential.specs.declared.record.Settings.{Settings}
-use Rattle.differential.specs.declared.record.State.{State}
-use Rattle.epoch_columns.specs.Epoch.{rangeAt}
+use Rattle.corrections_table.specs.Table.{standsBefore}
+use Rattle.corrections_table.specs.Add.{insert, insertAll}
+use Rattle.corrections_table.specs.declared.sample.Sample.{Sample}
+use Rattle.corrections_table.proofs.TableLaws.{and-left, and-right}
+use Rattle.corrections_directory.specs.Directory.{Blocks, Entry, Reading, block, directoryIn, entriesIn, entryRows, flat, readingsIn, sampleOf}
+use Rattle.corrections_directory.proofs.DirectoryLaws.{narrow}
+use Rattle.corrections_epoch.specs.Raw.{enabled, firstRaw, rawAt, rawOf, rawsOf, isStateOf}
+use Rattle.corrections_epoch.specs.Sample as Samples
+use Rattle.corrections_epoch.specs.Sample.{clockOf, corrected, epochSamples, group, kept, sampleAt, samplesOf}
+use Rattle.corrections_epoch.specs.declared.raw.Raw.{Raw}
+use Rattle.corrections_epoch.specs.declared.record.Range.{Range}
+use Rattle.corrections_epoch.specs.declared.record.Settings.{Settings}
+use Rattle.corrections_epoch.specs.declared.record.State.{State}
+use Rattle.corrections_epoch_columns.specs.Epoch.{rangeAt}
 use Rattle.corrections_laws.proofs.Hypotheses.{TypedEpoch}
 use Rattle.corrections_laws.specs.Calls.{Epoch, newSamples}
 use Rattle.corrections_laws.specs.Typed.{Typed}

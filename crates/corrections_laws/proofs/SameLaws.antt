@@ -9,35 +9,35 @@ use borrow.Author.Tests.{le-ltb}
 use lib.ListN.{length, take, drop, length-map}
 use lib.Seq.{length-take-le}
 use lib.Ieee.{Float}
-use Rattle.walk.specs.Walk.{every, fold}
+use Rattle.lists.specs.Walk.{every, fold}
 use Rattle.numeric.specs.Order.{patternOf}
 use Rattle.numeric.specs.declared.vec3.Vec3.{Vec3}
 use Rattle.numeric.specs.declared.refusal.Refusal.the-variants.{TooMany}
-use Rattle.table.specs.Table.{beside, rows, sorted}
-use Rattle.table.specs.Add.{AddOutcome, added, insertAll, refused}
-use Rattle.table.specs.declared.sample.Sample.{Sample}
-use Rattle.table.proofs.ColumnLaws.{rows-length}
-use Rattle.table.proofs.InsertLaws.{insertAll-length}
-use Rattle.table.proofs.Places.{sorted-rises}
-use Rattle.table.proofs.SeriesLaws.{insertAll-rises}
-use Rattle.directory.specs.Directory.{Blocks, columnOf, Directory, directoryOf, entriesFrom, flat, floats, Reading, readingOf}
-use Rattle.directory.proofs.DirectoryLaws.{flat-directory, narrow}
-use Rattle.addition.specs.Add as Add
-use Rattle.addition.specs.Add.{Placed, addedIn, directoryWith, flatOutcome, refusedIn}
-use Rattle.query.specs.Query.{patternAfter, queryIn, queryNumber, queryOf}
-use Rattle.query.specs.declared.query.Correction.{Correction}
-use Rattle.query.proofs.FormLaws.{query-same}
-use Rattle.differential.specs.AddEpoch.{addedOf, epochPlaced}
-use Rattle.differential.specs.declared.record.BaseEpoch.{BaseEpoch}
-use Rattle.differential.specs.declared.record.Settings.{Settings}
-use Rattle.differential.specs.declared.record.States.{States}
-use Rattle.differential.proofs.SameLaws.{epoch-same}
-use Rattle.epoch_columns.specs.Epoch.{entryIn}
+use Rattle.corrections_table.specs.Table.{beside, rows, sorted}
+use Rattle.corrections_table.specs.Add.{AddOutcome, added, insertAll, refused}
+use Rattle.corrections_table.specs.declared.sample.Sample.{Sample}
+use Rattle.corrections_table.proofs.ColumnLaws.{rows-length}
+use Rattle.corrections_table.proofs.InsertLaws.{insertAll-length}
+use Rattle.corrections_table.proofs.Places.{sorted-rises}
+use Rattle.corrections_table.proofs.SeriesLaws.{insertAll-rises}
+use Rattle.corrections_directory.specs.Directory.{Blocks, columnOf, Directory, directoryOf, entriesFrom, flat, floats, Reading, readingOf}
+use Rattle.corrections_directory.proofs.DirectoryLaws.{flat-directory, narrow}
+use Rattle.corrections_add.specs.Add as Add
+use Rattle.corrections_add.specs.Add.{Placed, addedIn, directoryWith, flatOutcome, refusedIn}
+use Rattle.corrections_query.specs.Query.{patternAfter, queryIn, queryNumber, queryOf}
+use Rattle.corrections_query.specs.declared.query.Correction.{Correction}
+use Rattle.corrections_query.proofs.FormLaws.{query-same}
+use Rattle.corrections_epoch.specs.AddEpoch.{addedOf, epochPlaced}
+use Rattle.corrections_epoch.specs.declared.record.BaseEpoch.{BaseEpoch}
+use Rattle.corrections_epoch.specs.declared.record.Settings.{Settings}
+use Rattle.corrections_epoch.specs.declared.record.States.{States}
+use Rattle.corrections_epoch.proofs.SameLaws.{epoch-same}
+use Rattle.corrections_epoch_columns.specs.Epoch.{entryIn}
 use Rattle.corrections_laws.proofs.Hypotheses.{BlockRun, TypedSteps, asked, done, entered}
 use Rattle.corrections_laws.specs.Typed.{Typed}
 use Rattle.corrections_laws.specs.Calls.{AddsEpoch, Caller, Epoch, Query, addingOf, queryOn, baseEpoch, directory, heldSamples, newSamples, room, shortOf, statesBeside}
 use Rattle.corrections_laws.specs.Flat.{BothForms, Step, Table, Told, answered, fiveColumns, flatAddition, flatAnswer, flatEnd, flatNumber, flatTells, numbered, roomIn, samplesIn, tableAfter, tableWith}
-use Rattle.directory.proofs.PatternLaws.{floats-length, map-of}
+use Rattle.corrections_directory.proofs.PatternLaws.{floats-length, map-of}
 use Rattle.corrections_laws.proofs.ColumnLaws.{column-length, table-narrow}
 use Rattle.corrections_laws.proofs.NarrowLaws.{insertAll-pass, new-narrow}
 use Rattle.corrections_laws.proofs.StepLaws.{Added, add-accepted, add-refused, passed, zero-or}

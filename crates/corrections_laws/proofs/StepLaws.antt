@@ -10,34 +10,34 @@ use lib.Seq.{length-take-le}
 use borrow.Author.Tests.{eqb-true, eqb-false, ltb-false, lt-ltb, le-ltb}
 use lib.Ieee.{Float}
 use lib.Ieee.Scale.{finite}
-use Rattle.walk.specs.Walk.{every}
+use Rattle.lists.specs.Walk.{every}
 use Rattle.numeric.specs.Refusal.{numberOf}
 use Rattle.numeric.specs.Real.{inRange}
 use Rattle.numeric.specs.declared.refusal.Refusal.{Refusal}
 use Rattle.numeric.specs.declared.refusal.Refusal.the-variants.{TooMany, SettingOutOfRange, RecordOutOfRange, TableFull, BadDropTime}
-use Rattle.table.specs.Table.{ranged, soundTable}
-use Rattle.table.specs.Add.{insertAll}
-use Rattle.table.specs.declared.sample.Sample.{Sample}
-use Rattle.table.proofs.TableLaws.{and-right}
-use Rattle.table.proofs.InsertLaws.{insertAll-sound, insertAll-length}
-use Rattle.directory.specs.Directory.{blockCapacity, Blocks, blocksWith, Directory, directoryIn, directoryOf, flat, PatternsWith, readingOf, readingsIn, soundDirectory}
-use Rattle.directory.proofs.DirectoryLaws.{flat-directory, sound-flat}
-use Rattle.directory.proofs.ColumnLaws.{flat-length}
-use Rattle.addition.specs.Add as Add
-use Rattle.addition.specs.Add.{addedIn, additionNumber, directoryWith, PatternsAfter, Placed, Places, refusedIn}
-use Rattle.addition.proofs.SameLaws.{few-entries}
-use Rattle.forget.specs.Forget.{Forgets, ForgetOutcome, forget, forgetIn, forgettingNumber, forgettingOf, leaves, outcomeOf, refused, testIn}
-use Rattle.table.specs.declared.add.Test.the-variants as Test
-use Rattle.forget.proofs.HistoryLaws.{forget-length}
-use Rattle.forget.proofs.FormLaws.{columns-hold}
-use Rattle.forget.proofs.ForgetLaws.{forget-sound}
-use Rattle.differential.specs.AddEpoch.{epochPlaced, recordsInRange, settingsInRange, tooMany}
-use Rattle.differential.specs.Sample.{epochSamples}
-use Rattle.differential.proofs.EpochLaws.{samples-ranged, time-in-range}
-use Rattle.epoch_columns.specs.Epoch.{entryIn}
+use Rattle.corrections_table.specs.Table.{ranged, soundTable}
+use Rattle.corrections_table.specs.Add.{insertAll}
+use Rattle.corrections_table.specs.declared.sample.Sample.{Sample}
+use Rattle.corrections_table.proofs.TableLaws.{and-right}
+use Rattle.corrections_table.proofs.InsertLaws.{insertAll-sound, insertAll-length}
+use Rattle.corrections_directory.specs.Directory.{blockCapacity, Blocks, blocksWith, Directory, directoryIn, directoryOf, flat, PatternsWith, readingOf, readingsIn, soundDirectory}
+use Rattle.corrections_directory.proofs.DirectoryLaws.{flat-directory, sound-flat}
+use Rattle.corrections_directory.proofs.ColumnLaws.{flat-length}
+use Rattle.corrections_add.specs.Add as Add
+use Rattle.corrections_add.specs.Add.{addedIn, additionNumber, directoryWith, PatternsAfter, Placed, Places, refusedIn}
+use Rattle.corrections_add.proofs.SameLaws.{few-entries}
+use Rattle.corrections_forget.specs.Forget.{Forgets, ForgetOutcome, forget, forgetIn, forgettingNumber, forgettingOf, leaves, outcomeOf, refused, testIn}
+use Rattle.corrections_table.specs.declared.add.Test.the-variants as Test
+use Rattle.corrections_forget.proofs.HistoryLaws.{forget-length}
+use Rattle.corrections_forget.proofs.FormLaws.{columns-hold}
+use Rattle.corrections_forget.proofs.ForgetLaws.{forget-sound}
+use Rattle.corrections_epoch.specs.AddEpoch.{epochPlaced, recordsInRange, settingsInRange, tooMany}
+use Rattle.corrections_epoch.specs.Sample.{epochSamples}
+use Rattle.corrections_epoch.proofs.EpochLaws.{samples-ranged, time-in-range}
+use Rattle.corrections_epoch_columns.specs.Epoch.{entryIn}
 use Rattle.corrections_laws.proofs.Hypotheses.{EpochPasses}
 use Rattle.corrections_laws.specs.Calls.{Caller, Epoch, AddsEpoch, Drops, addingOf, baseEpoch, asBlocks, directory, droppingOf, heldSamples, newSamples, room, shortOf, statesBeside}
-use Rattle.forget.specs.Forget as Forgetting
+use Rattle.corrections_forget.specs.Forget as Forgetting
 use Rattle.corrections_laws.proofs.NumberLaws.{not-zero}
 use Rattle.corrections_laws.proofs.ColumnLaws.{same-capacity, with-holds}
 

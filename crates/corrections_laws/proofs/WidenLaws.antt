@@ -7,22 +7,22 @@ use lib.Dec.{ltb}
 use borrow.Author.Tests.{lt-ltb, ltb-true}
 use lib.ListN.{length, getD, take, drop}
 use lib.Ieee.{Float}
-use Rattle.walk.specs.Walk.{every, fold}
+use Rattle.lists.specs.Walk.{every, fold}
 use Rattle.numeric.specs.declared.refusal.Refusal.{Refusal}
 use Rattle.numeric.specs.declared.refusal.Refusal.the-variants.{TooMany, SettingOutOfRange, RecordOutOfRange, TableFull}
-use Rattle.table.specs.Table.{beside, capacity, lentSamples, rows, soundTable, tableOf}
-use Rattle.table.specs.Add.{AddOutcome, added, insertAll, refused}
-use Rattle.table.specs.Widen.{bandsAfter, bandsShort, widenOf, widened, wideningNumber}
-use Rattle.table.specs.declared.sample.Sample.{Sample}
-use Rattle.table.specs.declared.widen.Widening.the-variants.{Refused, Widened}
-use Rattle.table.proofs.TableLaws.{and-left, and-right}
-use Rattle.table.proofs.Places.{sorted-rises}
-use Rattle.table.proofs.WidenLaws.{Roomy, capacity-widened, not-short, table-widened}
-use Rattle.directory.specs.Directory.{columnOf, directoryIn, directoryOf, entriesFrom, entryRows, floats, lentBlocks}
-use Rattle.directory.specs.Rearrange.{filedOf}
-use Rattle.forget.proofs.HistoryLaws.{sorted-of}
-use Rattle.differential.specs.AddEpoch.{addedOf, recordsInRange, settingsInRange, tooMany}
-use Rattle.rearrange.specs.Lent.{Files}
+use Rattle.corrections_table.specs.Table.{beside, capacity, lentSamples, rows, soundTable, tableOf}
+use Rattle.corrections_table.specs.Add.{AddOutcome, added, insertAll, refused}
+use Rattle.corrections_table.specs.Widen.{bandsAfter, bandsShort, widenOf, widened, wideningNumber}
+use Rattle.corrections_table.specs.declared.sample.Sample.{Sample}
+use Rattle.corrections_table.specs.declared.widen.Widening.the-variants.{Refused, Widened}
+use Rattle.corrections_table.proofs.TableLaws.{and-left, and-right}
+use Rattle.corrections_table.proofs.Places.{sorted-rises}
+use Rattle.corrections_table.proofs.WidenLaws.{Roomy, capacity-widened, not-short, table-widened}
+use Rattle.corrections_directory.specs.Directory.{columnOf, directoryIn, directoryOf, entriesFrom, entryRows, floats, lentBlocks}
+use Rattle.corrections_directory.specs.Rearrange.{filedOf}
+use Rattle.corrections_forget.proofs.HistoryLaws.{sorted-of}
+use Rattle.corrections_epoch.specs.AddEpoch.{addedOf, recordsInRange, settingsInRange, tooMany}
+use Rattle.corrections_convert.specs.Lent.{Files}
 use Rattle.corrections_laws.proofs.Hypotheses.{BlockRun, TypedSteps}
 use Rattle.corrections_laws.specs.Typed.{Typed}
 use Rattle.corrections_laws.specs.Calls.{Caller, Epoch, baseEpoch, asBlocks, newSamples, room, shortOf, statesBeside}

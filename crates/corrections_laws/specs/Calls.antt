@@ -7,20 +7,20 @@ use lib.Dec.{eqb}
 use lib.ListN.{length, getD}
 use lib.Ieee.{Float}
 use Rattle.numeric.specs.declared.vec3.Vec3.{Vec3}
-use Rattle.table.specs.declared.sample.Sample.{Sample}
-use Rattle.directory.specs.Directory.{blockCapacity, Blocks, blocksWith, Directory, directoryIn, directoryOf, flat, floats, lentBlocks, PatternsWith}
-use Rattle.addition.specs.Add.{PatternsAfter, Placed, Places}
-use Rattle.query.specs.Query.{answerAt, Answers, queryIn}
-use Rattle.query.specs.declared.query.Correction.{Correction}
-use Rattle.forget.specs.Forget.{ForgetOutcome, Forgets, forgetIn}
-use Rattle.forget.specs.History.{Event, add, drop}
-use Rattle.differential.specs.Sample.{epochSamples}
-use Rattle.differential.specs.Build.{EpochInput}
-use Rattle.differential.specs.declared.record.BaseEpoch.{BaseEpoch}
-use Rattle.differential.specs.declared.record.States.{States}
-use Rattle.differential.specs.declared.record.Settings.{Settings}
-use Rattle.epoch_columns.specs.Epoch.{entryIn, baseEpochOf, recordsShort, statesIn}
-use Rattle.forget.specs.Forget as Forgetting
+use Rattle.corrections_table.specs.declared.sample.Sample.{Sample}
+use Rattle.corrections_directory.specs.Directory.{blockCapacity, Blocks, blocksWith, Directory, directoryIn, directoryOf, flat, floats, lentBlocks, PatternsWith}
+use Rattle.corrections_add.specs.Add.{PatternsAfter, Placed, Places}
+use Rattle.corrections_query.specs.Query.{answerAt, Answers, queryIn}
+use Rattle.corrections_query.specs.declared.query.Correction.{Correction}
+use Rattle.corrections_forget.specs.Forget.{ForgetOutcome, Forgets, forgetIn}
+use Rattle.corrections_forget.specs.History.{Event, add, drop}
+use Rattle.corrections_epoch.specs.Sample.{epochSamples}
+use Rattle.corrections_epoch.specs.Build.{EpochInput}
+use Rattle.corrections_epoch.specs.declared.record.BaseEpoch.{BaseEpoch}
+use Rattle.corrections_epoch.specs.declared.record.States.{States}
+use Rattle.corrections_epoch.specs.declared.record.Settings.{Settings}
+use Rattle.corrections_epoch_columns.specs.Epoch.{entryIn, baseEpochOf, recordsShort, statesIn}
+use Rattle.corrections_forget.specs.Forget as Forgetting
 use Rattle.corrections_laws.specs.Typed.{Typed}
 
 -- ---- what a caller hands over

@@ -4,17 +4,17 @@ use mathlib.Core.Path.{_≡_}
 use mathlib.Core.Bool.{true, cond}
 use mathlib.Core.List.{List, [], _∷_}
 use lib.ListN.{length, getD}
-use Rattle.walk.specs.Walk.{fold}
+use Rattle.lists.specs.Walk.{fold}
 use Rattle.numeric.specs.Order.{patternOf}
 use Rattle.numeric.specs.Refusal.{numberOf}
 use Rattle.numeric.specs.declared.refusal.Refusal.the-variants.{TooMany}
-use Rattle.table.specs.Table.{Columns, capacity, lentSamples, sorted, tableOf}
-use Rattle.table.specs.Add.{AddOutcome, added, refused}
-use Rattle.table.specs.declared.sample.Sample.{Sample}
-use Rattle.directory.specs.Directory.{columnOf, directoryOf, floats}
-use Rattle.query.specs.Query.{patternAfter, queryNumber, queryOf}
-use Rattle.query.specs.declared.query.Correction.{Correction}
-use Rattle.differential.specs.AddEpoch.{addedOf}
+use Rattle.corrections_table.specs.Table.{Columns, capacity, lentSamples, sorted, tableOf}
+use Rattle.corrections_table.specs.Add.{AddOutcome, added, refused}
+use Rattle.corrections_table.specs.declared.sample.Sample.{Sample}
+use Rattle.corrections_directory.specs.Directory.{columnOf, directoryOf, floats}
+use Rattle.corrections_query.specs.Query.{patternAfter, queryNumber, queryOf}
+use Rattle.corrections_query.specs.declared.query.Correction.{Correction}
+use Rattle.corrections_epoch.specs.AddEpoch.{addedOf}
 use Rattle.corrections_laws.specs.Calls.{Caller, Epoch, Query, baseEpoch, directory, room, shortOf, statesBeside}
 
 -- ---- the old form

@@ -6,7 +6,7 @@ use Prim.Native.Nat.{ℕ}
 use native.Mathlib.Omega.{arith}
 use lib.ListN.{length}
 use lib.Ieee.{Float}
-use Rattle.walk.proofs.Walk.{places-length, places-all}
+use Rattle.lists.proofs.Walk.{places-length, places-all}
 use Rattle.clocks.specs.Clocks.{has}
 use Rattle.numeric.specs.declared.vec3.Vec3.{Vec3}
 use Rattle.numeric.specs.declared.refusal.Refusal.{Refusal}
@@ -18,10 +18,10 @@ use Rattle.records.specs.Screen.{constellations}
 use Rattle.records.specs.declared.record.Carrier.{Carrier}
 use Rattle.records.specs.declared.record.Epoch.{Epoch}
 use Rattle.records.specs.declared.pair.Profile.the-variants.{General, City}
-use Rattle.estimator.specs.Rules.{Rule, ruled}
-use Rattle.estimator.specs.declared.rules.Check.{Check}
-use Rattle.estimator.specs.declared.rules.Check.the-variants.{Refused as Stops, Passed}
-use Rattle.estimator.proofs.RulesLaws.{checked, ruled-append, passed-by, refused-by}
+use Rattle.estimate_rounds.specs.Rules.{Rule, ruled}
+use Rattle.estimate_rounds.specs.declared.rules.Check.{Check}
+use Rattle.estimate_rounds.specs.declared.rules.Check.the-variants.{Refused as Stops, Passed}
+use Rattle.estimate_rounds.proofs.RulesLaws.{checked, ruled-append, passed-by, refused-by}
 use Rattle.tdcp.specs.Valid.{epochRules, intervalRules}
 use Rattle.tdcp.specs.Front.{sightRules, countRules}
 use Rattle.tdcp.specs.City.{inCity, certifiedEpoch, left}

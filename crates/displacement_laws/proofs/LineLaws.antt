@@ -8,7 +8,7 @@ use borrow.Author.Tests.{lt-ltb, lt-leb, ne-eqb, ltb-true, ltb-false}
 use lib.Dec.{ltb, leb, eqb}
 use lib.ListN.{length, getD, drop}
 use lib.Ieee.{Float}
-use Rattle.walk.proofs.Walk.{places-all, or-no}
+use Rattle.lists.proofs.Walk.{places-all, or-no}
 use Rattle.numeric.specs.Refusal.{numberOf}
 use Rattle.numeric.specs.Order.{patternOf}
 use Rattle.numeric.proofs.OrderLaws.{pattern-bits}
@@ -17,7 +17,7 @@ use Rattle.records.specs.Record.{countedCarriers}
 use Rattle.records.specs.Carriers.{CarrierColumns, carrierAt, carriersOf, epochOf, epochFits}
 use Rattle.records.specs.declared.record.Epoch.{Epoch}
 use Rattle.records.specs.declared.pair.Profile.the-variants.{General}
-use Rattle.estimator.specs.Rules.{ruled}
+use Rattle.estimate_rounds.specs.Rules.{ruled}
 use Rattle.tdcp.specs.Valid.{epochRules}
 use Rattle.tdcp.specs.Displacement.{Input, input, displacementOf, displacementNumber}
 use Rattle.tdcp.proofs.CountedLaws.{displacement-counted}

@@ -8,16 +8,16 @@ use native.Mathlib.Omega.{arith}
 use lib.Dec.{eqb}
 use lib.ListN.{length}
 use lib.Ieee.{Float}
-use Rattle.walk.specs.Walk.{collect}
-use Rattle.walk.proofs.Walk.{and-both}
+use Rattle.lists.specs.Walk.{collect}
+use Rattle.lists.proofs.Walk.{and-both}
 use Rattle.numeric.specs.Refusal.{numberOf}
 use Rattle.numeric.specs.declared.refusal.Refusal.the-variants.{FitFailed}
 use Rattle.cholesky.specs.Factor.{Factored, Refused as NoFactor, Lower, factorOf}
 use Rattle.clocks.specs.declared.clocks.Clocks.{Clocks}
-use Rattle.normal.specs.declared.row.Row.{Row}
+use Rattle.normal_equations.specs.declared.row.Row.{Row}
 use Rattle.robust.specs.Round.{RoundOutcome, Refused as Fails, Solved, solved, roundBy, roundOf}
-use Rattle.estimator.specs.Rules.{Rule, ruled, rowRules}
-use Rattle.estimator.specs.Rounds.{End, Stopped, Reached, Fit, moved, shortStep, reachedAt, afterRound, fitFrom, concluded}
+use Rattle.estimate_rounds.specs.Rules.{Rule, ruled, rowRules}
+use Rattle.estimate_rounds.specs.Rounds.{End, Stopped, Reached, Fit, moved, shortStep, reachedAt, afterRound, fitFrom, concluded}
 use Rattle.records.specs.City.{isCity}
 use Rattle.records.specs.Screen.{keptOf}
 use Rattle.records.specs.declared.pair.Pair.{Pair}

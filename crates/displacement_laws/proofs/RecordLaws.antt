@@ -9,8 +9,8 @@ use lib.ListN.{length, getD, drop, length-append, length-map}
 use lib.IntN.{ℤ}
 use lib.Ieee.{Float}
 use Rattle.exact.specs.Float.{bits}
-use Rattle.walk.specs.Walk.{collect}
-use Rattle.walk.proofs.Walk.{places-length}
+use Rattle.lists.specs.Walk.{collect}
+use Rattle.lists.proofs.Walk.{places-length}
 use Rattle.numeric.specs.Refusal.{numberOf}
 use Rattle.numeric.specs.declared.vec3.Vec3.{Vec3}
 use Rattle.numeric.specs.declared.refusal.Refusal.{Refusal}

@@ -1,14 +1,14 @@
 // The trials of the corrections.
 use crate::report::adding;
 use crate::report::correction;
-use differential::add_epoch::add_epoch;
-use differential::record::BaseEpoch;
-use differential::record::Range;
-use differential::record::Settings;
-use differential::record::State;
-use differential::record::States;
+use corrections_epoch::add_epoch::add_epoch;
+use corrections_epoch::record::BaseEpoch;
+use corrections_epoch::record::Range;
+use corrections_epoch::record::Settings;
+use corrections_epoch::record::State;
+use corrections_epoch::record::States;
+use corrections_query::query::query;
 use numeric::vec3::Vec3;
-use query::query::query;
 use signal::signal::signal_of;
 
 // Returns the range to satellite `svid`, 20,000 km away.

@@ -1,10 +1,10 @@
 // Writes a line for each trial: its name and its answer.
-use addition::add::Addition;
+use corrections_add::add::Addition;
+use corrections_query::query::Correction;
 use libc::STDOUT_FILENO;
 use numeric::order::pattern;
 use numeric::refusal::Refusal;
 use numeric::vec3::Vec3;
-use query::query::Correction;
 use tdcp::displacement::Displacement;
 use wls::fix::Fix;
 

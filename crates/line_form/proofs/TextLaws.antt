@@ -11,8 +11,8 @@ use lib.Seq.{set-out, getD-set-same, getD-set-other}
 use lib.IntN.{ℤ}
 use lib.Ieee.{Float, isNan, nan, inf, fin}
 use lib.Ieee.Scale.{finite}
-use Rattle.walk.specs.Walk.{fold}
-use Rattle.walk.proofs.Walk.{places-all, places-take}
+use Rattle.lists.specs.Walk.{fold}
+use Rattle.lists.proofs.Walk.{places-all, places-take}
 use Rattle.numeric.specs.declared.vec3.Vec3.{Vec3}
 use Rattle.numeric.specs.declared.refusal.Refusal.the-variants.{TooMany, BrokenForm}
 use Rattle.records.specs.Record.{countedCarriers}

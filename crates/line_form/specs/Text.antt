@@ -6,7 +6,7 @@ use lib.Dec.{ltb}
 use lib.ListN.{length, getD, drop, set, replicate}
 use lib.IntN.{pos}
 use Rattle.exact.specs.Float.{+0}
-use Rattle.walk.specs.Walk.{fold}
+use Rattle.lists.specs.Walk.{fold}
 use Rattle.numeric.specs.declared.refusal.Refusal.the-variants.{BrokenForm}
 use Rattle.tdcp.specs.Displacement.{Input, general, displacementOf}
 use Rattle.records.specs.declared.record.Carrier.{Carrier}

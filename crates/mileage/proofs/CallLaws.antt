@@ -9,7 +9,7 @@ use lib.Dec.{leb, ltb, eqb}
 use lib.Ieee.{Float, le}
 use borrow.Author.Tests.{lt-ltb, le-ltb, not-true, not-false}
 use Rattle.exact.specs.Float.{whole}
-use Rattle.walk.proofs.Walk.{and-both}
+use Rattle.lists.proofs.Walk.{and-both}
 use Rattle.numeric.specs.Vec3.{norm}
 use Rattle.numeric.specs.declared.refusal.Refusal.{Refusal}
 use Rattle.numeric.specs.declared.refusal.Refusal.the-variants.{BadTrip}

@@ -10,8 +10,8 @@ use lib.Dec.{eqb, lit≤}
 use lib.ListN.{length, take, getD}
 use borrow.Author.Tests.{lt-ltb, ne-eqb, ltb-true}
 use lib.Ieee.{Float}
-use Rattle.walk.specs.Walk.{collect, every}
-use Rattle.walk.proofs.Walk.{and-both}
+use Rattle.lists.specs.Walk.{collect, every}
+use Rattle.lists.proofs.Walk.{and-both}
 use Rattle.trip.specs.Measure.{measurable}
 use Rattle.trip.specs.Trip.{Leg, carrierMillimetres, measurables, counting, narrow as trip-narrow}
 use Rattle.trip.specs.Words.{Addition, legOf as legIn, wordsAfterCalls, countedLegs}

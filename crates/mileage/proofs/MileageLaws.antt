@@ -10,8 +10,8 @@ use lib.ListN.{length, take, length-append}
 use lib.Seq.{take-nil}
 use borrow.Author.Tests.{ltb-true, ltb-false, leb-true}
 use lib.Ieee.{Float, binary64, fits}
-use Rattle.walk.specs.Walk.{collect, fold, every}
-use Rattle.walk.proofs.Walk.{and-both}
+use Rattle.lists.specs.Walk.{collect, fold, every}
+use Rattle.lists.proofs.Walk.{and-both}
 use Rattle.numeric.specs.Real.{inRange}
 use Rattle.numeric.proofs.OrderLaws.{pattern-back}
 use Rattle.trip.specs.Measure.{measurable}

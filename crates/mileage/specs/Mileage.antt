@@ -5,7 +5,7 @@ use mathlib.Core.List.{List, [], _∷_}
 use lib.Dec.{leb, ltb, eqb}
 use lib.ListN.{length, take}
 use lib.Ieee.{Float}
-use Rattle.walk.specs.Walk.{collect}
+use Rattle.lists.specs.Walk.{collect}
 use Rattle.numeric.specs.Real.{inRange}
 use Rattle.numeric.specs.declared.refusal.Refusal.the-variants.{SettingOutOfRange, BadTrip, NoDistance}
 use Rattle.trip.specs.Measure.{millimetresOf, measurable}

@@ -11,7 +11,7 @@ use lib.ListN.{getD, length, set, length-set, getD-replicate}
 use lib.Seq.{getD-set-same, getD-set-other}
 use lib.Ieee.{Float, nan, ofInt, ofBits}
 use lib.Ieee.Scale.{finite}
-use Rattle.walk.proofs.Walk.{places-length}
+use Rattle.lists.proofs.Walk.{places-length}
 use Rattle.exact.specs.Float.{_⊕_, _⊗_, _⊘_, +0, 1·0, bits, whole}
 use Rattle.cholesky.specs.Factor.{at, zeros, solutionOf, factorOf, Unused, UnusedPlaces, Factored, Lower, Refused as NoFactor}
 use Rattle.cholesky.specs.Answer.{rowsAfter}
@@ -20,15 +20,15 @@ use Rattle.numeric.specs.Real.{square}
 use Rattle.numeric.specs.declared.refusal.Refusal.{Refusal}
 use Rattle.numeric.specs.declared.refusal.Refusal.the-variants.{FitFailed, QualityNotFinite}
 use Rattle.root.specs.Root.{rootOf}
-use Rattle.normal.specs.Nine.{nine}
-use Rattle.normal.specs.Equations.{wide, total, triangleOf}
-use Rattle.normal.specs.Steps.{RoundColumns, rowIn, rowsIn, unused, triangleAdded}
-use Rattle.normal.specs.declared.row.Row.{Row}
-use Rattle.normal.proofs.NineLaws.{nine-is}
-use Rattle.normal.proofs.Sums.{sumTo, sumTo-zero, sumTo-next, sum-places}
-use Rattle.normal.proofs.AddedLaws.{triangle-zero, triangle-more}
-use Rattle.normal.proofs.FormedLaws.{sums, sums-zero, sums-next, sums-triangle, triangle-unused}
-use Rattle.estimator.specs.Rules.{ruled}
+use Rattle.normal_equations.specs.Nine.{nine}
+use Rattle.normal_equations.specs.Equations.{wide, total, triangleOf}
+use Rattle.normal_equations.specs.Steps.{RoundColumns, rowIn, rowsIn, unused, triangleAdded}
+use Rattle.normal_equations.specs.declared.row.Row.{Row}
+use Rattle.normal_equations.proofs.NineLaws.{nine-is}
+use Rattle.normal_equations.proofs.Sums.{sumTo, sumTo-zero, sumTo-next, sum-places}
+use Rattle.normal_equations.proofs.AddedLaws.{triangle-zero, triangle-more}
+use Rattle.normal_equations.proofs.FormedLaws.{sums, sums-zero, sums-next, sums-triangle, triangle-unused}
+use Rattle.estimate_rounds.specs.Rules.{ruled}
 use Rattle.quality.specs.Quality.{freedomOf, chiOf, unweightedMatrix, pdopOf, dilutionOf, figureRules, qualityOf}
 use Rattle.quality.specs.Steps.{dilutionFound, dilutionNumber, dilutionFloats, Diluted, qualityNumber, qualityFloats, Qualified}
 use Rattle.quality.specs.declared.figures.Figures.{Figures}

@@ -13,10 +13,10 @@ use Rattle.cholesky.specs.Answer.{rowsAfter}
 use Rattle.cholesky.specs.Answer as factor
 use Rattle.numeric.specs.Real.{square}
 use Rattle.numeric.specs.declared.refusal.Refusal.the-variants.{FitFailed, QualityNotFinite}
-use Rattle.normal.specs.Nine.{nine}
-use Rattle.normal.specs.Equations.{wide, total, triangleOf}
-use Rattle.normal.specs.declared.row.Row.{Row}
-use Rattle.estimator.specs.Rules.{Rule, rule, ruled}
+use Rattle.normal_equations.specs.Nine.{nine}
+use Rattle.normal_equations.specs.Equations.{wide, total, triangleOf}
+use Rattle.normal_equations.specs.declared.row.Row.{Row}
+use Rattle.estimate_rounds.specs.Rules.{Rule, rule, ruled}
 use Rattle.quality.specs.declared.figures.Quality.{Quality}
 use Rattle.quality.specs.declared.figures.Quality.the-variants.{Refused, Rated}
 

@@ -4,8 +4,8 @@ use Prim.Native.Nat.{ℕ}
 use mathlib.Core.List.{List, [], _∷_}
 use lib.Ieee.{Float}
 use Rattle.numeric.specs.Refusal.{numberOf}
-use Rattle.normal.specs.declared.row.Row.{Row}
-use Rattle.estimator.specs.Rules.{ruled}
+use Rattle.normal_equations.specs.declared.row.Row.{Row}
+use Rattle.estimate_rounds.specs.Rules.{ruled}
 use Rattle.quality.specs.Quality.{dilutionOf, pivotRule, qualityOf}
 use Rattle.quality.specs.declared.figures.Dilution.{Dilution}
 use Rattle.quality.specs.declared.figures.Dilution.the-variants as Dilution

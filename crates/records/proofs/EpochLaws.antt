@@ -7,8 +7,8 @@ use lib.ListN.{length, getD, take}
 use lib.Seq.{length-take-le}
 use lib.IntN.{ℤ, pos}
 use lib.Ieee.{Float}
-use Rattle.walk.specs.Walk.{places}
-use Rattle.walk.proofs.Walk.{places-all, places-take, places-ext}
+use Rattle.lists.specs.Walk.{places}
+use Rattle.lists.proofs.Walk.{places-all, places-take, places-ext}
 use Rattle.signal.proofs.SignalLaws.{constellation-is, svid-is, band-is, signal-small}
 use Rattle.records.specs.Record.{countedCarriers}
 use Rattle.records.specs.Carriers.{carrierColumns, carrierAt, epochOf}

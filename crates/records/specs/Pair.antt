@@ -4,7 +4,7 @@ use mathlib.Core.Bool.{Bool, not, cond, _&&_}
 use mathlib.Core.List.{List, [], _∷_}
 use lib.Ieee.{Float, le}
 use Rattle.exact.specs.Float.{_⊕_, _⊖_, _⊗_, bits}
-use Rattle.walk.specs.Walk.{every, first, collect, Holds}
+use Rattle.lists.specs.Walk.{every, first, collect, Holds}
 use Rattle.numeric.specs.Sight.{sightOf, onReceiver}
 use Rattle.numeric.specs.declared.vec3.Vec3.{Vec3}
 use Rattle.records.specs.Record.{usable, same}

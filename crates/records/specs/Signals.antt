@@ -4,7 +4,7 @@ use mathlib.Core.List.{List}
 use lib.ListN.{getD, length}
 use lib.IntN.{ℤ, pos}
 use lib.Ieee.{Float, nan}
-use Rattle.walk.specs.Walk.{places}
+use Rattle.lists.specs.Walk.{places}
 use Rattle.numeric.specs.Vec3.{vectorAt}
 use Rattle.signal.specs.Signal.{constellationIn, svidIn, bandIn}
 use Rattle.records.specs.declared.record.Carrier.{Carrier}

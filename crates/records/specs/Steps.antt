@@ -3,7 +3,7 @@ use Prim.Native.Nat.{ℕ, _^_, _<_}
 use mathlib.Core.Bool.{Bool, true, cond}
 use mathlib.Core.List.{List, [], _∷_}
 use lib.Dec.{ltb}
-use Rattle.walk.specs.Walk.{places}
+use Rattle.lists.specs.Walk.{places}
 use Rattle.records.specs.declared.record.Carrier.{Carrier}
 use Rattle.records.specs.declared.pair.Profile.{Profile}
 use Rattle.records.specs.declared.pair.Profile.the-variants.{General, City}

@@ -2,7 +2,7 @@
 ghost use mathlib.Core.Path.{_≡_};
 ghost use Prim.Native.Nat.{_+_, _*_, _^_, _<_, _≤_};
 ghost use lib.ListN.{getD, length};
-ghost use Rattle.walk.specs.Walk.{every};
+ghost use Rattle.lists.specs.Walk.{every};
 ghost use Rattle.records.specs.Record.{soundCarrier};
 ghost use Rattle.records.specs.Signals as spec;
 ghost use Rattle.records.specs.Steps.{Signalled, Put, Laid};

@@ -14,14 +14,14 @@ use Rattle.cholesky.specs.Factor.{zeros, isPivot, withElement, below, pivotOf, 
 use Rattle.numeric.specs.declared.refusal.Refusal.the-variants.{TooMany, RecordOutOfRange}
 use Rattle.median.specs.Sorted.{insertBy, sortedBy, medianOf}
 use Rattle.median.specs.Centre.{centreOf, deviationOf, scaleOf, centreAndScaleOf}
-use Rattle.walk.specs.Walk.{every}
-use Rattle.normal.specs.Nine.{from, nine}
-use Rattle.normal.specs.Weight.{damping, weight}
-use Rattle.normal.specs.Equations.{wide, total, cellOf, sideOf, triangleOf, matrixOf, rightOf}
+use Rattle.lists.specs.Walk.{every}
+use Rattle.normal_equations.specs.Nine.{from, nine}
+use Rattle.normal_equations.specs.Weight.{damping, weight}
+use Rattle.normal_equations.specs.Equations.{wide, total, cellOf, sideOf, triangleOf, matrixOf, rightOf}
 use Rattle.robust.specs.Round.{roundBy, roundOf}
 use Rattle.robust.specs.Step.{indexed, paddedStep, refused, stepOf}
-use Rattle.normal.specs.declared.row.Row.{Row}
-use Rattle.normal.specs.declared.row.Rows.{Rows}
+use Rattle.normal_equations.specs.declared.row.Row.{Row}
+use Rattle.normal_equations.specs.declared.row.Rows.{Rows}
 use Rattle.robust.specs.declared.round.Stepping.the-variants.{Done}
 
 -- ---- the round called by itself

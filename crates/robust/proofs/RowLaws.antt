@@ -13,7 +13,7 @@ use lib.Ieee.{Float, nan, div, ofInt, ofBits}
 use Rattle.exact.specs.Float.{+0, bits, whole, decimal}
 use Rattle.cholesky.specs.Factor.{at}
 use Rattle.robust.specs.Step.{paddedStep}
-use Rattle.normal.proofs.NineLaws.{nine-is}
+use Rattle.normal_equations.proofs.NineLaws.{nine-is}
 
 pub three : bits 0x4008_0000_0000_0000 ≡ whole 3
 unfolding ofInt ofBits

@@ -9,8 +9,8 @@ use Rattle.numeric.specs.declared.refusal.Refusal.the-variants.{FitFailed}
 use Rattle.cholesky.specs.Factor.{Factored, Refused, Lower, factorOf, solutionOf}
 use Rattle.cholesky.specs.Answer.{rowsAfter}
 use Rattle.cholesky.specs.Answer as factor
-use Rattle.normal.specs.Steps.{Formed}
-use Rattle.normal.specs.declared.row.Row.{Row}
+use Rattle.normal_equations.specs.Steps.{Formed}
+use Rattle.normal_equations.specs.declared.row.Row.{Row}
 use Rattle.robust.specs.Round.{solved, roundBy}
 use Rattle.robust.specs.Steps.{Solving}
 use Rattle.robust.specs.declared.round.Stepping.the-variants as Stepping

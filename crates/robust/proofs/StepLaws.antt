@@ -7,21 +7,21 @@ use mathlib.Core.List.{List}
 use borrow.Author.Tests.{lt-ltb, le-ltb}
 use lib.ListN.{length}
 use lib.Ieee.{Float}
-use Rattle.walk.specs.Walk.{every}
+use Rattle.lists.specs.Walk.{every}
 use Rattle.numeric.specs.declared.refusal.Refusal.{Refusal}
 use Rattle.numeric.specs.declared.refusal.Refusal.the-variants.{TooMany, RecordOutOfRange}
 use Rattle.median.specs.Centre.{centreAndScaleOf, centreScaleOf}
 use Rattle.median.specs.declared.centre.Centre.the-variants.{Refused as NoCentre, Of}
 use Rattle.median.specs.declared.centre.CentreScale.{CentreScale}
-use Rattle.normal.specs.Weight.{weight}
+use Rattle.normal_equations.specs.Weight.{weight}
 use Rattle.robust.specs.Round.{RoundOutcome, Refused, Solved, roundBy, roundOf}
 use Rattle.robust.specs.Steps.{Solving}
 use Rattle.robust.specs.Step.{countedRows, indexed, paddedStep, refused, outcome, stepOf}
-use Rattle.normal.specs.Steps.{RoundColumns, rowsIn}
-use Rattle.normal.specs.declared.row.Rows.{Rows}
+use Rattle.normal_equations.specs.Steps.{RoundColumns, rowsIn}
+use Rattle.normal_equations.specs.declared.row.Rows.{Rows}
 use Rattle.robust.specs.declared.round.Stepping.{Stepping}
 use Rattle.robust.specs.declared.round.Stepping.the-variants as Stepping
-use Rattle.normal.proofs.ColumnLaws.{residuals-of}
+use Rattle.normal_equations.proofs.ColumnLaws.{residuals-of}
 
 -- at most 64 residuals have a centre
 centre-of : (p : List ℕ) → length p ≤ 64 → centreScaleOf p ≡ Of (centreAndScaleOf p)

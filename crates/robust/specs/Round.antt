@@ -6,16 +6,16 @@ use mathlib.Core.Bool.{true}
 use mathlib.Core.List.{List, map}
 use lib.Ieee.{Float}
 use lib.Ieee.Scale.{finite}
-use Rattle.walk.specs.Walk.{every}
+use Rattle.lists.specs.Walk.{every}
 use Rattle.exact.specs.Float.{bits}
 use Rattle.numeric.specs.declared.refusal.Refusal.{Refusal}
 use Rattle.numeric.specs.declared.refusal.Refusal.the-variants.{FitFailed}
 use Rattle.cholesky.specs.Factor.{Factored, Refused as NoFactor, Lower, factorOf, solutionOf}
 use Rattle.cholesky.specs.Sound as system
 use Rattle.median.specs.Centre.{centreAndScaleOf}
-use Rattle.normal.specs.Weight.{weight}
-use Rattle.normal.specs.Equations.{matrixOf, rightOf}
-use Rattle.normal.specs.declared.row.Row.{Row}
+use Rattle.normal_equations.specs.Weight.{weight}
+use Rattle.normal_equations.specs.Equations.{matrixOf, rightOf}
+use Rattle.normal_equations.specs.declared.row.Row.{Row}
 
 -- a solved round: its rows, and nine wide the matrix by its lower triangle, the right side, the factor and the step
 pub record Round : Type 0 where

@@ -6,16 +6,16 @@ use mathlib.Core.List.{List}
 use lib.Dec.{ltb, leb}
 use lib.ListN.{take}
 use lib.Ieee.{Float}
-use Rattle.walk.specs.Walk.{every}
+use Rattle.lists.specs.Walk.{every}
 use Rattle.exact.specs.Float.{+0}
 use Rattle.cholesky.specs.Factor.{at}
 use Rattle.numeric.specs.Refusal.{numberOf}
 use Rattle.numeric.specs.declared.refusal.Refusal.{Refusal}
 use Rattle.numeric.specs.declared.refusal.Refusal.the-variants.{TooMany, RecordOutOfRange}
-use Rattle.normal.specs.Nine.{nine}
+use Rattle.normal_equations.specs.Nine.{nine}
 use Rattle.robust.specs.Round.{RoundOutcome, Refused, Solved, roundOf}
-use Rattle.normal.specs.declared.row.Row.{Row}
-use Rattle.normal.specs.declared.row.Rows.{Rows}
+use Rattle.normal_equations.specs.declared.row.Row.{Row}
+use Rattle.normal_equations.specs.declared.row.Rows.{Rows}
 use Rattle.robust.specs.declared.round.Stepping.{Stepping}
 use Rattle.robust.specs.declared.round.Stepping.the-variants as Stepping
 

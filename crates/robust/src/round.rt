@@ -4,14 +4,14 @@ ghost use Prim.Native.Nat.{_≤_, _<_};
 ghost use lib.ListN.{length};
 ghost use Rattle.robust.specs.Round as spec;
 ghost use Rattle.robust.specs.Steps.{Solving};
-ghost use Rattle.normal.specs.Steps.{columns, rowsIn};
+ghost use Rattle.normal_equations.specs.Steps.{columns, rowsIn};
 ghost use Rattle.robust.specs.Step.{paddedStep, steppingNumber, stepOf, StepPromised};
 use cholesky::factor::factor_used;
 use cholesky::factor::solve_used;
 use median::centre::Centre;
 use median::centre::centre_scale;
-use normal::equations::normal;
-use normal::row::Rows;
+use normal_equations::equations::normal;
+use normal_equations::row::Rows;
 use numeric::refusal::Refusal;
 
 // The answer of a round; the step itself is written to the lent dx.

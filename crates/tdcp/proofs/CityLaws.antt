@@ -8,8 +8,8 @@ use native.Mathlib.Omega.{arith}
 use lib.Dec.{ltb}
 use borrow.Author.Tests.{ltb-false, le-ltb, not-false}
 use lib.ListN.{length, length-take}
-use Rattle.walk.specs.Walk.{every}
-use Rattle.walk.proofs.Walk.{or-no, and-both}
+use Rattle.lists.specs.Walk.{every}
+use Rattle.lists.proofs.Walk.{or-no, and-both}
 use Rattle.clocks.specs.Clocks.{has}
 use Rattle.numeric.specs.declared.refusal.Refusal.{Refusal}
 use Rattle.numeric.specs.declared.refusal.Refusal.the-variants.{NotCertified}
@@ -20,10 +20,10 @@ use Rattle.records.specs.Pair.{pairsOf}
 use Rattle.records.specs.Screen.{keptOf, constellations}
 use Rattle.records.specs.declared.record.Epoch.{Epoch}
 use Rattle.records.specs.declared.pair.Pair.{Pair}
-use Rattle.estimator.specs.Rules.{Rule, ruled}
-use Rattle.estimator.specs.Rounds.{concluded}
-use Rattle.estimator.specs.declared.rules.Check.the-variants.{Refused as Stops, Passed}
-use Rattle.estimator.proofs.RulesLaws.{checked, ruled-append, passed-by, head-passed, refused-by}
+use Rattle.estimate_rounds.specs.Rules.{Rule, ruled}
+use Rattle.estimate_rounds.specs.Rounds.{concluded}
+use Rattle.estimate_rounds.specs.declared.rules.Check.the-variants.{Refused as Stops, Passed}
+use Rattle.estimate_rounds.proofs.RulesLaws.{checked, ruled-append, passed-by, head-passed, refused-by}
 use Rattle.tdcp.specs.Valid.{dtOf, settingsPass, epochRules, intervalRules}
 use Rattle.tdcp.specs.Front.{sightRules, countRules, cityRules, pairRules}
 use Rattle.tdcp.specs.Displacement.{Input, fitBy, pairs, deltaAt, endRules, movedBy, displacementOf}

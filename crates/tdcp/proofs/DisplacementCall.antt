@@ -8,10 +8,10 @@ use lib.Dec.{ltb}
 use lib.ListN.{length, take}
 use lib.Seq.{length-take-le}
 use lib.Ieee.{Float}
-use Rattle.walk.proofs.Walk.{places-length}
+use Rattle.lists.proofs.Walk.{places-length}
 use Rattle.numeric.specs.declared.refusal.Refusal.{Refusal}
 use Rattle.numeric.specs.declared.refusal.Refusal.the-variants.{TooMany, NotCertified}
-use Rattle.walk.specs.Walk.{every}
+use Rattle.lists.specs.Walk.{every}
 use Rattle.time.specs.declared.time.Seconds.{Seconds}
 use Rattle.time.specs.declared.time.Seconds.the-variants.{Refused as NoSeconds, Since}
 use Rattle.records.specs.Record.{countedCarriers, soundCarrier, placeable}
@@ -21,11 +21,11 @@ use Rattle.clocks.specs.Clocks.{has, clocksOf}
 use Rattle.records.specs.Screen.{keptOf, constellations}
 use Rattle.records.specs.Kept.{Kept}
 use Rattle.records.specs.Steps.{pairIn, pairsIn}
-use Rattle.estimator.specs.Rules.{Rule, rule, ruled}
+use Rattle.estimate_rounds.specs.Rules.{Rule, rule, ruled}
 use Rattle.tdcp.specs.Valid.{dtOf, epochRules, fewRules}
 use Rattle.tdcp.specs.Front.{sightRules, countRules, cityRules, pairRules}
-use Rattle.estimator.specs.Rounds.{End, Stopped, Reached, Fit, concluded, stateAfter}
-use Rattle.estimator.specs.Steps.{Ended}
+use Rattle.estimate_rounds.specs.Rounds.{End, Stopped, Reached, Fit, concluded, stateAfter}
+use Rattle.estimate_rounds.specs.Steps.{Ended}
 use Rattle.tdcp.specs.Displacement.{Input, fitOver, fitBy, callFit, pairs, deltaAt, endRules, movedBy, displacementOf}
 use Rattle.tdcp.specs.Rated.{qualityAt, quality, answeredBy, answeredOf}
 use Rattle.tdcp.specs.Steps.{movedOver, qualityOver, qualityBy, givenRules, concludedAt}
@@ -38,9 +38,9 @@ use Rattle.records.specs.declared.pair.Pairs.{Pairs}
 use Rattle.tdcp.specs.declared.displacement.Settings.{Settings}
 use Rattle.tdcp.specs.declared.displacement.Displacement.{Displacement}
 use Rattle.tdcp.specs.declared.displacement.Displacement.the-variants.{Refused, Moved}
-use Rattle.estimator.specs.declared.rules.Check.{Check}
-use Rattle.estimator.specs.declared.rules.Check.the-variants.{Refused as Stops, Passed}
-use Rattle.estimator.proofs.RulesLaws.{checked, ruled-append, ruled-map, append-first, refused-by, passed-by}
+use Rattle.estimate_rounds.specs.declared.rules.Check.{Check}
+use Rattle.estimate_rounds.specs.declared.rules.Check.the-variants.{Refused as Stops, Passed}
+use Rattle.estimate_rounds.proofs.RulesLaws.{checked, ruled-append, ruled-map, append-first, refused-by, passed-by}
 use Rattle.tdcp.proofs.DisplacementLaws.{fit-same, rows-same}
 use Rattle.tdcp.proofs.FrontLaws.{counts-passed, kept-few}
 use Rattle.tdcp.proofs.FilterLaws.{looked-alone}

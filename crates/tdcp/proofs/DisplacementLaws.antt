@@ -6,25 +6,25 @@ use mathlib.Core.List.{List, map}
 use lib.ListN.{length, getD, take}
 use lib.Seq.{take-all, getD-take, length-take-le}
 use lib.Ieee.{Float, nan}
-use Rattle.walk.proofs.Walk.{places-map, places-take, places-ext}
-use Rattle.walk.specs.Walk.{places}
+use Rattle.lists.proofs.Walk.{places-map, places-take, places-ext}
+use Rattle.lists.specs.Walk.{places}
 use Rattle.robust.specs.Round.{roundOf}
-use Rattle.normal.specs.Steps.{RoundColumns, columns, rowsIn}
-use Rattle.normal.specs.Steps as round
-use Rattle.normal.proofs.ColumnLaws.{filled-at}
+use Rattle.normal_equations.specs.Steps.{RoundColumns, columns, rowsIn}
+use Rattle.normal_equations.specs.Steps as round
+use Rattle.normal_equations.proofs.ColumnLaws.{filled-at}
 use Rattle.robust.specs.Steps.{Solving}
-use Rattle.normal.specs.declared.row.Row.{Row}
+use Rattle.normal_equations.specs.declared.row.Row.{Row}
 use Rattle.robust.specs.declared.round.Stepping.{Stepping}
 use Rattle.clocks.specs.declared.clocks.Clocks.{Clocks}
 use Rattle.records.specs.declared.pair.Pair.{Pair}
 use Rattle.tdcp.specs.declared.displacement.Settings.{Settings}
 use Rattle.cholesky.specs.Factor.{zeros}
-use Rattle.estimator.specs.Rounds.{fitFrom}
+use Rattle.estimate_rounds.specs.Rounds.{fitFrom}
 use Rattle.records.specs.Kept.{Kept}
 use Rattle.records.specs.Steps.{pairIn, pairsIn}
 use Rattle.tdcp.specs.Displacement.{pairSigma, rowWith, rowAt, roundAt, stopLimit, fitOver}
 use Rattle.tdcp.specs.Steps.{ClocksAt, SigmasAt, ResidualsAt}
-use Rattle.estimator.proofs.RoundsLaws.{Left, left-start}
+use Rattle.estimate_rounds.proofs.RoundsLaws.{Left, left-start}
 
 -- what the logic has for a pair past the end
 abbrev pub blank : Pair

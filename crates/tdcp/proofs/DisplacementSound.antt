@@ -8,7 +8,7 @@ use lib.Dec.{T}
 use lib.ListN.{length}
 use lib.Ieee.{Float}
 use lib.Ieee.Scale.{finite}
-use Rattle.walk.specs.Walk.{every}
+use Rattle.lists.specs.Walk.{every}
 use Rattle.cholesky.specs.Factor.{at, zeros}
 use Rattle.numeric.specs.declared.refusal.Refusal.{Refusal}
 use Rattle.robust.specs.Round.{Round, Solved, SoundRound, FiniteResiduals}
@@ -22,15 +22,15 @@ use Rattle.records.specs.Screen.{keptOf, constellations}
 use Rattle.clocks.specs.declared.clocks.Clocks.{Clocks}
 use Rattle.records.specs.declared.pair.Pair.{Pair}
 use Rattle.tdcp.specs.declared.displacement.Settings.{Settings}
-use Rattle.estimator.specs.Rounds.{concluded}
+use Rattle.estimate_rounds.specs.Rounds.{concluded}
 use Rattle.median.specs.Sorted.{Each}
 use Rattle.tdcp.specs.Displacement.{Input, rowAt, roundAt, stopLimit, fitOver, fitBy, pairs, keptPairs, callFit, roundsOf, deltaAt, endRules, movedBy, displacementOf, displacementNumber, displacementFloats, displacementCounts, Accepted, Promised}
 use Rattle.tdcp.specs.declared.displacement.Delta.{Delta}
 use Rattle.tdcp.specs.declared.displacement.Displacement.{Displacement}
 use Rattle.tdcp.specs.declared.displacement.Displacement.the-variants.{Refused, Moved}
-use Rattle.estimator.specs.declared.rules.Check.the-variants.{Passed}
-use Rattle.estimator.proofs.RulesLaws.{checked, passed-of, passed-by, head-passed}
-use Rattle.estimator.proofs.RoundsSound.{rounds-each, Finished, finished, Placed, placed, three-finite}
+use Rattle.estimate_rounds.specs.declared.rules.Check.the-variants.{Passed}
+use Rattle.estimate_rounds.proofs.RulesLaws.{checked, passed-of, passed-by, head-passed}
+use Rattle.estimate_rounds.proofs.RoundsSound.{rounds-each, Finished, finished, Placed, placed, three-finite}
 use Rattle.tdcp.proofs.FrontLaws.{kept-few, pairs-enough}
 
 pub never : (d : Delta) (r : Refusal) → Refused r ≡ Moved d → ⊥

@@ -4,7 +4,7 @@ use mathlib.Core.Bool.{cond, _&&_}
 use mathlib.Core.List.{List, [], _∷_, map}
 use lib.Ieee.{Float, le}
 use Rattle.exact.specs.Float.{+0}
-use Rattle.walk.specs.Walk.{every, first, collect}
+use Rattle.lists.specs.Walk.{every, first, collect}
 use Rattle.numeric.specs.declared.vec3.Vec3.{Vec3}
 use Rattle.records.specs.Record.{countedCarriers, soundCarrier, usable, same}
 use Rattle.records.specs.Pair.{pairOf, firstPair, pairAt, pairsOf}

@@ -9,8 +9,8 @@ use borrow.Author.Tests.{eqb-true}
 use lib.ListN.{length}
 use lib.Seq.{take-all}
 use lib.Ieee.{Float, le}
-use Rattle.walk.specs.Walk.{every, first, collect}
-use Rattle.walk.proofs.Walk.{and-both}
+use Rattle.lists.specs.Walk.{every, first, collect}
+use Rattle.lists.proofs.Walk.{and-both}
 use Rattle.numeric.specs.declared.vec3.Vec3.{Vec3}
 use Rattle.records.specs.Record.{keep, countedCarriers, usable, same}
 use Rattle.records.specs.City.{certified, certifiedOf, looked}

@@ -7,7 +7,7 @@ use lib.IntN.{ℤ, pos, negsuc}
 use lib.Ieee.{Float, nan, inf, neg, ofInt, ofBits, toBits, add, sub, mul, div, le, lt, eq, isNan}
 use lib.ListN.{length, replicate}
 use Rattle.exact.specs.Float.{+0, 1·0, whole, decimal}
-use Rattle.walk.specs.Walk.{every, first, collect, fold}
+use Rattle.lists.specs.Walk.{every, first, collect, fold}
 use Rattle.numeric.specs.Real.{abs, inRange}
 use Rattle.exact.specs.Pattern.{sign, exponent, digits}
 use Rattle.numeric.specs.Order.{isNanPattern, isQuiet, payload, payloadOrder, unordered, totalOrder, patternOf}
@@ -16,7 +16,7 @@ use Rattle.numeric.specs.declared.vec3.Vec3.{Vec3}
 use Rattle.numeric.specs.declared.refusal.Refusal.the-variants.{TooMany, SettingOutOfRange, RecordOutOfRange, BadInterval, TooFewPairs, TooFewRows, TooManySlots, OnReceiver}
 use Rattle.median.specs.Sorted.{insertBy, sortedBy, medianOf}
 use Rattle.median.specs.Centre.{centreOf}
-use Rattle.estimator.specs.Rules.{ruled, rowRules}
+use Rattle.estimate_rounds.specs.Rules.{ruled, rowRules}
 use Rattle.records.specs.Record.{placeable, isElevation, soundCarrier, unsigned, bitSet, usable, same}
 use Rattle.clocks.specs.Clocks.{none, given, slot, has, appearing, slotFrom, clocksIn, clocksOf}
 use Rattle.records.specs.Pair.{pairOf, firstPair, pairAt, pairsOf}
@@ -28,8 +28,8 @@ use Rattle.records.specs.declared.record.Carrier.{Carrier}
 use Rattle.records.specs.declared.record.Epoch.{Epoch}
 use Rattle.records.specs.declared.pair.Pair.{Pair}
 use Rattle.tdcp.specs.declared.displacement.Settings.{Settings}
-use Rattle.estimator.specs.declared.rules.Check.{Check}
-use Rattle.estimator.specs.declared.rules.Check.the-variants.{Refused, Passed}
+use Rattle.estimate_rounds.specs.declared.rules.Check.{Check}
+use Rattle.estimate_rounds.specs.declared.rules.Check.the-variants.{Refused, Passed}
 
 -- ---- m6 and m9
 

@@ -5,11 +5,11 @@ use mathlib.Core.Bool.{Bool, true, false}
 use mathlib.Core.List.{List, _++_, map}
 use lib.Ieee.{Float}
 use Rattle.exact.specs.Float.{+0}
-use Rattle.normal.specs.declared.row.Row.{Row}
+use Rattle.normal_equations.specs.declared.row.Row.{Row}
 use Rattle.cholesky.specs.Factor.{zeros}
 use Rattle.numeric.specs.declared.refusal.Refusal.{Refusal}
-use Rattle.estimator.specs.Steps.{Ended}
-use Rattle.estimator.specs.declared.rules.Check.{Check}
+use Rattle.estimate_rounds.specs.Steps.{Ended}
+use Rattle.estimate_rounds.specs.declared.rules.Check.{Check}
 use Rattle.clocks.specs.declared.clocks.Clocks.{Clocks}
 use Rattle.records.specs.declared.pair.Pair.{Pair}
 use Rattle.quality.specs.Quality.{qualityOf}
@@ -18,7 +18,7 @@ use Rattle.quality.specs.declared.figures.Quality.{Quality}
 use Rattle.quality.specs.declared.figures.Quality.the-variants as Quality
 use Rattle.tdcp.specs.Displacement.{Input, rowAt, fitOver, displacementOf}
 use Rattle.tdcp.specs.Rated.{qualityAt, quality, rate, ratedWith, ratedOf, ratedNumber, ratedFloats, ratedFigures, ratedCounts, RatedAccepted, RatedPromised, unrated, plainOf, answeredBy, answeredOf}
-use Rattle.walk.specs.Walk.{every}
+use Rattle.lists.specs.Walk.{every}
 use lib.Ieee.Scale.{finite}
 use native.Mathlib.Omega.{arith}
 use lib.Ieee.Bits.{is-true}

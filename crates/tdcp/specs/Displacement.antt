@@ -8,7 +8,7 @@ use lib.Dec.{T}
 use lib.Ieee.{Float}
 use lib.Ieee.Scale.{finite}
 use Rattle.exact.specs.Float.{_⊕_, _⊖_, _⊗_, decimal}
-use Rattle.walk.specs.Walk.{every}
+use Rattle.lists.specs.Walk.{every}
 use Rattle.cholesky.specs.Factor.{at, zeros}
 use Rattle.numeric.specs.Order.{patternOf}
 use Rattle.numeric.specs.Refusal.{numberOf}
@@ -16,9 +16,9 @@ use Rattle.numeric.specs.declared.vec3.Vec3.{Vec3}
 use Rattle.numeric.specs.declared.refusal.Refusal.the-variants.{FitFailed}
 use Rattle.robust.specs.Round.{Round, RoundOutcome, roundOf, SoundRound, FiniteResiduals}
 use Rattle.robust.specs.Sigma.{elevationSigma}
-use Rattle.normal.specs.declared.row.Row.{Row}
+use Rattle.normal_equations.specs.declared.row.Row.{Row}
 use Rattle.clocks.specs.Clocks.{slot, clocksOf}
-use Rattle.estimator.specs.Rules.{Rule, rule, ruled}
+use Rattle.estimate_rounds.specs.Rules.{Rule, rule, ruled}
 use Rattle.records.specs.Record.{countedCarriers}
 use Rattle.records.specs.City.{looked, isCity}
 use Rattle.records.specs.Pair.{pairsOf}
@@ -33,7 +33,7 @@ use Rattle.records.specs.declared.pair.Profile.the-variants.{General}
 use Rattle.tdcp.specs.declared.displacement.Settings.{Settings}
 use Rattle.tdcp.specs.declared.displacement.Interval.{Interval}
 use Rattle.tdcp.specs.declared.displacement.Interval.the-variants as Interval
-use Rattle.estimator.specs.Rounds.{Fit, fitFrom, vector, finiteAt, concluded}
+use Rattle.estimate_rounds.specs.Rounds.{Fit, fitFrom, vector, finiteAt, concluded}
 use Rattle.median.specs.Sorted.{Each}
 use Rattle.tdcp.specs.declared.displacement.Delta.{Delta}
 use Rattle.tdcp.specs.declared.displacement.Displacement.{Displacement}

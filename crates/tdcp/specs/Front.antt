@@ -2,10 +2,10 @@
 use mathlib.Core.Bool.{Bool, not, _&&_}
 use mathlib.Core.List.{List, [], _∷_, _++_}
 use lib.ListN.{length}
-use Rattle.walk.specs.Walk.{collect}
+use Rattle.lists.specs.Walk.{collect}
 use Rattle.numeric.specs.Sight.{onReceiver}
 use Rattle.numeric.specs.declared.refusal.Refusal.the-variants.{OnReceiver, NotCertified}
-use Rattle.estimator.specs.Rules.{Rule, rule}
+use Rattle.estimate_rounds.specs.Rules.{Rule, rule}
 use Rattle.clocks.specs.Clocks.{has, clocksOf}
 use Rattle.records.specs.Screen.{keptOf, constellations}
 use Rattle.tdcp.specs.Valid.{fewRules}

@@ -7,14 +7,14 @@ use lib.Dec.{T}
 use lib.Ieee.{Float}
 use lib.Ieee.Scale.{finite}
 use Rattle.exact.specs.Float.{+0}
-use Rattle.walk.specs.Walk.{every}
+use Rattle.lists.specs.Walk.{every}
 use Rattle.cholesky.specs.Factor.{zeros}
 use Rattle.numeric.specs.Refusal.{numberOf}
 use Rattle.clocks.specs.Clocks.{clocksOf}
 use Rattle.clocks.specs.declared.clocks.Clocks.{Clocks}
 use Rattle.records.specs.Screen.{constellations}
 use Rattle.records.specs.declared.pair.Pair.{Pair}
-use Rattle.estimator.specs.Rounds.{stateAfter}
+use Rattle.estimate_rounds.specs.Rounds.{stateAfter}
 use Rattle.quality.specs.Quality.{qualityOf}
 use Rattle.quality.specs.declared.figures.Quality.{Quality}
 use Rattle.quality.specs.declared.figures.Quality.the-variants as Quality

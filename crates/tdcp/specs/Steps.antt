@@ -13,10 +13,10 @@ use Rattle.clocks.specs.Clocks.{slot, clocksOf}
 use Rattle.clocks.specs.declared.clocks.Clocks.{Clocks}
 use Rattle.records.specs.declared.pair.Pair.{Pair}
 use Rattle.numeric.specs.declared.refusal.Refusal.the-variants.{SettingOutOfRange, RecordOutOfRange}
-use Rattle.estimator.specs.Rules.{Rule, rule, ruled}
-use Rattle.estimator.specs.Rounds.{concluded, stateAfter}
-use Rattle.estimator.specs.Steps.{Ended}
-use Rattle.estimator.specs.declared.rules.Check.{Check}
+use Rattle.estimate_rounds.specs.Rules.{Rule, rule, ruled}
+use Rattle.estimate_rounds.specs.Rounds.{concluded, stateAfter}
+use Rattle.estimate_rounds.specs.Steps.{Ended}
+use Rattle.estimate_rounds.specs.declared.rules.Check.{Check}
 use Rattle.tdcp.specs.Valid.{settingsPass, intervalRules}
 use Rattle.tdcp.specs.declared.displacement.Interval.{Interval}
 use Rattle.tdcp.specs.Displacement.{fitOver, fitBy, deltaAt, endRules}

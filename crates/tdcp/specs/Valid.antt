@@ -6,12 +6,12 @@ use lib.Dec.{ltb}
 use lib.Ieee.{Float, lt}
 use lib.Ieee.Scale.{finite}
 use Rattle.exact.specs.Float.{+0, whole}
-use Rattle.walk.specs.Walk.{every}
+use Rattle.lists.specs.Walk.{every}
 use Rattle.numeric.specs.Real.{inRange}
 use Rattle.numeric.specs.declared.vec3.Vec3.{Vec3}
 use Rattle.numeric.specs.declared.refusal.Refusal.the-variants.{TooMany, SettingOutOfRange, RecordOutOfRange, BadTime, BadInterval, TooFewPairs}
 use Rattle.time.specs.Time.{isDated, secondsBetween}
-use Rattle.estimator.specs.Rules.{Rule, rule, rowRules}
+use Rattle.estimate_rounds.specs.Rules.{Rule, rule, rowRules}
 use Rattle.records.specs.Record.{countedCarriers, placeable, soundCarrier}
 use Rattle.records.specs.declared.record.Epoch.{Epoch}
 use Rattle.tdcp.specs.declared.displacement.Settings.{Settings}

@@ -2,7 +2,7 @@
 ghost use mathlib.Core.Path.{_≡_};
 ghost use lib.ListN.{length, take};
 ghost use Prim.Native.Nat.{_≤_};
-ghost use Rattle.walk.specs.Walk.{every};
+ghost use Rattle.lists.specs.Walk.{every};
 ghost use Rattle.records.specs.City.{isCity};
 ghost use Rattle.records.specs.Steps.{pairsIn};
 ghost use Rattle.records.specs.Pair.{seen};
@@ -22,7 +22,7 @@ use crate::rounds::sigmas_into;
 use crate::valid::check_pairs;
 use crate::valid::is_uncertified;
 use clocks::clocks::Clocks;
-use estimator::rules::Check;
+use estimate_rounds::rules::Check;
 use numeric::real::is_finite;
 use numeric::refusal::Refusal;
 use numeric::vec3::Vec3;

@@ -9,8 +9,8 @@ use Rattle.time.specs.Time.{isDated, secondsBetween}
 use Rattle.time.specs.declared.time.GpsTime.{GpsTime}
 use Rattle.records.specs.Carriers.{CarrierColumns, epochOf}
 use Rattle.records.specs.declared.pair.Profile.{Profile}
-use Rattle.estimator.specs.Rules.{Rule, ruled}
-use Rattle.estimator.proofs.RulesLaws.{ruled-append}
+use Rattle.estimate_rounds.specs.Rules.{Rule, ruled}
+use Rattle.estimate_rounds.proofs.RulesLaws.{ruled-append}
 use Rattle.tdcp.specs.Valid.{epochRules, intervalRules}
 use Rattle.tdcp.specs.Displacement.{displacementOf}
 use Rattle.tdcp.specs.declared.displacement.Settings.{Settings}

@@ -9,11 +9,11 @@ use Rattle.numeric.specs.declared.refusal.Refusal.{Refusal}
 use Rattle.numeric.specs.declared.refusal.Refusal.the-variants.{TooMany, FitFailed, QualityNotFinite}
 use Rattle.cholesky.specs.Factor.{zeros, factorOf}
 use Rattle.cholesky.specs.Answer.{accepted}
-use Rattle.normal.specs.declared.row.Row.{Row}
+use Rattle.normal_equations.specs.declared.row.Row.{Row}
 use Rattle.clocks.specs.Clocks.{clocksOf}
 use Rattle.records.specs.Screen.{constellations}
-use Rattle.estimator.specs.Rules.{ruled}
-use Rattle.estimator.specs.Rounds.{stateAfter}
+use Rattle.estimate_rounds.specs.Rules.{ruled}
+use Rattle.estimate_rounds.specs.Rounds.{stateAfter}
 use Rattle.quality.specs.Quality.{chiOf, unweightedMatrix, dilutionOf, figureRules, qualityOf}
 use Rattle.tdcp.specs.Displacement.{rowAt, keptPairs, callFit, displacementOf}
 use Rattle.tdcp.specs.declared.displacement.Delta.{Delta}

@@ -7,7 +7,7 @@ use lib.Ieee.{Float}
 use Rattle.numeric.specs.declared.vec3.Vec3.{Vec3}
 use Rattle.records.specs.declared.record.Epoch.{Epoch}
 use Rattle.records.specs.declared.pair.Profile.{Profile}
-use Rattle.estimator.proofs.RoundsLaws.{capped}
+use Rattle.estimate_rounds.proofs.RoundsLaws.{capped}
 use Rattle.tdcp.specs.Displacement.{input}
 use Rattle.tdcp.specs.Rated.{answeredOf}
 use Rattle.tdcp.specs.declared.displacement.Interval.{Interval}

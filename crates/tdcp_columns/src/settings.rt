@@ -2,7 +2,7 @@
 ghost use mathlib.Core.Path.{_≡_};
 ghost use Prim.Native.Nat.{min};
 ghost use Rattle.tdcp_columns.specs.Displacement as spec;
-use estimator::rounds::rounds_of;
+use estimate_rounds::rounds::rounds_of;
 use tdcp::displacement::Settings;
 
 // Returns the settings of five floats and the rounds.

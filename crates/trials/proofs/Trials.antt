@@ -12,15 +12,15 @@ use Rattle.cholesky.specs.Factor.{cell, isPivot, withElement, below, pivotOf, r
 use Rattle.exact.specs.Pattern.{sign}
 use Rattle.numeric.specs.Order.{totalOrder, patternOf}
 use Rattle.numeric.specs.Real.{abs, inRange}
-use Rattle.walk.specs.Walk.{every, collect, fold}
+use Rattle.lists.specs.Walk.{every, collect, fold}
 use Rattle.median.specs.Sorted.{insertBy, sortedBy, medianOf}
 use Rattle.median.specs.Centre.{centreOf, deviationOf, centreAndScaleOf, centreScaleOf}
 use Rattle.clocks.specs.Clocks.{given}
 use Rattle.records.specs.Record.{unsigned, bitSet, usable}
-use Rattle.table.specs.Table.{timeBefore}
-use Rattle.directory.specs.Directory.{entryRows, readingRows, ascends, tiles, timely, timelyFrom, blockTimes, inReach, soundDirectory, block, flat}
-use Rattle.query.specs.Query.{near, firstOf, lastOf, through, nearOr, spanned, correctionRule, answerIn, answerAt, guarded, queryIn}
-use Rattle.smooth.proofs.Trials.{one-point, not-held}
+use Rattle.corrections_table.specs.Table.{timeBefore}
+use Rattle.corrections_directory.specs.Directory.{entryRows, readingRows, ascends, tiles, timely, timelyFrom, blockTimes, inReach, soundDirectory, block, flat}
+use Rattle.corrections_query.specs.Query.{near, firstOf, lastOf, through, nearOr, spanned, correctionRule, answerIn, answerAt, guarded, queryIn}
+use Rattle.track_smooth.proofs.Trials.{one-point, not-held}
 use Rattle.cholesky.proofs.FactorLaws.{factorTo-zero, factorTo-next, refused-more}
 use Rattle.trials.specs.Marked.{All, marked, m1, m2, m3, m4, m5, m6, m7, m8, m9, m10, m11}
 

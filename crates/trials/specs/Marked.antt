@@ -16,15 +16,15 @@ use Rattle.numeric.specs.declared.refusal.Refusal.the-variants.{NoCorrection}
 use Rattle.median.specs.Sorted.{medianOf}
 use Rattle.median.specs.Centre.{centreOf, deviationsOf, centreScaleOf}
 use Rattle.median.specs.declared.centre.Centre.the-variants.{Of}
-use Rattle.walk.specs.Walk.{fold}
+use Rattle.lists.specs.Walk.{fold}
 use Rattle.clocks.specs.Clocks.{none, slot, given}
 use Rattle.records.specs.Record.{usable}
 use Rattle.records.specs.declared.record.Carrier.{Carrier}
-use Rattle.directory.specs.Directory.{Directory, lentBlocks, directoryIn}
-use Rattle.query.specs.Query.{queryIn}
-use Rattle.query.specs.declared.query.Correction.the-variants as Correction
-use Rattle.query.specs.declared.query.Correction.the-variants.{Metres}
-use Rattle.smooth.specs.Trials.{m12, m13}
+use Rattle.corrections_directory.specs.Directory.{Directory, lentBlocks, directoryIn}
+use Rattle.corrections_query.specs.Query.{queryIn}
+use Rattle.corrections_query.specs.declared.query.Correction.the-variants as Correction
+use Rattle.corrections_query.specs.declared.query.Correction.the-variants.{Metres}
+use Rattle.track_smooth.specs.Trials.{m12, m13}
 
 -- all of a list's statements
 abbrev pub All : List (Type 0) → Type 0

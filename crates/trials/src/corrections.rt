@@ -2,10 +2,10 @@
 ghost use mathlib.Core.Path.{_≡_};
 ghost use mathlib.Core.Bool.{true};
 ghost use Rattle.exact.specs.Float.{whole};
-ghost use Rattle.query.specs.Query.{queryIn};
+ghost use Rattle.corrections_query.specs.Query.{queryIn};
 ghost use Rattle.trials.specs.Marked.{twoSamples};
-use query::query::Correction;
-use query::query::query;
+use corrections_query::query::Correction;
+use corrections_query::query::query;
 use signal::signal::signal_of;
 
 // The correction at 15 s of samples (10 s, 1 m), (20 s, 3 m).

@@ -9,7 +9,7 @@ use lib.Dec.{leb, ltb, eqb, lit≤}
 use lib.ListN.{length, getD}
 use lib.Ieee.{Float}
 use borrow.Author.Tests.{le-ltb, le-leb, lt-leb, ltb-true, ltb-false}
-use Rattle.walk.specs.Walk.{collect, fold, every}
+use Rattle.lists.specs.Walk.{collect, fold, every}
 use Rattle.numeric.specs.Vec3.{vectorAt}
 use Rattle.numeric.specs.declared.vec3.Vec3.{Vec3}
 use Rattle.numeric.specs.declared.refusal.Refusal.the-variants.{BadTrip, NoDistance}

@@ -16,7 +16,7 @@ use Rattle.exact.specs.Float.{_⊕_, _⊗_, whole, +0}
 use Rattle.exact.specs.Value.{scale, magnitude, value}
 use Rattle.root.specs.Root.{IsRoot, rootOf}
 use Rattle.root.proofs.Theorems.{rootOf-root}
-use Rattle.walk.proofs.Walk.{and-both}
+use Rattle.lists.proofs.Walk.{and-both}
 use Rattle.numeric.specs.Vec3.{norm}
 use Rattle.numeric.specs.Whole.{wholeTimes}
 use Rattle.numeric.specs.declared.vec3.Vec3.{Vec3}

@@ -11,8 +11,8 @@ use lib.ListN.{length}
 use borrow.Author.Tests.{leb-true}
 use lib.Ieee.Scale.{finite}
 use Rattle.exact.specs.Value.{scale, magnitude}
-use Rattle.walk.specs.Walk.{fold, every}
-use Rattle.walk.proofs.Walk.{and-both}
+use Rattle.lists.specs.Walk.{fold, every}
+use Rattle.lists.proofs.Walk.{and-both}
 use Rattle.numeric.specs.Vec3.{norm}
 use Rattle.numeric.specs.Whole.{wholeTimes}
 use Rattle.numeric.specs.declared.refusal.Refusal.the-variants.{BadTrip}

@@ -12,8 +12,8 @@ use lib.Seq.{take-append-le, take-all, take-nil}
 use borrow.Author.Tests.{lt-ltb, eq-eqb, ne-eqb, ltb-true, ltb-false}
 use lib.Ieee.{le}
 use Rattle.exact.specs.Float.{whole}
-use Rattle.walk.specs.Walk.{collect, fold, every}
-use Rattle.walk.proofs.Walk.{and-both}
+use Rattle.lists.specs.Walk.{collect, fold, every}
+use Rattle.lists.proofs.Walk.{and-both}
 use Rattle.numeric.specs.Vec3.{norm}
 use Rattle.numeric.specs.declared.vec3.Vec3.{Vec3}
 use Rattle.numeric.specs.declared.refusal.Refusal.the-variants.{BadTrip}

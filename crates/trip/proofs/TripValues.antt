@@ -6,7 +6,7 @@ use lib.Ieee.{nan, lt, le, eq, add, mul, div, ofBits, ofInt}
 use Rattle.exact.specs.Float.{bits, whole, decimal}
 use Rattle.exact.specs.Value.{scale, magnitude}
 use Rattle.root.specs.Root.{rootOf}
-use Rattle.walk.specs.Walk.{fold}
+use Rattle.lists.specs.Walk.{fold}
 use Rattle.numeric.specs.Vec3.{norm}
 use Rattle.numeric.specs.Whole.{wholeTimes}
 use Rattle.numeric.specs.declared.refusal.Refusal.the-variants.{BadTrip, NoDistance}

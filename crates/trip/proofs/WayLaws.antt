@@ -22,7 +22,7 @@ use Rattle.root.proofs.Parts.{normal-parts}
 use Rattle.root.proofs.Reading.{read-normal, lt-number}
 use Rattle.root.proofs.Squares.{square-next}
 use Rattle.root.proofs.RootLaws.{wide, Result, result, isqrt-floor, nearestRoot-is}
-use Rattle.walk.proofs.Walk.{and-both}
+use Rattle.lists.proofs.Walk.{and-both}
 use Rattle.numeric.specs.Whole.{wholeTimes}
 use Rattle.numeric.proofs.OrderMagnitude.{unsigned, infinity, lt-bits, isNan-bits}
 use Rattle.trip.specs.Measure.{millimetres}

@@ -5,7 +5,7 @@ use mathlib.Core.Bool.{Bool, cond, not, _&&_, _||_}
 use mathlib.Core.List.{List, [], _∷_, _++_}
 use lib.Dec.{leb, ltb, eqb}
 use lib.ListN.{length, take}
-use Rattle.walk.specs.Walk.{collect}
+use Rattle.lists.specs.Walk.{collect}
 use Rattle.numeric.specs.declared.vec3.Vec3.{Vec3}
 use Rattle.numeric.specs.declared.refusal.Refusal.the-variants.{BadTrip, NoDistance}
 use Rattle.trip.specs.Measure.{millimetresOf, measurable}

@@ -12,8 +12,8 @@ use lib.Seq.{take-at}
 use lib.IntN.{pos}
 use mir.Syntax.{w32}
 use mir.Val.{SFits}
-use Rattle.walk.specs.Walk.{collect, places}
-use Rattle.walk.proofs.Walk.{places-length}
+use Rattle.lists.specs.Walk.{collect, places}
+use Rattle.lists.proofs.Walk.{places-length}
 use Rattle.wire.specs.Number.{Bytes}
 use Rattle.wire.specs.Record.{FitsRecord, AllFitting, none, more, epochBytes, recordAt, countIn, recordsOf}
 use Rattle.wire.specs.Columns.{RecordColumns, columnsFit, columnsWith, recordFloats, columnRecord, columnRecords, over}

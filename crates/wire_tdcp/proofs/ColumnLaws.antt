@@ -7,8 +7,8 @@ use borrow.Author.Tests.{eqb-true}
 use lib.ListN.{length, getD, drop, length-append}
 use lib.Ieee.{Float, nan}
 use Rattle.exact.specs.Float.{bits}
-use Rattle.walk.specs.Walk.{collect}
-use Rattle.walk.proofs.Walk.{places-length, places-map, places-ext}
+use Rattle.lists.specs.Walk.{collect}
+use Rattle.lists.proofs.Walk.{places-length, places-map, places-ext}
 use Rattle.numeric.specs.declared.vec3.Vec3.{Vec3}
 use Rattle.records.specs.Carriers.{carrierAt, carriersOf, epochOf}
 use Rattle.records.specs.declared.record.Carrier.{Carrier}

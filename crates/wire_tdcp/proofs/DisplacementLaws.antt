@@ -8,7 +8,7 @@ use lib.ListN.{length, getD, take}
 use lib.Seq.{sets, sets-eq}
 use lib.IntN.{ℤ}
 use lib.Ieee.{Float}
-use Rattle.walk.proofs.Walk.{places-map, places-at}
+use Rattle.lists.proofs.Walk.{places-map, places-at}
 use Rattle.numeric.specs.Order.{patternOf}
 use Rattle.numeric.specs.declared.refusal.Refusal.{Refusal}
 use Rattle.numeric.specs.declared.refusal.Refusal.the-variants.{TooMany, BrokenRecords}
@@ -18,7 +18,7 @@ use Rattle.records.specs.Steps.{Laid}
 use Rattle.records.specs.declared.record.Carrier.{Carrier}
 use Rattle.records.proofs.RecordLaws.{blank}
 use Rattle.records.proofs.EpochLaws.{cut-count, cut-fits, cut-is}
-use Rattle.estimator.specs.Rules.{ruled}
+use Rattle.estimate_rounds.specs.Rules.{ruled}
 use Rattle.tdcp.specs.Displacement.{displacementOf, displacementNumber, Promised}
 use Rattle.tdcp.specs.declared.displacement.Delta.{Delta}
 use Rattle.tdcp.specs.declared.displacement.Displacement.{Displacement}

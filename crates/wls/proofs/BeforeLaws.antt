@@ -7,8 +7,8 @@ use Prim.Native.Nat.{ℕ, zero, suc, _+_}
 use native.Mathlib.Omega.{arith}
 use lib.Ieee.{Float}
 use lib.Ieee.Scale.{finite}
-use Rattle.walk.specs.Walk.{every}
-use Rattle.walk.proofs.Walk.{and-both}
+use Rattle.lists.specs.Walk.{every}
+use Rattle.lists.proofs.Walk.{and-both}
 use Rattle.cholesky.specs.Factor.{factorOf}
 use Rattle.cholesky.specs.Answer as factor
 use Rattle.numeric.specs.Sight.{onReceiver}
@@ -16,14 +16,14 @@ use Rattle.numeric.specs.declared.vec3.Vec3.{Vec3}
 use Rattle.numeric.specs.declared.refusal.Refusal.{Refusal}
 use Rattle.numeric.specs.declared.refusal.Refusal.the-variants.{FitFailed, QualityNotFinite, OnReceiver}
 use Rattle.robust.specs.Round.{Round, RoundOutcome, Refused as NoRound, Solved}
-use Rattle.normal.specs.declared.row.Row.{Row}
+use Rattle.normal_equations.specs.declared.row.Row.{Row}
 use Rattle.clocks.specs.declared.clocks.Clocks.{Clocks}
 use Rattle.records.specs.declared.record.Observation.{Observation}
-use Rattle.estimator.specs.Rules.{Rule, rule, ruled}
-use Rattle.estimator.specs.Rounds.{End, Stopped, Reached, Fit, moved, shortStep, reachedAt, begun, afterRound, fitFrom, lastRows, finiteAt, concluded}
-use Rattle.estimator.specs.declared.rules.Check.{Check}
-use Rattle.estimator.specs.declared.rules.Check.the-variants.{Refused as Stops, Passed}
-use Rattle.estimator.proofs.RulesLaws.{checked, ruled-append, refused-by, passed-by}
+use Rattle.estimate_rounds.specs.Rules.{Rule, rule, ruled}
+use Rattle.estimate_rounds.specs.Rounds.{End, Stopped, Reached, Fit, moved, shortStep, reachedAt, begun, afterRound, fitFrom, lastRows, finiteAt, concluded}
+use Rattle.estimate_rounds.specs.declared.rules.Check.{Check}
+use Rattle.estimate_rounds.specs.declared.rules.Check.the-variants.{Refused as Stops, Passed}
+use Rattle.estimate_rounds.proofs.RulesLaws.{checked, ruled-append, refused-by, passed-by}
 use Rattle.wls.specs.Front.{fixRules}
 use Rattle.wls.specs.Fix.{Input, sightAt, sightRules, roundAt, fixStop, start, fitOver, keptObservations, clocks, chiAt, qualityRules, endRules, foundOver, fixOf}
 use Rattle.quality.specs.Quality.{unweightedMatrix, dilutionOf}

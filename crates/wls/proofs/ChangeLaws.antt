@@ -14,7 +14,7 @@ use borrow.Author.Tests.{eq-eqb}
 use Rattle.exact.specs.Float.{_⊕_, _⊖_, _⊘_, +0, bits}
 use Rattle.exact.proofs.Ops.{add-finite, sub-finite, mul-finite, div-finite}
 use Rattle.root.specs.Root.{rootOf}
-use Rattle.walk.specs.Walk.{every}
+use Rattle.lists.specs.Walk.{every}
 use Rattle.cholesky.specs.Factor.{at, factorOf}
 use Rattle.cholesky.specs.Answer as factor
 use Rattle.numeric.specs.Real.{square}
@@ -26,15 +26,15 @@ use Rattle.numeric.specs.declared.sight.Sighting.the-variants.{Refused as NotSe
 use Rattle.numeric.specs.declared.vec3.Vec3.{Vec3}
 use Rattle.numeric.specs.declared.refusal.Refusal.{Refusal}
 use Rattle.numeric.specs.declared.refusal.Refusal.the-variants.{FitFailed, QualityNotFinite, OnReceiver}
-use Rattle.normal.specs.Equations.{total}
-use Rattle.normal.specs.declared.row.Row.{Row}
+use Rattle.normal_equations.specs.Equations.{total}
+use Rattle.normal_equations.specs.declared.row.Row.{Row}
 use Rattle.clocks.specs.Clocks.{slot}
 use Rattle.clocks.specs.declared.clocks.Clocks.{Clocks}
 use Rattle.records.specs.declared.record.Observation.{Observation}
-use Rattle.estimator.specs.Rules.{Rule, rule, ruled, rowRules}
-use Rattle.estimator.specs.Rounds.{End, Stopped, Reached, vector, lastRows, finiteAt, concluded}
-use Rattle.estimator.specs.declared.rules.Check.the-variants.{Passed}
-use Rattle.estimator.proofs.RulesLaws.{checked, ruled-append, passed-by}
+use Rattle.estimate_rounds.specs.Rules.{Rule, rule, ruled, rowRules}
+use Rattle.estimate_rounds.specs.Rounds.{End, Stopped, Reached, vector, lastRows, finiteAt, concluded}
+use Rattle.estimate_rounds.specs.declared.rules.Check.the-variants.{Passed}
+use Rattle.estimate_rounds.proofs.RulesLaws.{checked, ruled-append, passed-by}
 use Rattle.wls.specs.Valid.{fixInputRules}
 use Rattle.wls.specs.Front.{fixRules}
 use Rattle.wls.specs.Fix.{Input, sightAt, sightRules, rowAt, start, fitOver, keptObservations, clocks, fitOf, roundsOf, chiAt, residualAt, qualityRules, endRules, solutionAt, foundOver, fixOf}

@@ -6,17 +6,17 @@ use mathlib.Core.List.{List}
 use lib.ListN.{length, take}
 use lib.Ieee.{Float}
 use lib.Ieee.Scale.{finite}
-use Rattle.walk.specs.Walk.{Holds}
+use Rattle.lists.specs.Walk.{Holds}
 use Rattle.cholesky.specs.Factor.{at}
 use Rattle.numeric.specs.declared.refusal.Refusal.{Refusal}
 use Rattle.numeric.specs.declared.refusal.Refusal.the-variants.{FitFailed, QualityNotFinite}
-use Rattle.normal.specs.declared.row.Row.{Row}
-use Rattle.estimator.specs.Rules.{Rule, ruled, rowRules}
+use Rattle.normal_equations.specs.declared.row.Row.{Row}
+use Rattle.estimate_rounds.specs.Rules.{Rule, ruled, rowRules}
 use Rattle.records.specs.Record.{countedObservations}
 use Rattle.clocks.specs.Clocks.{clocksOf}
 use Rattle.records.specs.Mask.{constellations}
 use Rattle.wls.specs.Valid.{fixInputRules}
-use Rattle.estimator.specs.Rounds.{vector, finiteAt}
+use Rattle.estimate_rounds.specs.Rounds.{vector, finiteAt}
 use Rattle.quality.specs.Quality.{dilutionOf}
 use Rattle.quality.specs.Steps.{dilutionFound}
 use Rattle.quality.specs.declared.figures.Dilution.the-variants as Dilution
@@ -31,8 +31,8 @@ use Rattle.wls.specs.declared.chi.Chi.{Chi}
 use Rattle.wls.specs.declared.chi.Chi.the-variants.{Refused as NoChi, Of as ChiOf}
 use Rattle.wls.specs.declared.fix.Fix.{Fix}
 use Rattle.wls.specs.declared.fix.Fix.the-variants.{Refused, At}
-use Rattle.estimator.specs.declared.rules.Check.the-variants.{Refused as Stops, Passed}
-use Rattle.estimator.proofs.RulesLaws.{checked, ruled-append, ruled-map, rows-passed}
+use Rattle.estimate_rounds.specs.declared.rules.Check.the-variants.{Refused as Stops, Passed}
+use Rattle.estimate_rounds.proofs.RulesLaws.{checked, ruled-append, ruled-map, rows-passed}
 use Rattle.wls.proofs.FrontLaws.{fix-input-refused, fix-clocks, fix-counts-refused, fix-counts-kept}
 
 -- the code's three ways of what chi and pdop come to

@@ -8,27 +8,27 @@ use lib.Seq.{length-take-le}
 use lib.Ieee.{Float, nan}
 use Rattle.robust.specs.Round.{Round, RoundOutcome, Solved, roundOf}
 use Rattle.robust.specs.Steps.{Solving}
-use Rattle.walk.proofs.Walk.{places-length}
-use Rattle.normal.specs.Steps.{columns, rowIn, rowsIn}
-use Rattle.normal.specs.declared.row.Row.{Row}
+use Rattle.lists.proofs.Walk.{places-length}
+use Rattle.normal_equations.specs.Steps.{columns, rowIn, rowsIn}
+use Rattle.normal_equations.specs.declared.row.Row.{Row}
 use Rattle.robust.specs.declared.round.Stepping.{Stepping}
 use Rattle.numeric.specs.declared.refusal.Refusal.{Refusal}
 use Rattle.numeric.specs.declared.vec3.Vec3.{Vec3}
 use Rattle.robust.proofs.RoundSound.{round-rows}
-use Rattle.normal.proofs.ColumnLaws.{rows-are}
+use Rattle.normal_equations.proofs.ColumnLaws.{rows-are}
 use Rattle.clocks.specs.declared.clocks.Clocks.{Clocks}
 use Rattle.records.specs.declared.record.Observation.{Observation}
 use Rattle.wls.specs.declared.fix.Settings.{Settings}
-use Rattle.estimator.specs.Rounds.{End, Stopped, Fit, lastRows, concluded}
-use Rattle.estimator.specs.Steps.{checkNumber, checkOf}
+use Rattle.estimate_rounds.specs.Rounds.{End, Stopped, Fit, lastRows, concluded}
+use Rattle.estimate_rounds.specs.Steps.{checkNumber, checkOf}
 use Rattle.wls.specs.Fix.{sigmaOf, sightRules, rowAt, roundAt, fixStop, start, fitAt, fitOver, endRules, solutionAt, chiAt, foundOver}
 use Rattle.wls.specs.Steps.{concludedAt, RowsAt, EndedAt, endCounts, Fitted}
 use Rattle.wls.specs.declared.fix.Ending.the-variants.{Refused as NotEnded, Rows as EndedBy}
 use Rattle.wls.specs.declared.fix.Fix.{Fix}
 use Rattle.wls.specs.declared.fix.Fix.the-variants.{Refused, At}
-use Rattle.estimator.specs.declared.rules.Check.the-variants.{Passed}
-use Rattle.estimator.proofs.RulesLaws.{checked}
-use Rattle.estimator.proofs.RoundsLaws.{Left, LeftRows, left-start, rows-start}
+use Rattle.estimate_rounds.specs.declared.rules.Check.the-variants.{Passed}
+use Rattle.estimate_rounds.proofs.RulesLaws.{checked}
+use Rattle.estimate_rounds.proofs.RoundsLaws.{Left, LeftRows, left-start, rows-start}
 use Rattle.wls.proofs.SightLaws.{round-passed, round-solved}
 
 -- what the logic has for an observation past the end

@@ -11,10 +11,10 @@ use lib.Ieee.Scale.{finite}
 use lib.Ieee.Bits.{is-true}
 use lib.Ieee.Fits.{and-l, and-r}
 use borrow.Author.Tests.{not-false}
-use Rattle.estimator.specs.Rules.{Rule}
-use Rattle.walk.specs.Walk.{every}
+use Rattle.estimate_rounds.specs.Rules.{Rule}
+use Rattle.lists.specs.Walk.{every}
 use Rattle.cholesky.specs.Factor.{at}
-use Rattle.normal.specs.declared.row.Row.{Row}
+use Rattle.normal_equations.specs.declared.row.Row.{Row}
 use Rattle.numeric.specs.declared.refusal.Refusal.{Refusal}
 use Rattle.robust.specs.Round.{Round, Solved, SoundRound, FiniteResiduals}
 use Rattle.robust.proofs.RoundSound.{round-sound, round-rows}
@@ -23,7 +23,7 @@ use Rattle.wls.specs.Front.{fixRules}
 use Rattle.clocks.specs.declared.clocks.Clocks.{Clocks}
 use Rattle.records.specs.declared.record.Observation.{Observation}
 use Rattle.wls.specs.declared.fix.Settings.{Settings}
-use Rattle.estimator.specs.Rounds.{lastRows}
+use Rattle.estimate_rounds.specs.Rounds.{lastRows}
 use Rattle.median.specs.Sorted.{Each}
 use Rattle.quality.specs.Quality.{dilutionOf}
 use Rattle.wls.specs.Fix.{Input, rowAt, roundAt, fixStop, start, fitOver, keptObservations, clocks, fitOf, roundsOf, sightRules, chiAt, qualityRules, endRules, solutionAt, foundOver, fixOf, positionOf, fixFloats, positionFloats, Accepted, Promised, PositionPromised, fixNumber, fixCounts, positionNumber}
@@ -31,9 +31,9 @@ use Rattle.wls.specs.declared.fix.Solution.{Solution}
 use Rattle.wls.specs.declared.fix.Fix.{Fix}
 use Rattle.wls.specs.declared.fix.Fix.the-variants.{Refused, At}
 use Rattle.wls.specs.declared.fix.Position.{Position}
-use Rattle.estimator.proofs.RulesLaws.{passed-of, passed-by, head-passed, append-passed}
+use Rattle.estimate_rounds.proofs.RulesLaws.{passed-of, passed-by, head-passed, append-passed}
 use Rattle.wls.proofs.SightLaws.{round-solved}
-use Rattle.estimator.proofs.RoundsSound.{rounds-each, rows-long, Finished, finished, Placed, placed, three-finite}
+use Rattle.estimate_rounds.proofs.RoundsSound.{rounds-each, rows-long, Finished, finished, Placed, placed, three-finite}
 use Rattle.wls.proofs.FrontLaws.{fix-enough, fix-rounds}
 
 never : (s : Solution) (r : Refusal) → Refused r ≡ At s → ⊥

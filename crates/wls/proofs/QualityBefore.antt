@@ -10,11 +10,11 @@ use Rattle.cholesky.specs.Answer as factor
 use Rattle.numeric.specs.declared.vec3.Vec3.{Vec3}
 use Rattle.numeric.specs.declared.refusal.Refusal.{Refusal}
 use Rattle.numeric.specs.declared.refusal.Refusal.the-variants.{FitFailed, QualityNotFinite}
-use Rattle.normal.specs.declared.row.Row.{Row}
+use Rattle.normal_equations.specs.declared.row.Row.{Row}
 use Rattle.clocks.specs.declared.clocks.Clocks.{Clocks}
 use Rattle.records.specs.declared.record.Observation.{Observation}
-use Rattle.estimator.specs.Rules.{Rule, rule, ruled}
-use Rattle.estimator.specs.Rounds.{End, Stopped, Reached, lastRows, finiteAt, concluded}
+use Rattle.estimate_rounds.specs.Rules.{Rule, rule, ruled}
+use Rattle.estimate_rounds.specs.Rounds.{End, Stopped, Reached, lastRows, finiteAt, concluded}
 use Rattle.wls.specs.Front.{fixRules}
 use Rattle.wls.specs.Fix.{Input, keptObservations, clocks, chiAt, solutionAt}
 use Rattle.quality.specs.Quality.{unweightedMatrix, dilutionOf, chiOf}

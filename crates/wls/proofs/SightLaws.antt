@@ -6,7 +6,7 @@ use Prim.Native.Nat.{ℕ, _+_, _≤_, _<_}
 use native.Mathlib.Omega.{arith}
 use lib.ListN.{length, getD, take, drop}
 use lib.Ieee.{Float}
-use Rattle.walk.proofs.Walk.{left-end, left-at}
+use Rattle.lists.proofs.Walk.{left-end, left-at}
 use Rattle.numeric.specs.Sight.{onReceiver, geometry}
 use Rattle.numeric.specs.declared.refusal.Refusal.{Refusal}
 use Rattle.numeric.specs.declared.refusal.Refusal.the-variants.{OnReceiver}
@@ -20,10 +20,10 @@ use Rattle.robust.specs.declared.round.Stepping.the-variants as Stepping
 use Rattle.clocks.specs.declared.clocks.Clocks.{Clocks}
 use Rattle.records.specs.declared.record.Observation.{Observation}
 use Rattle.records.proofs.RecordLaws.{blankObservation}
-use Rattle.estimator.specs.Rules.{ruled}
-use Rattle.estimator.specs.Rounds.{vector}
-use Rattle.estimator.specs.declared.rules.Check.the-variants.{Refused as Stops, Passed}
-use Rattle.estimator.proofs.RulesLaws.{checked, refused-by, passed-by, passed-of}
+use Rattle.estimate_rounds.specs.Rules.{ruled}
+use Rattle.estimate_rounds.specs.Rounds.{vector}
+use Rattle.estimate_rounds.specs.declared.rules.Check.the-variants.{Refused as Stops, Passed}
+use Rattle.estimate_rounds.proofs.RulesLaws.{checked, refused-by, passed-by, passed-of}
 use Rattle.wls.specs.Fix.{sightAt, sightRules, roundAt}
 use Rattle.wls.specs.Before.{bare}
 use Rattle.wls.specs.declared.fix.Settings.{Settings}

@@ -7,19 +7,19 @@ use Prim.Native.Nat.{ℕ, zero, suc, _+_}
 use native.Mathlib.Omega.{arith}
 use lib.Ieee.{Float}
 use lib.Ieee.Scale.{finite}
-use Rattle.walk.specs.Walk.{every}
+use Rattle.lists.specs.Walk.{every}
 use Rattle.cholesky.specs.Factor.{at, Factored, Refused as NoFactor, Lower, factorOf}
 use Rattle.numeric.specs.Refusal.{numberOf}
 use Rattle.numeric.specs.declared.refusal.Refusal.{Refusal}
 use Rattle.numeric.specs.declared.refusal.Refusal.the-variants.{FitFailed, OnReceiver}
 use Rattle.robust.specs.Round.{Round, RoundOutcome, Refused as NoRound, Solved, solved, roundBy, roundOf}
 use Rattle.median.specs.Centre.{centreAndScaleOf}
-use Rattle.normal.specs.Weight.{weight}
-use Rattle.normal.specs.Equations.{matrixOf, rightOf}
-use Rattle.normal.specs.declared.row.Row.{Row}
+use Rattle.normal_equations.specs.Weight.{weight}
+use Rattle.normal_equations.specs.Equations.{matrixOf, rightOf}
+use Rattle.normal_equations.specs.declared.row.Row.{Row}
 use Rattle.clocks.specs.declared.clocks.Clocks.{Clocks}
 use Rattle.records.specs.declared.record.Observation.{Observation}
-use Rattle.estimator.specs.Rounds.{End, Stopped, Reached, Fit, moved, shortStep, reachedAt, afterRound, fitFrom}
+use Rattle.estimate_rounds.specs.Rounds.{End, Stopped, Reached, Fit, moved, shortStep, reachedAt, afterRound, fitFrom}
 use Rattle.wls.specs.Fix.{rowAt, roundAt, fixStop}
 use Rattle.wls.specs.Before.{bare, seenAt}
 use Rattle.wls.specs.declared.fix.Settings.{Settings}

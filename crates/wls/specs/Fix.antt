@@ -8,7 +8,7 @@ use lib.Dec.{T}
 use lib.Ieee.{Float}
 use lib.Ieee.Scale.{finite}
 use Rattle.exact.specs.Float.{_⊕_, _⊖_, +0, decimal}
-use Rattle.walk.specs.Walk.{every}
+use Rattle.lists.specs.Walk.{every}
 use Rattle.cholesky.specs.Factor.{at}
 use Rattle.numeric.specs.Order.{patternOf}
 use Rattle.numeric.specs.Sight.{sightOf, onReceiver}
@@ -18,9 +18,9 @@ use Rattle.numeric.specs.declared.vec3.Vec3.{Vec3}
 use Rattle.numeric.specs.declared.refusal.Refusal.the-variants.{FitFailed, QualityNotFinite, OnReceiver}
 use Rattle.robust.specs.Round.{Round, RoundOutcome, Refused as NoRound, roundOf, SoundRound, FiniteResiduals}
 use Rattle.robust.specs.Sigma.{elevationSigma}
-use Rattle.normal.specs.declared.row.Row.{Row}
+use Rattle.normal_equations.specs.declared.row.Row.{Row}
 use Rattle.clocks.specs.Clocks.{slot, clocksOf}
-use Rattle.estimator.specs.Rules.{Rule, rule, ruled}
+use Rattle.estimate_rounds.specs.Rules.{Rule, rule, ruled}
 use Rattle.quality.specs.Quality.{chiOf, dilutionOf, pivotRule}
 use Rattle.records.specs.Mask.{constellations}
 use Rattle.wls.specs.Front.{fixRows, fixRules}
@@ -28,7 +28,7 @@ use Rattle.clocks.specs.declared.clocks.Clocks.{Clocks}
 use Rattle.records.specs.declared.record.Observation.{Observation}
 use Rattle.records.specs.declared.record.Observations.{Observations}
 use Rattle.wls.specs.declared.fix.Settings.{Settings}
-use Rattle.estimator.specs.Rounds.{Fit, fitFrom, lastRows, vector, finiteAt, concluded}
+use Rattle.estimate_rounds.specs.Rounds.{Fit, fitFrom, lastRows, vector, finiteAt, concluded}
 use Rattle.median.specs.Sorted.{Each}
 use Rattle.wls.specs.declared.fix.Solution.{Solution}
 use Rattle.wls.specs.declared.fix.Fix.{Fix}

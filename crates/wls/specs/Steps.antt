@@ -10,16 +10,16 @@ use Rattle.numeric.specs.Refusal.{numberOf}
 use Rattle.numeric.specs.declared.vec3.Vec3.{Vec3}
 use Rattle.numeric.specs.declared.refusal.Refusal.{Refusal}
 use Rattle.numeric.specs.declared.refusal.Refusal.the-variants.{QualityNotFinite, OnReceiver}
-use Rattle.normal.specs.Steps.{columns, rowsIn}
-use Rattle.normal.specs.declared.row.Row.{Row}
+use Rattle.normal_equations.specs.Steps.{columns, rowsIn}
+use Rattle.normal_equations.specs.declared.row.Row.{Row}
 use Rattle.clocks.specs.Clocks.{slot}
 use Rattle.clocks.specs.declared.clocks.Clocks.{Clocks}
 use Rattle.records.specs.declared.record.Observation.{Observation}
-use Rattle.estimator.specs.Rules.{Rule, rule, ruled}
-use Rattle.estimator.specs.Rounds.{End, Stopped, Reached, Fit, lastRows}
-use Rattle.estimator.specs.Steps.{checkNumber, checkOf}
-use Rattle.estimator.specs.declared.rules.Check.{Check}
-use Rattle.estimator.specs.declared.rules.Check.the-variants as Check
+use Rattle.estimate_rounds.specs.Rules.{Rule, rule, ruled}
+use Rattle.estimate_rounds.specs.Rounds.{End, Stopped, Reached, Fit, lastRows}
+use Rattle.estimate_rounds.specs.Steps.{checkNumber, checkOf}
+use Rattle.estimate_rounds.specs.declared.rules.Check.{Check}
+use Rattle.estimate_rounds.specs.declared.rules.Check.the-variants as Check
 use Rattle.wls.specs.Fix.{sightAt, residualAt, sightRules, chiAt, endRules, solutionAt}
 use Rattle.wls.specs.declared.fix.Settings.{Settings}
 use Rattle.wls.specs.declared.fix.Ending.{Ending}

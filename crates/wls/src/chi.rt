@@ -7,7 +7,7 @@ ghost use Rattle.wls.specs.declared.fix.Settings.{Settings};
 ghost use Rattle.wls.specs.Fix.{sigmaOf};
 ghost use Rattle.wls.specs.Steps.{ChiAnswered};
 use clocks::clocks::Clocks;
-use estimator::rounds::state_at;
+use estimate_rounds::rounds::state_at;
 use numeric::real::square;
 use numeric::refusal::Refusal;
 use numeric::sight::Sighting;

@@ -1,12 +1,12 @@
 // The rules on the arguments of a fix.
 ghost use mathlib.Core.Path.{_≡_};
 ghost use Prim.Native.Nat.{_≤_};
-ghost use Rattle.walk.specs.Walk.{every};
+ghost use Rattle.lists.specs.Walk.{every};
 ghost use Rattle.records.specs.Record.{soundObservation, countedObservations};
-ghost use Rattle.estimator.specs.Rules.{ruled};
+ghost use Rattle.estimate_rounds.specs.Rules.{ruled};
 ghost use Rattle.wls.specs.Valid as spec;
 use crate::fix::Settings;
-use estimator::rules::Check;
+use estimate_rounds::rules::Check;
 use numeric::real::in_range;
 use numeric::refusal::Refusal;
 use numeric::vec3::Vec3;

@@ -5,7 +5,7 @@ use mathlib.Core.List.{List}
 use Prim.Native.Nat.{ℕ, min}
 use native.Mathlib.Omega.{arith}
 use lib.Ieee.{Float}
-use Rattle.walk.specs.Walk.{places, Holds}
+use Rattle.lists.specs.Walk.{places, Holds}
 use Rattle.numeric.specs.declared.refusal.Refusal.the-variants.{TooMany}
 use Rattle.numeric.specs.declared.vec3.Vec3.{Vec3}
 use Rattle.records.specs.declared.record.Observations.{Observations}
@@ -17,7 +17,7 @@ use Rattle.wls.specs.declared.fix.Solution.{Solution}
 use Rattle.wls.specs.declared.fix.Settings.{Settings}
 use Rattle.wls.proofs.FixSound.{fix-accepted}
 use Rattle.wls.proofs.CountedLaws.{fix-counted, fix-many-rounds}
-use Rattle.estimator.proofs.RoundsLaws.{capped}
+use Rattle.estimate_rounds.proofs.RoundsLaws.{capped}
 use Rattle.wls_columns.specs.Columns.{ObservationColumns, observationAt, observationsOf, observationsFit}
 use Rattle.wls_columns.specs.Fix.{fixSettings, fixInput, columnFixOf, FixLeaves, FixAnswers, PositionLeaves, PositionAnswers}
 use Rattle.wls_columns.proofs.ColumnLaws.{held-count, held-all}

@@ -4,13 +4,13 @@ use mathlib.Core.Bool.{Bool, true, false}
 use mathlib.Core.List.{List}
 use Prim.Native.Nat.{ℕ}
 use lib.Ieee.{Float}
-use Rattle.walk.specs.Walk.{places, Holds}
+use Rattle.lists.specs.Walk.{places, Holds}
 use Rattle.numeric.specs.declared.refusal.Refusal.the-variants.{TooMany}
 use Rattle.cholesky.specs.Factor.{zeros}
 use Rattle.robust.specs.Step.{Stepped, countedRows, refused, stepOf, steppingNumber, StepPromised}
 use Rattle.robust.specs.declared.round.Stepping.{Stepping}
 use Rattle.robust.specs.declared.round.Stepping.the-variants as Stepping
-use Rattle.normal.specs.declared.row.Rows.{Rows}
+use Rattle.normal_equations.specs.declared.row.Rows.{Rows}
 use Rattle.wls_columns.specs.Columns.{RowColumns, rowFrom, rowsFrom, rowsFit}
 use Rattle.wls_columns.specs.Step.{stepAfter, StepAnswers, columnStepOf}
 use Rattle.wls_columns.proofs.ColumnLaws.{held-count, held-all}

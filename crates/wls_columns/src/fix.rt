@@ -7,7 +7,7 @@ ghost use Rattle.wls_columns.specs.Columns.{observationColumns};
 ghost use Rattle.wls_columns.specs.Fix as spec;
 use crate::columns::observations_fit;
 use crate::columns::observations_of;
-use estimator::rounds::rounds_of;
+use estimate_rounds::rounds::rounds_of;
 use numeric::order::pattern;
 use numeric::refusal::Refusal;
 use numeric::vec3::vector;

@@ -1,13 +1,13 @@
 // Entry points of the corrections: one base epoch added to a directory, and the bands of an old table.
 ghost use mathlib.Core.Path.{_≡_};
-ghost use Rattle.table.specs.Widen.{widenOf, wideningNumber, bandsAfter};
-ghost use Rattle.directory.specs.Lent.{lentTable};
-ghost use Rattle.addition.specs.Add.{AddsIn};
-ghost use Rattle.epoch_columns.specs.Epoch.{lentEntry};
-use epoch_columns::lent::add_into;
-use epoch_columns::lent::counts_into;
-use table::widen::Widening;
-use table::widen::widen_bands;
+ghost use Rattle.corrections_table.specs.Widen.{widenOf, wideningNumber, bandsAfter};
+ghost use Rattle.corrections_directory.specs.Lent.{lentTable};
+ghost use Rattle.corrections_add.specs.Add.{AddsIn};
+ghost use Rattle.corrections_epoch_columns.specs.Epoch.{lentEntry};
+use corrections_epoch_columns::lent::add_into;
+use corrections_epoch_columns::lent::counts_into;
+use corrections_table::widen::Widening;
+use corrections_table::widen::widen_bands;
 
 // Adds one base epoch of ranges, with states of eight floats each (position, velocity, clock, modelled) or the mark that there are none, to the directory of
 // `blocks` entries and `table_count` samples. Returns 0 and writes both counts. On refusal, returns its number and changes nothing.

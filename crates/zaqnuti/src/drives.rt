@@ -4,15 +4,15 @@ ghost use mathlib.Core.Path.{_≡_};
 ghost use Rattle.records.specs.Carriers.{carrierColumns};
 ghost use Rattle.numeric.specs.Vec3.{vectorAt};
 ghost use Rattle.trip.specs.Words.{heldOf};
-ghost use Rattle.drive.specs.Drive.{begunOf, underNew, tested};
+ghost use Rattle.trip_settings.specs.Drive.{begunOf, underNew, tested};
 ghost use Rattle.tdcp_columns.specs.Displacement.{lent, displacementSettings};
-ghost use Rattle.drive.specs.Lent.{DrivingAnswers, BegunAnswers, TravelAnswers};
-use drive::lent::begin_into;
-use drive::lent::change_into;
-use drive::lent::travel_into;
+ghost use Rattle.trip_settings.specs.Lent.{DrivingAnswers, BegunAnswers, TravelAnswers};
 use records::pair::Profile;
 use tdcp::displacement::Interval;
 use tdcp_columns::displacement::columns_displaced;
+use trip_settings::lent::begin_into;
+use trip_settings::lent::change_into;
+use trip_settings::lent::travel_into;
 
 // Starts a trip in the lent words, puts its settings in force in the lent patterns and rounds, and returns 0. On refusal, returns 3 or 16 and changes nothing.
 #[no_mangle]

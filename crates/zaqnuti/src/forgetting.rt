@@ -1,9 +1,9 @@
 // Entry point of the corrections: forgetting the samples before a time.
-ghost use Rattle.directory.specs.Directory.{blockCapacity, directoryIn};
-ghost use Rattle.directory.specs.Lent.{lentTable};
-ghost use Rattle.forget.specs.Forget.{ForgetsIn, forgetIn};
-use forget::forget::Forgetting;
-use forget::forget::forget;
+ghost use Rattle.corrections_directory.specs.Directory.{blockCapacity, directoryIn};
+ghost use Rattle.corrections_directory.specs.Lent.{lentTable};
+ghost use Rattle.corrections_forget.specs.Forget.{ForgetsIn, forgetIn};
+use corrections_forget::forget::Forgetting;
+use corrections_forget::forget::forget;
 
 // Drops samples earlier than `time`, keeping each satellite's newest of these, and sets `table_count` to how many are left; the directory keeps its
 // entries. Returns 0. On refusal, returns its number and changes nothing.

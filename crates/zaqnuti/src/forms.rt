@@ -1,15 +1,15 @@
 // Entry points of the two forms of a table.
 ghost use Prim.Native.Nat.{min};
 ghost use lib.ListN.{length};
-ghost use Rattle.table.specs.Table.{lentSamples};
-ghost use Rattle.directory.specs.Directory.{lentBlocks, entriesIn};
-ghost use Rattle.directory.specs.Rearrange.{filedOf, listedOf};
-ghost use Rattle.rearrange.specs.Lent.{Files, Lists};
-use rearrange::answers::filing_count;
-use rearrange::answers::filing_number;
-use rearrange::answers::listing_number;
-use rearrange::directory_of::directory_of;
-use rearrange::signals_of::signals_of;
+ghost use Rattle.corrections_table.specs.Table.{lentSamples};
+ghost use Rattle.corrections_directory.specs.Directory.{lentBlocks, entriesIn};
+ghost use Rattle.corrections_directory.specs.Rearrange.{filedOf, listedOf};
+ghost use Rattle.corrections_convert.specs.Lent.{Files, Lists};
+use corrections_convert::answers::filing_count;
+use corrections_convert::answers::filing_number;
+use corrections_convert::answers::listing_number;
+use corrections_convert::directory_of::directory_of;
+use corrections_convert::signals_of::signals_of;
 
 // Returns 0, with the directory of a table, which shares its times and corrections, and the count of its entries; or the number of the refusal, with all of these
 // unchanged.

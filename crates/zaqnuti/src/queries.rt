@@ -1,10 +1,10 @@
 // Entry points of the corrections: one query of a table, and many.
-ghost use Rattle.directory.specs.Directory.{lentBlocks, blockCapacity, directoryIn};
-ghost use Rattle.query.specs.Query.{queryIn, Answers};
-ghost use Rattle.query_calls.specs.Queries.{queriesIn, Replies};
-use query_calls::queries::call_number;
-use query_calls::queries::one_query;
-use query_calls::queries::queries;
+ghost use Rattle.corrections_directory.specs.Directory.{lentBlocks, blockCapacity, directoryIn};
+ghost use Rattle.corrections_query.specs.Query.{queryIn, Answers};
+ghost use Rattle.corrections_queries.specs.Queries.{queriesIn, Replies};
+use corrections_queries::queries::call_number;
+use corrections_queries::queries::one_query;
+use corrections_queries::queries::queries;
 
 // Returns 0, with the correction of a signal at a time in metres, or the number of the refusal, with metres unchanged.
 #[no_mangle]

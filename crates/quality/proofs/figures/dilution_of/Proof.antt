@@ -2,7 +2,7 @@
 use mathlib.Core.Path.{refl}
 use native.Mathlib.Omega.{arith}
 use borrow.Author.Needs.{needs}
-use Rattle.normal.specs.Steps.{RoundColumns, columns, rowsIn}
+use Rattle.normal_equations.specs.Steps.{RoundColumns, columns, rowsIn}
 use Rattle.quality.proofs.QualityLaws.{diluted, unweighted-unused, dilution-refused, dilution-is}
 use Rattle.quality.proofs.figures.dilution_of.Statement.{statement}
 use Rattle.quality.proofs.figures.dilution_of.Tie as tie

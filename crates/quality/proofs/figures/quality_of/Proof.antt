@@ -1,7 +1,7 @@
 -- `quality::figures::quality_of` meets its contract. Assumes nothing.
 use mathlib.Core.Path.{sym, _∙_}
 use borrow.Author.Needs.{needs}
-use Rattle.normal.specs.Steps.{RoundColumns, columns, rowsIn}
+use Rattle.normal_equations.specs.Steps.{RoundColumns, columns, rowsIn}
 use Rattle.quality.proofs.QualityLaws.{qualified, quality-refused, quality-rated, quality-not-finite}
 use Rattle.quality.proofs.figures.quality_of.Statement.{statement}
 use Rattle.quality.proofs.figures.quality_of.Tie as tie

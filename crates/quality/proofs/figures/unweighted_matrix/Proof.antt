@@ -1,9 +1,9 @@
 -- `quality::figures::unweighted_matrix` meets its contract. Assumes nothing.
 use mathlib.Core.Path.{_≡_, ap, _∙_}
 use Prim.Native.Nat.{_-_, _≤_}
-use Rattle.normal.specs.Equations.{wide, triangleOf}
-use Rattle.normal.specs.Steps.{RoundColumns, columns}
-use Rattle.normal.proofs.AddedLaws.{triangle-wide}
+use Rattle.normal_equations.specs.Equations.{wide, triangleOf}
+use Rattle.normal_equations.specs.Steps.{RoundColumns, columns}
+use Rattle.normal_equations.proofs.AddedLaws.{triangle-wide}
 use Rattle.quality.proofs.QualityLaws.{plain, plain-start, plain-next, plain-end}
 use borrow.Author.Needs.{needs}
 use native.Mathlib.Omega.{arith}

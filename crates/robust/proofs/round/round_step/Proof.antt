@@ -2,13 +2,13 @@
 use mathlib.Core.Path.{refl, sym, _∙_}
 use mathlib.Core.List.{List}
 use lib.Ieee.{Float}
-use Rattle.normal.specs.Weight.{weight}
+use Rattle.normal_equations.specs.Weight.{weight}
 use Rattle.robust.specs.Round.{roundBy, roundOf}
 use Rattle.robust.specs.Steps.{Solving}
-use Rattle.normal.specs.Steps.{RoundColumns, columns, rowsIn}
+use Rattle.normal_equations.specs.Steps.{RoundColumns, columns, rowsIn}
 use Rattle.robust.specs.declared.round.Stepping.{Stepping}
 use Rattle.robust.proofs.SolvingLaws.{solving-yes, solving-no}
-use Rattle.normal.proofs.FormedLaws.{matrix-unused, right-unused}
+use Rattle.normal_equations.proofs.FormedLaws.{matrix-unused, right-unused}
 use Rattle.robust.proofs.StepLaws.{never-refused, round-solving}
 use native.Mathlib.Omega.{arith}
 use borrow.Author.Needs.{needs}

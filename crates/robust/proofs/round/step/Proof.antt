@@ -7,16 +7,16 @@ use lib.ListN.{length, drop, take}
 use lib.Seq.{length-take-le}
 use lib.Ieee.{Float}
 use borrow.Author.Tests.{le-leb, lt-leb}
-use Rattle.walk.specs.Walk.{every}
-use Rattle.walk.proofs.Walk.{length-mapped, every-end, every-yes, every-no}
+use Rattle.lists.specs.Walk.{every}
+use Rattle.lists.proofs.Walk.{length-mapped, every-end, every-yes, every-no}
 use Rattle.robust.specs.Round.{roundOf}
 use Rattle.robust.specs.Steps.{Solving}
-use Rattle.normal.specs.Steps.{columns, rowsIn}
+use Rattle.normal_equations.specs.Steps.{columns, rowsIn}
 use Rattle.robust.specs.Step.{countedRows, indexed, steppingNumber, Stepped, StepPromised}
-use Rattle.normal.specs.declared.row.Row.{Row}
+use Rattle.normal_equations.specs.declared.row.Row.{Row}
 use Rattle.robust.specs.declared.round.Stepping.{Stepping}
-use Rattle.normal.proofs.Sums.{blank}
-use Rattle.normal.proofs.ColumnLaws.{Column, column-start, column-next, rows-are}
+use Rattle.normal_equations.proofs.Sums.{blank}
+use Rattle.normal_equations.proofs.ColumnLaws.{Column, column-start, column-next, rows-are}
 use Rattle.robust.proofs.StepLaws.{step-many, step-wide, step-index, step-done, step-refused}
 use borrow.Author.Needs.{needs}
 use native.Mathlib.Omega.{arith}

@@ -4,7 +4,7 @@ use mathlib.Core.Bool.{false, _&&_}
 use lib.Dec.{ltb}
 use borrow.Author.Tests.{le-ltb}
 use borrow.Author.Needs.{needs}
-use Rattle.walk.specs.Walk.{every}
+use Rattle.lists.specs.Walk.{every}
 use Rattle.records.specs.Record.{countedCarriers, soundCarrier, placeable}
 use Rattle.records.specs.City.{looked}
 use Rattle.records.specs.Pair.{seen, pairsOf, Paired}

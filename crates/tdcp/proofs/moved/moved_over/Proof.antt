@@ -3,7 +3,7 @@ use mathlib.Core.Path.{refl, sym, _∙_}
 use mathlib.Core.List.{List}
 use native.Mathlib.Omega.{arith}
 use lib.ListN.{length}
-use Rattle.walk.proofs.Walk.{places-length}
+use Rattle.lists.proofs.Walk.{places-length}
 use Rattle.records.specs.Steps.{pairIn, pairsIn}
 use Rattle.records.specs.declared.pair.Pair.{Pair}
 use Rattle.tdcp.specs.Steps.{qualityOver}

@@ -1,6 +1,6 @@
 -- `tdcp::moved::moved_to` meets its contract. Assumes nothing.
-use Rattle.estimator.specs.Rules.{ruled}
-use Rattle.estimator.specs.Rounds.{finiteAt}
+use Rattle.estimate_rounds.specs.Rules.{ruled}
+use Rattle.estimate_rounds.specs.Rounds.{finiteAt}
 use Rattle.tdcp.specs.Displacement.{endRules}
 use borrow.Author.Needs.{needs}
 use Rattle.tdcp.proofs.moved.moved_to.Statement.{statement}

@@ -5,15 +5,15 @@ use mathlib.Core.List.{List, map}
 use lib.ListN.{length, take}
 use lib.Seq.{length-take-le}
 use lib.Ieee.{Float}
-use Rattle.normal.specs.Steps.{columns, rowsIn}
-use Rattle.estimator.specs.Rounds.{shortStep}
+use Rattle.normal_equations.specs.Steps.{columns, rowsIn}
+use Rattle.estimate_rounds.specs.Rounds.{shortStep}
 use Rattle.records.specs.Steps.{pairsIn}
 use Rattle.clocks.specs.declared.clocks.Clocks.{Clocks}
 use Rattle.tdcp.specs.Displacement.{rowAt, roundAt, stopLimit, fitOver}
 use Rattle.tdcp.specs.Steps.{ClocksAt, SigmasAt}
 use Rattle.tdcp.specs.declared.displacement.Settings.{Settings}
 use Rattle.records.specs.declared.pair.Pair.{Pair}
-use Rattle.estimator.proofs.RoundsLaws.{five-places, left-end, left-stopped, left-stops, left-goes, ended-stopped, ended-reached}
+use Rattle.estimate_rounds.proofs.RoundsLaws.{five-places, left-end, left-stopped, left-stops, left-goes, ended-stopped, ended-reached}
 use Rattle.tdcp.proofs.DisplacementLaws.{Going, going, solving, rows-in}
 use borrow.Author.Needs.{needs}
 use native.Mathlib.Omega.{arith}

@@ -1,8 +1,8 @@
 -- `trials::corrections::half_way` meets its contract. Assumes nothing.
 use mathlib.Core.Path.{_∙_}
 use lib.Ieee.{ofInt, ofBits}
-use Rattle.directory.specs.Directory.{entryRows, readingRows}
-use Rattle.query.proofs.QueryLaws.{signal-query}
+use Rattle.corrections_directory.specs.Directory.{entryRows, readingRows}
+use Rattle.corrections_query.proofs.QueryLaws.{signal-query}
 use borrow.Author.Needs.{needs}
 use Rattle.trials.proofs.corrections.half_way.Statement.{statement}
 use Rattle.trials.proofs.corrections.half_way.Tie as tie

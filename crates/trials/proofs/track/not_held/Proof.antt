@@ -1,7 +1,7 @@
 use mathlib.Core.Path.{ap, _∙_}
 use lib.Ieee.{ofBits, ofInt}
-use Rattle.smooth.specs.Answer.{Tracked, trackAnswer, trackNumber}
-use Rattle.smooth.proofs.Trials.{not-held}
+use Rattle.track_smooth.specs.Answer.{Tracked, trackAnswer, trackNumber}
+use Rattle.track_smooth.proofs.Trials.{not-held}
 use borrow.Author.Needs.{needs}
 use Rattle.trials.proofs.track.not_held.Statement.{statement}
 use Rattle.trials.proofs.track.not_held.Tie as tie

@@ -7,8 +7,8 @@ use lib.ListN.{getD}
 use lib.Ieee.{isNan, toBits, ofBits, ofInt}
 use Rattle.numeric.specs.Order.{patternOf}
 use Rattle.exact.specs.Float.{whole}
-use Rattle.smooth.specs.Answer.{Tracked, Points, trackAnswer, trackNumber, trackResultAfter}
-use Rattle.smooth.proofs.Trials.{one-point}
+use Rattle.track_smooth.specs.Answer.{Tracked, Points, trackAnswer, trackNumber, trackResultAfter}
+use Rattle.track_smooth.proofs.Trials.{one-point}
 use borrow.Author.Needs.{needs}
 use Rattle.trials.proofs.track.one_point.Statement.{statement}
 use Rattle.trials.proofs.track.one_point.Tie as tie

@@ -5,15 +5,15 @@ use mathlib.Core.List.{List, map}
 use lib.ListN.{length, take}
 use lib.Seq.{length-take-le}
 use lib.Ieee.{Float}
-use Rattle.walk.specs.Walk.{places}
-use Rattle.walk.proofs.Walk.{length-mapped}
+use Rattle.lists.specs.Walk.{places}
+use Rattle.lists.proofs.Walk.{length-mapped}
 use Rattle.robust.specs.Round.{RoundOutcome}
-use Rattle.normal.specs.Steps.{columns, rowsIn}
+use Rattle.normal_equations.specs.Steps.{columns, rowsIn}
 use Rattle.records.specs.declared.record.Observation.{Observation}
-use Rattle.estimator.specs.Rounds.{Fit, shortStep}
-use Rattle.estimator.specs.declared.rules.Check.the-variants.{Passed}
-use Rattle.estimator.proofs.RulesLaws.{checked}
-use Rattle.estimator.proofs.RoundsLaws.{three-places, left-end, rows-end, left-stopped, left-stops, left-goes, rows-stop, rows-go}
+use Rattle.estimate_rounds.specs.Rounds.{Fit, shortStep}
+use Rattle.estimate_rounds.specs.declared.rules.Check.the-variants.{Passed}
+use Rattle.estimate_rounds.proofs.RulesLaws.{checked}
+use Rattle.estimate_rounds.proofs.RoundsLaws.{three-places, left-end, rows-end, left-stopped, left-stops, left-goes, rows-stop, rows-go}
 use Rattle.wls.specs.Fix.{sightRules, rowAt, roundAt, fixStop, fitAt}
 use Rattle.wls.specs.Steps.{Long, RowsAt}
 use Rattle.wls.proofs.SightLaws.{round-refused}

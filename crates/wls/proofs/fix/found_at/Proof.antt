@@ -1,8 +1,8 @@
 -- `wls::fix::found_at` meets its contract. Assumes nothing.
 use mathlib.Core.Path.{sym, _∙_}
 use lib.ListN.{length}
-use Rattle.walk.proofs.Walk.{places-length}
-use Rattle.normal.specs.Steps.{RoundColumns, columns, rowIn, rowsIn}
+use Rattle.lists.proofs.Walk.{places-length}
+use Rattle.normal_equations.specs.Steps.{RoundColumns, columns, rowIn, rowsIn}
 use Rattle.wls.proofs.FixCall.{found-no, found-refused, found-rated}
 use borrow.Author.Needs.{needs}
 use Rattle.wls.proofs.fix.found_at.Statement.{statement}

@@ -1,5 +1,5 @@
 -- `zaqnuti::corrections::zaqnuti_add_epoch` meets its contract. Assumes nothing.
-use Rattle.epoch_columns.proofs.EpochLaws.{answer-written}
+use Rattle.corrections_epoch_columns.proofs.EpochLaws.{answer-written}
 use borrow.Author.Needs.{needs}
 use Rattle.zaqnuti.proofs.corrections.zaqnuti_add_epoch.Statement.{statement}
 use Rattle.zaqnuti.proofs.corrections.zaqnuti_add_epoch.Tie as tie

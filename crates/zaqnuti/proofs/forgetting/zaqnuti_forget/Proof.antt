@@ -1,6 +1,6 @@
 -- `zaqnuti::forgetting::zaqnuti_forget` meets its contract. Assumes nothing.
 use borrow.Author.Needs.{needs}
-use Rattle.forget.proofs.CallLaws.{call-refused, call-count}
+use Rattle.corrections_forget.proofs.CallLaws.{call-refused, call-count}
 use Rattle.zaqnuti.proofs.forgetting.zaqnuti_forget.Statement.{statement}
 use Rattle.zaqnuti.proofs.forgetting.zaqnuti_forget.Tie as tie
 

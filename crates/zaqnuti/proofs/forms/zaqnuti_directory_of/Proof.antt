@@ -1,10 +1,10 @@
 -- `zaqnuti::forms::zaqnuti_directory_of` meets its contract. Assumes nothing.
 use lib.ListN.{length}
 use borrow.Author.Needs.{needs}
-use Rattle.table.specs.Table.{lentSamples}
-use Rattle.directory.specs.Directory.{entriesIn, lentBlocks}
-use Rattle.directory.specs.Rearrange.{filedOf}
-use Rattle.rearrange.proofs.NumberLaws.{files-number}
+use Rattle.corrections_table.specs.Table.{lentSamples}
+use Rattle.corrections_directory.specs.Directory.{entriesIn, lentBlocks}
+use Rattle.corrections_directory.specs.Rearrange.{filedOf}
+use Rattle.corrections_convert.proofs.NumberLaws.{files-number}
 use Rattle.zaqnuti.proofs.forms.zaqnuti_directory_of.Statement.{statement}
 use Rattle.zaqnuti.proofs.forms.zaqnuti_directory_of.Tie as tie
 

@@ -2,10 +2,10 @@
 use Prim.Native.Nat.{min}
 use lib.ListN.{length}
 use borrow.Author.Needs.{needs}
-use Rattle.table.specs.Table.{lentSamples}
-use Rattle.directory.specs.Directory.{lentBlocks}
-use Rattle.directory.specs.Rearrange.{listedOf}
-use Rattle.rearrange.proofs.NumberLaws.{lists-number}
+use Rattle.corrections_table.specs.Table.{lentSamples}
+use Rattle.corrections_directory.specs.Directory.{lentBlocks}
+use Rattle.corrections_directory.specs.Rearrange.{listedOf}
+use Rattle.corrections_convert.proofs.NumberLaws.{lists-number}
 use Rattle.zaqnuti.proofs.forms.zaqnuti_signals_of.Statement.{statement}
 use Rattle.zaqnuti.proofs.forms.zaqnuti_signals_of.Tie as tie
 

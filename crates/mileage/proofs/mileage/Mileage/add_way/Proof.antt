@@ -3,7 +3,7 @@ use mathlib.Core.Bool.{not, _&&_}
 use Prim.Native.Nat.{_≤_}
 use lib.Dec.{ltb, eqb}
 use borrow.Author.Tests.{ltb-true, leb-true, not-true, not-false}
-use Rattle.walk.proofs.Walk.{and-both}
+use Rattle.lists.proofs.Walk.{and-both}
 use Rattle.mileage.proofs.CallLaws.{add-refused, accepted, add-goes, add-driven}
 use borrow.Author.Needs.{needs}
 use Rattle.mileage.proofs.mileage.Mileage.add_way.Statement.{statement}

@@ -3,7 +3,7 @@ use mathlib.Core.Path.{sym, _∙_}
 use lib.Dec.{ltb}
 use borrow.Author.Needs.{needs}
 use borrow.Author.Tests.{ltb-true, le-leb, lt-leb, not-true, not-false}
-use Rattle.walk.proofs.Walk.{and-both}
+use Rattle.lists.proofs.Walk.{and-both}
 use Rattle.trip.proofs.TripLaws.{adds, way-refused, trip-refused, way-added}
 use Rattle.trip.proofs.trip.Trip.add_way.Statement.{statement}
 use Rattle.trip.proofs.trip.Trip.add_way.Tie as tie
