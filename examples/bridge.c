@@ -16,14 +16,14 @@
 #define SECONDS 120
 #define FUEL 110 /* millilitres over the whole drive */
 
-/* Prints why a call turned back, and returns whether it did. */
+/* Prints why a call was refused. Returns whether it was. */
 static int refused(const char *call, uint8_t number)
 {
     if (number != 0) fprintf(stderr, "%s: %s\n", call, zaqnuti_refusal_text(number));
     return number != 0;
 }
 
-/* Adds a second of the drive to both. */
+/* Adds one second of the drive to both. */
 static uint8_t second(int at, zaqnuti_trip *trip, zaqnuti_mileage *mileage)
 {
     const int under = at > 20 && at <= 40;

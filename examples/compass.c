@@ -50,14 +50,16 @@ int main(void)
     static char text[ZAQNUTI_TEXT + 2];
     char line[ZAQNUTI_LINE + 1] = "";
     zaqnuti_size length = fread(text, 1, ZAQNUTI_TEXT + 1, stdin);
+    zaqnuti_size written = 0;
     double position[3];
     double delta[3];
     double ned[3];
     uint8_t number;
     zaqnuti_size k;
 
-    line[zaqnuti_line((const uint8_t *)text, length, (uint8_t *)line, ZAQNUTI_LINE)] = '\0';
-    if (line[0] != 'A') {
+    /* ZAQNUTI_LINE bytes are always enough, and the byte after the line is 0. */
+    number = zaqnuti_line((const uint8_t *)text, length, (uint8_t *)line, ZAQNUTI_LINE, &written);
+    if (number != 0 || line[0] != 'A') {
         printf("no displacement: %s", line);
         return 0;
     }

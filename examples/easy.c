@@ -16,7 +16,7 @@
 #define GPS 1
 #define GALILEO 6
 
-/* Ten satellites: constellation, svid, band, place (m), elevation (degrees). */
+/* Ten satellites: constellation, svid, band, position (m), elevation (degrees). */
 static const struct {
     zaqnuti_signal signal;
     zaqnuti_vector place;
@@ -37,11 +37,11 @@ static const struct {
 static const zaqnuti_vector start = {-2694045.0, -4266427.0, 3888311.0};
 static const zaqnuti_vector velocity = {4.0, -2.5, 1.5};
 
-/* The tables and tracks are large; they stand where the firmware has room. */
+/* Tables and tracks are large: keep them off the stack. */
 static zaqnuti_table table;
 static zaqnuti_track track;
 
-/* Where the van is, so many seconds after the start. */
+/* Returns the van's position so many seconds after the start. */
 static zaqnuti_vector place_at(double seconds)
 {
     zaqnuti_vector p = start;
@@ -51,7 +51,7 @@ static zaqnuti_vector place_at(double seconds)
     return p;
 }
 
-/* The range from a satellite to a place, with the earth's turn. */
+/* Returns the range from a satellite to a place, with the earth's rotation. */
 static double range_to(zaqnuti_vector satellite, zaqnuti_vector place)
 {
     const double from[3] = {satellite.x, satellite.y, satellite.z};
@@ -61,7 +61,7 @@ static double range_to(zaqnuti_vector satellite, zaqnuti_vector place)
     return zaqnuti_geometry(from, to, sight) == 0 ? sight[3] : 0.0;
 }
 
-/* What the receiver measures: pseudoranges with a clock, and 3 m of delay to the first satellite. */
+/* Simulates pseudoranges with a clock error, and 3 m of delay for the first satellite. */
 static void observe(double seconds, zaqnuti_observations *epoch)
 {
     zaqnuti_size i;
@@ -77,7 +77,7 @@ static void observe(double seconds, zaqnuti_observations *epoch)
     }
 }
 
-/* And its carriers, with the rate of each. */
+/* Simulates carrier phases and their rates. */
 static void track_carriers(double seconds, zaqnuti_epoch *epoch)
 {
     zaqnuti_size i;
@@ -97,7 +97,7 @@ static void track_carriers(double seconds, zaqnuti_epoch *epoch)
     }
 }
 
-/* A refusal is ordinary: say why, and go on with the next epoch. */
+/* Prints why a call was refused. A refusal is ordinary: continue with the next epoch. */
 static int refused(const char *what, uint8_t number)
 {
     if (number != 0) {
@@ -111,7 +111,7 @@ static void tell(const char *what, zaqnuti_vector v)
     printf("%-15s %15.3f %15.3f %15.3f m\n", what, v.x, v.y, v.z);
 }
 
-/* One fix from one epoch. */
+/* Computes one fix from one epoch. */
 static int fix(zaqnuti_solution *solution)
 {
     const zaqnuti_fix_settings settings = ZAQNUTI_EASY_FIX_PHONE;
@@ -126,7 +126,7 @@ static int fix(zaqnuti_solution *solution)
     return 0;
 }
 
-/* The week and the time of week at so many seconds: the van starts a second and a half before the end of Saturday. */
+/* Returns week and time of week at so many seconds: the van starts a second and a half before the end of Saturday. */
 static uint8_t time_at(double seconds, zaqnuti_gps_time *time)
 {
     const double tow = 604798.5 + seconds;
@@ -134,7 +134,7 @@ static uint8_t time_at(double seconds, zaqnuti_gps_time *time)
     return tow < 604800.0 ? zaqnuti_easy_time(1316, tow, time) : zaqnuti_easy_time(1317, tow - 604800.0, time);
 }
 
-/* How the van moves in each of three seconds, and the track through fix and displacements. */
+/* Computes how the van moves in each of three seconds, and the track through fix and displacements. */
 static int drive(const zaqnuti_solution *solution)
 {
     const zaqnuti_displacement_settings settings = ZAQNUTI_EASY_DISPLACEMENT_PHONE;
@@ -154,7 +154,7 @@ static int drive(const zaqnuti_solution *solution)
         return 1;
     }
     for (k = 0; k < 3; k++) {
-        /* The epoch of before and that of now take turns. */
+        /* The previous and the current epoch take turns. */
         const zaqnuti_size before = k % 2;
         const zaqnuti_size now = (k + 1) % 2;
         track_carriers((double)(k + 1), &epoch[now]);
@@ -166,7 +166,7 @@ static int drive(const zaqnuti_solution *solution)
         tell("displacement", moved.delta);
         zaqnuti_track_link(&track, k, moved.delta, link_sigma);
     }
-    /* How good the last one is: set aside from 0.2 m on, it would lose few and remove most of the large errors. */
+    /* The quality of the last one. Setting aside displacements of 0.2 m or more loses few and removes most large errors. */
     if (refused("rated", zaqnuti_easy_displacement_rated(&epoch[0], &epoch[1], 1.0, solution->position, &settings, &rated))) {
         return 1;
     }
@@ -178,7 +178,7 @@ static int drive(const zaqnuti_solution *solution)
     return 0;
 }
 
-/* A base station that stands where the van starts measures the same delay; its corrections take it out. */
+/* A base station at the van's start measures the same delay; its corrections remove it. */
 static int corrected(void)
 {
     const zaqnuti_correction_settings settings = ZAQNUTI_EASY_CORRECTIONS;

@@ -352,17 +352,17 @@ static void line_form(void)
     const zaqnuti_size text_length = sizeof text - 1;
     const zaqnuti_size wanted_length = sizeof wanted - 1;
     uint8_t line[ZAQNUTI_LINE];
-    zaqnuti_size length;
+    zaqnuti_size length = 0;
 
     printf("line form\n");
-    length = zaqnuti_line((const uint8_t *)text, text_length, line, sizeof line);
+    expect_number("a line", zaqnuti_line((const uint8_t *)text, text_length, line, sizeof line, &length), 0);
     expect_number("bytes of the line", (unsigned)length, (unsigned)wanted_length);
     expect_number("it is R,7", length == wanted_length && memcmp(line, wanted, (size_t)wanted_length) == 0, 1);
-    /* A buffer that is one byte short keeps its bytes. */
+    /* A buffer that is one byte short is refused, and so nothing is written. */
     memset(line, 0, sizeof line);
-    length = zaqnuti_line((const uint8_t *)text, text_length, line, wanted_length - 1);
-    expect_number("one byte short", (unsigned)length, 0);
+    expect_number("one byte short", zaqnuti_line((const uint8_t *)text, text_length, line, wanted_length - 1, &length), ZAQNUTI_TOO_MANY);
     expect_number("buffer kept", line[0], 0);
+    expect_number("length kept", (unsigned)length, (unsigned)wanted_length);
 }
 
 /* The table of corrections that the firmware keeps between calls. */

@@ -1,9 +1,9 @@
 /*
  * The calls of zaqnuti.h on structs: a record is a struct, a call takes a few
- * pointers, and settings have initializers. Each call here hands its structs'
+ * pointers, and settings have initializers. Each call passes its structs'
  * columns to the call of zaqnuti.h and does nothing else; what that header
- * says of answers, refusals, units, threads and floats holds here too.
- * tests/easy_test.c holds the two to the same answers.
+ * says about answers, refusals, units, threads and floats holds here too.
+ * tests/easy_test.c compares the answers of both.
  *
  * C99 and C++. Nothing is allocated: structs live where the caller puts them.
  * An epoch keeps its records as columns, which the library reads in place.
@@ -14,14 +14,14 @@
  *     number = zaqnuti_easy_displacement(&before, &now, 1.0, place, &settings, &moved);
  *     if (number != 0) puts(zaqnuti_refusal_text(number));
  *
- * With the week and the time of week of each epoch, zaqnuti_easy_time and
- * zaqnuti_easy_displacement_between stand in the place of the interval.
+ * If each epoch has a week and a time of week, use zaqnuti_easy_time and
+ * zaqnuti_easy_displacement_between instead of the interval.
  *
- * Each call gives 0, or the number of its refusal (enum zaqnuti_refusal), and
- * then leaves its result as it was. examples/easy.c has one of each.
+ * Each call returns 0, or the number of its refusal (enum zaqnuti_refusal),
+ * and then leaves its result unchanged. examples/easy.c makes each call once.
  *
- * Stack: that of the call of zaqnuti.h, and at most 256 bytes more; of
- * zaqnuti_easy_queries 1,024 more (by -fstack-usage of gcc at -O0 and -O2).
+ * Stack: that of the call of zaqnuti.h, and at most 256 bytes more;
+ * zaqnuti_easy_queries 1,024 more (by gcc's -fstack-usage at -O0 and -O2).
  */
 #ifndef ZAQNUTI_EASY_H
 #define ZAQNUTI_EASY_H
@@ -31,8 +31,8 @@
 #include "zaqnuti.h"
 
 /*
- * Room of a table and of a track. Where less is enough, define these smaller
- * before every inclusion in a program: a table of 2,048 samples has 40,968
+ * Room of a table and of a track. If less is enough, define these smaller
+ * before every inclusion in a program: a table of 2,048 samples takes 79,888
  * bytes, a track of 1,024 epochs 229,400.
  */
 #ifndef ZAQNUTI_EASY_SAMPLES
@@ -49,32 +49,32 @@ typedef struct zaqnuti_vector {
     double z;
 } zaqnuti_vector;
 
-/* What a number means, in a sentence; "answered" for 0. */
+/* Returns a sentence for a number; "answered" for 0. */
 static inline const char *zaqnuti_refusal_text(uint8_t number)
 {
     switch (number) {
     case 0: return "answered";
-    case ZAQNUTI_BROKEN_FORM: return "the text is above 32,768 bytes, or a line of it breaks the form";
-    case ZAQNUTI_TOO_MANY: return "more records than are allowed, or a buffer shorter than its count needs";
-    case ZAQNUTI_SETTING_OUT_OF_RANGE: return "a setting is not finite or above 1e9, or the rounds are not allowed";
-    case ZAQNUTI_RECORD_OUT_OF_RANGE: return "a float of a record, a coordinate or a time is out of range, or a table is not sorted";
+    case ZAQNUTI_BROKEN_FORM: return "the text is longer than 32,768 bytes, or a line breaks the form";
+    case ZAQNUTI_TOO_MANY: return "there are too many records, or a buffer is too short";
+    case ZAQNUTI_SETTING_OUT_OF_RANGE: return "a setting is not finite or above 1e9 in magnitude, or the rounds are not allowed";
+    case ZAQNUTI_RECORD_OUT_OF_RANGE: return "a number in a record, a coordinate or a time is out of range, or a table is not sorted";
     case ZAQNUTI_BAD_INTERVAL: return "the interval is not above 0 and at most 604,800 s";
-    case ZAQNUTI_BAD_TRACK: return "a track without epochs or anchor, a sigma not above 0, or an index beyond the epochs";
-    case ZAQNUTI_TOO_FEW_PAIRS: return "fewer than six carrier pairs";
-    case ZAQNUTI_TOO_FEW_ROWS: return "fewer rows than 4 plus the clock slots";
-    case ZAQNUTI_TOO_MANY_SLOTS: return "more than six clock slots";
+    case ZAQNUTI_BAD_TRACK: return "the track has no epochs or no anchor, a sigma not above 0, or an index beyond its epochs";
+    case ZAQNUTI_TOO_FEW_PAIRS: return "there are fewer than six carrier pairs";
+    case ZAQNUTI_TOO_FEW_ROWS: return "there are fewer rows than 4 plus the clock slots";
+    case ZAQNUTI_TOO_MANY_SLOTS: return "there are more than six clock slots";
     case ZAQNUTI_FIT_FAILED: return "the fit fails";
     case ZAQNUTI_TABLE_FULL: return "the epoch's corrections do not all fit in the table";
     case ZAQNUTI_NO_CORRECTION: return "the table gives no correction for the signal and time";
     case ZAQNUTI_BAD_TIME: return "a week is above 15,000, a time of week is not in 0 to below 604,800 s, or a time is past the start of week 15,001";
-    case ZAQNUTI_QUALITY_NOT_FINITE: return "chi or pdop of the fix is not finite";
+    case ZAQNUTI_QUALITY_NOT_FINITE: return "chi or pdop is not finite";
     case ZAQNUTI_ON_RECEIVER: return "the range of a satellite is zero or not finite";
-    case ZAQNUTI_BAD_TRIP: return "a displacement not finite or longer than 1,000 m, a full trip, a pulse rate of 0, or a trip out of its limits";
-    case ZAQNUTI_NO_DISTANCE: return "fuel per kilometre at zero carrier distance";
+    case ZAQNUTI_BAD_TRIP: return "a displacement is not finite or longer than 1,000 m, the trip is full, its pulse rate is 0, or it is out of its limits";
+    case ZAQNUTI_NO_DISTANCE: return "no distance was measured";
     case ZAQNUTI_BAD_DROP_TIME: return "the time to drop samples before is not finite";
-    case ZAQNUTI_NOT_CERTIFIED: return "GPS or Galileo is absent among the pairs kept";
-    case ZAQNUTI_BROKEN_RECORDS: return "the bytes of carrier records are no multiple of 59";
-    case ZAQNUTI_NOT_TURNED: return "a coordinate is not finite or above 1e9, or there is no north, east and down at the place";
+    case ZAQNUTI_NOT_CERTIFIED: return "the kept pairs lack GPS or Galileo";
+    case ZAQNUTI_BROKEN_RECORDS: return "the length of the carrier records is not a multiple of 59";
+    case ZAQNUTI_NOT_TURNED: return "a coordinate or the result is not finite, or a coordinate is above 1e9 in magnitude";
     default: return "no such number";
     }
 }
@@ -86,19 +86,19 @@ typedef struct zaqnuti_gps_time {
     uint64_t nanos;
 } zaqnuti_gps_time;
 
-/* The time of a week and of a time of week in seconds, as a receiver reports them. */
+/* Writes the time of a week and a time of week in seconds, as a receiver reports them. */
 static inline uint8_t zaqnuti_easy_time(uint32_t week, double tow, zaqnuti_gps_time *time)
 {
     return zaqnuti_time(week, tow, &time->nanos);
 }
 
-/* How many nanoseconds `later` is after `earlier`, below 0 where it is before it. */
+/* Writes the number of nanoseconds from `earlier` to `later`, negative if `later` is before it. */
 static inline uint8_t zaqnuti_easy_nanos_since(zaqnuti_gps_time later, zaqnuti_gps_time earlier, int64_t *nanos)
 {
     return zaqnuti_nanos_since(later.nanos, earlier.nanos, nanos);
 }
 
-/* The same in seconds. */
+/* Writes the same in seconds. */
 static inline uint8_t zaqnuti_easy_seconds_since(zaqnuti_gps_time later, zaqnuti_gps_time earlier, double *seconds)
 {
     return zaqnuti_seconds_since(later.nanos, earlier.nanos, seconds);
@@ -144,7 +144,7 @@ static inline void zaqnuti_observations_clear(zaqnuti_observations *epoch)
     epoch->count = 0;
 }
 
-/* One observation more; the 65th is refused by 2 and leaves the epoch as it was. */
+/* Adds an observation. The 65th is refused by 2 and leaves the epoch unchanged. */
 static inline uint8_t zaqnuti_observations_add(zaqnuti_observations *epoch, const zaqnuti_observation *one)
 {
     double *floats;
@@ -163,7 +163,7 @@ static inline uint8_t zaqnuti_observations_add(zaqnuti_observations *epoch, cons
     return 0;
 }
 
-/* The receiver's position; `guess` is where the first round begins. */
+/* Writes the receiver's position; `guess` is where the first round starts. */
 static inline uint8_t zaqnuti_easy_fix(
     const zaqnuti_observations *epoch,
     zaqnuti_vector guess,
@@ -205,7 +205,7 @@ typedef struct zaqnuti_carrier {
     double adr;                /* accumulated delta range, m */
     zaqnuti_vector satellite;  /* at transmission */
     double elevation;          /* degrees, -90 to 90 */
-    double rate;               /* range rate, m/s, receding is positive */
+    double rate;               /* range rate, m/s, positive when receding */
 } zaqnuti_carrier;
 
 /* The carriers of an epoch, as columns. */
@@ -241,7 +241,7 @@ static inline void zaqnuti_epoch_clear(zaqnuti_epoch *epoch)
     epoch->count = 0;
 }
 
-/* One carrier more; the 65th is refused by 2 and leaves the epoch as it was. */
+/* Adds a carrier. The 65th is refused by 2 and leaves the epoch unchanged. */
 static inline uint8_t zaqnuti_epoch_add(zaqnuti_epoch *epoch, const zaqnuti_carrier *one)
 {
     const zaqnuti_size i = epoch->count;
@@ -265,7 +265,7 @@ static inline uint8_t zaqnuti_epoch_add(zaqnuti_epoch *epoch, const zaqnuti_carr
     return 0;
 }
 
-/* How the receiver moved in `dt` seconds; `receiver` is where it was at the previous epoch. */
+/* Writes how the receiver moved in `dt` seconds; `receiver` is where it was at the previous epoch. */
 static inline uint8_t zaqnuti_easy_displacement(
     const zaqnuti_epoch *previous,
     const zaqnuti_epoch *current,
@@ -295,7 +295,7 @@ static inline uint8_t zaqnuti_easy_displacement(
     return number;
 }
 
-/* How the receiver moved from one time to another; `receiver` is where it was at the first. */
+/* Writes how the receiver moved from one time to another; `receiver` is where it was at the first. */
 static inline uint8_t zaqnuti_easy_displacement_between(
     const zaqnuti_epoch *previous,
     const zaqnuti_epoch *current,
@@ -326,7 +326,7 @@ static inline uint8_t zaqnuti_easy_displacement_between(
     return number;
 }
 
-/* How the receiver moved in `dt` seconds by GPS and Galileo on one band (MHz) alone; `receiver` is where it was at the previous epoch. */
+/* Writes how the receiver moved in `dt` seconds by GPS and Galileo on one band (MHz) alone; `receiver` is where it was at the previous epoch. */
 static inline uint8_t zaqnuti_easy_city_displacement(
     const zaqnuti_epoch *previous,
     const zaqnuti_epoch *current,
@@ -358,18 +358,18 @@ static inline uint8_t zaqnuti_easy_city_displacement(
 }
 
 /*
- * A displacement with its quality: zaqnuti_easy_predicted_error of chi and pdop is the error in metres to expect. Set aside by a mileage,
- * which scales by what was covered: zaqnuti_easy_mileage_add(&mileage, rated.delta, rated.chi, rated.pdop, pulses).
+ * A displacement with its quality: zaqnuti_easy_predicted_error(chi, pdop) is the error in metres to expect. A mileage sets bad ones aside and
+ * scales by what was covered: zaqnuti_easy_mileage_add(&mileage, rated.delta, rated.chi, rated.pdop, pulses).
  */
 typedef struct zaqnuti_rated {
     zaqnuti_vector delta;   /* m */
-    double chi;             /* root of the mean squared residual, in units of sigma */
+    double chi;             /* root of the reduced chi-squared */
     double pdop;            /* dilution of precision */
     zaqnuti_size used;      /* carrier pairs */
     zaqnuti_size screened;  /* pairs that the screen dropped */
 } zaqnuti_rated;
 
-/* How the receiver moved in `dt` seconds, with the quality of the fit; `receiver` is where it was at the previous epoch. */
+/* Writes how the receiver moved in `dt` seconds, with the quality of the fit; `receiver` is where it was at the previous epoch. */
 static inline uint8_t zaqnuti_easy_displacement_rated(
     const zaqnuti_epoch *previous,
     const zaqnuti_epoch *current,
@@ -402,7 +402,7 @@ static inline uint8_t zaqnuti_easy_displacement_rated(
     return number;
 }
 
-/* How the receiver moved in `dt` seconds by GPS and Galileo on one band (MHz) alone, with the quality of the fit. */
+/* Writes how the receiver moved in `dt` seconds by GPS and Galileo on one band (MHz) alone, with the quality of the fit. */
 static inline uint8_t zaqnuti_easy_city_displacement_rated(
     const zaqnuti_epoch *previous,
     const zaqnuti_epoch *current,
@@ -438,7 +438,7 @@ static inline uint8_t zaqnuti_easy_city_displacement_rated(
 
 /* ---- the trip */
 
-/* A trip, which its calls alone write. */
+/* A trip. Only its calls write it. */
 typedef struct zaqnuti_trip {
     uint64_t word[6];
 } zaqnuti_trip;
@@ -450,13 +450,13 @@ typedef struct zaqnuti_report {
     uint64_t reached;   /* the first epoch that reached it, counted from 1 */
 } zaqnuti_report;
 
-/* A trip just started, with so many pulses to the kilometre. */
+/* Starts a trip, with so many pulses per kilometre. */
 static inline uint8_t zaqnuti_easy_trip_start(uint16_t per_km, zaqnuti_trip *trip)
 {
     return zaqnuti_trip_start(per_km, trip->word);
 }
 
-/* One epoch more: how far the van moved, and the odometer's pulses. A refused one leaves the trip as it was. */
+/* Adds an epoch: how the van moved, and the odometer's pulses. A refusal leaves the trip unchanged. */
 static inline uint8_t zaqnuti_easy_trip_add(zaqnuti_trip *trip, zaqnuti_vector delta, uint16_t pulses)
 {
     const double d[3] = {delta.x, delta.y, delta.z};
@@ -478,14 +478,14 @@ static inline uint8_t zaqnuti_easy_trip_report(const zaqnuti_trip *trip, zaqnuti
 
 /* ---- directions */
 
-/* A displacement by compass (m); south, west and up are below 0. */
+/* A displacement in compass directions (m); south, west and up are negative. */
 typedef struct zaqnuti_ned {
     double north;
     double east;
     double down;
 } zaqnuti_ned;
 
-/* A displacement at a place, along north, east and down. */
+/* Writes a displacement at a place along north, east and down. */
 static inline uint8_t zaqnuti_easy_north_east_down(zaqnuti_vector place, zaqnuti_vector displacement, zaqnuti_ned *ned)
 {
     const double at[3] = {place.x, place.y, place.z};
@@ -503,10 +503,10 @@ static inline uint8_t zaqnuti_easy_north_east_down(zaqnuti_vector place, zaqnuti
 
 /* ---- carrier records as bytes */
 
-/* Bytes that are always enough for an epoch. */
+/* Bytes that always suffice for an epoch. */
 #define ZAQNUTI_EASY_EPOCH_BYTES (ZAQNUTI_RECORDS * ZAQNUTI_RECORD)
 
-/* Writes the epoch's carriers, ZAQNUTI_RECORD bytes each, to be kept or sent. */
+/* Writes the epoch's carriers, ZAQNUTI_RECORD bytes each. */
 static inline uint8_t zaqnuti_easy_write_records(const zaqnuti_epoch *epoch, uint8_t *bytes, zaqnuti_size bytes_length)
 {
     return zaqnuti_write_records(
@@ -515,7 +515,7 @@ static inline uint8_t zaqnuti_easy_write_records(const zaqnuti_epoch *epoch, uin
         bytes, bytes_length);
 }
 
-/* The epoch of carriers that were written so. */
+/* Reads an epoch from such bytes. */
 static inline uint8_t zaqnuti_easy_read_records(const uint8_t *bytes, zaqnuti_size bytes_length, zaqnuti_epoch *epoch)
 {
     return zaqnuti_read_records(
@@ -524,7 +524,7 @@ static inline uint8_t zaqnuti_easy_read_records(const uint8_t *bytes, zaqnuti_si
         epoch->state, ZAQNUTI_RECORDS, (uint64_t *)(void *)epoch->floats, 6 * ZAQNUTI_RECORDS, &epoch->count);
 }
 
-/* The number of eight bytes, the least significant first. */
+/* Returns the number of eight bytes, little-endian. */
 static inline uint64_t zaqnuti_easy_word(const uint8_t *bytes)
 {
     uint64_t word = 0;
@@ -536,7 +536,7 @@ static inline uint64_t zaqnuti_easy_word(const uint8_t *bytes)
     return word;
 }
 
-/* The float whose bits these are. */
+/* Returns the float with these bits. */
 static inline double zaqnuti_easy_float(uint64_t bits)
 {
     double x;
@@ -545,7 +545,7 @@ static inline double zaqnuti_easy_float(uint64_t bits)
     return x;
 }
 
-/* How the receiver moved in `dt` seconds between two epochs that are held as bytes; `receiver` is where it was at the previous one. */
+/* Writes how the receiver moved in `dt` seconds between two epochs given as bytes; `receiver` is where it was at the previous one. */
 static inline uint8_t zaqnuti_easy_displacement_records(
     const uint8_t *previous, zaqnuti_size previous_length,
     const uint8_t *current, zaqnuti_size current_length,
@@ -555,7 +555,7 @@ static inline uint8_t zaqnuti_easy_displacement_records(
     zaqnuti_moved *moved)
 {
     uint8_t result[ZAQNUTI_RESULT] = {0};
-    /* Every count above 50 is refused alike. */
+    /* Every count above 50 gets the same refusal. */
     const uint32_t rounds = settings->rounds > 50 ? 51 : (uint32_t)settings->rounds;
     uint8_t number = zaqnuti_displacement_records(
         previous, previous_length, current, current_length,
@@ -573,7 +573,7 @@ static inline uint8_t zaqnuti_easy_displacement_records(
     return number;
 }
 
-/* Millilitres for a kilometre of carrier distance. */
+/* Writes millilitres per kilometre of carrier distance. */
 static inline uint8_t zaqnuti_easy_trip_fuel(const zaqnuti_trip *trip, uint32_t millilitres, uint64_t *per_km)
 {
     return zaqnuti_trip_fuel(trip->word, millilitres, per_km);
@@ -581,7 +581,7 @@ static inline uint8_t zaqnuti_easy_trip_fuel(const zaqnuti_trip *trip, uint32_t 
 
 /* ---- the mileage */
 
-/* A mileage, which its calls alone write. */
+/* A mileage. Only its calls write it. */
 typedef struct zaqnuti_mileage {
     uint64_t word[10];
 } zaqnuti_mileage;
@@ -597,10 +597,10 @@ typedef struct zaqnuti_mileage_totals {
 } zaqnuti_mileage_totals;
 
 /*
- * The predicted error of a displacement in metres, (pdop * max(chi, 1)) * 0.01; NaN where chi or pdop is NaN or below 0.
- * A mileage counts a displacement where this is below its limit and both are finite. In a study of 300 simulated van-days, setting aside
+ * Returns the predicted error of a displacement in metres, (pdop * max(chi, 1)) * 0.01; NaN if chi or pdop is NaN or below 0.
+ * A mileage counts a displacement if this is below its limit and both are finite. In a study of 300 simulated van-days, setting aside
  * displacements at or above 0.5, 0.2 and 0.1 m lost 0.3, 1.6 and 4.0 % of the moving ones and removed 84, 96 and 99 % of the errors above
- * a metre. Setting them aside without scaling by what was covered makes a distance worse, not better: a mileage scales.
+ * a metre. Setting them aside without scaling by what was covered makes a distance worse: a mileage scales.
  */
 static inline double zaqnuti_easy_predicted_error(double chi, double pdop)
 {
@@ -614,7 +614,7 @@ static inline uint8_t zaqnuti_easy_mileage_start(double limit, zaqnuti_mileage *
     return zaqnuti_mileage_start(limit, mileage->word);
 }
 
-/* Adds an epoch: how far the van moved with what quality, and the odometer's pulses. */
+/* Adds an epoch: how the van moved, with what quality, and the odometer's pulses. */
 static inline uint8_t zaqnuti_easy_mileage_add(zaqnuti_mileage *mileage, zaqnuti_vector delta, double chi, double pdop, uint16_t pulses)
 {
     const double d[3] = {delta.x, delta.y, delta.z};
@@ -622,7 +622,7 @@ static inline uint8_t zaqnuti_easy_mileage_add(zaqnuti_mileage *mileage, zaqnuti
     return zaqnuti_mileage_add(mileage->word, 0, d, q, pulses);
 }
 
-/* Adds an epoch whose displacement was refused by `number`, which is not 0: its pulses count all the same. */
+/* Adds an epoch whose displacement was refused by `number`, which is not 0: its pulses still count. */
 static inline uint8_t zaqnuti_easy_mileage_refused(zaqnuti_mileage *mileage, uint8_t number, uint16_t pulses)
 {
     const double d[3] = {0.0, 0.0, 0.0};
@@ -646,25 +646,25 @@ static inline uint8_t zaqnuti_easy_mileage_report(const zaqnuti_mileage *mileage
     return number;
 }
 
-/* The distance in millimetres. */
+/* Writes the distance in millimetres. */
 static inline uint8_t zaqnuti_easy_mileage_distance(const zaqnuti_mileage *mileage, uint64_t *millimetres)
 {
     return zaqnuti_mileage_distance(mileage->word, millimetres);
 }
 
-/* Millilitres for a kilometre of that distance. */
+/* Writes millilitres per kilometre of that distance. */
 static inline uint8_t zaqnuti_easy_mileage_fuel(const zaqnuti_mileage *mileage, uint32_t millilitres, uint64_t *per_km)
 {
     return zaqnuti_mileage_fuel(mileage->word, millilitres, per_km);
 }
 
-/* A trip whose displacements are worked out under the settings in force, which may change between two epochs. */
+/* A trip whose displacements are computed under the settings in force, which may change between two epochs. */
 typedef struct zaqnuti_drive {
     zaqnuti_trip trip;
     zaqnuti_displacement_settings in_force;
 } zaqnuti_drive;
 
-/* The settings of five floats, as a call has left them. */
+/* Sets the settings in force from five floats and the rounds. */
 static inline void zaqnuti_drive_settings(zaqnuti_drive *drive, const double set[5], zaqnuti_size rounds)
 {
     drive->in_force.screen = set[0];
@@ -675,7 +675,7 @@ static inline void zaqnuti_drive_settings(zaqnuti_drive *drive, const double set
     drive->in_force.rounds = rounds;
 }
 
-/* A trip just started, with these settings in force; a refusal leaves the drive as it was. */
+/* Starts a trip with these settings in force. A refusal leaves the drive unchanged. */
 static inline uint8_t zaqnuti_easy_drive_begin(const zaqnuti_displacement_settings *settings, uint16_t per_km, zaqnuti_drive *drive)
 {
     const double set[5] = {settings->screen, settings->sigma_a, settings->sigma_b, settings->huber, settings->mask};
@@ -688,7 +688,7 @@ static inline uint8_t zaqnuti_easy_drive_begin(const zaqnuti_displacement_settin
     return number;
 }
 
-/* New settings between two epochs; a refused change leaves those in force. */
+/* Changes the settings between two epochs. A refusal leaves those in force. */
 static inline uint8_t zaqnuti_easy_drive_settings(zaqnuti_drive *drive, const zaqnuti_displacement_settings *settings)
 {
     const double set[5] = {settings->screen, settings->sigma_a, settings->sigma_b, settings->huber, settings->mask};
@@ -701,7 +701,7 @@ static inline uint8_t zaqnuti_easy_drive_settings(zaqnuti_drive *drive, const za
     return number;
 }
 
-/* How the receiver moved in `dt` seconds under the settings in force, added to the trip with its pulses; a refused one leaves the trip as it was. */
+/* Writes how the receiver moved in `dt` seconds under the settings in force, and adds it to the trip with its pulses. A refusal leaves the trip unchanged. */
 static inline uint8_t zaqnuti_easy_drive_displacement(
     zaqnuti_drive *drive,
     const zaqnuti_epoch *previous,
@@ -749,7 +749,7 @@ typedef struct zaqnuti_base_range {
     double pseudorange;  /* m */
 } zaqnuti_base_range;
 
-/* A satellite as the rover knows it at the epoch. */
+/* A satellite at the epoch, as the rover knows it. */
 typedef struct zaqnuti_base_state {
     zaqnuti_signal signal;
     zaqnuti_vector satellite;  /* at the rover's transmission time, m */
@@ -780,12 +780,12 @@ typedef struct zaqnuti_correction_settings {
     bool corrected[8];      /* by constellation 0 to 7 */
 } zaqnuti_correction_settings;
 
-/* GPS and Galileo; GLONASS has a bias of its own for each satellite and receiver. */
+/* GPS and Galileo; GLONASS has a bias for each satellite and receiver. */
 #define ZAQNUTI_EASY_CORRECTIONS {ZAQNUTI_MAX_GAP, ZAQNUTI_MAX_CORRECTION, ZAQNUTI_CORRECTED}
 
 /*
  * A table of corrections, for one base, one rover and one choice of settings:
- * a block of samples for each signal, and where it stands.
+ * a block of samples for each signal, and the directory of the blocks.
  */
 typedef struct zaqnuti_table {
     zaqnuti_size blocks;
@@ -806,10 +806,10 @@ static inline void zaqnuti_table_clear(zaqnuti_table *table)
 }
 
 /*
- * The directory of a table that was stored with a signal for each sample, as
- * before 0.5.0: time, metres and count are the table's own, the signals are
- * columns of so many places. (Bands of 8 bits go through zaqnuti_widen_bands
- * first.)
+ * Writes the directory of a table that was stored with a signal for each
+ * sample, as before 0.5.0. Time, metres and count are the table's own; the
+ * signals are columns of `length` places. Bands of 8 bits go through
+ * zaqnuti_widen_bands first.
  */
 static inline uint8_t zaqnuti_easy_directory_of(
     zaqnuti_table *table, const uint8_t *constellation, const uint16_t *svid, const uint32_t *band, zaqnuti_size length)
@@ -821,7 +821,7 @@ static inline uint8_t zaqnuti_easy_directory_of(
         table->first, ZAQNUTI_EASY_SAMPLES, table->samples, ZAQNUTI_EASY_SAMPLES, &table->blocks);
 }
 
-/* The way back: the signal of each sample, in columns of so many places. */
+/* Writes the signal of each sample to columns of `length` places. */
 static inline uint8_t zaqnuti_easy_signals_of(
     const zaqnuti_table *table, uint8_t *constellation, uint16_t *svid, uint32_t *band, zaqnuti_size length)
 {
@@ -832,7 +832,7 @@ static inline uint8_t zaqnuti_easy_signals_of(
         constellation, length, svid, length, band, length);
 }
 
-/* An epoch of no ranges and no states yet. */
+/* Clears an epoch: no ranges and no states. */
 static inline void zaqnuti_base_epoch_clear(zaqnuti_base_epoch *epoch, double time)
 {
     epoch->time = time;
@@ -841,7 +841,7 @@ static inline void zaqnuti_base_epoch_clear(zaqnuti_base_epoch *epoch, double ti
     epoch->states = 0;
 }
 
-/* One range more; the 65th is refused by 2 and leaves the epoch as it was. */
+/* Adds a range. The 65th is refused by 2 and leaves the epoch unchanged. */
 static inline uint8_t zaqnuti_base_epoch_add_range(zaqnuti_base_epoch *epoch, const zaqnuti_base_range *one)
 {
     const zaqnuti_size i = epoch->ranges;
@@ -857,7 +857,7 @@ static inline uint8_t zaqnuti_base_epoch_add_range(zaqnuti_base_epoch *epoch, co
     return 0;
 }
 
-/* One state more; the 65th is refused by 2 and leaves the epoch as it was. */
+/* Adds a state. The 65th is refused by 2 and leaves the epoch unchanged. */
 static inline uint8_t zaqnuti_base_epoch_add_state(zaqnuti_base_epoch *epoch, const zaqnuti_base_state *one)
 {
     const zaqnuti_size i = epoch->states;
@@ -882,7 +882,7 @@ static inline uint8_t zaqnuti_base_epoch_add_state(zaqnuti_base_epoch *epoch, co
     return 0;
 }
 
-/* The epoch's corrections put in the table. */
+/* Adds the epoch's corrections to the table. */
 static inline uint8_t zaqnuti_easy_add_epoch(
     zaqnuti_table *table,
     const zaqnuti_base_epoch *epoch,
@@ -907,7 +907,7 @@ static inline uint8_t zaqnuti_easy_add_epoch(
         at_base, at_rover, settings->max_gap, settings->max_correction, settings->corrected);
 }
 
-/* The correction of a signal at a time (s of the week), to be subtracted from the rover's pseudorange. */
+/* Writes the correction of a signal at a time (s of the week), to be subtracted from the rover's pseudorange. */
 static inline uint8_t zaqnuti_easy_query(
     const zaqnuti_table *table,
     zaqnuti_signal signal,
@@ -924,10 +924,10 @@ static inline uint8_t zaqnuti_easy_query(
 }
 
 /*
- * The corrections of an epoch's signals, at most 64, at one time. Each place
- * has its number, 0, 4 or 12, and its metres, which are as they were where it
- * is refused. The call itself refuses by 2, 3 and 4: then every place is as it
- * was.
+ * Writes the corrections of an epoch's signals, at most 64, at one time. Each
+ * signal has its number, 0, 4 or 12, and its metres, which are unchanged if it
+ * is refused. The call itself refuses by 2, 3 and 4; then everything is
+ * unchanged.
  */
 static inline uint8_t zaqnuti_easy_queries(
     const zaqnuti_table *table,
@@ -963,7 +963,7 @@ static inline uint8_t zaqnuti_easy_queries(
         numbers, count, metres, count);
 }
 
-/* Of each signal's samples before a time (s of the week) only the last is kept, so that the table lasts the day. */
+/* Drops samples before a time (s of the week), keeping the last of them for each signal, so that the table lasts the day. */
 static inline uint8_t zaqnuti_easy_forget(zaqnuti_table *table, double time)
 {
     return zaqnuti_forget(
@@ -997,7 +997,7 @@ typedef struct zaqnuti_track {
     double work[11 * ZAQNUTI_EASY_EPOCHS];
 } zaqnuti_track;
 
-/* A track of so many epochs, without anchor or link yet. */
+/* Clears a track: so many epochs, no anchor and no link. */
 static inline void zaqnuti_track_clear(zaqnuti_track *track, zaqnuti_size epochs)
 {
     track->epochs = epochs;
@@ -1005,7 +1005,7 @@ static inline void zaqnuti_track_clear(zaqnuti_track *track, zaqnuti_size epochs
     track->links = 0;
 }
 
-/* Where the receiver was at an epoch, with one-sigma by axis; refused by 2 where there is no room. */
+/* Adds an anchor: where the receiver was at an epoch, with one-sigma by axis. Refuses by 2 if there is no room. */
 static inline uint8_t zaqnuti_track_anchor(zaqnuti_track *track, zaqnuti_size epoch, zaqnuti_vector position, zaqnuti_vector sigma)
 {
     const zaqnuti_size i = track->anchors;
@@ -1024,7 +1024,7 @@ static inline uint8_t zaqnuti_track_anchor(zaqnuti_track *track, zaqnuti_size ep
     return 0;
 }
 
-/* How it moved from an epoch to the next, with one-sigma by axis; refused by 2 where there is no room. */
+/* Adds a link: how it moved from an epoch to the next, with one-sigma by axis. Refuses by 2 if there is no room. */
 static inline uint8_t zaqnuti_track_link(zaqnuti_track *track, zaqnuti_size epoch, zaqnuti_vector change, zaqnuti_vector sigma)
 {
     const zaqnuti_size i = track->links;
@@ -1043,7 +1043,7 @@ static inline uint8_t zaqnuti_track_link(zaqnuti_track *track, zaqnuti_size epoc
     return 0;
 }
 
-/* The track that fits anchors and links; zaqnuti_track_place reads it. */
+/* Computes the track that fits anchors and links; zaqnuti_track_place reads it. */
 static inline uint8_t zaqnuti_easy_smooth(zaqnuti_track *track, const zaqnuti_track_settings *settings)
 {
     return zaqnuti_smooth(
@@ -1056,7 +1056,7 @@ static inline uint8_t zaqnuti_easy_smooth(zaqnuti_track *track, const zaqnuti_tr
         track->place, 3 * ZAQNUTI_EASY_EPOCHS, track->work, 11 * ZAQNUTI_EASY_EPOCHS);
 }
 
-/* The place at an epoch of a smoothed track; the origin where there is no such epoch. */
+/* Returns the place at an epoch of a smoothed track; the origin if there is no such epoch. */
 static inline zaqnuti_vector zaqnuti_track_place(const zaqnuti_track *track, zaqnuti_size epoch)
 {
     zaqnuti_vector place = {0.0, 0.0, 0.0};

@@ -932,7 +932,7 @@ static void drive(const char *folder)
     for (k = 1; k <= 10; k++) {
         char one[256];
         zaqnuti_size length = 0;
-        zaqnuti_size answered;
+        zaqnuti_size answered = 0;
         uint8_t number;
         FILE *in;
         memset(&t, 0, sizeof t);
@@ -949,7 +949,7 @@ static void drive(const char *folder)
         }
         fclose(in);
         number = displacement_both(t.carrier[0], t.count[0], t.carrier[1], t.count[1], t.dt, NULL, t.receiver, &t.settings, &moved);
-        answered = zaqnuti_line((const uint8_t *)whole, length, line, sizeof line);
+        same(zaqnuti_line((const uint8_t *)whole, length, line, sizeof line, &answered) == 0, "the line fits");
         line_of(wanted, sizeof wanted, number, &moved);
         same(answered == strlen(wanted) && memcmp(line, wanted, (size_t)answered) == 0, "the line of a drive's text");
         alter_displacements(&t, 1500);

@@ -1,15 +1,28 @@
 // The proved library as WebAssembly. Its lengths and counts have 64 bits: BigInt here.
 
-const WHY = [
-  "", "the text is too long or breaks the line form", "there are too many records, or a buffer is too short", "a setting is out of range",
-  "a record, coordinate or time is out of range, or a table is not sorted", "the interval is not above 0 and at most 604,800 s",
-  "the track has no epochs or no anchor, a sigma not above 0 or an index beyond its epochs", "there are fewer than six carrier pairs",
-  "there are too few rows for the unknowns", "there are more than six clock slots", "the fit fails", "the corrections do not all fit in the table",
-  "the table gives no correction", "a week, a time of week or a time is out of range", "the figures of the fix are not finite",
-  "the range of a satellite is zero or not finite", "a trip, its pulse rate or its displacement is out of range", "there is no distance to divide by",
-  "the time to drop before is not finite", "the vector cannot be turned to north, east and down", "one of the two certified constellations is absent",
-  "the bytes are no whole number of records",
-];
+const WHY = {
+  1: "the text is longer than 32,768 bytes, or a line breaks the form",
+  2: "there are too many records, or a buffer is too short",
+  3: "a setting is not finite or above 1e9 in magnitude, or the rounds are not allowed",
+  4: "a number in a record, a coordinate or a time is out of range, or a table is not sorted",
+  5: "the interval is not above 0 and at most 604,800 s",
+  6: "the track has no epochs or no anchor, a sigma not above 0, or an index beyond its epochs",
+  7: "there are fewer than six carrier pairs",
+  8: "there are fewer rows than 4 plus the clock slots",
+  9: "there are more than six clock slots",
+  10: "the fit fails",
+  11: "the epoch's corrections do not all fit in the table",
+  12: "the table gives no correction for the signal and time",
+  13: "a week is above 15,000, a time of week is not in 0 to below 604,800 s, or a time is past the start of week 15,001",
+  14: "chi or pdop is not finite",
+  15: "the range of a satellite is zero or not finite",
+  16: "a displacement is not finite or longer than 1,000 m, the trip is full, its pulse rate is 0, or it is out of its limits",
+  17: "no distance was measured",
+  18: "the time to drop samples before is not finite",
+  19: "a coordinate or the result is not finite, or a coordinate is above 1e9 in magnitude",
+  20: "the kept pairs lack GPS or Galileo",
+  21: "the length of the carrier records is not a multiple of 59",
+};
 
 // Describes a refusal.
 function refusedWords(number) {

@@ -73,10 +73,10 @@ class Table {
     this.lines = new Lines(source);
     this.line = 0;
     this.text = "";
-    if (!this.readLine()) throw new Fault(`${this.name}: is empty; a header line is wanted`);
+    if (!this.readLine()) throw new Fault(`${this.name}: is empty; expected a header line`);
     this.header = this.text.replace(/^\ufeff/, "").split(",").map(trimmed);
     this.header.forEach((name, i) => {
-      if (this.header.indexOf(name) < i) throw this.fault(`the column ${quoted(name)} stands twice`);
+      if (this.header.indexOf(name) < i) throw this.fault(`the column ${quoted(name)} appears twice`);
       if (!KNOWN.has(name) && !strangers) throw this.fault(`the column ${quoted(name)} is unknown; see --help, or give --ignore-unknown`);
     });
   }
@@ -94,7 +94,7 @@ class Table {
     const text = this.lines.read();
     if (text === undefined) return false;
     this.line += 1;
-    if (text === null) throw this.fault("the line is no text (UTF-8)");
+    if (text === null) throw this.fault("the line is not UTF-8 text");
     this.text = text.endsWith("\r") ? text.slice(0, -1) : text;
     const long = this.text.length * 3 > LONGEST && new TextEncoder().encode(this.text).length > LONGEST;
     if (long) throw this.fault(`the line is above ${LONGEST} bytes`);
@@ -138,7 +138,7 @@ class Table {
   }
 
   wrong(column, field, kind) {
-    const why = field === "" ? `empty; ${kind} is wanted` : `${quoted([...field].slice(0, 40).join(""))} is not ${kind}`;
+    const why = field === "" ? `empty; expected ${kind}` : `${quoted([...field].slice(0, 40).join(""))} is not ${kind}`;
     return this.faultIn(column, why);
   }
 

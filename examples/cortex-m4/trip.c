@@ -14,7 +14,7 @@
 
 #include "records.h"
 
-#define LIMIT 0.2 /* predicted errors from here up are set aside, m */
+#define LIMIT 0.2 /* predicted errors of this size or more are set aside, m */
 #define FUEL 9    /* millilitres over the drive */
 
 /* The columns of an epoch. */
@@ -66,7 +66,7 @@ static uint8_t read_epoch(int which, struct epoch *epoch)
     return number;
 }
 
-/* Works out how far the receiver moved between two epochs a second apart. */
+/* Computes how far the receiver moved between two epochs a second apart. */
 static struct moved displacement(const struct epoch *p, const struct epoch *c, const double place[3])
 {
     static const double settings[5] = ZAQNUTI_DISPLACEMENT_PHONE;
@@ -92,7 +92,7 @@ static uint64_t checked(uint64_t sum, const double *x, int count)
     return sum;
 }
 
-/* Adds an epoch to both sums. The trip takes accepted displacements alone, the mileage every epoch. */
+/* Adds an epoch to both sums. The trip takes only accepted displacements, the mileage every epoch. */
 static uint8_t add(uint64_t trip[6], uint64_t mileage[10], struct moved *moved, uint16_t ticks)
 {
     if (moved->number == 0) {
@@ -111,7 +111,7 @@ static void print_epoch(int which, const struct moved *moved, uint64_t millimetr
     }
 }
 
-/* Prints what the drive comes to. Returns 0 or the number of a refusal. */
+/* Prints the totals of the drive. Returns 0 or the number of a refusal. */
 static uint8_t print_sums(const uint64_t trip[6], const uint64_t mileage[10])
 {
     uint64_t report[4];

@@ -1,4 +1,4 @@
-//! docs/SCOPE.md, "Why a call turns back": numbers 2 to 9 of a displacement and a fix, in checking
+//! docs/REFUSALS.md: numbers 2 to 9 of a displacement and a fix, in checking
 //! order, 13 between 4 and 5, and 15 of a displacement ahead of 7. Used only to say which number a refusal is, and where the Rust is
 //! not asked.
 

@@ -194,13 +194,17 @@ bool same_fix(struct stored *s)
         is_number(s, number) && is_number(s, used[0]) && is_floats(s, solution, 5);
 }
 
-/* Whether a text is answered by the line in a buffer of so many bytes, or not at all where that is too short. */
+/* Whether a text is answered by the line in a buffer of so many bytes; or by 2, with nothing written, where that is too short. */
 static bool answers(const uint8_t *text, zaqnuti_size size, const uint8_t *line, zaqnuti_size length, zaqnuti_size room)
 {
     uint8_t buffer[ZAQNUTI_LINE + 1 + MARGIN];
-    zaqnuti_size expected = length <= room ? length : 0;
+    const zaqnuti_size before = 77;
+    const bool fits = length <= room;
+    const zaqnuti_size expected = fits ? length : 0;
+    zaqnuti_size written = before;
     lend(buffer, room);
-    return zaqnuti_line(text, size, buffer, room) == expected &&
+    return zaqnuti_line(text, size, buffer, room, &written) == (fits ? 0 : ZAQNUTI_TOO_MANY) &&
+        written == (fits ? length : before) &&
         memcmp(buffer, line, (size_t)expected) == 0 &&
         kept(buffer + expected, room - expected + MARGIN);
 }

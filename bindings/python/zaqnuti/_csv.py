@@ -57,9 +57,9 @@ class Table:
             text = data.decode("utf-8-sig")
         except UnicodeDecodeError as why:
             line = data.count(b"\n", 0, why.start) + 1
-            raise ValueError(f"{self.name}:{line}: the line is no text (UTF-8)") from None
+            raise ValueError(f"{self.name}:{line}: the line is not UTF-8 text") from None
         if not text:
-            raise ValueError(f"{self.name}: is empty; a header line is wanted")
+            raise ValueError(f"{self.name}: is empty; expected a header line")
         lines = text.split("\n")
         self.names = [name.strip() for name in lines[0].split(",")]
         self._check_header(ignore_unknown)
@@ -79,7 +79,7 @@ class Table:
     def _check_header(self, ignore_unknown: bool) -> None:
         for i, name in enumerate(self.names):
             if name in self.names[:i]:
-                raise ValueError(f"{self.name}:1: the column {name!r} stands twice")
+                raise ValueError(f"{self.name}:1: the column {name!r} appears twice")
             if name not in _KNOWN and not ignore_unknown:
                 raise ValueError(f"{self.name}:1: the column {name!r} is unknown; ignore_unknown=True allows it")
 
@@ -113,7 +113,7 @@ class Table:
                 out.append(slow(field))
             except (ValueError, OverflowError):
                 what = "a number" if code == "d" else kind_of_one(code)
-                why = f"empty; {what} is wanted" if not field else f'"{field[:40]}" is not {what}'
+                why = f"empty; expected {what}" if not field else f'"{field[:40]}" is not {what}'
                 raise ValueError(f"{self.name}:{self._lines[row] + 1}: {name}: {why}") from None
         return _columns.column(name, out, code)
 
@@ -136,7 +136,7 @@ class Table:
                 try:
                     out.append(_float(fields[row]))
                 except ValueError:
-                    why = f'"{fields[row]}" is not a number' if fields[row] else "empty; a number is wanted"
+                    why = f'"{fields[row]}" is not a number' if fields[row] else "empty; expected a number"
                     raise ValueError(f"{self._lines[row] + 1}: {name}: {why}") from None
         return out
 

@@ -217,7 +217,7 @@ def _named(columns: Any, named: dict[str, Any]) -> dict[str, Any]:
     given: dict[str, Any] = {}
     if columns is not None:
         if not isinstance(columns, Mapping) and not hasattr(columns, "columns"):
-            raise ValueError("columns: a mapping or a DataFrame is wanted")
+            raise ValueError("columns: expected a mapping or a DataFrame")
         given = {str(name): columns[name] for name in columns}
     given.update(named)
     known = {"week", "tow", *_WHOLE, *_FLOATS, *_PHASE, *_PLACE, *_COUNTS, *_RANGE}

@@ -98,7 +98,7 @@ def fix(
     ([-3976219.049, 3382373.323, 3652512.894], 0)
     >>> fix([1], [2e7], [2e7], [0.0], [0.0], [45.0])
     Traceback (most recent call last):
-    zaqnuti.Refused: refused by 8: fewer rows than 4 plus the clock slots
+    zaqnuti.Refused: refused by 8: there are fewer rows than 4 plus the clock slots
     """
     if isinstance(constellation, Drive):
         return _fixes(constellation, guess, settings)

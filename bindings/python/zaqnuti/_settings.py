@@ -39,7 +39,7 @@ class Settings:
 
         >>> Settings(rounds=51).checked()
         Traceback (most recent call last):
-        zaqnuti.Refused: refused by 3: a setting is not finite or above 1e9, or the rounds are not allowed
+        zaqnuti.Refused: refused by 3: a setting is not finite or above 1e9 in magnitude, or the rounds are not allowed
         """
         if isinstance(self.rounds, bool) or not isinstance(self.rounds, int) or not 0 <= self.rounds < 2**64:
             raise ValueError(f"rounds: {self.rounds!r}; expected a whole number from 0 to 50")

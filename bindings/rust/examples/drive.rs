@@ -19,7 +19,7 @@ const SKY: [(u8, u16, [f64; 3], f64); 10] = [
     (6, 31, [-21733507.0, -12228783.0, 12902198.0], 57.0),
 ];
 
-/// The carriers at a place, and their rates on the way there from `from`.
+/// Returns the carriers at a place, with their rates for a move there from `from`.
 fn epoch(from: Ecef, place: Ecef) -> Vec<Carrier> {
     let one = |&(constellation, svid, satellite, elevation)| Carrier {
         constellation,

@@ -50,7 +50,7 @@ struct Seen {
 }
 
 impl Seen {
-    /// The pseudorange as a fix wants it, less a correction.
+    /// Returns the pseudorange as a fix wants it, less a correction.
     fn observation(&self, correction: f64) -> Observation {
         Observation {
             constellation: self.constellation,
@@ -63,7 +63,7 @@ impl Seen {
         }
     }
 
-    /// The carrier as a displacement wants it: the ionosphere has the other sign there.
+    /// Returns the carrier as a displacement wants it: the ionosphere has the other sign there.
     fn carrier(&self) -> Carrier {
         Carrier {
             constellation: self.constellation,
@@ -104,7 +104,7 @@ struct Epoch {
     sky: Vec<Seen>,
 }
 
-/// The numbers of each line after the header.
+/// Returns the numbers of each line after the header.
 fn numbers(path: &Path) -> Result<Vec<Vec<f64>>, Error> {
     let text = fs::read_to_string(path).map_err(|e| format!("{}: {e}", path.display()))?;
     let lines = text.lines().skip(1);
@@ -112,7 +112,7 @@ fn numbers(path: &Path) -> Result<Vec<Vec<f64>>, Error> {
     lines.map(line).collect()
 }
 
-/// The epochs of a station.
+/// Returns the epochs of a station.
 fn epochs(path: &Path) -> Result<Vec<Epoch>, Error> {
     let mut out: Vec<Epoch> = Vec::new();
     for line in numbers(path)? {
@@ -144,7 +144,7 @@ fn epochs(path: &Path) -> Result<Vec<Epoch>, Error> {
 /// A place for each epoch that has one.
 type Places = Vec<Option<[f64; 3]>>;
 
-/// The fix of each epoch, less its corrections; a satellite without one is left out.
+/// Returns the fix of each epoch, less its corrections; a satellite without one is left out.
 fn fixes(rover: &[Epoch], correction: impl Fn(&Seen, f64) -> Option<f64>) -> Places {
     let [x, y, z] = BASE;
     let fix = |epoch: &Epoch| {
@@ -156,7 +156,7 @@ fn fixes(rover: &[Epoch], correction: impl Fn(&Seen, f64) -> Option<f64>) -> Pla
     rover.iter().map(fix).collect()
 }
 
-/// The displacement from each epoch with a fix to the next.
+/// Returns the displacement from each epoch with a fix to the next.
 fn displacements(rover: &[Epoch], fixed: &Places) -> Vec<Option<Vec3>> {
     let carriers =
         |epoch: &Epoch| -> Vec<Carrier> { epoch.sky.iter().map(Seen::carrier).collect() };
@@ -170,7 +170,7 @@ fn displacements(rover: &[Epoch], fixed: &Places) -> Vec<Option<Vec3>> {
     rover.windows(2).zip(fixed).map(moved).collect()
 }
 
-/// The corrections of every other epoch of the base, whose satellites are where it saw them.
+/// Returns the corrections of every other epoch of the base, whose satellites are where it saw them.
 fn corrections(base: &[Epoch]) -> Result<Corrections, Error> {
     let mut table = Corrections::new(&differential::Settings::default());
     for Epoch { tow, sky } in base.iter().step_by(2) {
@@ -181,7 +181,7 @@ fn corrections(base: &[Epoch]) -> Result<Corrections, Error> {
     Ok(table)
 }
 
-/// The track through fixes and displacements.
+/// Returns the track through fixes and displacements.
 fn track(fixed: &Places, moved: &[Option<Vec3>]) -> Result<Places, Error> {
     let anchor = |(index, at): (usize, &Option<[f64; 3]>)| {
         at.map(|[x, y, z]| Anchor {
@@ -203,14 +203,14 @@ fn track(fixed: &Places, moved: &[Option<Vec3>]) -> Result<Places, Error> {
     Ok(points.iter().map(|p| Some([p.x, p.y, p.z])).collect())
 }
 
-/// The root of the mean square of how far places are from the truth.
+/// Returns the root of the mean square of how far places are from the truth.
 fn error(places: &Places, truth: [f64; 3]) -> f64 {
     let square = |p: &[f64; 3]| (0..3).map(|k| (p[k] - truth[k]).powi(2)).sum::<f64>();
     let squares: Vec<f64> = places.iter().flatten().map(square).collect();
     (squares.iter().sum::<f64>() / squares.len() as f64).sqrt()
 }
 
-/// The places around the truth.
+/// Returns the places around the truth.
 fn picture(levels: &[(&str, &Places, &'static str)]) -> Chart {
     let plane = Plane::at(ROVER);
     let off = |p: &[f64; 3]| plane.parts([0, 1, 2].map(|k| p[k] - ROVER[k]));

@@ -80,7 +80,7 @@ impl Default for Settings {
     }
 }
 
-/// A signal at a time, of which [`Corrections::at_each`] tells the correction.
+/// A signal at a time, as [`Corrections::at_each`] takes it.
 #[derive(Clone, Copy, Debug, PartialEq)]
 pub struct Signal {
     /// Constellation.
@@ -114,7 +114,7 @@ pub struct Signal {
 ///     clock: 0.0,
 ///     modelled: 0.0,
 /// });
-/// // What the base measures where the path to satellite 8 is so much too long.
+/// // What the base measures if the path to satellite 8 is too long by `error`.
 /// let epoch = |tow, error| {
 ///     let metres = |position| robust::geometry(position, base).map_or(0.0, |sight| sight.1);
 ///     let range = |(svid, position)| BaseRange {
@@ -148,12 +148,12 @@ pub struct Corrections {
 }
 
 impl Corrections {
-    /// No corrections yet, with room for 2,048 samples.
+    /// Returns an empty table with room for 2,048 samples.
     pub fn new(set: &Settings) -> Self {
         Self::with_capacity(SAMPLES, set)
     }
 
-    /// No corrections yet, with room for so many samples.
+    /// Returns an empty table with room for so many samples.
     pub fn with_capacity(samples: usize, set: &Settings) -> Self {
         let room = samples.min(SAMPLES);
         Self {
@@ -170,7 +170,7 @@ impl Corrections {
         }
     }
 
-    /// The corrections of one base epoch more; `None` for the states adds nothing.
+    /// Adds the corrections of a base epoch; `None` for the states adds nothing.
     pub fn add(
         &mut self,
         epoch: &BaseEpoch,
@@ -238,7 +238,7 @@ impl Corrections {
         answered(number)
     }
 
-    /// The correction of one signal at one time, linearly interpolated.
+    /// Returns the correction of a signal at a time, linearly interpolated.
     ///
     /// [`Refusal::NoCorrection`] outside the tracked span or across too long a gap.
     pub fn at(&self, constellation: u8, svid: u16, band: u32, tow: f64) -> Result<f64, Refusal> {
@@ -274,10 +274,10 @@ impl Corrections {
         Ok(metres)
     }
 
-    /// As [`Corrections::at`] for each signal and time, where the table is tested only once: an
-    /// epoch's signals are best asked together.
+    /// Like [`Corrections::at`] for each signal and time, with the table checked only once: ask for all
+    /// signals of an epoch together.
     ///
-    /// The refusal outside is one of the table; those inside are of their own places.
+    /// The outer refusal is the table's; the inner ones belong to their signals.
     pub fn at_each(&self, asked: &[Signal]) -> Result<Vec<Result<f64, Refusal>>, Refusal> {
         let (c, v) = (
             column(asked, |s| s.constellation),
@@ -326,10 +326,10 @@ impl Corrections {
         Ok(places.map(|(n, x)| answered(n).map(|()| x)).collect())
     }
 
-    /// Of each signal's samples before a time of week only the last is kept, so that the table
-    /// lasts: [`Corrections::at`] that time or later answers as if nothing had been dropped.
+    /// Drops the samples before a time of week, keeping the last of each signal. [`Corrections::at`]
+    /// that time or later answers as if nothing had been dropped.
     ///
-    /// [`Refusal::BadDropTime`] where the time is not finite.
+    /// [`Refusal::BadDropTime`] if the time is not finite.
     pub fn forget(&mut self, tow: f64) -> Result<(), Refusal> {
         // SAFETY: each column has its length beside it, and the table is ours alone.
         let number = unsafe {
@@ -356,19 +356,19 @@ impl Corrections {
         answered(number)
     }
 
-    /// How many correction samples in total.
+    /// Returns how many samples there are.
     pub fn samples(&self) -> usize {
         self.samples
     }
 
-    /// How many satellite signals carry a correction.
+    /// Returns how many signals have samples.
     pub fn satellites(&self) -> usize {
         self.blocks
     }
 }
 
-/// The bands of a stored table of at most 2,048 samples whose column has 8 bits for each, as the
-/// column of 32 bits that the calls of [`sys`] take.
+/// Widens the bands of a stored table of at most 2,048 samples from 8 bits to the 32 bits that the
+/// calls of [`sys`] take.
 ///
 /// ```
 /// assert_eq!(zaqnuti::differential::widen_bands(&[1, 255, 7])?, [1, 255, 7]);
@@ -390,8 +390,8 @@ pub fn widen_bands(narrow: &[u8]) -> Result<Vec<u32>, Refusal> {
     Ok(wide)
 }
 
-/// The corrections of all epochs of a base station, from the states that the rover knows at each
-/// time of week; an epoch without states is skipped.
+/// Returns the corrections of all epochs of a base station, from the states that the rover knows at
+/// each time of week; epochs without states are skipped.
 pub fn build<F>(
     base: &Base,
     rover: [f64; 3],

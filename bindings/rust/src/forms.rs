@@ -1,5 +1,5 @@
-//! The two forms of a table of corrections, each made of the other: a signal for each sample, as
-//! tables were stored before 0.5.0, and a directory with one block of samples for each signal.
+//! Conversions between the two forms of a table of corrections: a signal for each sample, as tables
+//! were stored before 0.5.0, and a directory with one block of samples for each signal.
 
 use alloc::vec;
 use alloc::vec::Vec;
@@ -33,7 +33,7 @@ pub struct Directory {
     pub count: Vec<usize>,
 }
 
-/// The directory of a sorted table, which shares its times and corrections.
+/// Returns the directory of a sorted table; times and corrections are shared.
 ///
 /// ```
 /// use zaqnuti::forms::{directory_of, signals_of, Signals};
@@ -96,8 +96,8 @@ pub fn directory_of(signals: &Signals, time: &[f64], metres: &[f64]) -> Result<D
     Ok(out)
 }
 
-/// The signals of the samples of a table that has a directory. The capacity is that of the shortest
-/// column, so the directory's columns count with as many places as there are samples.
+/// Returns the signals of the samples of a table that has a directory. The shortest column is the
+/// capacity, so the directory's columns are taken to have as many places as there are samples.
 pub fn signals_of(directory: &Directory, time: &[f64], metres: &[f64]) -> Result<Signals, Refusal> {
     let n = time.len();
     let m = directory.constellation.len();

@@ -14,8 +14,7 @@ pub struct Ned {
     pub d: f64,
 }
 
-/// A displacement at a place, along north, east and down. It is worked out without angles, and is
-/// finite.
+/// Returns a displacement at a place as north, east and down, all finite. No angles are used.
 ///
 /// ```
 /// use zaqnuti::frames::north_east_down;
@@ -26,7 +25,7 @@ pub struct Ned {
 /// let moved = north_east_down(place, Vec3::new(1.0, 2.0, 3.0))?;
 /// assert_eq!((moved.n, moved.e, moved.d), (3.0, 2.0, -1.0));
 ///
-/// // On the earth's axis there is a north all the same, beyond 1e9 m there is none.
+/// // On the earth's axis there is an answer too; beyond 1e9 m there is none.
 /// assert!(north_east_down(Ecef::new(0.0, 0.0, 6356752.0), Vec3::new(1.0, 2.0, 3.0)).is_ok());
 /// let far = north_east_down(Ecef::new(2e9, 0.0, 0.0), Vec3::new(0.0, 0.0, 0.0));
 /// assert_eq!(far.unwrap_err(), Refusal::NotTurned);
@@ -35,7 +34,7 @@ pub struct Ned {
 ///
 /// # Errors
 ///
-/// [`Refusal::NotTurned`] where a coordinate of either is not finite or above 1e9 in magnitude, or a
+/// [`Refusal::NotTurned`] if a coordinate of either is not finite or above 1e9 in magnitude, or a
 /// component of the result is not finite.
 pub fn north_east_down(place: Ecef, displacement: Vec3) -> Result<Ned, Refusal> {
     let by = [displacement.x, displacement.y, displacement.z];

@@ -5,31 +5,31 @@
 //! | [`wls`] | the position from one epoch of pseudoranges |
 //! | [`tdcp`] | the displacement between two epochs of carrier phases |
 //! | [`time`] | epoch times in whole nanoseconds |
-//! | [`trip`] | odometer beside carrier distance: the totals of a trip |
+//! | [`trip`] | carrier distance beside the odometer: the totals of a trip |
 //! | [`mileage`] | a drive's distance, whichever of its epochs were refused |
 //! | [`wire`] | carrier records as bytes, and the displacement between two epochs of them |
-//! | [`frames`] | displacements along north, east and down |
+//! | [`frames`] | displacements as north, east and down |
 //! | [`line`](mod@line) | the displacement of a text in the line form |
 //! | [`differential`] | corrections from a base station |
 //! | [`smooth`](mod@smooth) | the track that fits anchors and links |
 //! | [`robust`], [`math`] | the pieces, each a call of its own |
 //! | [`sys`] | the entry points themselves, as `include/zaqnuti.h` has them |
 //!
-//! Where the Rust gives `None`, a call here gives the [`Refusal`] with its number. Every number is
-//! decided by the library, too many records and too short a buffer included: the functions here
-//! only lay out columns.
+//! Where the Rust returns `None`, a call here returns the [`Refusal`] with its number. The library
+//! decides every number, too many records and too short a buffer included: the functions here only
+//! lay out columns.
 //!
 //! ```
 //! use zaqnuti::{smooth::{self, Anchor, Link}, Refusal, Vec3};
 //!
-//! // Two fixes of some metres, and between them a displacement of centimetres.
+//! // Two fixes, good to some metres, and between them a displacement, good to centimetres.
 //! let anchor = |index, x| Anchor { index, position: Vec3::new(x, 0.0, 0.0), sigma: Vec3::new(2.0, 2.0, 2.0) };
 //! let link = Link { index: 0, delta: Vec3::new(10.0, 0.0, 0.0), sigma: Vec3::new(0.02, 0.02, 0.02) };
 //! let set = smooth::Settings::default();
 //! let track = smooth::smooth(2, &[anchor(0, 1.0), anchor(1, 9.0)], &[link], &set)?;
 //! assert!((track[0].x - 0.0).abs() < 0.01 && (track[1].x - 10.0).abs() < 0.01);
 //!
-//! // Without an anchor there is nothing to hang it on.
+//! // Without an anchor the track is refused.
 //! let none = smooth::smooth(2, &[], &[link], &set);
 //! assert_eq!(none.unwrap_err(), Refusal::BadTrack);
 //! assert_eq!(Refusal::BadTrack.number(), 6);
@@ -37,7 +37,7 @@
 //! ```
 //!
 //! The library is `no_std` and needs `alloc` for tables and tracks; the feature `std`, on by
-//! default, builds the command `zaqnuti` beside it.
+//! default, also builds the command `zaqnuti`.
 #![no_std]
 #![warn(missing_docs)]
 #![deny(unsafe_op_in_unsafe_fn)]
@@ -63,7 +63,7 @@ pub mod wls;
 pub use math::Vec3;
 pub use refusal::Refusal;
 
-/// The most records of an epoch, states beside it, rows or residuals.
+/// The most records of an epoch, states with it, rows or residuals.
 pub const RECORDS: usize = 64;
 /// The most samples of a table of corrections.
 pub const SAMPLES: usize = 2048;
@@ -83,7 +83,7 @@ pub const INTERVAL: f64 = 604_800.0;
 pub const WEEKS: u32 = 15_000;
 /// The most bytes of a text in the line form.
 pub const TEXT: usize = 32_768;
-/// The bytes that are always enough for its answer.
+/// The bytes that always suffice for its answer.
 pub const LINE: usize = 59;
 
 /// A place, earth-centred and earth-fixed, metres.
@@ -98,18 +98,18 @@ pub struct Ecef {
 }
 
 impl Ecef {
-    /// The place of three coordinates.
+    /// Returns the place of three coordinates.
     pub const fn new(x: f64, y: f64, z: f64) -> Self {
         Self { x, y, z }
     }
 
-    /// Its coordinates.
+    /// Returns its coordinates.
     pub const fn coordinates(self) -> [f64; 3] {
         [self.x, self.y, self.z]
     }
 }
 
-/// A column of the first 64 records; a longer epoch is refused by its count.
+/// Collects a column of the first 64 records; a longer epoch is refused by its count.
 fn column<R, T: Copy + Default>(records: &[R], of: impl Fn(&R) -> T) -> [T; RECORDS] {
     let mut out = [T::default(); RECORDS];
     for (place, record) in out.iter_mut().zip(records) {
@@ -118,7 +118,7 @@ fn column<R, T: Copy + Default>(records: &[R], of: impl Fn(&R) -> T) -> [T; RECO
     out
 }
 
-/// As `column`, of N values for each record.
+/// Like `column`, with N values for each record.
 fn columns<R, const N: usize>(records: &[R], of: impl Fn(&R) -> [f64; N]) -> [[f64; N]; RECORDS] {
     let mut out = [[0.0; N]; RECORDS];
     for (place, record) in out.iter_mut().zip(records) {

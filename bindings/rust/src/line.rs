@@ -2,7 +2,7 @@
 
 use crate::{sys, LINE};
 
-/// The line of an answer, with its LF: `A,used,screened,dx,dy,dz` or `R,number`.
+/// An answer line with its LF: `A,used,screened,dx,dy,dz` or `R,number`.
 #[derive(Clone, Copy, Debug, PartialEq, Eq)]
 pub struct Line {
     bytes: [u8; LINE],
@@ -10,13 +10,13 @@ pub struct Line {
 }
 
 impl Line {
-    /// Its bytes, all of them ASCII.
+    /// Returns its bytes, all of them ASCII.
     pub fn as_bytes(&self) -> &[u8] {
         &self.bytes[..self.length]
     }
 }
 
-/// The line that answers a text of `S`, `P` and `C` lines.
+/// Answers a text of `S`, `P` and `C` lines.
 ///
 /// A text above [`TEXT`](crate::TEXT) bytes, or one that breaks the form, is answered by `R,1`.
 ///
@@ -25,8 +25,17 @@ impl Line {
 /// ```
 pub fn answer(text: &[u8]) -> Line {
     let mut bytes = [0; LINE];
-    // SAFETY: each pointer has its length beside it, and the line is ours alone.
-    let length =
-        unsafe { sys::zaqnuti_line(text.as_ptr(), text.len(), bytes.as_mut_ptr(), bytes.len()) };
+    let mut length = 0;
+    // SAFETY: each pointer has its length beside it, and the line and its length are ours alone.
+    // `LINE` bytes are always enough, so that the call isn't refused.
+    unsafe {
+        sys::zaqnuti_line(
+            text.as_ptr(),
+            text.len(),
+            bytes.as_mut_ptr(),
+            bytes.len(),
+            &mut length,
+        )
+    };
     Line { bytes, length }
 }

@@ -15,7 +15,7 @@ pub struct Vec3 {
 }
 
 impl Vec3 {
-    /// The vector of three floats.
+    /// Returns the vector of three floats.
     pub const fn new(x: f64, y: f64, z: f64) -> Self {
         Self { x, y, z }
     }
@@ -28,7 +28,7 @@ pub struct Cholesky {
 }
 
 impl Cholesky {
-    /// The factor of a matrix, of which the lower triangle is read.
+    /// Factors a matrix; only its lower triangle is read.
     pub fn new(matrix: &[[f64; 9]; 9]) -> Result<Self, Refusal> {
         let mut lower = [[0.0; 9]; 9];
         // SAFETY: both point to 81 floats, and the second is ours alone.
@@ -36,12 +36,12 @@ impl Cholesky {
         Ok(Self { lower })
     }
 
-    /// The lower triangle.
+    /// Returns the lower triangle.
     pub const fn lower(&self) -> &[[f64; 9]; 9] {
         &self.lower
     }
 
-    /// The solution of `L Lᵀ x = b`.
+    /// Solves `L Lᵀ x = b`.
     pub fn solve(&self, b: &[f64; 9]) -> [f64; 9] {
         let mut x = [0.0; 9];
         // SAFETY: each points to as many floats as its type says, and the last is ours alone.
@@ -63,26 +63,26 @@ macro_rules! numbers {
 }
 
 numbers! {
-    /// The correctly rounded root.
+    /// Returns the correctly rounded root.
     sqrt = zaqnuti_sqrt(x: f64) -> f64;
-    /// Whether the pattern a comes before b or is b, in IEEE 754's totalOrder.
+    /// Checks that the pattern a comes before b or is b, in IEEE 754's totalOrder.
     before = zaqnuti_before(a: u64, b: u64) -> bool;
-    /// The bits of x, 7FF8000000000000 of every NaN.
+    /// Returns the bits of x, 7FF8000000000000 for every NaN.
     pattern = zaqnuti_pattern(x: f64) -> u64;
-    /// x times x.
+    /// Returns x times x.
     square = zaqnuti_square(x: f64) -> f64;
-    /// The root of a·a + b·b.
+    /// Returns the root of a·a + b·b.
     hypot = zaqnuti_hypot(a: f64, b: f64) -> f64;
-    /// The sine of a travel angle, a NaN above 2^-10.
+    /// Returns the sine of a travel angle, a NaN above 2^-10.
     travel_sine = zaqnuti_travel_sine(t: f64) -> f64;
-    /// The cosine of a travel angle, a NaN above 2^-10.
+    /// Returns the cosine of a travel angle, a NaN above 2^-10.
     travel_cosine = zaqnuti_travel_cosine(t: f64) -> f64;
-    /// Degrees as radians.
+    /// Converts degrees to radians.
     radians = zaqnuti_radians(x: f64) -> f64;
-    /// The sine of an elevation in radians.
+    /// Returns the sine of an elevation in radians.
     elevation_sine = zaqnuti_elevation_sine(t: f64) -> f64;
-    /// x with its sign bit clear.
+    /// Returns x with its sign bit clear.
     abs = zaqnuti_abs(x: f64) -> f64;
-    /// The larger of a and b; one NaN gives the other operand.
+    /// Returns the larger of a and b; one NaN gives the other operand.
     max = zaqnuti_max(a: f64, b: f64) -> f64;
 }

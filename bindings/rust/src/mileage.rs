@@ -1,8 +1,8 @@
 //! A drive's distance, which does not depend on which epochs were refused.
 //!
-//! A [trip](crate::trip) leaves a refused epoch and its pulses out, so that its fuel figure depends on
-//! how much sky a van loses. A mileage keeps all pulses, adds the lengths of well rated epochs, and
-//! multiplies by all pulses over the pulses of the epochs counted.
+//! A [trip](crate::trip) leaves out refused epochs and their pulses, so its fuel figure depends on how
+//! much sky a van loses. A mileage keeps all pulses, adds the lengths of well rated epochs, and
+//! multiplies by all pulses over the pulses of those epochs.
 
 use crate::refusal::answered;
 use crate::{sys, Refusal, Vec3};
@@ -10,10 +10,10 @@ use crate::{sys, Refusal, Vec3};
 /// The most epochs of a mileage.
 pub const EPOCHS: u64 = 65_535;
 
-/// Returns the predicted error of a displacement in metres, `(pdop * max(chi, 1)) * 0.01`, or NaN where
-/// an argument is NaN or below 0.
+/// Returns the predicted error of a displacement in metres, `(pdop * max(chi, 1)) * 0.01`, or NaN if an
+/// argument is NaN or below 0.
 ///
-/// A mileage counts a displacement where this is below its limit and both arguments are finite.
+/// A mileage counts a displacement if this is below its limit and both arguments are finite.
 pub fn predicted_error(chi: f64, pdop: f64) -> f64 {
     if chi >= 0.0 && pdop >= 0.0 {
         pdop * chi.max(1.0) * 0.01
@@ -22,12 +22,12 @@ pub fn predicted_error(chi: f64, pdop: f64) -> f64 {
     }
 }
 
-/// One epoch of a drive: its displacement with its quality or why that was refused, and its pulses.
+/// One epoch of a drive: its displacement with its quality, or the refusal, and its pulses.
 #[derive(Clone, Copy, Debug, PartialEq)]
 pub struct Epoch {
     /// The displacement, or its refusal.
     pub moved: Result<Moved, Refusal>,
-    /// The odometer's pulses, which count whatever became of the displacement.
+    /// The odometer's pulses, which count whether or not the displacement was refused.
     pub pulses: u16,
 }
 
@@ -42,7 +42,7 @@ pub struct Moved {
     pub pdop: f64,
 }
 
-/// A mileage, which its calls alone change: ten words, as the firmware holds them.
+/// A mileage: ten words, as the firmware holds them, changed only by its calls.
 ///
 /// ```
 /// use zaqnuti::mileage::{Epoch, Mileage, Moved};
@@ -97,8 +97,8 @@ impl Mileage {
         Ok(Self { words })
     }
 
-    /// From its ten words, as `include/zaqnuti.h` lists them. Any may be given: a mileage out of its
-    /// bounds is refused where it is used.
+    /// Returns the mileage of ten words, as `include/zaqnuti.h` lists them. Any words may be given: a
+    /// mileage out of its bounds is refused when it is used.
     pub const fn from_words(words: [u64; 10]) -> Self {
         Self { words }
     }
@@ -112,7 +112,7 @@ impl Mileage {
     ///
     /// # Errors
     ///
-    /// [`Refusal::BadTrip`] where an accepted displacement is not finite or longer than 1,000 m, the
+    /// [`Refusal::BadTrip`] if an accepted displacement is not finite or longer than 1,000 m, the
     /// mileage is full, or it is out of its bounds. The mileage is then unchanged.
     pub fn add(&mut self, epoch: &Epoch) -> Result<(), Refusal> {
         let (number, delta, quality) = match epoch.moved {
@@ -129,11 +129,11 @@ impl Mileage {
         })
     }
 
-    /// Adds epochs one after the other, and returns how many there were.
+    /// Adds epochs in turn and returns how many there were.
     ///
     /// # Errors
     ///
-    /// That of the first addition that is refused. The epochs before it are then added.
+    /// That of the first refused addition. The epochs before it have been added.
     pub fn extend(&mut self, epochs: impl IntoIterator<Item = Epoch>) -> Result<u64, Refusal> {
         let mut added = 0;
         for epoch in epochs {
@@ -147,7 +147,7 @@ impl Mileage {
     ///
     /// # Errors
     ///
-    /// [`Refusal::BadTrip`] where the mileage is out of its bounds.
+    /// [`Refusal::BadTrip`] if the mileage is out of its bounds.
     pub fn report(&self) -> Result<Report, Refusal> {
         let mut report = [0; 7];
         // SAFETY: the first is read, and the last is ours alone.
@@ -164,13 +164,13 @@ impl Mileage {
         })
     }
 
-    /// Returns the distance in millimetres: those of counted epochs times all pulses by the pulses of
-    /// counted epochs, rounded down.
+    /// Returns the distance in millimetres: those of counted epochs times all pulses, divided by the
+    /// pulses of counted epochs and rounded down.
     ///
     /// # Errors
     ///
-    /// [`Refusal::BadTrip`] where the mileage is out of its bounds or the distance is above 2^63 - 1 mm,
-    /// [`Refusal::NoDistance`] where no pulse was counted.
+    /// [`Refusal::BadTrip`] if the mileage is out of its bounds or the distance is above 2^63 - 1 mm,
+    /// [`Refusal::NoDistance`] if no pulse was counted.
     pub fn distance(&self) -> Result<u64, Refusal> {
         let mut millimetres = 0;
         // SAFETY: the first is read, and the last is ours alone.
@@ -178,11 +178,11 @@ impl Mileage {
         Ok(millimetres)
     }
 
-    /// Returns the millilitres for a kilometre of that distance, rounded down.
+    /// Returns the millilitres per kilometre of that distance, rounded down.
     ///
     /// # Errors
     ///
-    /// Those of [`Mileage::distance`], and [`Refusal::NoDistance`] where the distance is 0.
+    /// Those of [`Mileage::distance`], and [`Refusal::NoDistance`] if the distance is 0.
     pub fn fuel(&self, millilitres: u32) -> Result<u64, Refusal> {
         let mut per_km = 0;
         // SAFETY: the first is read, and the last is ours alone.

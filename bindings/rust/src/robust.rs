@@ -45,25 +45,25 @@ impl Clocks {
         Self { slot, count }
     }
 
-    /// The column for a constellation, or `usize::MAX` if it was not assigned.
+    /// Returns the column for a constellation, or `usize::MAX` if it was not assigned.
     pub fn slot(&self, constellation: u8) -> usize {
         // SAFETY: it points to eight slots.
         unsafe { sys::zaqnuti_clocks_slot(&self.slot, constellation) }
     }
 
-    /// How many distinct constellations were seen.
+    /// Returns how many distinct constellations were seen.
     pub fn count(&self) -> usize {
         self.count
     }
 
-    /// Total unknowns: three position components plus the clocks.
+    /// Returns the number of unknowns: three position components plus the clocks.
     pub fn unknowns(&self) -> usize {
         // SAFETY: it points to eight slots.
         unsafe { sys::zaqnuti_clocks_unknowns(&self.slot, self.count) }
     }
 }
 
-/// Robust centre and scale of a residual sample: the median, and 1.4826·MAD.
+/// Returns robust centre and scale of a residual sample: the median, and 1.4826·MAD.
 pub fn centre_scale(residuals: &[f64]) -> Result<(f64, f64), Refusal> {
     // One more than is allowed, so that the library refuses a longer sample.
     let patterns: [u64; crate::RECORDS + 1] =
@@ -81,7 +81,7 @@ pub fn centre_scale(residuals: &[f64]) -> Result<(f64, f64), Refusal> {
     Ok((out[0], out[1]))
 }
 
-/// One Gauss-Newton step of the Huber-weighted normal equations.
+/// Returns one Gauss-Newton step of the Huber-weighted normal equations.
 pub fn step(rows: &[Row], unknowns: usize, huber: f64) -> Result<[f64; NX], Refusal> {
     let units = columns(rows, |r| r.unit);
     let units = units.as_flattened();
@@ -110,14 +110,14 @@ pub fn step(rows: &[Row], unknowns: usize, huber: f64) -> Result<[f64; NX], Refu
     Ok(dx)
 }
 
-/// Elevation-dependent one-sigma, `σ = a + b/sin(el)`, degrees in.
+/// Returns the elevation-dependent one-sigma, `σ = a + b/sin(el)`, from degrees.
 pub fn elevation_sigma(elevation: f64, a: f64, b: f64) -> f64 {
     // SAFETY: it takes numbers alone.
     unsafe { sys::zaqnuti_elevation_sigma(elevation, a, b) }
 }
 
-/// The unit vector from the satellite to the receiver, and the range in metres, with the earth's
-/// turn during the signal's travel removed. Refused where the range is zero or not finite.
+/// Returns the unit vector from the satellite to the receiver, and the range in metres, with the
+/// earth's rotation during the signal's travel removed. Refused if the range is zero or not finite.
 pub fn geometry(satellite: [f64; 3], at: crate::Ecef) -> Result<([f64; 3], f64), Refusal> {
     let mut out = [0.0; 4];
     // SAFETY: each points to as many floats as its type says, and the last is ours alone.

@@ -46,7 +46,7 @@ pub struct Link {
     pub sigma: Vec3,
 }
 
-/// The columns of anchors or links; more than 1,024 are refused by their count.
+/// Columns of anchors or links; more than 1,024 are refused by their count.
 struct Columns {
     index: Vec<usize>,
     value: Vec<f64>,
@@ -70,7 +70,7 @@ impl Columns {
     }
 }
 
-/// One position for each of n epochs.
+/// Returns one position for each of n epochs.
 ///
 /// Anchors and links may be given in any order, and an epoch may carry several of either.
 ///

@@ -1,27 +1,27 @@
-//! The entry points of the static library. `include/zaqnuti.h` says of each what it takes, gives, refuses and leaves.
+//! The entry points of the static library; `include/zaqnuti.h` documents each.
 //!
-//! A column is a pointer and a length in elements. What a call writes overlaps nothing else that is handed to it.
+//! A column is a pointer and a length in elements. Memory that a call writes must not overlap its other arguments.
 
 extern "C" {
-    /// The version of the library: 10000 major + 100 minor + patch.
+    /// Returns the library's version: 10000 major + 100 minor + patch.
     pub fn zaqnuti_version() -> u32;
-    /// The time of a week and a time of week, in nanoseconds.
+    /// Writes the time of a week and a time of week, in nanoseconds.
     pub fn zaqnuti_time(week: u32, tow: f64, nanos: *mut u64) -> u8;
-    /// The nanoseconds between two times.
+    /// Writes the nanoseconds between two times.
     pub fn zaqnuti_nanos_since(later: u64, earlier: u64, nanos: *mut i64) -> u8;
-    /// The seconds between two times.
+    /// Writes the seconds between two times.
     pub fn zaqnuti_seconds_since(later: u64, earlier: u64, seconds: *mut f64) -> u8;
-    /// A trip just started.
+    /// Starts a trip.
     pub fn zaqnuti_trip_start(per_km: u16, trip: *mut [u64; 6]) -> u8;
-    /// One epoch more for a trip.
+    /// Adds an epoch to a trip.
     pub fn zaqnuti_trip_add(trip: *mut [u64; 6], delta: *const [f64; 3], pulses: u16) -> u8;
-    /// The report of a trip.
+    /// Writes the report of a trip.
     pub fn zaqnuti_trip_report(trip: *const [u64; 6], report: *mut [u64; 4]) -> u8;
-    /// The fuel of a trip for a kilometre.
+    /// Writes a trip's fuel per kilometre.
     pub fn zaqnuti_trip_fuel(trip: *const [u64; 6], millilitres: u32, per_km: *mut u64) -> u8;
-    /// A mileage just started.
+    /// Starts a mileage.
     pub fn zaqnuti_mileage_start(limit: f64, mileage: *mut [u64; 10]) -> u8;
-    /// One epoch more for a mileage.
+    /// Adds an epoch to a mileage.
     pub fn zaqnuti_mileage_add(
         mileage: *mut [u64; 10],
         refused_by: u8,
@@ -29,23 +29,23 @@ extern "C" {
         quality: *const [f64; 2],
         pulses: u16,
     ) -> u8;
-    /// The report of a mileage.
+    /// Writes the report of a mileage.
     pub fn zaqnuti_mileage_report(mileage: *const [u64; 10], report: *mut [u64; 7]) -> u8;
-    /// The distance of a mileage.
+    /// Writes the distance of a mileage.
     pub fn zaqnuti_mileage_distance(mileage: *const [u64; 10], millimetres: *mut u64) -> u8;
-    /// The fuel of a mileage for a kilometre.
+    /// Writes a mileage's fuel per kilometre.
     pub fn zaqnuti_mileage_fuel(
         mileage: *const [u64; 10],
         millilitres: u32,
         per_km: *mut u64,
     ) -> u8;
-    /// A displacement at a place along north, east and down.
+    /// Writes a displacement as north, east and down at a place.
     pub fn zaqnuti_north_east_down(
         position: *const [f64; 3],
         displacement: *const [f64; 3],
         ned: *mut [f64; 3],
     ) -> u8;
-    /// A trip just started, with settings in force.
+    /// Starts a trip with settings in force.
     pub fn zaqnuti_trip_begin(
         settings: *const [f64; 5],
         rounds: usize,
@@ -54,7 +54,7 @@ extern "C" {
         in_force: *mut [f64; 5],
         in_force_rounds: *mut usize,
     ) -> u8;
-    /// New settings during a trip.
+    /// Changes the settings during a trip.
     pub fn zaqnuti_trip_settings(
         trip: *const [u64; 6],
         settings: *const [f64; 5],
@@ -62,7 +62,7 @@ extern "C" {
         in_force: *mut [f64; 5],
         in_force_rounds: *mut usize,
     ) -> u8;
-    /// A displacement under the settings in force, added to a trip.
+    /// Computes a displacement under the settings in force and adds it to a trip.
     pub fn zaqnuti_trip_displacement(
         trip: *mut [u64; 6],
         in_force: *const [f64; 5],
@@ -95,7 +95,7 @@ extern "C" {
         delta: *mut [f64; 3],
         counts: *mut [usize; 2],
     ) -> u8;
-    /// The receiver's position from one epoch, with what the fit says of itself.
+    /// Computes the receiver's position from one epoch, with the quality of the fit.
     pub fn zaqnuti_fix(
         constellation: *const u8,
         constellation_length: usize,
@@ -108,7 +108,7 @@ extern "C" {
         solution: *mut [f64; 5],
         used: *mut usize,
     ) -> u8;
-    /// The receiver's position alone.
+    /// Computes the receiver's position alone.
     pub fn zaqnuti_position(
         constellation: *const u8,
         constellation_length: usize,
@@ -120,7 +120,7 @@ extern "C" {
         rounds: usize,
         position: *mut [f64; 3],
     ) -> u8;
-    /// The displacement between two carrier epochs.
+    /// Computes the displacement between two carrier epochs.
     pub fn zaqnuti_displacement(
         previous_constellation: *const u8,
         previous_constellation_length: usize,
@@ -151,7 +151,7 @@ extern "C" {
         delta: *mut [f64; 3],
         counts: *mut [usize; 2],
     ) -> u8;
-    /// The displacement between two carrier epochs of known times.
+    /// Computes the displacement between two carrier epochs of known times.
     pub fn zaqnuti_displacement_between(
         previous_constellation: *const u8,
         previous_constellation_length: usize,
@@ -183,7 +183,7 @@ extern "C" {
         delta: *mut [f64; 3],
         counts: *mut [usize; 2],
     ) -> u8;
-    /// The displacement by GPS and Galileo on one band.
+    /// Computes the displacement by GPS and Galileo on one band.
     pub fn zaqnuti_city_displacement(
         previous_constellation: *const u8,
         previous_constellation_length: usize,
@@ -215,7 +215,7 @@ extern "C" {
         delta: *mut [f64; 3],
         counts: *mut [usize; 2],
     ) -> u8;
-    /// The displacement with the quality of its fit.
+    /// Computes the displacement with the quality of its fit.
     pub fn zaqnuti_displacement_rated(
         previous_constellation: *const u8,
         previous_constellation_length: usize,
@@ -247,7 +247,7 @@ extern "C" {
         quality: *mut [f64; 2],
         counts: *mut [usize; 2],
     ) -> u8;
-    /// The displacement by GPS and Galileo on one band, with the quality of its fit.
+    /// Computes the displacement by GPS and Galileo on one band, with the quality of its fit.
     pub fn zaqnuti_city_displacement_rated(
         previous_constellation: *const u8,
         previous_constellation_length: usize,
@@ -280,14 +280,15 @@ extern "C" {
         quality: *mut [f64; 2],
         counts: *mut [usize; 2],
     ) -> u8;
-    /// The displacement of a text in the line form.
+    /// Answers a text in the line form.
     pub fn zaqnuti_line(
         text: *const u8,
         text_length: usize,
         line: *mut u8,
         line_length: usize,
-    ) -> usize;
-    /// Carrier records written as bytes.
+        written: *mut usize,
+    ) -> u8;
+    /// Writes carrier records as bytes.
     pub fn zaqnuti_write_records(
         constellation: *const u8,
         constellation_length: usize,
@@ -303,7 +304,7 @@ extern "C" {
         bytes: *mut u8,
         bytes_length: usize,
     ) -> u8;
-    /// Carrier records read from bytes.
+    /// Reads carrier records from bytes.
     pub fn zaqnuti_read_records(
         bytes: *const u8,
         bytes_length: usize,
@@ -319,7 +320,7 @@ extern "C" {
         floats_length: usize,
         count: *mut usize,
     ) -> u8;
-    /// The displacement between two slices of carrier records.
+    /// Computes the displacement between two slices of carrier records.
     pub fn zaqnuti_displacement_records(
         previous: *const u8,
         previous_length: usize,
@@ -338,7 +339,7 @@ extern "C" {
         result: *mut u8,
         result_length: usize,
     ) -> u8;
-    /// One base epoch added to a table of corrections.
+    /// Adds a base epoch to a table of corrections.
     pub fn zaqnuti_add_epoch(
         dc: *mut u8,
         dc_length: usize,
@@ -382,7 +383,7 @@ extern "C" {
         max: f64,
         on: *const [bool; 8],
     ) -> u8;
-    /// A correction from a table.
+    /// Queries a table for one correction.
     pub fn zaqnuti_query(
         dc: *const u8,
         dc_length: usize,
@@ -407,7 +408,7 @@ extern "C" {
         t: f64,
         metres: *mut f64,
     ) -> u8;
-    /// Corrections from a table that is tested once.
+    /// Queries a table, checked once, for many corrections.
     pub fn zaqnuti_queries(
         dc: *const u8,
         dc_length: usize,
@@ -440,7 +441,7 @@ extern "C" {
         metres: *mut f64,
         metres_length: usize,
     ) -> u8;
-    /// Of each signal's samples before a time only the last is kept.
+    /// Drops the samples before a time, keeping the last of each signal.
     pub fn zaqnuti_forget(
         dc: *const u8,
         dc_length: usize,
@@ -460,7 +461,7 @@ extern "C" {
         n: *mut usize,
         time: f64,
     ) -> u8;
-    /// The bands of a table that was written with 8 bits for each.
+    /// Widens the bands of a table that was written with 8 bits for each.
     pub fn zaqnuti_widen_bands(
         narrow: *const u8,
         narrow_length: usize,
@@ -468,7 +469,7 @@ extern "C" {
         wide: *mut u32,
         wide_length: usize,
     ) -> u8;
-    /// The directory of a table that has a signal for each sample.
+    /// Writes the directory of a table that has a signal for each sample.
     pub fn zaqnuti_directory_of(
         cs: *const u8,
         cs_length: usize,
@@ -493,7 +494,7 @@ extern "C" {
         dn_length: usize,
         m: *mut usize,
     ) -> u8;
-    /// The signals of the samples of a table that has a directory.
+    /// Writes the signals of the samples of a table that has a directory.
     pub fn zaqnuti_signals_of(
         dc: *const u8,
         dc_length: usize,
@@ -518,7 +519,7 @@ extern "C" {
         bs: *mut u32,
         bs_length: usize,
     ) -> u8;
-    /// The smoothed track.
+    /// Computes the smoothed track.
     pub fn zaqnuti_smooth(
         n: usize,
         anchors: usize,
@@ -542,7 +543,7 @@ extern "C" {
         work: *mut f64,
         work_length: usize,
     ) -> u8;
-    /// One round of the robust least squares.
+    /// Computes one round of the robust least squares.
     pub fn zaqnuti_round(
         units: *const f64,
         units_length: usize,
@@ -557,49 +558,49 @@ extern "C" {
         huber: f64,
         dx: *mut [f64; 9],
     ) -> u8;
-    /// Centre and scale of residuals, given by their bits.
+    /// Computes centre and scale of residuals, given by their bits.
     pub fn zaqnuti_centre(residuals: *const u64, residuals_length: usize, out: *mut [f64; 2])
         -> u8;
-    /// The one-sigma of an elevation in degrees.
+    /// Returns the one-sigma of an elevation in degrees.
     pub fn zaqnuti_elevation_sigma(elevation: f64, a: f64, b: f64) -> f64;
-    /// The unit vector from the satellite to the receiver, and the range.
+    /// Computes the unit vector from the satellite to the receiver, and the range.
     pub fn zaqnuti_geometry(
         satellite: *const [f64; 3],
         receiver: *const [f64; 3],
         out: *mut [f64; 4],
     ) -> u8;
-    /// The Cholesky factor of nine rows of nine.
+    /// Computes the Cholesky factor of nine rows of nine.
     pub fn zaqnuti_factor(a: *const [[f64; 9]; 9], l: *mut [[f64; 9]; 9]) -> u8;
-    /// The solution of `l lᵀ x = b`.
+    /// Solves `l lᵀ x = b`.
     pub fn zaqnuti_solve(l: *const [[f64; 9]; 9], b: *const [f64; 9], x: *mut [f64; 9]);
-    /// The clocks of no constellation given.
+    /// Writes clocks without a constellation.
     pub fn zaqnuti_clocks_new(slot: *mut [usize; 8], count: *mut usize);
-    /// One constellation more.
+    /// Adds a constellation.
     pub fn zaqnuti_clocks_given(slot: *mut [usize; 8], count: *mut usize, constellation: u8);
-    /// The slot of a constellation.
+    /// Returns the slot of a constellation.
     pub fn zaqnuti_clocks_slot(slot: *const [usize; 8], constellation: u8) -> usize;
-    /// Three coordinates and the clocks.
+    /// Returns the number of unknowns: three coordinates and the clocks.
     pub fn zaqnuti_clocks_unknowns(slot: *const [usize; 8], count: usize) -> usize;
-    /// The square root, correctly rounded.
+    /// Returns the square root, correctly rounded.
     pub fn zaqnuti_sqrt(x: f64) -> f64;
-    /// Whether a comes before b or is b, in IEEE 754's totalOrder.
+    /// Checks that a comes before b or is b, in IEEE 754's totalOrder.
     pub fn zaqnuti_before(a: u64, b: u64) -> bool;
-    /// The bits of x, 7FF8000000000000 of every NaN.
+    /// Returns the bits of x, 7FF8000000000000 for every NaN.
     pub fn zaqnuti_pattern(x: f64) -> u64;
-    /// x times x.
+    /// Returns x times x.
     pub fn zaqnuti_square(x: f64) -> f64;
-    /// The root of a·a + b·b.
+    /// Returns the root of a·a + b·b.
     pub fn zaqnuti_hypot(a: f64, b: f64) -> f64;
-    /// The sine of a travel angle.
+    /// Returns the sine of a travel angle.
     pub fn zaqnuti_travel_sine(t: f64) -> f64;
-    /// The cosine of a travel angle.
+    /// Returns the cosine of a travel angle.
     pub fn zaqnuti_travel_cosine(t: f64) -> f64;
-    /// Degrees as radians.
+    /// Converts degrees to radians.
     pub fn zaqnuti_radians(x: f64) -> f64;
-    /// The sine of an elevation in radians.
+    /// Returns the sine of an elevation in radians.
     pub fn zaqnuti_elevation_sine(t: f64) -> f64;
-    /// x with its sign bit clear.
+    /// Returns x with its sign bit clear.
     pub fn zaqnuti_abs(x: f64) -> f64;
-    /// The larger of a and b.
+    /// Returns the larger of a and b.
     pub fn zaqnuti_max(a: f64, b: f64) -> f64;
 }

@@ -60,8 +60,8 @@ impl Default for Settings {
 }
 
 impl Settings {
-    /// What suited a geodetic receiver on a roof with 30 s between its epochs, over which the mean
-    /// of two rates is rough; the default is what suits a phone each second.
+    /// Returns what suited a geodetic receiver on a roof at 30 s, over which the mean of two rates is
+    /// rough. The default suits a phone at one second.
     pub const fn geodetic() -> Self {
         Self {
             screen: 2.0,
@@ -74,7 +74,7 @@ impl Settings {
         }
     }
 
-    /// Its floats, as the entry points take them.
+    /// Returns its floats, as the entry points take them.
     pub(crate) const fn floats(&self) -> [f64; 5] {
         [
             self.screen,
@@ -86,7 +86,7 @@ impl Settings {
     }
 }
 
-/// What a solved epoch pair yields.
+/// The displacement of a pair of epochs.
 #[derive(Clone, Copy, Debug, PartialEq)]
 pub struct Delta {
     /// Position change over the interval, ECEF metres, finite.
@@ -100,16 +100,16 @@ pub struct Delta {
 /// A displacement with the quality of its fit.
 ///
 /// A displacement from few or badly placed satellites is accepted like any other; these two figures
-/// tell it apart. [`Rated::predicted_error`] is one number of both.
+/// reveal it. [`Rated::predicted_error`] combines them.
 #[derive(Clone, Copy, Debug, PartialEq)]
 pub struct Rated {
     /// The displacement.
     pub moved: Delta,
-    /// The root of the mean squared residual of the pairs used, in units of sigma: about 1 where the
-    /// carriers agree as well as sigma says, more where one slips. Finite.
+    /// The root of the mean squared residual of the pairs used, in units of sigma: about 1 if the
+    /// carriers agree as well as sigma says, more if one slips. Finite.
     pub chi: f64,
-    /// The dilution of precision of the displacement: by how much the place of the satellites makes
-    /// an error of the carriers larger, about 1 to 3 under an open sky. Finite.
+    /// The dilution of precision: how much the geometry of the satellites enlarges an error of the
+    /// carriers, about 1 to 3 under an open sky. Finite.
     pub pdop: f64,
 }
 
@@ -118,14 +118,14 @@ impl Rated {
     ///
     /// In a study of 300 simulated van-days, setting aside displacements at or above 0.5, 0.2 and
     /// 0.1 m lost 0.3, 1.6 and 4.0 % of the moving ones and removed 84, 96 and 99 % of the errors
-    /// above a metre. Setting them aside without scaling by what was covered makes a distance worse,
-    /// not better: a [mileage](crate::mileage) scales.
+    /// above a metre. Setting them aside without scaling by coverage makes a distance worse; a
+    /// [mileage](crate::mileage) scales.
     pub fn predicted_error(&self) -> f64 {
         predicted_error(self.chi, self.pdop)
     }
 }
 
-/// What a mileage adds.
+/// The form in which a mileage adds it.
 impl From<Rated> for Moved {
     fn from(rated: Rated) -> Self {
         Self {
@@ -179,7 +179,7 @@ impl Columns {
     }
 }
 
-/// The receiver's position change from the previous epoch to the current one, `dt` seconds later.
+/// Returns the receiver's position change from the previous epoch to the current one, `dt` seconds later.
 ///
 /// `at` is where the receiver was at the earlier epoch.
 ///
@@ -197,7 +197,7 @@ impl Columns {
 ///     elevation,
 ///     rate,
 /// };
-/// // A station that stands still, 2005-04-02: svid, carrier, satellite, elevation, rate.
+/// // A fixed station, 2005-04-02: svid, carrier, satellite, elevation, rate.
 /// let previous = [
 ///     (7, -172322.1098, [10026487.6901, 18601864.0690, 16597421.8539], 16.1755, -486.0847),
 ///     (8, 3414794.9918, [-683949.7926, 26351230.7650, 79787.4804], 20.0771, 469.9015),
@@ -274,12 +274,12 @@ pub fn delta_position(
     lent.answer(number)
 }
 
-/// The receiver's position change between two epochs by their times: that of [`delta_position`]
-/// with the seconds from `previous_time` to `current_time`, so that the end of a week between them
-/// is no matter.
+/// Returns the receiver's position change between two epochs by their times: that of
+/// [`delta_position`] with the seconds from `previous_time` to `current_time`, across the end of a
+/// week too.
 ///
-/// A time past the start of week 15,001 is refused by [`Refusal::BadTime`], once the settings and
-/// the records have passed.
+/// A time past the start of week 15,001 is refused by [`Refusal::BadTime`], after the settings and
+/// the records are checked.
 ///
 /// ```
 /// use zaqnuti::tdcp::{delta_position, delta_position_between, Carrier, Settings};
@@ -368,11 +368,11 @@ pub fn delta_position_between(
     lent.answer(number)
 }
 
-/// The receiver's position change of the city profile: that of [`delta_position`] with all carriers
-/// but those of GPS (1) and Galileo (6) on one band taken out of both epochs, in their order.
+/// Returns the receiver's position change in the city profile: that of [`delta_position`] with only
+/// the carriers of GPS (1) and Galileo (6) on one band, in their order.
 ///
-/// Refused by [`Refusal::NotCertified`] where one of the two is absent among the pairs kept. Every
-/// carrier given is tested, taken out or not.
+/// Refused by [`Refusal::NotCertified`] if the kept pairs lack one of the two. Every carrier given is
+/// checked, used or not.
 pub fn city_displacement(
     previous: &[Carrier],
     current: &[Carrier],
@@ -421,10 +421,10 @@ pub fn city_displacement(
     lent.answer(number)
 }
 
-/// The displacement of [`delta_position`] with the quality of its fit.
+/// Returns the displacement of [`delta_position`] with the quality of its fit.
 ///
-/// Refused where that is, by the same; then by [`Refusal::FitFailed`] where the unweighted equations
-/// have no factor, and by [`Refusal::QualityNotFinite`] where `chi` or `pdop` is not finite.
+/// Refused as that is; then by [`Refusal::FitFailed`] if the unweighted equations have no factor, and
+/// by [`Refusal::QualityNotFinite`] if `chi` or `pdop` is not finite.
 ///
 /// ```
 /// use zaqnuti::mileage::{Epoch, Mileage};
@@ -460,7 +460,7 @@ pub fn city_displacement(
 /// assert!(rated.chi < 1.0 && rated.pdop < 10.0);
 /// assert_eq!(rated.predicted_error(), rated.pdop * 0.01);
 ///
-/// // A mileage counts it, or sets it aside and scales by what was covered.
+/// // A mileage counts it, or sets it aside and scales by coverage.
 /// let mut mileage = Mileage::start(0.2)?;
 /// mileage.add(&Epoch { moved: Ok(rated.into()), pulses: 53 })?;
 /// # Ok::<(), Refusal>(())
@@ -513,9 +513,9 @@ pub fn delta_position_rated(
     Ok(Rated { moved, chi, pdop })
 }
 
-/// The displacement of [`city_displacement`] with the quality of its fit.
+/// Returns the displacement of [`city_displacement`] with the quality of its fit.
 ///
-/// Refused where that is, by the same; then as [`delta_position_rated`] is.
+/// Refused as that is; then as [`delta_position_rated`] is.
 pub fn city_displacement_rated(
     previous: &[Carrier],
     current: &[Carrier],

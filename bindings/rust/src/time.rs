@@ -1,7 +1,7 @@
 //! Epoch times in whole nanoseconds.
 //!
-//! Receivers report a GPS week and a time of week, which goes back to 0 at the end of Saturday.
-//! Differences of such times are exact, across the end of a week too.
+//! Receivers report a GPS week and a time of week, which returns to 0 at the end of Saturday.
+//! Differences of these times are exact, across the end of a week too.
 
 use crate::refusal::answered;
 use crate::{sys, Refusal};
@@ -39,18 +39,18 @@ impl GpsTime {
     /// The start of week 0.
     pub const ZERO: Self = Self { nanos: 0 };
 
-    /// From nanoseconds since the start of week 0. Every number may be given: one past the start of
-    /// week 15,001 is refused where it is used.
+    /// Returns the time of so many nanoseconds since the start of week 0. Any number may be given: one
+    /// past the start of week 15,001 is refused when it is used.
     pub const fn from_nanos(nanos: u64) -> Self {
         Self { nanos }
     }
 
-    /// From a GPS week, at most 15,000, and a time of week in seconds, from 0 to below 604,800. It is
-    /// rounded to a whole nanosecond, so that one just below 604,800 s is the start of the next week.
+    /// Returns the time of a GPS week, at most 15,000, and a time of week in seconds, from 0 to below
+    /// 604,800, rounded to a whole nanosecond. One just below 604,800 s is the start of the next week.
     ///
     /// # Errors
     ///
-    /// [`Refusal::BadTime`] where week or time of week is outside these.
+    /// [`Refusal::BadTime`] if week or time of week is outside these bounds.
     pub fn new(week: u32, tow: f64) -> Result<Self, Refusal> {
         let mut nanos = 0;
         // SAFETY: the last is ours alone.
@@ -58,16 +58,16 @@ impl GpsTime {
         Ok(Self { nanos })
     }
 
-    /// Nanoseconds since the start of week 0.
+    /// Returns the nanoseconds since the start of week 0.
     pub const fn nanos(self) -> u64 {
         self.nanos
     }
 
-    /// Exact nanoseconds from `earlier` to this time, below 0 where this is the earlier one.
+    /// Returns the exact nanoseconds from `earlier` to this time, negative if this time is earlier.
     ///
     /// # Errors
     ///
-    /// [`Refusal::BadTime`] where one of the two is past the start of week 15,001.
+    /// [`Refusal::BadTime`] if either is past the start of week 15,001.
     pub fn nanos_since(self, earlier: Self) -> Result<i64, Refusal> {
         let mut nanos = 0;
         // SAFETY: the last is ours alone.
@@ -75,11 +75,11 @@ impl GpsTime {
         Ok(nanos)
     }
 
-    /// The same in seconds: the whole number of nanoseconds as a double, by 1e9.
+    /// Returns the same in seconds: the whole number of nanoseconds as a double, divided by 1e9.
     ///
     /// # Errors
     ///
-    /// As [`nanos_since`](Self::nanos_since).
+    /// Those of [`nanos_since`](Self::nanos_since).
     pub fn seconds_since(self, earlier: Self) -> Result<f64, Refusal> {
         let mut seconds = 0.0;
         // SAFETY: the last is ours alone.

@@ -1,7 +1,7 @@
-//! Odometer beside carrier distance: the totals of a trip of at most 65,535 epochs.
+//! Carrier distance beside the odometer: the totals of a trip of at most 65,535 epochs.
 //!
 //! A trip has two recordings of the same epochs, displacements and odometer pulses. Totals are whole
-//! millimetres; every call refuses a trip that no calls can have left.
+//! millimetres; every call refuses a trip that no calls can have produced.
 
 use crate::refusal::answered;
 use crate::tdcp::{Carrier, Columns, Delta, Lent, Settings};
@@ -10,7 +10,7 @@ use crate::{sys, Ecef, Refusal, Vec3};
 /// The most epochs of a trip.
 pub const EPOCHS: u64 = 65_535;
 
-/// A trip, which its calls alone change: six words, as the firmware holds them.
+/// A trip: six words, as the firmware holds them, changed only by its calls.
 ///
 /// ```
 /// use zaqnuti::trip::{Report, Trip};
@@ -24,7 +24,7 @@ pub const EPOCHS: u64 = 65_535;
 /// assert_eq!(report, Report { carrier: 6000, odometer: 8000, greatest: 2000, reached: 2 });
 /// assert_eq!(trip.fuel(3)?, 500);
 ///
-/// // An epoch that is refused is not counted, nor are its pulses.
+/// // A refused epoch is not counted, nor are its pulses.
 /// assert_eq!(trip.add(Vec3::new(f64::NAN, 0.0, 0.0), 7), Err(Refusal::BadTrip));
 /// assert_eq!(trip.report()?, report);
 /// # Ok::<(), Refusal>(())
@@ -34,7 +34,7 @@ pub struct Trip {
     words: [u64; 6],
 }
 
-/// Both totals of a trip, and how far they were apart.
+/// Both totals of a trip, and their greatest difference.
 #[derive(Clone, Copy, Debug, Default, PartialEq, Eq, Hash)]
 pub struct Report {
     /// Carrier distance, millimetres.
@@ -48,7 +48,7 @@ pub struct Report {
 }
 
 impl Trip {
-    /// A trip just started, with so many odometer pulses to the kilometre.
+    /// Starts a trip with so many odometer pulses per kilometre.
     ///
     /// # Errors
     ///
@@ -60,34 +60,34 @@ impl Trip {
         Ok(Self { words })
     }
 
-    /// From its six words: pulses per kilometre, epochs, carrier millimetres, pulses, greatest
-    /// difference, its epoch. Any may be given: a trip out of its limits is refused where it is used.
+    /// Returns the trip of six words: pulses per kilometre, epochs, carrier millimetres, pulses, greatest
+    /// difference, its epoch. Any words may be given: a trip out of its limits is refused when it is used.
     pub const fn from_words(words: [u64; 6]) -> Self {
         Self { words }
     }
 
-    /// Its six words.
+    /// Returns its six words.
     pub const fn words(self) -> [u64; 6] {
         self.words
     }
 
-    /// One epoch more: a displacement in metres, and the odometer's pulses.
+    /// Adds an epoch: a displacement in metres, and the odometer's pulses.
     ///
     /// # Errors
     ///
-    /// [`Refusal::BadTrip`] where the displacement is not finite or longer than 1,000 m, the trip is
-    /// full, or it is out of its limits. The trip is then as it was.
+    /// [`Refusal::BadTrip`] if the displacement is not finite or longer than 1,000 m, the trip is full, or
+    /// it is out of its limits. The trip is then unchanged.
     pub fn add(&mut self, displacement: Vec3, pulses: u16) -> Result<(), Refusal> {
         let delta = [displacement.x, displacement.y, displacement.z];
         // SAFETY: the first is ours alone, and the second is read.
         answered(unsafe { sys::zaqnuti_trip_add(&mut self.words, &delta, pulses) })
     }
 
-    /// Both totals, and how far they were apart.
+    /// Returns both totals, and their greatest difference.
     ///
     /// # Errors
     ///
-    /// [`Refusal::BadTrip`] where the trip is out of its limits.
+    /// [`Refusal::BadTrip`] if the trip is out of its limits.
     pub fn report(&self) -> Result<Report, Refusal> {
         let mut report = [0; 4];
         // SAFETY: the first is read, and the last is ours alone.
@@ -101,11 +101,11 @@ impl Trip {
         })
     }
 
-    /// Millilitres for a kilometre of carrier distance, rounded down.
+    /// Returns the millilitres per kilometre of carrier distance, rounded down.
     ///
     /// # Errors
     ///
-    /// [`Refusal::BadTrip`] where the trip is out of its limits, then [`Refusal::NoDistance`] at zero
+    /// [`Refusal::BadTrip`] if the trip is out of its limits, then [`Refusal::NoDistance`] at zero
     /// carrier distance.
     pub fn fuel(&self, millilitres: u32) -> Result<u64, Refusal> {
         let mut per_km = 0;
@@ -115,9 +115,9 @@ impl Trip {
     }
 }
 
-/// A trip whose displacements are worked out here, under settings that may change between two epochs.
+/// A trip that computes its displacements under settings that may change between two epochs.
 ///
-/// Its report is that of the displacements worked out under the old settings up to the change and
+/// Its report is that of the displacements computed under the old settings up to the change and
 /// under the new ones after it.
 ///
 /// ```
@@ -126,7 +126,7 @@ impl Trip {
 /// use zaqnuti::{Ecef, Refusal};
 ///
 /// let mut drive = Drive::begin(&Settings::default(), 4000)?;
-/// // Head office raises the mask; a mask that is no number is refused, and the old one stays.
+/// // Head office raises the mask; a NaN is refused, and the old mask stays.
 /// drive.change(&Settings { mask: 15.0, ..Settings::default() })?;
 /// let odd = Settings { mask: f64::NAN, ..Settings::default() };
 /// assert_eq!(drive.change(&odd), Err(Refusal::SettingOutOfRange));
@@ -145,7 +145,7 @@ pub struct Drive {
 }
 
 impl Drive {
-    /// A trip just started, with these settings in force and so many odometer pulses to the kilometre.
+    /// Starts a trip with these settings in force and so many odometer pulses per kilometre.
     ///
     /// # Errors
     ///
@@ -169,27 +169,27 @@ impl Drive {
         })
     }
 
-    /// From a trip and the settings in force: neither is tested before it is used.
+    /// Returns the drive of a trip and settings in force; neither is checked before it is used.
     pub const fn from_parts(trip: Trip, in_force: Settings) -> Self {
         Self { trip, in_force }
     }
 
-    /// The trip so far.
+    /// Returns the trip so far.
     pub const fn trip(&self) -> Trip {
         self.trip
     }
 
-    /// The settings in force.
+    /// Returns the settings in force.
     pub const fn in_force(&self) -> Settings {
         self.in_force
     }
 
-    /// New settings between two epochs.
+    /// Changes the settings between two epochs.
     ///
     /// # Errors
     ///
     /// [`Refusal::SettingOutOfRange`] for the new settings, then [`Refusal::BadTrip`] for the trip.
-    /// Those in force then stay.
+    /// The settings in force are then unchanged.
     pub fn change(&mut self, settings: &Settings) -> Result<(), Refusal> {
         let (mut floats, mut rounds) = ([0.0; 5], 0);
         // SAFETY: the first two are read, and the last two are ours alone.
@@ -206,13 +206,13 @@ impl Drive {
         Ok(())
     }
 
-    /// The displacement between two epochs, `dt` seconds apart, under the settings in force, added to
-    /// the trip with its pulses. `at` is where the receiver was at the earlier epoch.
+    /// Computes the displacement between two epochs, `dt` seconds apart, under the settings in force, and
+    /// adds it to the trip with its pulses. `at` is where the receiver was at the earlier epoch.
     ///
     /// # Errors
     ///
     /// Those of [`delta_position`](crate::tdcp::delta_position), then those of [`Trip::add`]. The trip
-    /// is then as it was, with this epoch and its pulses uncounted.
+    /// is then unchanged: this epoch and its pulses are not counted.
     pub fn travel(
         &mut self,
         previous: &[Carrier],
@@ -263,7 +263,7 @@ impl Drive {
     }
 }
 
-/// The settings that a call has left.
+/// Returns the settings that a call wrote.
 const fn given(floats: [f64; 5], iterations: usize, agreement: f64) -> Settings {
     let [screen, sigma_a, sigma_b, huber, mask] = floats;
     Settings {

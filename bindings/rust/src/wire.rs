@@ -11,8 +11,8 @@
 //! | 8 | elevation |
 //! | 8 | rate |
 //!
-//! Reading a written epoch yields its records, and writing a read one its bytes, the sign and the
-//! payload of a NaN included.
+//! Reading a written epoch yields its records, and writing a read epoch yields its bytes, sign and
+//! payload of NaNs included.
 
 use alloc::vec::Vec;
 
@@ -63,11 +63,11 @@ impl Columns {
     }
 }
 
-/// The records of an epoch as bytes.
+/// Returns the records of an epoch as bytes.
 ///
 /// # Errors
 ///
-/// [`Refusal::TooMany`] where there are more than 64.
+/// [`Refusal::TooMany`] if there are more than 64.
 ///
 /// ```
 /// use zaqnuti::tdcp::Carrier;
@@ -117,12 +117,12 @@ pub fn write(carriers: &[Carrier]) -> Result<Vec<u8>, Refusal> {
     Ok(bytes)
 }
 
-/// The records that some bytes hold.
+/// Returns the records in some bytes.
 ///
 /// # Errors
 ///
-/// [`Refusal::BrokenRecords`] where the bytes are no multiple of 59, then [`Refusal::TooMany`] where
-/// there are more than 64 records.
+/// [`Refusal::BrokenRecords`] if the length is not a multiple of 59, then [`Refusal::TooMany`] if there
+/// are more than 64 records.
 pub fn read(bytes: &[u8]) -> Result<Vec<Carrier>, Refusal> {
     let mut c = Columns::of(&[]);
     let floats = c.floats.as_flattened_mut();
@@ -148,12 +148,12 @@ pub fn read(bytes: &[u8]) -> Result<Vec<Carrier>, Refusal> {
     Ok((0..count).map(|place| c.carrier(place)).collect())
 }
 
-/// The receiver's position change between two epochs that are held as bytes, `dt` seconds apart: that
-/// of [`delta_position`](crate::tdcp::delta_position) on the records that [`read`] yields.
+/// Returns the receiver's position change between two epochs of bytes, `dt` seconds apart: that of
+/// [`delta_position`](crate::tdcp::delta_position) on the records that [`read`] yields.
 ///
 /// # Errors
 ///
-/// [`Refusal::BrokenRecords`] where one of the two is no whole number of records, and then as there.
+/// [`Refusal::BrokenRecords`] if either length is not a multiple of 59, then those of that call.
 pub fn delta_position(
     previous: &[u8],
     current: &[u8],

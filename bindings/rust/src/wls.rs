@@ -8,11 +8,11 @@ use crate::{column, columns, sys, Ecef, Refusal};
 pub struct Observation {
     /// Constellation id.
     pub constellation: u8,
-    /// Frequency band, which the fix does not look at.
+    /// Frequency band, not used by the fix.
     pub band: u32,
-    /// Satellite id within its constellation, which the fix does not look at.
+    /// Satellite id within its constellation, not used by the fix.
     pub svid: u16,
-    /// Modelled delay already subtracted from `pseudorange`, metres, which the fix does not look at.
+    /// Modelled delay already subtracted from `pseudorange`, metres, not used by the fix.
     pub modelled: f64,
     /// Pseudorange with every correction applied, metres.
     pub pseudorange: f64,
@@ -50,7 +50,7 @@ impl Default for Settings {
 }
 
 impl Settings {
-    /// What suited a geodetic receiver on a roof; the default is what suits a phone.
+    /// Returns what suited a geodetic receiver on a roof. The default suits a phone.
     pub const fn geodetic() -> Self {
         Self {
             sigma_a: 0.3,
@@ -62,7 +62,7 @@ impl Settings {
     }
 }
 
-/// A solved epoch, and what the fit says of itself.
+/// A fix, with the quality of its fit.
 #[derive(Clone, Copy, Debug, PartialEq)]
 pub struct Solution {
     /// Receiver position, ECEF metres, finite.
@@ -95,7 +95,7 @@ impl Columns {
     }
 }
 
-/// The receiver's position from one epoch, with what the fit says of itself.
+/// Returns the receiver's position from one epoch, with the quality of the fit.
 ///
 /// ```
 /// use zaqnuti::wls::{solve_full, Observation, Settings};
@@ -165,7 +165,7 @@ pub fn solve_full(
     })
 }
 
-/// Position only, for callers that do not need the diagnostics.
+/// Returns the position only, for callers that do not need the quality.
 pub fn solve(observations: &[Observation], guess: Ecef, set: &Settings) -> Result<Ecef, Refusal> {
     let c = Columns::of(observations, set);
     let floats = c.floats.as_flattened();

@@ -91,7 +91,7 @@ fn bad_drives() {
     );
     let week = "in:18: week: is empty in some lines and not in others";
     assert_eq!(told(&[], &csv.replace("2443,201604,", ",201604,")), week);
-    assert_eq!(told(&[], ""), "in: is empty; a header line is wanted");
+    assert_eq!(told(&[], ""), "in: is empty; expected a header line");
     assert_eq!(told(&[], &format!("{header}\n")), "in: has no epochs");
     let text = fs::read_to_string(examples().join("drive/drive.csv")).unwrap();
     let pairs = "in:1: line: a drive is a series of epochs; lines S, P and C have no times";
@@ -106,26 +106,23 @@ fn unknown(name: &str) -> String {
 fn bad_options_of_a_trip() {
     let file = month("halle-03-2026-11-03.csv");
     let of = |options: &[&str]| said(&[&["trip"], options, &[file.as_str()]].concat(), b"");
-    assert_eq!(of(&[]), "--pulses-per-km: is wanted; see --help");
+    assert_eq!(of(&[]), "--pulses-per-km: is required; see --help");
     for rate in ["0", "65536", "-1", "many"] {
         let expected = format!("--pulses-per-km: {rate:?} is not 1 to 65535");
         assert_eq!(of(&["--pulses-per-km", rate]), expected);
     }
     let of = |options: &[&str]| of(&[&[RATE], options].concat());
     assert_eq!(of(&["--wrap", "8"]), "--wrap: \"8\" is not 16 or 32");
-    assert_eq!(of(&["--jobs", "0"]), "--jobs: is 1 or more");
+    assert_eq!(of(&["--jobs", "0"]), "--jobs: must be 1 or more");
     assert_eq!(
         of(&["--max-error", "nan"]),
-        "--max-error: is above 1e9, or no number"
+        "--max-error: must be a number of at most 1e9"
     );
     assert_eq!(
         of(&["--rounds", "51"]),
-        "the settings are refused by 3: a setting is out of range"
+        "the settings are refused by 3: a setting is not finite or above 1e9 in magnitude, or the rounds are not allowed"
     );
-    assert_eq!(
-        of(&["--csv", "--json"]),
-        "--csv and --json: only one of them is written"
-    );
+    assert_eq!(of(&["--csv", "--json"]), "--csv and --json: choose one");
     assert_eq!(of(&[&file]), format!("{file}: is given twice"));
     let fit = of(&["--name-pattern", "{depot}_{van}.csv"]);
     assert!(
@@ -146,7 +143,7 @@ fn bad_options_of_a_trip() {
     let fuel = of(&["--millilitres", "5", &month("halle-04-2026-11-03.csv")]);
     assert_eq!(
         fuel,
-        "--millilitres: is the fuel of one drive; several are given"
+        "--millilitres: is the fuel of one drive, but several are given"
     );
 }
 
@@ -177,7 +174,7 @@ fn bad_settings() {
         "settings:3: tow: week 2500, 8.000 s is not after week 2500, 9.000 s"
     );
     let range = of("2443,9,0.5,0.008,0.002,1.5,10,51\n");
-    assert_eq!(range, "settings:2: refused by 3: a setting is out of range");
+    assert_eq!(range, "settings:2: refused by 3: a setting is not finite or above 1e9 in magnitude, or the rounds are not allowed");
     assert_eq!(
         of("2443,9,wide,0.008,0.002,1.5,10,4\n"),
         "settings:2: screen: \"wide\" is not a number"
@@ -275,7 +272,7 @@ fn bad_fuel_and_trips() {
     );
     assert_eq!(
         trips_of(""),
-        "./trips.csv: is empty; a header line is wanted"
+        "./trips.csv: is empty; expected a header line"
     );
     let refused = trips_of(&good_trips.replace(",7:3,", ",seven,"));
     assert_eq!(refused, "./trips.csv:6: refused: is not as in 7:3 8:28");

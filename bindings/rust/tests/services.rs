@@ -357,7 +357,7 @@ fn directions() {
     // On the axis the longitude is 0.
     assert_eq!(along(0.0, 0.0, b), Ok([-1.0, 2.0, -3.0]));
     assert_eq!(along(0.0, -9e-10, -b), Ok([1.0, 2.0, 3.0]));
-    // In Berlin as long as it was.
+    // In Berlin its length is unchanged.
     let [n, e, d] = along(3_782_970.0, 902_155.0, 5_038_376.0).unwrap();
     assert!(near(n * n + e * e + d * d, 14.0, 1e-12));
     let none = Err(Refusal::NotTurned);

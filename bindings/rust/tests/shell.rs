@@ -3,7 +3,6 @@
 use std::fs::{self, File};
 use std::io::Write;
 use std::os::unix::fs::{symlink, FileTypeExt};
-use std::path::Path;
 use std::process::{Command, Stdio};
 use std::thread;
 
@@ -58,7 +57,7 @@ fn help() {
         assert!(help.starts_with(&format!("zaqnuti {name} ")), "{help}");
         assert!(help.lines().all(|l| l.len() <= 92), "{help}");
     }
-    assert_eq!(said(&[], b""), "a command is wanted; see zaqnuti --help");
+    assert_eq!(said(&[], b""), "a command is required; see zaqnuti --help");
     assert_eq!(
         said(&["go"], b""),
         "go: no such command; see zaqnuti --help"
@@ -67,7 +66,7 @@ fn help() {
         said(&["fix", "--fast"], b""),
         "--fast: no such option; see --help"
     );
-    assert_eq!(said(&["fix", "--mask"], b""), "--mask: a value is wanted");
+    assert_eq!(said(&["fix", "--mask"], b""), "--mask: needs a value");
     assert_eq!(
         said(&["fix", "--mask", "low"], b""),
         "--mask: \"low\" is not a number"
@@ -101,7 +100,7 @@ fn fixes() {
         assert!(words.contains(&format!("{:.3} {:.3} {:.3} m", f[2], f[3], f[4])));
     }
     let high = answered(&["fix", "--mask", "50", &rover], 1);
-    let refused = "refused by 8: there are too few rows for the unknowns";
+    let refused = "refused by 8: there are fewer rows than 4 plus the clock slots";
     assert!(high.lines().next().unwrap().ends_with(refused));
     let csv = answered(&["fix", "--mask", "50", "--csv", &rover], 1);
     assert_eq!(csv.lines().nth(1), Some("1316,518400.0,,,,,,,8"));
@@ -224,7 +223,9 @@ fn corrections() {
     let words = answered(&correction(&base, &[&rover]), 1);
     let first = "week 1316, 518400.000 s, 1/3: -2.634 m";
     assert_eq!(words.lines().next(), Some(first));
-    assert!(words.ends_with("refused by 12: the table gives no correction\n"));
+    assert!(
+        words.ends_with("refused by 12: the table gives no correction for the signal and time\n")
+    );
     answered(&correction(&base, &["--csv", "-o", &corrected, &rover]), 1);
     let csv = fs::read_to_string(&corrected).unwrap();
     let header = csv.lines().next().unwrap();
@@ -271,7 +272,7 @@ fn a_track() {
         "{last}"
     );
     let both = said(&["displacement", AT, "--fixes", &fixed, &rover], b"");
-    assert_eq!(both, "--at and --fixes: only one of them is read");
+    assert_eq!(both, "--at and --fixes: choose one");
 }
 
 #[test]
@@ -352,7 +353,7 @@ fn encode_and_decode() {
     );
     let outside = stored.replace("\n01,S", "\n../01,S");
     let name = said(&["encode", "--to", &to], outside.as_bytes());
-    assert_eq!(name, "\"../01\" is no name of a file");
+    assert_eq!(name, "\"../01\" is not a file name");
 }
 
 /// Every kind of float, and many patterns.
@@ -443,7 +444,7 @@ fn plots() {
     assert!(fs::read_to_string(&picture).unwrap().ends_with("</svg>\n"));
     assert_eq!(
         said(&["plot", &drive("drive.csv")], b""),
-        "-o: is wanted; see --help"
+        "-o: is required; see --help"
     );
     let one = said(&["plot", AT, "-o", &picture], self::rover(9).as_bytes());
     assert_eq!(one, "standard input: has no pair of epochs");
@@ -456,12 +457,12 @@ fn bad_headers() {
     let at = |why: &str| format!("standard input:1: the column {why}");
     assert_eq!(
         said(&["fix"], b""),
-        "standard input: is empty; a header line is wanted"
+        "standard input: is empty; expected a header line"
     );
     assert_eq!(broken("elevation,", ""), at("\"elevation\" is missing"));
     let unknown = at("\"ionosfere\" is unknown; see --help, or give --ignore-unknown");
     assert_eq!(broken("ionosphere", "ionosfere"), unknown);
-    assert_eq!(broken("vx,", "x,"), at("\"x\" stands twice"));
+    assert_eq!(broken("vx,", "x,"), at("\"x\" appears twice"));
     let allowed = good.replacen("ionosphere", "ionosfere", 1);
     let allowed = fed(&["fix", "--ignore-unknown"], allowed.as_bytes());
     assert_eq!(allowed.status.code(), Some(0));
@@ -480,7 +481,7 @@ fn bad_lines() {
     );
     assert_eq!(
         broken(range, ""),
-        at("pseudorange: empty; a number is wanted")
+        at("pseudorange: empty; expected a number")
     );
     assert_eq!(
         broken(range, "'1'"),
@@ -496,7 +497,7 @@ fn bad_lines() {
     let after = |more: &[u8]| said(&["fix"], &[good.as_bytes(), more].concat());
     assert_eq!(
         after(b"\xff\xfe\n"),
-        "standard input:10: the line is no text (UTF-8)"
+        "standard input:10: the line is not UTF-8 text"
     );
     assert_eq!(
         after(b"1316,\0\n"),
@@ -718,45 +719,4 @@ fn progress() {
         )),
         ""
     );
-}
-
-/// The commands of a page, each with what it says they write.
-fn shown(page: &str) -> Vec<(String, String)> {
-    let mut out: Vec<(String, String)> = Vec::new();
-    let mut open = false;
-    for line in page.lines() {
-        let Some(line) = line.strip_prefix("    ") else {
-            open = false;
-            continue;
-        };
-        match (line.strip_prefix("$ "), out.last_mut()) {
-            (Some(command), _) => {
-                out.push((command.to_string(), String::new()));
-                open = true;
-            }
-            (None, Some((command, _))) if open && command.ends_with('\\') => {
-                *command = format!("{}{line}", command.trim_end_matches('\\'));
-            }
-            (None, Some((_, written))) if open => *written += &format!("{line}\n"),
-            _ => {}
-        }
-    }
-    out
-}
-
-#[test]
-fn the_page_shows_what_is_written() {
-    let at = folder("page");
-    symlink(examples().canonicalize().unwrap(), at.join("examples")).unwrap();
-    let page = examples().join("../docs/SHELL.md");
-    let shown = shown(&fs::read_to_string(page).unwrap());
-    assert_eq!(shown.len(), 14);
-    let programs = Path::new(COMMAND).parent().unwrap().display();
-    let path = format!("{programs}:{}", std::env::var("PATH").unwrap());
-    for (command, written) in shown {
-        let mut shell = Command::new("sh");
-        shell.args(["-c", &format!("{{ {command}; }} 2>&1")]);
-        let out = shell.env("PATH", &path).current_dir(&at).output().unwrap();
-        assert_eq!(text(&out.stdout), written, "{command}");
-    }
 }

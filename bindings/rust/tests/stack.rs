@@ -459,7 +459,7 @@ fn directions(position: [f64; 3], displacement: [f64; 3]) -> usize {
     })
 }
 
-/// The text of both epochs, of which the last byte is replaced, and a buffer of so many bytes for the line.
+/// The text of both epochs with its last byte replaced, and a buffer of so many bytes for the line.
 fn line(rounds: usize, last: &[u8], room: usize) -> usize {
     let (before, after) = epochs();
     let set = Settings {
@@ -472,15 +472,24 @@ fn line(rounds: usize, last: &[u8], room: usize) -> usize {
     text.pop();
     text.extend(last);
     let mut line = vec![0; room];
+    let mut written = 0;
     measured(move || {
         let frame = top();
-        // SAFETY: each pointer has its length beside it, and the line is ours alone.
-        unsafe { sys::zaqnuti_line(text.as_ptr(), text.len(), line.as_mut_ptr(), room) };
+        // SAFETY: each pointer has its length beside it, and the line and its length are ours alone.
+        unsafe {
+            sys::zaqnuti_line(
+                text.as_ptr(),
+                text.len(),
+                line.as_mut_ptr(),
+                room,
+                &mut written,
+            )
+        };
         frame
     })
 }
 
-/// An epoch of 64 ranges to a table of so much room, of which `full` samples are there.
+/// An epoch of 64 ranges to a table of so much room that holds `full` samples.
 fn add_epoch(k: usize, room: usize, full: usize) -> usize {
     let sky = observations(64);
     let (c, b) = (vec![1u8; 64], vec![1u32; 64]);

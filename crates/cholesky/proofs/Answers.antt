@@ -1,14 +1,15 @@
--- What a caller of the factorisation goes on: whether there is a factor, and what the lent rows hold. Assumes nothing.
+-- The cases of an answer of factoring: whether there is a factor, and what the lent rows hold. Assumes nothing.
 use Prim.Native.Nat.{ℕ}
 use native.Mathlib.Omega.{arith}
-use mathlib.Core.Path.{_≡_, refl, sym}
+use mathlib.Core.Path.{_≡_, refl, sym, ap}
 use mathlib.Core.List.{List}
 use lib.Ieee.{Float}
 use mathlib.Core.Bool.{true, false}
+use Rattle.cholesky.specs.declared.factor.Factoring.{Factoring}
 use Rattle.cholesky.specs.declared.factor.Factoring.the-variants as Factoring
 use Rattle.numeric.specs.declared.refusal.Refusal.the-variants.{FitFailed}
-use Rattle.cholesky.specs.Factor.{Factored, Refused, Lower}
-use Rattle.cholesky.specs.Answer.{accepted, factoringOf, rowsAfter}
+use Rattle.cholesky.specs.Factor.{Factored, Refused, Lower, factorOf}
+use Rattle.cholesky.specs.Answer.{accepted, factoringOf, factoringNumber, rowsAfter, FactorPromised}
 
 -- one case of what factoring gives is ruled out by the answer
 never : {A : Type 0} → false ≡ true → A
@@ -29,3 +30,7 @@ rows-done (Lower l) m n e = refl
 pub rows-refused : (w : Factored) (m : List (List Float)) → false ≡ accepted w → m ≡ rowsAfter w m
 rows-refused Refused m e = refl
 rows-refused (Lower l) m e = never e
+
+-- the number follows the answer
+pub promised : (a : List (List Float)) {r : Factoring} {m l : List (List Float)} → r ≡ factoringOf (factorOf a) → l ≡ rowsAfter (factorOf a) m → FactorPromised a r m l
+promised a e f = record { answer = e; number-is = ap factoringNumber e; rows-are = f }

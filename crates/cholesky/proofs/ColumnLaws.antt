@@ -10,7 +10,7 @@ use Rattle.exact.specs.Float.{_⊖_, _⊗_, _⊘_, 1·0}
 use Rattle.exact.specs.Products.{lessProducts}
 use Rattle.root.specs.Root.{rootOf}
 use Rattle.cholesky.specs.Factor.{at, row, cell, isPivot}
-use Rattle.cholesky.specs.Columns.{store, sumOf, filled, marked}
+use Rattle.cholesky.specs.Steps.{store, sumOf, filled, onesMarked}
 use Rattle.cholesky.proofs.FactorColumns.{Columns, kept, columns-diagonal, columns-root, columns-element, diagonal-kept, pivot-next}
 use Rattle.cholesky.proofs.FactorUsed.{Closing, closing-none, closing-next}
 
@@ -75,29 +75,29 @@ module _ (a w : List (List Float)) (n j : ℕ) (nb : n ≤ 9) (b : j < n) (h : C
 
 -- ---- 1 on the diagonal, from row n on
 module _ (n : ℕ) (w : List (List Float)) where
-  pub marked-start : w ≡ marked (n - n) n w
-  unfolding marked
+  pub marked-start : w ≡ onesMarked (n - n) n w
+  unfolding onesMarked
   marked-start = let e : n - n ≡ 0 = omega arith in rw e
 
-  pub marked-next : (i : ℕ) (l : List (List Float)) → n ≤ i → l ≡ marked (i - n) n w → store l i i 1·0 ≡ marked (i + 1 - n) n w
-  unfolding marked
+  pub marked-next : (i : ℕ) (l : List (List Float)) → n ≤ i → l ≡ onesMarked (i - n) n w → store l i i 1·0 ≡ onesMarked (i + 1 - n) n w
+  unfolding onesMarked
   marked-next i l b h =
       let e : i + 1 - n ≡ suc (i - n) = omega arith in
       let f : n + (i - n) ≡ i = omega arith in
       rw (e, f, h)
 
-  pub marked-end : (m i : ℕ) (l : List (List Float)) → i ≡ m → l ≡ marked (i - n) n w → l ≡ marked (m - n) n w
+  pub marked-end : (m i : ℕ) (l : List (List Float)) → i ≡ m → l ≡ onesMarked (i - n) n w → l ≡ onesMarked (m - n) n w
   marked-end m i l e h = rw e at h
 
-  closing-some : (a : List (List Float)) (k : ℕ) → n + k ≤ 9 → Closing n n a w → Closing n (n + k) a (marked k n w)
-  unfolding marked
+  closing-some : (a : List (List Float)) (k : ℕ) → n + k ≤ 9 → Closing n n a w → Closing n (n + k) a (onesMarked k n w)
+  unfolding onesMarked
   closing-some a zero b h = rw add-zero h
   closing-some a (suc k) b h =
       let e : n + k + 1 ≡ n + suc k = omega arith in
-      let l = marked k n w in
+      let l = onesMarked k n w in
       subst (λ (z : ℕ). Closing n z a (store l (n + k) (n + k) 1·0)) e (closing-next n (n + k) a l (omega arith) (omega arith) (closing-some a k (omega arith) h))
 
-  pub closing-marked : (a : List (List Float)) → n ≤ 9 → Columns n n n a w → Closing n 9 a (marked (9 - n) n w)
+  pub closing-marked : (a : List (List Float)) → n ≤ 9 → Columns n n n a w → Closing n 9 a (onesMarked (9 - n) n w)
   closing-marked a b h =
       let e : n + (9 - n) ≡ 9 = omega arith in
-      subst (λ (z : ℕ). Closing n z a (marked (9 - n) n w)) e (closing-some a (9 - n) (omega arith) (closing-none n a w b h))
+      subst (λ (z : ℕ). Closing n z a (onesMarked (9 - n) n w)) e (closing-some a (9 - n) (omega arith) (closing-none n a w b h))

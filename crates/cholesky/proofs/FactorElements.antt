@@ -5,14 +5,14 @@ use native.Mathlib.Omega.{arith}
 use native.Mathlib.Numerals.{add-one}
 use native.Mathlib.Decide.{ℕ-discrete}
 use mathlib.Core.Path.{_≡_, refl, sym, ap, _∙_, subst, subst₂}
-use mathlib.Core.Bool.{Bool, true, false}
+use mathlib.Core.Bool.{Bool, true, false, cond}
 use mathlib.Core.List.{List, []}
 use lib.ListN.{set, replicate, length, length-set, getD-replicate}
 use lib.Seq.{getD-set-same, getD-set-other}
 use lib.Ieee.{Float, nan}
 use Rattle.exact.specs.Float.{_⊘_, +0}
 use Rattle.root.specs.Root.{rootOf}
-use Rattle.cholesky.specs.Factor.{at, row, cell, zeros, isPivot, withElement, below, pivotOf, rowOf, Factored, Refused, Lower, when, next, factorTo, factorOf, withForward, forwardTo, withBack, backTo}
+use Rattle.cholesky.specs.Factor.{at, row, cell, zeros, isPivot, withElement, below, pivotOf, rowOf, Factored, Refused, Lower, nextRow, factorTo, factorOf, withForward, forwardTo, withBack, backTo}
 use Rattle.exact.specs.Products.{lessProducts}
 use Rattle.exact.proofs.Products.{less-ext}
 use Rattle.exact.proofs.Steps.{ForwardSteps, BackwardSteps}
@@ -138,12 +138,12 @@ module _ (a l : List (List Float)) (n : ℕ) (b : n < 9) (h : Rows n a l) (ok : 
       }
 
 next-rows : (a : List (List Float)) (n : ℕ) (m l : List (List Float)) (p : Bool) → n < 9 → Rows n a m → isPivot (pivotOf n m (row a n)) ≡ p
-    → when p (Lower (set m n (rowOf n m (row a n)))) ≡ Lower l → Rows (suc n) a l
+    → cond p (Lower (set m n (rowOf n m (row a n)))) Refused ≡ Lower l → Rows (suc n) a l
 next-rows a n m l true b h hp e = let q : set m n (rowOf n m (row a n)) ≡ l = cc in subst (Rows (suc n) a) q (rows-next a m n b h hp)
 next-rows a n m l false b h hp e = absurd (let z : _≡_ {A = ℕ} 0 1 = cc in omega arith)
 
 pub factorTo-rows : (n : ℕ) (a l : List (List Float)) → n ≤ 9 → factorTo n a ≡ Lower l → Rows n a l
-unfolding factorTo next
+unfolding factorTo nextRow
 factorTo-rows zero a l b e =
     let q : replicate 9 zeros ≡ l = cc in
     record {
@@ -155,7 +155,7 @@ factorTo-rows zero a l b e =
     }
 factorTo-rows (suc n) a l b e = go (factorTo n a) (λ m. factorTo-rows n a m (omega arith)) e
   where
-    go : (w : Factored) → ((m : List (List Float)) → w ≡ Lower m → Rows n a m) → next a n w ≡ Lower l → Rows (suc n) a l
+    go : (w : Factored) → ((m : List (List Float)) → w ≡ Lower m → Rows n a m) → nextRow a n w ≡ Lower l → Rows (suc n) a l
     go Refused h q = absurd (let z : _≡_ {A = ℕ} 0 1 = cc in omega arith)
     go (Lower m) h q = next-rows a n m l (isPivot (pivotOf n m (row a n))) b (h m refl) refl q
 

@@ -3,12 +3,13 @@ use mathlib.Core.Path.{_≡_, refl}
 use Prim.Native.Nat.{ℕ, zero, suc, _+_, _-_}
 use native.Mathlib.Nat.{zero-add, suc-add}
 use native.Mathlib.Numerals.{add-one}
+use mathlib.Core.Bool.{cond}
 use mathlib.Core.List.{List}
 use lib.ListN.{set, replicate}
 use lib.Ieee.{Float}
 use Rattle.exact.specs.Float.{_⊘_, +0}
 use Rattle.exact.specs.Products.{lessProducts}
-use Rattle.cholesky.specs.Factor.{at, row, cell, isPivot, withElement, below, pivotOf, rowOf, Refused, Lower, when, next, factorTo, factorOf, forwardTo, withForward, backTo, withBack}
+use Rattle.cholesky.specs.Factor.{at, row, cell, isPivot, withElement, below, pivotOf, rowOf, Refused, Lower, nextRow, factorTo, factorOf, forwardTo, withForward, backTo, withBack}
 
 pub below-zero : (l : List (List Float)) (a : List Float) → below 0 l a ≡ replicate 9 +0
 unfolding below
@@ -26,13 +27,13 @@ pub factorTo-zero : (a : List (List Float)) → factorTo 0 a ≡ Lower (replicat
 unfolding factorTo
 factorTo-zero a = refl
 
-pub factorTo-next : (i : ℕ) (a l : List (List Float)) → factorTo i a ≡ Lower l → factorTo (i + 1) a ≡ when (isPivot (pivotOf i l (row a i))) (Lower (set l i (rowOf i l (row a i))))
-unfolding factorTo next
+pub factorTo-next : (i : ℕ) (a l : List (List Float)) → factorTo i a ≡ Lower l → factorTo (i + 1) a ≡ cond (isPivot (pivotOf i l (row a i))) (Lower (set l i (rowOf i l (row a i)))) Refused
+unfolding factorTo nextRow
 factorTo-next i a l e = rw (add-one, e)
 
 -- once refused, always refused
 pub refused-more : (n i : ℕ) (a : List (List Float)) → factorTo i a ≡ Refused → factorTo (n + i) a ≡ Refused
-unfolding factorTo next
+unfolding factorTo nextRow
 refused-more zero i a e = rw (zero-add, e)
 refused-more (suc n) i a e = rw (suc-add, refused-more n i a e)
 

@@ -2,6 +2,7 @@
 use Prim.Native.Nat.{ℕ, zero, suc, _+_, _-_, _≤_, _<_}
 use native.Mathlib.Omega.{arith}
 use mathlib.Core.Path.{_≡_, refl, ap, ap₂, _∙_}
+use mathlib.Core.Bool.{cond}
 use mathlib.Core.List.{List}
 use lib.ListN.{set}
 use lib.Ieee.{Float}
@@ -9,7 +10,7 @@ use Rattle.exact.specs.Float.{_⊘_}
 use Rattle.exact.specs.Products.{lessProducts}
 use Rattle.exact.proofs.Products.{less-ext}
 use Rattle.root.specs.Root.{rootOf}
-use Rattle.cholesky.specs.Factor.{at, row, cell, isPivot, withElement, below, pivotOf, rowOf, Factored, Refused, Lower, when, next, factorTo, factorOf, withForward, forwardTo, withBack, backTo, solutionOf}
+use Rattle.cholesky.specs.Factor.{at, row, cell, isPivot, withElement, below, pivotOf, rowOf, Factored, Refused, Lower, nextRow, factorTo, factorOf, withForward, forwardTo, withBack, backTo, solutionOf}
 
 -- two matrices that have the same cells on the diagonal and below it, whatever stands above
 pub record SameLower (a b : List (List Float)) : Type 0 where
@@ -24,18 +25,18 @@ below-same (suc j) l a b h =
     ap₂ (λ (x : Float) (r : List Float). set r j (lessProducts x (at r) (cell l j) j ⊘ cell l j j)) (h j (omega arith)) (below-same j l a b (λ k kb. h k (omega arith)))
 
 module _ (a b : List (List Float)) (h : SameLower a b) where
-  next-same : (i : ℕ) → i < 9 → (w : Factored) → next a i w ≡ next b i w
-  unfolding next pivotOf rowOf
+  next-same : (i : ℕ) → i < 9 → (w : Factored) → nextRow a i w ≡ nextRow b i w
+  unfolding nextRow pivotOf rowOf
   next-same i ib Refused = refl
   next-same i ib (Lower l) =
-      ap₂ (λ (x : Float) (r : List Float). when (isPivot (lessProducts x (at r) (at r) i)) (Lower (set l i (set r i (rootOf (lessProducts x (at r) (at r) i))))))
+      ap₂ (λ (x : Float) (r : List Float). cond (isPivot (lessProducts x (at r) (at r) i)) (Lower (set l i (set r i (rootOf (lessProducts x (at r) (at r) i))))) Refused)
       (h .lower i i ib (omega arith))
       (below-same i l (row a i) (row b i) (λ k kb. h .lower i k ib (omega arith)))
 
   to-same : (n : ℕ) → n ≤ 9 → factorTo n a ≡ factorTo n b
   unfolding factorTo
   to-same zero l = refl
-  to-same (suc n) l = next-same n (omega arith) (factorTo n a) ∙ ap (next b n) (to-same n (omega arith))
+  to-same (suc n) l = next-same n (omega arith) (factorTo n a) ∙ ap (nextRow b n) (to-same n (omega arith))
 
   pub same-factor : factorOf a ≡ factorOf b
   unfolding factorOf

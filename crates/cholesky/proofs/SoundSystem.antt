@@ -9,20 +9,25 @@ use mathlib.Core.Bool.{Bool, true, false, not, cond}
 use mathlib.Core.List.{List}
 use lib.ListN.{length}
 use lib.Dec.{T, leb, leb→le, nleb→lt}
-use lib.Ieee.{Float}
+use lib.Ieee.{Float, binary64, fits}
 use lib.Ieee.Scale.{finite}
 use Rattle.exact.specs.Accuracy.{entry}
 use Rattle.exact.specs.Products.{lessProducts}
 use Rattle.exact.proofs.Steps.{RootInUnits, FactorSteps, ForwardSteps, BackwardSteps}
 use Rattle.cholesky.specs.Factor.{at, cell, forwardTo, Lower, factorOf, solutionOf}
 use Rattle.cholesky.proofs.FactorFinite.{factor-finite}
-use Rattle.cholesky.specs.Sound.{SoundSystem, Held}
+use Rattle.cholesky.specs.Sound.{SoundSystem}
 use Rattle.exact.proofs.Ops.{div-finite}
 use Rattle.exact.proofs.Products.{less-fits, less-start, less-finite}
 use Rattle.exact.proofs.Solve.{sharper}
 use Rattle.exact.proofs.Accuracy.{accurate-of}
 use Rattle.cholesky.proofs.FactorElements.{Elements, elements, forward-is, forward-length, backward-is}
 use Rattle.cholesky.proofs.Rooted.{pivot-root}
+
+-- the lower triangle and the right side are binary64s, as every float of a program is
+pub record Held (a : List (List Float)) (b : List Float) : Type 0 where
+  pub matrix-fits : (i j : ℕ) → i < 9 → j ≤ i → T (fits binary64 (cell a i j))
+  pub right-fits : (i : ℕ) → i < 9 → T (fits binary64 (at b i))
 
 module _ (a l : List (List Float)) (b : List Float) (nine : length b ≡ 9) (e : factorOf a ≡ Lower l) (held : Held a b) where
   E : Elements a l

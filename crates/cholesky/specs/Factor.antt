@@ -1,9 +1,9 @@
 -- The Cholesky factor of a matrix of nine rows, and the solution by it, in the reference's order of operations (matrix.rs, `Cholesky::new` and its `solve`). Definitions only.
--- A matrix is the list of its rows, a column the list of its floats. Each definition says by a count how far the work has come, and what one step more adds.
+-- A matrix is the list of its rows, a column the list of its floats. Each definition counts its steps: the last clause is what one step more adds.
 use Prim.Native.Nat.{ℕ, zero, suc, _+_, _-_, _≤_, _<_}
 use mathlib.Core.Path.{_≡_}
 use mathlib.Core.List.{List, []}
-use mathlib.Core.Bool.{Bool, true, false, _&&_}
+use mathlib.Core.Bool.{Bool, cond, _&&_}
 use lib.ListN.{getD, set, replicate}
 use lib.Ieee.{Float, nan, lt}
 use lib.Ieee.Scale.{finite}
@@ -53,19 +53,15 @@ pub data Factored : Type 0 where
   Refused : Factored
   Lower : List (List Float) → Factored
 
-abbrev pub when : Bool → Factored → Factored
-when true f = f
-when false f = Refused
-
 -- one row more
-unfoldable pub next : List (List Float) → ℕ → Factored → Factored
-next a i Refused = Refused
-next a i (Lower l) = when (isPivot (pivotOf i l (row a i))) (Lower (set l i (rowOf i l (row a i))))
+unfoldable pub nextRow : List (List Float) → ℕ → Factored → Factored
+nextRow a i Refused = Refused
+nextRow a i (Lower l) = cond (isPivot (pivotOf i l (row a i))) (Lower (set l i (rowOf i l (row a i)))) Refused
 
 -- the first n rows of the factor, and zeros below them
 unfoldable pub factorTo : ℕ → List (List Float) → Factored
 factorTo zero a = Lower (replicate 9 zeros)
-factorTo (suc i) a = next a i (factorTo i a)
+factorTo (suc i) a = nextRow a i (factorTo i a)
 
 unfoldable pub factorOf : List (List Float) → Factored
 factorOf a = factorTo 9 a

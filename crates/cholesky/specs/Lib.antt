@@ -1,4 +1,4 @@
 pub mod Factor
-pub mod Columns
 pub mod Answer
+pub mod Steps
 pub mod Sound

@@ -1,8 +1,8 @@
 -- What demand 3 asks of one system of nine equations: a is the matrix, by its lower triangle, b the right side, l the factor and x the solution. Definitions only.
-use Prim.Native.Nat.{ℕ, _≤_, _<_}
+use Prim.Native.Nat.{ℕ, _<_}
 use mathlib.Core.List.{List}
 use lib.Dec.{T}
-use lib.Ieee.{Float, binary64, fits}
+use lib.Ieee.{Float}
 use lib.Ieee.Scale.{finite}
 use Rattle.exact.specs.Accuracy.{entry, Accurate}
 use Rattle.cholesky.specs.Factor.{at, cell}
@@ -14,8 +14,3 @@ pub record SoundSystem (a : List (List Float)) (b : List Float) (l : List (List 
   pub factor-finite : (i j : ℕ) → i < 9 → j < 9 → T (finite (cell l i j))
   pub step-finite : (i : ℕ) → i < 9 → T (finite (at x i))
   pub accurate : Accurate 9 (cell a) (cell l) (at b) (at x)
-
--- the lower triangle and the right side are binary64s, as every float of a program is
-pub record Held (a : List (List Float)) (b : List Float) : Type 0 where
-  pub matrix-fits : (i j : ℕ) → i < 9 → j ≤ i → T (fits binary64 (cell a i j))
-  pub right-fits : (i : ℕ) → i < 9 → T (fits binary64 (at b i))

@@ -1,27 +1,26 @@
 // The Cholesky factor of a matrix of nine rows, and the solution by it: matrix.rs, `Cholesky::new` and its `solve`.
 ghost use mathlib.Core.Path.{_≡_};
-ghost use mathlib.Core.Bool.{true, false};
 ghost use Prim.Native.Nat.{_-_, _≤_, _<_};
 ghost use lib.Dec.{T};
 ghost use lib.ListN.{replicate};
 ghost use lib.Ieee.{binary64, fits};
-ghost use Rattle.cholesky.specs.Factor.{zeros, isPivot, factorOf, forwardTo, backTo, solutionOf, at, Unused, UnusedPlaces};
-ghost use Rattle.cholesky.specs.Columns.{sumOf, filled, marked};
-ghost use Rattle.cholesky.specs.Answer.{accepted, rowsAfter, factoringOf, factoringNumber};
+ghost use Rattle.cholesky.specs.Factor.{zeros, isPivot, forwardTo, backTo, solutionOf, at, Unused, UnusedPlaces};
+ghost use Rattle.cholesky.specs.Steps.{sumOf, filled, onesMarked, FactoredUsed};
+ghost use Rattle.cholesky.specs.Answer.{factoringNumber, FactorPromised};
 use numeric::real::is_finite;
 use numeric::refusal::Refusal;
 use root::tangent::no_tangent;
 use root::tangent::sqrt_near;
 use root::tangent::tangent_at;
 
-// What factoring answers; the factor itself stands in the lent rows.
+// The answer of factoring; the factor itself is written to the lent rows.
 pub enum Factoring {
     Refused(Refusal),
     Done,
 }
 
 impl Factoring {
-    // The number that a caller outside is given.
+    // Returns the number of the answer: 0, or the refusal's.
     pub fn number(self) -> u8
         ensures { λ r. ⌜ r ≡ factoringNumber self ⌝ }
     {
@@ -32,23 +31,23 @@ impl Factoring {
     }
 }
 
-// A pivot that is not finite or not above 0 is refused; a NaN is neither above 0 nor at most the largest number. It is not held against infinity, since the
-// compiler then makes a test of bits of the two comparisons, which takes more than twice the instructions.
+// Checks that a pivot is finite and above 0; a NaN is neither above 0 nor at most the largest number. Compared with infinity instead, the two comparisons
+// compile to a test of bits, which takes more than twice the instructions.
 fn is_pivot(p: f64) -> bool
     ensures { λ r. ⌜ r ≡ isPivot p ⌝ }
 {
     (0.0 < p) & (p <= 1.7976931348623157e308)
 }
 
-// A number of a program is a binary64; reading one out of a matrix does not tell that.
+// Returns x, which is a binary64 as every float of a program is; reading it out of a matrix does not tell that.
 fn held(x: f64) -> f64
     ensures { λ r. ⌜ (r ≡ x) × T (fits binary64 x) ⌝ }
 {
     x
 }
 
-// A count of at most 7, which the compiler then knows: it unrolls the loops over it. By a comparison with 7 instead of a remainder it does not unroll
-// those that stand in functions of their own, and the factor of nine unknowns takes 9 percent longer.
+// Returns j, in a form that tells the compiler that it is at most 7, so that it unrolls the loops up to it. With a comparison in place of the remainder
+// it does not unroll those in functions of their own, and the factor of nine unknowns takes 9 percent longer.
 fn few(j: usize) -> usize
     requires { ⌜ j ≤ 7 ⌝ }
     ensures { λ r. ⌜ r ≡ j ⌝ }
@@ -56,13 +55,13 @@ fn few(j: usize) -> usize
     j % 8
 }
 
-// Of the next pivot's row: the sum of its element in column j, and the pivot by the columns before column j.
+// The next pivot's row: the sum of its element in column j, and its pivot less the products of the columns before j.
 struct Next {
     sum: f64,
     pivot: f64,
 }
 
-// Row m of the matrix at column j and at its diagonal, less the first j products of rows m and j and of row m and itself.
+// Returns row m of the matrix at column j and at its diagonal, less the first j products of rows m and j and of row m with itself.
 fn ahead(m: usize, j: usize, a: &[[f64; 9]; 9], l: &[[f64; 9]; 9]) -> Next
     requires { ⌜ (m < 9) × (j ≤ 7) ⌝ }
     ensures { λ r. ⌜ (r .sum ≡ sumOf j m j (now (a .entry)) (now (l .entry))) × (r .pivot ≡ sumOf j m m (now (a .entry)) (now (l .entry))) ⌝ }
@@ -78,7 +77,7 @@ fn ahead(m: usize, j: usize, a: &[[f64; 9]; 9], l: &[[f64; 9]; 9]) -> Next
     Next { sum: s, pivot: q }
 }
 
-// Row i of the matrix at column j, less the first j products of rows i and j.
+// Returns row i of the matrix at column j, less the first j products of rows i and j.
 fn sum(i: usize, j: usize, a: &[[f64; 9]; 9], l: &[[f64; 9]; 9]) -> f64
     requires { ⌜ (i < 9) × (j ≤ 7) ⌝ }
     ensures { λ r. ⌜ r ≡ sumOf j i j (now (a .entry)) (now (l .entry)) ⌝ }
@@ -91,7 +90,7 @@ fn sum(i: usize, j: usize, a: &[[f64; 9]; 9], l: &[[f64; 9]; 9]) -> f64
     s
 }
 
-// Makes the elements of column j in the rows from i up to, not including, n; d is the column's diagonal.
+// Computes the elements of column j in the rows from i up to, not including, n; d is the column's diagonal.
 fn fill(j: usize, d: f64, i: usize, n: usize, a: &[[f64; 9]; 9], l: &mut [[f64; 9]; 9])
     requires { ⌜ (j ≤ 7) × (j < i) × (i ≤ n) × (n ≤ 9) ⌝ }
     ensures { λ _. ⌜ now (l .exit) ≡ filled (n - i) j d i (now (a .entry)) (now (l .entry)) ⌝ }
@@ -105,20 +104,20 @@ fn fill(j: usize, d: f64, i: usize, n: usize, a: &[[f64; 9]; 9], l: &mut [[f64; 
 // Writes 1 on the diagonal of the rows from n on.
 fn mark(n: usize, l: &mut [[f64; 9]; 9])
     requires { ⌜ n ≤ 9 ⌝ }
-    ensures { λ _. ⌜ now (l .exit) ≡ marked (9 - n) n (now (l .entry)) ⌝ }
+    ensures { λ _. ⌜ now (l .exit) ≡ onesMarked (9 - n) n (now (l .entry)) ⌝ }
 {
     for i in n..9 {
         l[i][i] = 1.0;
     }
 }
 
-// Makes the factor of a in l, which holds zeros, and says whether there is one; where there is none, l holds zeros again. The unknowns from n on are
-// unused: the first n rows are made alone, and below them the identity's. Only the lower triangle of a is read.
-// The factor is made column by column, since the sums of a column do not wait for the root of its pivot. p is the pivot of column j, and q what
-// the next one has come to before column j: q less s * s / p is so near the next pivot that the tangent there gives its root at once.
+// Factors a in l, which holds zeros, and returns true; where a pivot is refused, returns false and leaves zeros. The unknowns from n on are unused: only the
+// first n rows are computed, and the rows below them are the identity's. Only the lower triangle of a is read.
+// The factor is computed column by column, since the sums of a column do not wait for the root of its pivot. p is the pivot of column j, and q the next
+// pivot less the products of the columns before j: q - s * s / p is so near that pivot that the tangent there gives its root at once.
 pub fn factor_used(n: usize, a: &[[f64; 9]; 9], l: &mut [[f64; 9]; 9]) -> bool
     requires { ⌜ (0 < n) × (n ≤ 9) × Unused n (now a) × (now l ≡ replicate 9 zeros) ⌝ }
-    ensures { λ r. ⌜ (r ≡ accepted (factorOf (now (a .entry)))) × (r ≡ true → (now (l .exit) ≡ rowsAfter (factorOf (now (a .entry))) (now (l .entry))) × Unused n (now (l .exit))) × (r ≡ false → now (l .exit) ≡ now (l .entry)) ⌝ }
+    ensures { λ r. ⌜ FactoredUsed n (now (a .entry)) (now (l .entry)) r (now (l .exit)) ⌝ }
 {
     let mut p = held(a[0][0]);
     let mut t = no_tangent();
@@ -148,33 +147,22 @@ pub fn factor_used(n: usize, a: &[[f64; 9]; 9], l: &mut [[f64; 9]; 9]) -> bool
     false
 }
 
-// Factors a into l and says whether there is a factor; l keeps its rows where a is refused. Only the lower triangle of a is read.
-// The factor is made in l itself: with one made beside it and copied at the end, factor and solution together took 7 percent longer.
-pub fn factor_into(a: &[[f64; 9]; 9], l: &mut [[f64; 9]; 9]) -> bool
-    ensures { λ r. ⌜ (r ≡ accepted (factorOf (now (a .entry)))) × (now (l .exit) ≡ rowsAfter (factorOf (now (a .entry))) (now (l .entry))) ⌝ }
+// Returns `Done` and writes the factor of a to l, or returns the refusal and leaves l unchanged. Only the lower triangle of a is read.
+// The factor is made in l itself: made beside it and copied at the end, factor and solution together took 7 percent longer.
+pub fn factor(a: [[f64; 9]; 9], l: &mut [[f64; 9]; 9]) -> Factoring
+    ensures { λ r. ⌜ FactorPromised a r (now (l .entry)) (now (l .exit)) ⌝ }
 {
     let kept = *l;
     *l = [[0.0; 9]; 9];
-    if factor_used(9, a, l) {
-        true
-    } else {
-        *l = kept;
-        false
-    }
-}
-
-// The factor of a in l, or the refusal, which leaves l as it was.
-pub fn factor(a: [[f64; 9]; 9], l: &mut [[f64; 9]; 9]) -> Factoring
-    ensures { λ r. ⌜ (r ≡ factoringOf (factorOf a)) × (now (l .exit) ≡ rowsAfter (factorOf a) (now (l .entry))) ⌝ }
-{
-    if factor_into(&a, l) {
+    if factor_used(9, &a, l) {
         Factoring::Done
     } else {
+        *l = kept;
         Factoring::Refused(Refusal::FitFailed)
     }
 }
 
-// Forward substitution over the first n unknowns, l y = b: x holds b, and then y. The other places are kept.
+// Solves l y = b for the first n unknowns by forward substitution: x holds b, and then y. The other places are unchanged.
 fn forward(n: usize, l: &[[f64; 9]; 9], x: &mut [f64; 9])
     requires { ⌜ n ≤ 9 ⌝ }
     ensures { λ _. ⌜ now (x .exit) ≡ forwardTo n (now (l .entry)) (now (x .entry)) ⌝ }
@@ -188,7 +176,7 @@ fn forward(n: usize, l: &[[f64; 9]; 9], x: &mut [f64; 9])
     }
 }
 
-// Back substitution, lᵀ x = y, from the last row up: x holds y, and then the solution. The unknowns from n on are unused: they stay 0 and add nothing.
+// Solves lᵀ x = y by back substitution, from the last row up: x holds y, and then the solution. The unknowns from n on are unused: they stay 0 and add nothing.
 fn back(n: usize, l: &[[f64; 9]; 9], x: &mut [f64; 9])
     requires { ⌜ (n ≤ 9) × Unused n (now l) × UnusedPlaces n (now x) × T (fits binary64 (at (now x) (n - 1))) ⌝ }
     ensures { λ _. ⌜ now (x .exit) ≡ backTo 9 (now (l .entry)) (now (x .entry)) ⌝ }
@@ -203,7 +191,7 @@ fn back(n: usize, l: &[[f64; 9]; 9], x: &mut [f64; 9])
     }
 }
 
-// The solution x of l lᵀ x = b, by a lent factor: x holds b, and then the solution.
+// Solves l lᵀ x = b in place: x holds b, and then the solution.
 pub fn solve_into(l: &[[f64; 9]; 9], x: &mut [f64; 9])
     ensures { λ _. ⌜ now (x .exit) ≡ solutionOf (now (l .entry)) (now (x .entry)) ⌝ }
 {
@@ -211,7 +199,7 @@ pub fn solve_into(l: &[[f64; 9]; 9], x: &mut [f64; 9])
     back(9, l, x);
 }
 
-// The same, with b and the solution by value.
+// Returns the solution x of l lᵀ x = b.
 pub fn solve_lent(l: &[[f64; 9]; 9], b: [f64; 9]) -> [f64; 9]
     ensures { λ r. ⌜ r ≡ solutionOf (now (l .entry)) b ⌝ }
 {
@@ -220,8 +208,8 @@ pub fn solve_lent(l: &[[f64; 9]; 9], b: [f64; 9]) -> [f64; 9]
     x
 }
 
-// The same where the unknowns from n on are unused. If the last place of the forward solution is finite, so are those above it, and the unused places are 0;
-// otherwise they may be NaN, since 0 times infinity is.
+// Returns the solution where the unknowns from n on are unused. If the last place of the forward solution is finite, so are those above it, and the unused
+// places are 0; otherwise they may be NaN, since 0 times infinity is.
 pub fn solve_used(n: usize, l: &[[f64; 9]; 9], b: [f64; 9]) -> [f64; 9]
     requires { ⌜ (0 < n) × (n ≤ 9) × Unused n (now l) × UnusedPlaces n b ⌝ }
     ensures { λ r. ⌜ r ≡ solutionOf (now (l .entry)) b ⌝ }
@@ -238,7 +226,7 @@ pub fn solve_used(n: usize, l: &[[f64; 9]; 9], b: [f64; 9]) -> [f64; 9]
     }
 }
 
-// The solution x of l lᵀ x = b: only the lower triangle of l is read, and nothing is refused.
+// Returns the solution x of l lᵀ x = b. Only the lower triangle of l is read, and nothing is refused.
 pub fn solve(l: [[f64; 9]; 9], b: [f64; 9]) -> [f64; 9]
     ensures { λ r. ⌜ r ≡ solutionOf l b ⌝ }
 {

@@ -9,8 +9,8 @@ use native.Mathlib.Omega.{arith}
 use lib.Dec.{eqb, ltb}
 use borrow.Author.Tests.{eq-eqb, ne-eqb, le-ltb}
 use lib.ListN.{length, getD, set, length-append}
-use Rattle.walk.proofs.Walk.{or-no}
-use Rattle.walk.specs.Walk.{fold}
+use Rattle.lists.proofs.Walk.{or-no}
+use Rattle.lists.specs.Walk.{fold}
 use Rattle.clocks.specs.Clocks.{place, notGiven, none, slot, given, has, appearing, slotFrom, clocksIn, clocksOf}
 use Rattle.clocks.specs.declared.clocks.Clocks.{Clocks}
 

@@ -8,23 +8,23 @@ use native.Mathlib.Omega.{arith}
 use lib.Dec.{eqb}
 use borrow.Author.Tests.{eq-eqb, eqb-true, ne-eqb}
 use lib.ListN.{length, drop, length-map}
-use Rattle.walk.specs.Walk.{collect}
+use Rattle.lists.specs.Walk.{collect}
 use Rattle.numeric.specs.declared.vec3.Vec3.{Vec3}
 use Rattle.numeric.specs.Order.{patternOf}
-use Rattle.table.specs.Table.{standsBefore}
-use Rattle.table.specs.Add.{insert, insertAll}
-use Rattle.table.specs.Build.{builtOf}
-use Rattle.table.specs.declared.sample.Sample.{Sample}
-use Rattle.table.proofs.TableLaws.{and-left, and-right}
-use Rattle.table.proofs.InsertLaws.{insertAll-length}
-use Rattle.table.proofs.SeriesLaws.{insertAll-append}
-use Rattle.table.proofs.BuiltLaws.{build-law}
-use Rattle.table.proofs.UnitLaws.{never}
-use Rattle.directory.specs.Directory.{Blocks, Directory, Entry, Reading, blocksWith, columnOf, directoryOf, entriesFrom, entryOf, flat, isMine, joined, readingOf}
-use Rattle.directory.proofs.DirectoryLaws.{flat-directory}
-use Rattle.differential.specs.Sample.{epochSamples}
-use Rattle.differential.specs.Build.{Input, buildOf}
-use Rattle.differential.specs.declared.record.Settings.{Settings}
+use Rattle.corrections_table.specs.Table.{standsBefore}
+use Rattle.corrections_table.specs.Add.{insert, insertAll}
+use Rattle.corrections_table.specs.Build.{builtOf}
+use Rattle.corrections_table.specs.declared.sample.Sample.{Sample}
+use Rattle.corrections_table.proofs.TableLaws.{and-left, and-right}
+use Rattle.corrections_table.proofs.InsertLaws.{insertAll-length}
+use Rattle.corrections_table.proofs.SeriesLaws.{insertAll-append}
+use Rattle.corrections_table.proofs.BuiltLaws.{build-law}
+use Rattle.corrections_table.proofs.UnitLaws.{never}
+use Rattle.corrections_directory.specs.Directory.{Blocks, Directory, Entry, Reading, blocksWith, columnOf, directoryOf, entriesFrom, entryOf, flat, isMine, joined, readingOf}
+use Rattle.corrections_directory.proofs.DirectoryLaws.{flat-directory}
+use Rattle.corrections_epoch.specs.Sample.{epochSamples}
+use Rattle.corrections_epoch.specs.Build.{EpochInput, buildOf}
+use Rattle.corrections_epoch.specs.declared.record.Settings.{Settings}
 use Rattle.corrections_laws.specs.Calls.{AddsEpoch, AllBy, Call, Caller, Comes, Epoch, CallRun, adding, builtFrom, baseEpoch, asBlocks, directory, done, dropping, heldSamples, newSamples, next, statesBeside}
 use Rattle.corrections_laws.proofs.ColumnLaws.{with-holds}
 use Rattle.corrections_laws.proofs.StepLaws.{add-accepted, add-refused, zero-or}
@@ -184,7 +184,7 @@ comes-added h t g e g′ c d =
     }
 
 module _ (base rover : Vec3) (set : Settings) where
-  abbrev samples : Input → List Sample
+  abbrev samples : EpochInput → List Sample
   samples i = epochSamples base rover set (i .epoch) (i .states)
 
   built-more : (e : Epoch) (cs : List Call) (k : ℕ) (ks : List ℕ) → k ≡ 0 → builtFrom (adding e ∷ cs) (k ∷ ks) ≡ record { epoch = baseEpoch e; states = statesBeside e } ∷ builtFrom cs ks
@@ -209,7 +209,7 @@ module _ (base rover : Vec3) (set : Settings) where
       (run-comes h (insertAll t (samples (record { epoch = baseEpoch e; states = statesBeside e }))) r (w .1)
       (subst (λ (s : List Sample). Comes h (insertAll t s) g′) (new-is e (w .0)) (comes-added h t g e g′ c (subst (λ (i : ℕ). AddsEpoch g e i g′) z d)))))
       (λ (n : k ≡ 0 → ⊥).
-      subst (λ (i : List Input). Comes h (insertAll t (collect samples i)) g″) (sym (built-less e cs k ks n)) (run-comes h t r (w .1) (subst (λ (x : Caller). Comes h t x) (sym (add-refused g e k g′ d n)) c)))
+      subst (λ (i : List EpochInput). Comes h (insertAll t (collect samples i)) g″) (sym (built-less e cs k ks n)) (run-comes h t r (w .1) (subst (λ (x : Caller). Comes h t x) (sym (add-refused g e k g′ d n)) c)))
     where
       collect-more : (e : Epoch) (cs : List Call) (k : ℕ) (ks : List ℕ) → k ≡ 0 → collect samples (builtFrom (adding e ∷ cs) (k ∷ ks)) ≡ samples (record { epoch = baseEpoch e; states = statesBeside e }) ++ collect samples (builtFrom cs ks)
       collect-more e cs k ks z = ap (collect samples) (built-more e cs k ks z) ∙ (unfold collect in refl)

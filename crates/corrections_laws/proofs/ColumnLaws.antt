@@ -8,12 +8,12 @@ use native.Mathlib.Omega.{arith}
 use lib.ListN.{length, getD, take, drop, length-append, length-drop, length-map}
 use borrow.Author.Tests.{lt-ltb}
 use lib.Ieee.{Float}
-use Rattle.walk.specs.Walk.{every}
-use Rattle.table.specs.Table.{Columns, beside, rows, tableOf}
-use Rattle.table.specs.declared.sample.Sample.{Sample}
-use Rattle.directory.specs.Directory.{Blocks, Directory, Entry, Reading, blockCapacity, blocksWith, columnOf, directoryIn, entriesIn, readingsIn}
-use Rattle.directory.proofs.ColumnLaws.{blocks-hold, entries-length, readings-length}
-use Rattle.directory.proofs.DirectoryLaws.{narrow}
+use Rattle.lists.specs.Walk.{every}
+use Rattle.corrections_table.specs.Table.{Columns, beside, rows, tableOf}
+use Rattle.corrections_table.specs.declared.sample.Sample.{Sample}
+use Rattle.corrections_directory.specs.Directory.{Blocks, Directory, Entry, Reading, blockCapacity, blocksWith, columnOf, directoryIn, entriesIn, readingsIn}
+use Rattle.corrections_directory.proofs.ColumnLaws.{blocks-hold, entries-length, readings-length}
+use Rattle.corrections_directory.proofs.DirectoryLaws.{narrow}
 
 -- ---- the signals of a table
 pub record Signals (n : ℕ) (cs vs bs : List ℕ) (t : List Sample) : Type 0 where

@@ -10,22 +10,23 @@ use borrow.Author.Tests.{eq-eqb, ne-eqb, ltb-true, ltb-false, lt-ltb, le-ltb}
 use lib.ListN.{length}
 use lib.Seq.{length-take-le}
 use lib.Ieee.{Float}
-use Rattle.walk.specs.Walk.{every, fold}
-use Rattle.table.specs.Table.{soundTable}
-use Rattle.table.specs.Add.{insertAll}
-use Rattle.table.specs.declared.sample.Sample.{Sample}
-use Rattle.table.proofs.InsertLaws.{insertAll-length}
-use Rattle.table.proofs.Places.{sorted-rises}
-use Rattle.directory.specs.Directory.{directoryOf, readingsIn, soundDirectory}
-use Rattle.directory.proofs.DirectoryLaws.{narrow, sound-directory, sound-flat}
-use Rattle.directory.proofs.ColumnLaws.{flat-length}
-use Rattle.query.specs.Query.{guarded, patternAfter, queryIn, queryNumber}
-use Rattle.query.specs.declared.query.Correction.{Correction}
-use Rattle.forget.specs.History.{Event, add, allowed, drop, happen, history, undropped}
-use Rattle.forget.proofs.HistoryLaws.{history-law, sorted-of}
-use Rattle.forget.proofs.ForgetLaws.{forget-every}
-use Rattle.differential.specs.AddEpoch.{recordsInRange, settingsInRange}
-use Rattle.corrections_laws.specs.Calls.{AddsEpoch, Asks, Call, Caller, Does, Drops, Epoch, Query, CallRun, TypedCalls, TypedTable, acceptedCalls, adding, answerBy, queryOn, baseEpoch, asBlocks, directory, done, dropping, epochNumbers, epochsOf, heldSamples, newSamples, next, room, shortOf, statesBeside}
+use Rattle.lists.specs.Walk.{every, fold}
+use Rattle.corrections_table.specs.Table.{soundTable}
+use Rattle.corrections_table.specs.Add.{insertAll}
+use Rattle.corrections_table.specs.declared.sample.Sample.{Sample}
+use Rattle.corrections_table.proofs.InsertLaws.{insertAll-length}
+use Rattle.corrections_table.proofs.Places.{sorted-rises}
+use Rattle.corrections_directory.specs.Directory.{directoryOf, readingsIn, soundDirectory}
+use Rattle.corrections_directory.proofs.DirectoryLaws.{narrow, sound-directory, sound-flat}
+use Rattle.corrections_directory.proofs.ColumnLaws.{flat-length}
+use Rattle.corrections_query.specs.Query.{guarded, patternAfter, queryIn, queryNumber}
+use Rattle.corrections_query.specs.declared.query.Correction.{Correction}
+use Rattle.corrections_forget.specs.History.{Event, add, allowed, drop, happen, history, undropped}
+use Rattle.corrections_forget.proofs.HistoryLaws.{history-law, sorted-of}
+use Rattle.corrections_forget.proofs.ForgetLaws.{forget-every}
+use Rattle.corrections_epoch.specs.AddEpoch.{recordsInRange, settingsInRange}
+use Rattle.corrections_laws.proofs.Hypotheses.{TypedCalls}
+use Rattle.corrections_laws.specs.Calls.{AddsEpoch, Asks, Call, Caller, Does, Drops, Epoch, Query, CallRun, TypedTable, acceptedCalls, adding, answerBy, queryOn, baseEpoch, asBlocks, directory, done, dropping, epochNumbers, epochsOf, heldSamples, newSamples, next, room, shortOf, statesBeside}
 use Rattle.corrections_laws.proofs.StepLaws.{Added, Dropped, add-accepted, add-refused, drop-accepted, drop-refused, number-by, same-number, zero-or}
 use Rattle.corrections_laws.proofs.NarrowLaws.{flat-narrow, insertAll-pass, new-narrow}
 use Rattle.corrections_laws.proofs.RunLaws.{none-accepted, run-held}

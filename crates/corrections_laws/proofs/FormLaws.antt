@@ -9,19 +9,19 @@ use lib.ListN.{length, take, drop}
 use lib.Seq.{length-take-le}
 use borrow.Author.Tests.{ltb-false, le-ltb}
 use lib.Ieee.{Float}
-use Rattle.walk.proofs.Walk.{or-no}
+use Rattle.lists.proofs.Walk.{or-no}
 use Rattle.numeric.specs.declared.refusal.Refusal.the-variants.{TooMany, RecordOutOfRange}
-use Rattle.table.specs.Table.{Columns, capacity, lent, rows, soundTable, tableOf}
-use Rattle.table.specs.declared.sample.Sample.{Sample}
-use Rattle.table.proofs.ColumnLaws.{rows-length}
-use Rattle.directory.specs.Directory.{Blocks, Directory, Entry, blockCapacity, directoryIn, directoryOf, entriesFrom, entriesIn, entryRows, flat, lentBlocks, readingsIn, readingRows, soundDirectory}
-use Rattle.directory.specs.Rearrange.{entriesAre, entriesWith, filedNumber, filedOf, listedNumber, listedOf, samplesAre, signalsWith, unfiled, unlisted}
-use Rattle.directory.proofs.DirectoryLaws.{directory-flat, flat-directory, sound-directory, sound-flat}
-use Rattle.directory.proofs.ColumnLaws.{entries-length, readings-length, flat-length, rearranged, restored}
-use Rattle.forget.proofs.HistoryLaws.{sorted-of}
-use Rattle.addition.proofs.CountLaws.{fields-of}
-use Rattle.addition.proofs.PlaceLaws.{entries-fewer}
-use Rattle.rearrange.specs.Lent.{Files, Lists}
+use Rattle.corrections_table.specs.Table.{Columns, capacity, lentSamples, rows, soundTable, tableOf}
+use Rattle.corrections_table.specs.declared.sample.Sample.{Sample}
+use Rattle.corrections_table.proofs.ColumnLaws.{rows-length}
+use Rattle.corrections_directory.specs.Directory.{Blocks, Directory, Entry, blockCapacity, directoryIn, directoryOf, entriesFrom, entriesIn, entryRows, flat, lentBlocks, readingsIn, readingRows, soundDirectory}
+use Rattle.corrections_directory.specs.Rearrange.{entriesAre, entriesWith, filedNumber, filedOf, listedNumber, listedOf, samplesAre, signalsWith, unfiled, unlisted}
+use Rattle.corrections_directory.proofs.DirectoryLaws.{directory-flat, flat-directory, sound-directory, sound-flat}
+use Rattle.corrections_directory.proofs.ColumnLaws.{entries-length, readings-length, flat-length, rearranged, restored}
+use Rattle.corrections_forget.proofs.HistoryLaws.{sorted-of}
+use Rattle.corrections_add.proofs.CountLaws.{fields-of}
+use Rattle.corrections_add.proofs.PlaceLaws.{entries-fewer}
+use Rattle.corrections_convert.specs.Lent.{Files, Lists}
 use Rattle.corrections_laws.specs.Typed.{Typed}
 use Rattle.corrections_laws.proofs.NumberLaws.{not-zero}
 use Rattle.corrections_laws.proofs.ColumnLaws.{column-length, signals-of, table-narrow}
@@ -133,7 +133,7 @@ module _ (n m m′ : ℕ) (l : Columns) (dc dv db df dn : List ℕ) (l′ : Bloc
   files-fit = omega (arith, f .few, f .in-rows)
 
   module _ (typed : Typed (l .svids) (l .bands)) (us ws ys : List ℕ) (in-us : n ≤ length us) (in-ws : n ≤ length ws) (in-ys : n ≤ length ys) (number : ℕ) (t′ : Columns)
-      (lists : Lists (listedOf m′ n (min (length us) (min (length ws) (length ys))) l′) number (lent us ws ys (l .times) (l .corrections)) t′) where
+      (lists : Lists (listedOf m′ n (min (length us) (min (length ws) (length ys))) l′) number (lentSamples us ws ys (l .times) (l .corrections)) t′) where
     steady : soundDirectory (directoryIn m′ n l′) ≡ true
     steady = ap soundDirectory files-hold ∙ sound-directory (tableOf n l) (table-narrow n l (typed .svid) (typed .band)) (sorted-of (tableOf n l) (f .steady)) ∙ f .steady
 
@@ -150,19 +150,19 @@ module _ (n m m′ : ℕ) (l : Columns) (dc dv db df dn : List ℕ) (l′ : Bloc
     signals-answer = lists .number-is ∙ ap listedNumber answer
 
     -- and gives back the first n signals; later places stay
-    pub signals-back : t′ ≡ lent (take n (l .constellations) ++ drop n us) (take n (l .svids) ++ drop n ws) (take n (l .bands) ++ drop n ys) (l .times) (l .corrections)
+    pub signals-back : t′ ≡ lentSamples (take n (l .constellations) ++ drop n us) (take n (l .svids) ++ drop n ws) (take n (l .bands) ++ drop n ys) (l .times) (l .corrections)
     signals-back =
         let s = signals-of n l (f .in-rows) in
         lists .columns ∙ rw (answer, s .constellations, s .svids, s .bands, long)
 
 -- ---- the table of a directory, and back
-module _ (m n : ℕ) (l : Blocks) (us ws ys : List ℕ) (t′ : Columns) (lists : Lists (listedOf m n (min (length us) (min (length ws) (length ys))) l) 0 (lent us ws ys (l .times) (l .corrections)) t′)
+module _ (m n : ℕ) (l : Blocks) (us ws ys : List ℕ) (t′ : Columns) (lists : Lists (listedOf m n (min (length us) (min (length ws) (length ys))) l) 0 (lentSamples us ws ys (l .times) (l .corrections)) t′)
     (dc dv db df dn : List ℕ) (room : n ≤ length (entryRows dc dv db df dn)) (number k k′ : ℕ) (l′ : Blocks)
     (files : Files (filedOf n (length (entryRows dc dv db df dn)) t′) number k k′ (lentBlocks dc dv db df dn (l .times) (l .corrections)) l′) where
   g : Listing m n (min (length us) (min (length ws) (length ys))) l
   g = listing m n (min (length us) (min (length ws) (length ys))) l (lists .number-is)
 
-  given : t′ ≡ signalsWith (flat (directoryIn m n l)) (lent us ws ys (l .times) (l .corrections))
+  given : t′ ≡ signalsWith (flat (directoryIn m n l)) (lentSamples us ws ys (l .times) (l .corrections))
   given = rw (g .is) at (lists .columns)
 
   table : tableOf n t′ ≡ flat (directoryIn m n l)
@@ -174,7 +174,7 @@ module _ (m n : ℕ) (l : Blocks) (us ws ys : List ℕ) (t′ : Columns) (lists 
   in-rows : n ≤ length (rows t′)
   in-rows =
       let s = flat (directoryIn m n l) in
-      let a = rows-length (signalsWith s (lent us ws ys (l .times) (l .corrections))) in
+      let a = rows-length (signalsWith s (lentSamples us ws ys (l .times) (l .corrections))) in
       let b = column-length (λ (x : Sample). x .constellation) s us (omega (arith, wide, g .in-long)) in
       let c = column-length (λ (x : Sample). x .svid) s ws (omega (arith, wide, g .in-long)) in
       let d = column-length (λ (x : Sample). x .band) s ys (omega (arith, wide, g .in-long)) in

@@ -8,20 +8,20 @@ use native.Mathlib.Omega.{arith}
 use lib.ListN.{length, take, take-append-drop}
 use lib.Seq.{length-take-le}
 use lib.Ieee.{Float}
-use Rattle.walk.specs.Walk.{collect, every, first}
+use Rattle.lists.specs.Walk.{collect, every, first}
 use Rattle.numeric.specs.Order.{patternOf}
 use Rattle.numeric.specs.declared.vec3.Vec3.{Vec3}
-use Rattle.table.specs.Add.{insertAll}
-use Rattle.directory.specs.Directory.{Blocks, blocksWith, columnOf, Directory, directoryIn, directoryOf, entriesIn, Entry, floats, inReach, Reading, readingRows, readingsIn, soundDirectory}
-use Rattle.directory.proofs.DirectoryLaws.{directory-flat, sound-parts}
-use Rattle.directory.proofs.ColumnLaws.{readings-length}
-use Rattle.addition.proofs.CountLaws.{fields-of}
-use Rattle.differential.specs.Raw.{enabled, firstRaw, rawAt, rawsOf}
-use Rattle.differential.specs.Sample.{epochSamples, samplesOf}
-use Rattle.differential.specs.declared.record.Range.{Range}
-use Rattle.differential.specs.declared.record.Settings.{Settings}
+use Rattle.corrections_table.specs.Add.{insertAll}
+use Rattle.corrections_directory.specs.Directory.{Blocks, blocksWith, columnOf, Directory, directoryIn, directoryOf, entriesIn, Entry, floats, inReach, Reading, readingRows, readingsIn, soundDirectory}
+use Rattle.corrections_directory.proofs.DirectoryLaws.{directory-flat, sound-parts}
+use Rattle.corrections_directory.proofs.ColumnLaws.{readings-length}
+use Rattle.corrections_add.proofs.CountLaws.{fields-of}
+use Rattle.corrections_epoch.specs.Raw.{enabled, firstRaw, rawAt, rawsOf}
+use Rattle.corrections_epoch.specs.Sample.{epochSamples, samplesOf}
+use Rattle.corrections_epoch.specs.declared.record.Range.{Range}
+use Rattle.corrections_epoch.specs.declared.record.Settings.{Settings}
 use Rattle.corrections_laws.specs.Calls.{AddsEpoch, Caller, Epoch, TypedTable, asBlocks, directory, heldSamples, newSamples}
-use Rattle.directory.proofs.PatternLaws.{floats-length, map-of, numbers-in, numbers-of, patterns-back}
+use Rattle.corrections_directory.proofs.PatternLaws.{floats-length, map-of, numbers-in, numbers-of, patterns-back}
 use Rattle.corrections_laws.proofs.StepLaws.{Added, add-accepted, add-refused, same-caller, zero-or}
 
 -- ---- no states, no samples

@@ -8,23 +8,24 @@ use lib.ListN.{length, getD, take, drop}
 use borrow.Author.Tests.{lt-ltb}
 use lib.Ieee.{Float}
 use Rattle.exact.specs.Float.{_⊖_}
-use Rattle.walk.specs.Walk.{collect, every, first, places}
+use Rattle.lists.specs.Walk.{collect, every, first, places}
 use Rattle.numeric.specs.declared.vec3.Vec3.{Vec3}
-use Rattle.table.specs.Table.{standsBefore}
-use Rattle.table.specs.Add.{insert, insertAll}
-use Rattle.table.specs.declared.sample.Sample.{Sample}
-use Rattle.table.proofs.TableLaws.{and-left, and-right}
-use Rattle.directory.specs.Directory.{Blocks, Entry, Reading, block, directoryIn, entriesIn, entryRows, flat, readingsIn, sampleOf}
-use Rattle.directory.proofs.DirectoryLaws.{narrow}
-use Rattle.differential.specs.Raw.{enabled, firstRaw, rawAt, rawOf, rawsOf, same}
-use Rattle.differential.specs.Sample as Samples
-use Rattle.differential.specs.Sample.{clockOf, corrected, epochSamples, group, kept, sampleAt, samplesOf}
-use Rattle.differential.specs.declared.raw.Raw.{Raw}
-use Rattle.differential.specs.declared.record.Range.{Range}
-use Rattle.differential.specs.declared.record.Settings.{Settings}
-use Rattle.differential.specs.declared.record.State.{State}
-use Rattle.epoch_columns.specs.Epoch.{rangeAt}
-use Rattle.corrections_laws.specs.Calls.{Epoch, TypedEpoch, newSamples}
+use Rattle.corrections_table.specs.Table.{standsBefore}
+use Rattle.corrections_table.specs.Add.{insert, insertAll}
+use Rattle.corrections_table.specs.declared.sample.Sample.{Sample}
+use Rattle.corrections_table.proofs.TableLaws.{and-left, and-right}
+use Rattle.corrections_directory.specs.Directory.{Blocks, Entry, Reading, block, directoryIn, entriesIn, entryRows, flat, readingsIn, sampleOf}
+use Rattle.corrections_directory.proofs.DirectoryLaws.{narrow}
+use Rattle.corrections_epoch.specs.Raw.{enabled, firstRaw, rawAt, rawOf, rawsOf, isStateOf}
+use Rattle.corrections_epoch.specs.Sample as Samples
+use Rattle.corrections_epoch.specs.Sample.{clockOf, corrected, epochSamples, group, kept, sampleAt, samplesOf}
+use Rattle.corrections_epoch.specs.declared.raw.Raw.{Raw}
+use Rattle.corrections_epoch.specs.declared.record.Range.{Range}
+use Rattle.corrections_epoch.specs.declared.record.Settings.{Settings}
+use Rattle.corrections_epoch.specs.declared.record.State.{State}
+use Rattle.corrections_epoch_columns.specs.Epoch.{rangeAt}
+use Rattle.corrections_laws.proofs.Hypotheses.{TypedEpoch}
+use Rattle.corrections_laws.specs.Calls.{Epoch, newSamples}
 use Rattle.corrections_laws.specs.Typed.{Typed}
 
 every-append : {A : Type 0} (p : A → Bool) (xs ys : List A) → every p xs ≡ true → every p ys ≡ true → every p (xs ++ ys) ≡ true
@@ -85,12 +86,12 @@ module _ (test : ℕ → ℕ → Bool) where
   ranges-pass (suc k) rc rv rb rp h = every-append byRange (places (rangeAt rc rv rb rp) k) (rangeAt rc rv rb rp k ∷ []) (ranges-pass k rc rv rb rp h) (rw (h k))
 
   -- what a range gives has the range's svid and band
-  found-pass : (base rover : Vec3) (r : Range) (l : List State) → byRange r ≡ true → every byRaw (first (same r) (λ s. rawOf base rover r s ∷ []) [] l) ≡ true
+  found-pass : (base rover : Vec3) (r : Range) (l : List State) → byRange r ≡ true → every byRaw (first (isStateOf r) (λ s. rawOf base rover r s ∷ []) [] l) ≡ true
   unfolding first every
   found-pass base rover r [] h = refl
-  found-pass base rover r (s ∷ l) h = either (same r s) (found-pass base rover r l h)
+  found-pass base rover r (s ∷ l) h = either (isStateOf r s) (found-pass base rover r l h)
     where
-      either : (x : Bool) → every byRaw (first (same r) (λ s. rawOf base rover r s ∷ []) [] l) ≡ true → every byRaw (cond x (rawOf base rover r s ∷ []) (first (same r) (λ s. rawOf base rover r s ∷ []) [] l)) ≡ true
+      either : (x : Bool) → every byRaw (first (isStateOf r) (λ s. rawOf base rover r s ∷ []) [] l) ≡ true → every byRaw (cond x (rawOf base rover r s ∷ []) (first (isStateOf r) (λ s. rawOf base rover r s ∷ []) [] l)) ≡ true
       either true k = rw h
       either false k = k
 
@@ -98,7 +99,7 @@ module _ (test : ℕ → ℕ → Bool) where
   unfolding rawAt firstRaw every
   raw-pass set base rover states r h = go (enabled set (r .constellation))
     where
-      go : (x : Bool) → every byRaw (cond x (first (same r) (λ s. rawOf base rover r s ∷ []) [] states) []) ≡ true
+      go : (x : Bool) → every byRaw (cond x (first (isStateOf r) (λ s. rawOf base rover r s ∷ []) [] states) []) ≡ true
       go true = found-pass base rover r states h
       go false = refl
 
@@ -106,7 +107,7 @@ module _ (test : ℕ → ℕ → Bool) where
   unfolding sampleAt corrected every
   sample-pass time max raws r h = go (leb 8 (r .constellation) || ltb (length (group (r .constellation) raws)) 3) (kept max (r .value ⊖ clockOf (group (r .constellation) raws)))
     where
-      go : (x y : Bool) → every by (cond x [] (cond y (Samples.sampleOf time r (r .value ⊖ clockOf (group (r .constellation) raws)) ∷ []) [])) ≡ true
+      go : (x y : Bool) → every by (cond x [] (cond y (Samples.correctedSample time r (r .value ⊖ clockOf (group (r .constellation) raws)) ∷ []) [])) ≡ true
       go true y = refl
       go false true = rw h
       go false false = refl

@@ -11,17 +11,17 @@ use lib.Ieee.Scale.{finite}
 use Rattle.numeric.specs.Order.{patternOf}
 use Rattle.numeric.specs.declared.refusal.Refusal.the-variants.{NoCorrection}
 use Rattle.signal.specs.Signal.{signal}
-use Rattle.table.specs.declared.sample.Sample.{Sample}
-use Rattle.directory.specs.Directory.{Blocks, blockCapacity, directoryIn, flat}
-use Rattle.query.specs.Query.{Answers, PassedQuery, Passes, queryIn, queryNumber}
-use Rattle.query.specs.Past.{JustPast, queryBefore}
-use Rattle.query.specs.declared.query.Correction.{Correction}
-use Rattle.query.specs.declared.query.Correction.the-variants.{Metres, Refused}
-use Rattle.query.proofs.PastLaws.{query-changed, query-kept, query-refused, query-timeless}
-use Rattle.query.proofs.PlaceLaws.{held-flat}
-use Rattle.query_calls.specs.Queries.{Replies, Reply, answers, askingNumber, askingOf, queriesIn, queryAt, refusal}
-use Rattle.query_calls.specs.declared.queries.Asking.the-variants.{Answered}
-use Rattle.query_calls.proofs.QueriesLaws.{finite-there, metres-at, number-at}
+use Rattle.corrections_table.specs.declared.sample.Sample.{Sample}
+use Rattle.corrections_directory.specs.Directory.{Blocks, blockCapacity, directoryIn, flat}
+use Rattle.corrections_query.specs.Query.{Answers, PassedQuery, Passes, queryIn, queryNumber}
+use Rattle.corrections_query.specs.Past.{JustPast, queryBefore}
+use Rattle.corrections_query.specs.declared.query.Correction.{Correction}
+use Rattle.corrections_query.specs.declared.query.Correction.the-variants.{Metres, Refused}
+use Rattle.corrections_query.proofs.PastLaws.{query-changed, query-kept, query-refused, query-timeless}
+use Rattle.corrections_query.proofs.PlaceLaws.{held-flat}
+use Rattle.corrections_queries.specs.Queries.{Replies, Reply, answers, askingNumber, askingOf, queriesIn, queryAt, refusal}
+use Rattle.corrections_queries.specs.declared.queries.Asking.the-variants.{Answered}
+use Rattle.corrections_queries.proofs.QueriesLaws.{finite-there, metres-at, number-at}
 use Rattle.corrections_laws.specs.Typed.{InFormat}
 use Rattle.corrections_laws.proofs.NumberLaws.{not-zero}
 

@@ -5,17 +5,17 @@ use mathlib.Core.Bool.{Bool, true, false}
 use Prim.Native.Nat.{ℕ}
 use native.Mathlib.Omega.{arith}
 use borrow.Author.Tests.{eq-eqb, ne-eqb}
-use Rattle.walk.specs.Walk.{fold}
-use Rattle.table.specs.declared.sample.Sample.{Sample}
-use Rattle.table.proofs.Places.{sorted-rises}
-use Rattle.directory.specs.Directory.{soundDirectory}
-use Rattle.directory.proofs.DirectoryLaws.{sound-flat}
-use Rattle.query.specs.declared.query.Correction.{Correction}
-use Rattle.forget.specs.History.{Event, allowed, happen, history, undropped}
-use Rattle.forget.proofs.HistoryLaws.{history-law, sorted-of}
-use Rattle.query.specs.Query.{Answers, Passes}
+use Rattle.lists.specs.Walk.{fold}
+use Rattle.corrections_table.specs.declared.sample.Sample.{Sample}
+use Rattle.corrections_table.proofs.Places.{sorted-rises}
+use Rattle.corrections_directory.specs.Directory.{soundDirectory}
+use Rattle.corrections_directory.proofs.DirectoryLaws.{sound-flat}
+use Rattle.corrections_query.specs.declared.query.Correction.{Correction}
+use Rattle.corrections_forget.specs.History.{Event, allowed, happen, history, undropped}
+use Rattle.corrections_forget.proofs.HistoryLaws.{history-law, sorted-of}
+use Rattle.corrections_query.specs.Query.{Answers, Passes}
 use Rattle.corrections_laws.specs.Calls.{Asks, Call, Caller, Does, Query, CallRun, acceptedCalls, adding, answerBy, directory, done, dropping, eventOf, heldSamples, next, room}
-use Rattle.query.proofs.PastLaws.{query-passed}
+use Rattle.corrections_query.proofs.PastLaws.{query-passed}
 use Rattle.corrections_laws.proofs.StepLaws.{add-accepted, add-refused, drop-accepted, drop-refused, zero-or}
 
 -- ---- one call

@@ -9,34 +9,35 @@ use borrow.Author.Tests.{le-ltb}
 use lib.ListN.{length, take, drop, length-map}
 use lib.Seq.{length-take-le}
 use lib.Ieee.{Float}
-use Rattle.walk.specs.Walk.{every, fold}
+use Rattle.lists.specs.Walk.{every, fold}
 use Rattle.numeric.specs.Order.{patternOf}
 use Rattle.numeric.specs.declared.vec3.Vec3.{Vec3}
 use Rattle.numeric.specs.declared.refusal.Refusal.the-variants.{TooMany}
-use Rattle.table.specs.Table.{beside, rows, sorted}
-use Rattle.table.specs.Add.{Outcome, added, insertAll, refused}
-use Rattle.table.specs.declared.sample.Sample.{Sample}
-use Rattle.table.proofs.ColumnLaws.{rows-length}
-use Rattle.table.proofs.InsertLaws.{insertAll-length}
-use Rattle.table.proofs.Places.{sorted-rises}
-use Rattle.table.proofs.SeriesLaws.{insertAll-rises}
-use Rattle.directory.specs.Directory.{Blocks, columnOf, Directory, directoryOf, entriesFrom, flat, floats, Reading, readingOf}
-use Rattle.directory.proofs.DirectoryLaws.{flat-directory, narrow}
-use Rattle.addition.specs.Add as Add
-use Rattle.addition.specs.Add.{Placed, addedIn, directoryWith, flatOutcome, refusedIn}
-use Rattle.query.specs.Query.{patternAfter, queryIn, queryNumber, queryOf}
-use Rattle.query.specs.declared.query.Correction.{Correction}
-use Rattle.query.proofs.FormLaws.{query-same}
-use Rattle.differential.specs.AddEpoch.{addedOf, epochIn}
-use Rattle.differential.specs.declared.record.BaseEpoch.{BaseEpoch}
-use Rattle.differential.specs.declared.record.Settings.{Settings}
-use Rattle.differential.specs.declared.record.States.{States}
-use Rattle.differential.proofs.SameLaws.{epoch-same}
-use Rattle.epoch_columns.specs.Epoch.{entryIn}
+use Rattle.corrections_table.specs.Table.{beside, rows, sorted}
+use Rattle.corrections_table.specs.Add.{AddOutcome, added, insertAll, refused}
+use Rattle.corrections_table.specs.declared.sample.Sample.{Sample}
+use Rattle.corrections_table.proofs.ColumnLaws.{rows-length}
+use Rattle.corrections_table.proofs.InsertLaws.{insertAll-length}
+use Rattle.corrections_table.proofs.Places.{sorted-rises}
+use Rattle.corrections_table.proofs.SeriesLaws.{insertAll-rises}
+use Rattle.corrections_directory.specs.Directory.{Blocks, columnOf, Directory, directoryOf, entriesFrom, flat, floats, Reading, readingOf}
+use Rattle.corrections_directory.proofs.DirectoryLaws.{flat-directory, narrow}
+use Rattle.corrections_add.specs.Add as Add
+use Rattle.corrections_add.specs.Add.{Placed, addedIn, directoryWith, flatOutcome, refusedIn}
+use Rattle.corrections_query.specs.Query.{patternAfter, queryIn, queryNumber, queryOf}
+use Rattle.corrections_query.specs.declared.query.Correction.{Correction}
+use Rattle.corrections_query.proofs.FormLaws.{query-same}
+use Rattle.corrections_epoch.specs.AddEpoch.{addedOf, epochPlaced}
+use Rattle.corrections_epoch.specs.declared.record.BaseEpoch.{BaseEpoch}
+use Rattle.corrections_epoch.specs.declared.record.Settings.{Settings}
+use Rattle.corrections_epoch.specs.declared.record.States.{States}
+use Rattle.corrections_epoch.proofs.SameLaws.{epoch-same}
+use Rattle.corrections_epoch_columns.specs.Epoch.{entryIn}
+use Rattle.corrections_laws.proofs.Hypotheses.{BlockRun, TypedSteps, asked, done, entered}
 use Rattle.corrections_laws.specs.Typed.{Typed}
 use Rattle.corrections_laws.specs.Calls.{AddsEpoch, Caller, Epoch, Query, addingOf, queryOn, baseEpoch, directory, heldSamples, newSamples, room, shortOf, statesBeside}
-use Rattle.corrections_laws.specs.Flat.{BlockRun, BothForms, Step, Table, Told, TypedSteps, answered, asked, done, fiveColumns, flatAddition, flatAnswer, flatEnd, flatNumber, flatTells, numbered, roomIn, samplesIn, tableAfter, tableWith, entered}
-use Rattle.directory.proofs.PatternLaws.{floats-length, map-of}
+use Rattle.corrections_laws.specs.Flat.{BothForms, Step, Table, Told, answered, fiveColumns, flatAddition, flatAnswer, flatEnd, flatNumber, flatTells, numbered, roomIn, samplesIn, tableAfter, tableWith}
+use Rattle.corrections_directory.proofs.PatternLaws.{floats-length, map-of}
 use Rattle.corrections_laws.proofs.ColumnLaws.{column-length, table-narrow}
 use Rattle.corrections_laws.proofs.NarrowLaws.{insertAll-pass, new-narrow}
 use Rattle.corrections_laws.proofs.StepLaws.{Added, add-accepted, add-refused, passed, zero-or}
@@ -52,7 +53,7 @@ answers-same t n m k k′ d q w s l e f g = rw (e, f, g, same-entries t) (query-
 
 -- ---- one epoch
 outcomes-same : (t : List Sample) (n m k k′ : ℕ) (d : Directory) (e : BaseEpoch) (s : States) (base rover : Vec3) (set : Settings) → every narrow t ≡ true → sorted t ≡ true → length t ≤ n → d ≡ directoryOf t → m ≡ length ((directoryOf t) .entries) → k ≡ k′
-    → flatOutcome (epochIn m n k d e s base rover set) ≡ addedOf n k′ t e s base rover set
+    → flatOutcome (epochPlaced m n k d e s base rover set) ≡ addedOf n k′ t e s base rover set
 outcomes-same t n m k k′ d e s base rover set w r l f g i = rw (f, g, i) (epoch-same t n k′ e s base rover set w r l)
 
 -- a table in both forms, of typed columns
@@ -76,12 +77,12 @@ module _ (o : Table) (h : Caller) (b : Both o h) where
   unfolding entryIn flatAddition
   epoch-both e = go (shortOf e)
     where
-      inside : flatOutcome (epochIn (h .entries) (h .samples) (room h) (directory h) (baseEpoch e) (statesBeside e) (e .base) (e .rover) (e .settings)) ≡ addedOf (o .samples) (roomIn o) (samplesIn o) (baseEpoch e) (statesBeside e) (e .base) (e .rover) (e .settings)
+      inside : flatOutcome (epochPlaced (h .entries) (h .samples) (room h) (directory h) (baseEpoch e) (statesBeside e) (e .base) (e .rover) (e .settings)) ≡ addedOf (o .samples) (roomIn o) (samplesIn o) (baseEpoch e) (statesBeside e) (e .base) (e .rover) (e .settings)
       inside =
-          ap (λ (n : ℕ). flatOutcome (epochIn (h .entries) n (room h) (directory h) (baseEpoch e) (statesBeside e) (e .base) (e .rover) (e .settings))) (b .forms .samples-are)
+          ap (λ (n : ℕ). flatOutcome (epochPlaced (h .entries) n (room h) (directory h) (baseEpoch e) (statesBeside e) (e .base) (e .rover) (e .settings))) (b .forms .samples-are)
           ∙ outcomes-same (samplesIn o) (o .samples) (h .entries) (room h) (roomIn o) (directory h) (baseEpoch e) (statesBeside e) (e .base) (e .rover) (e .settings) (b .narrowed) (b .forms .in-order) count (b .forms .holds) (b .forms .entries-are) (b .forms .same-capacity)
 
-      go : (x : Bool) → flatOutcome (cond x (refusedIn TooMany) (epochIn (h .entries) (h .samples) (room h) (directory h) (baseEpoch e) (statesBeside e) (e .base) (e .rover) (e .settings)))
+      go : (x : Bool) → flatOutcome (cond x (refusedIn TooMany) (epochPlaced (h .entries) (h .samples) (room h) (directory h) (baseEpoch e) (statesBeside e) (e .base) (e .rover) (e .settings)))
           ≡ cond x (refused TooMany) (addedOf (o .samples) (roomIn o) (samplesIn o) (baseEpoch e) (statesBeside e) (e .base) (e .rover) (e .settings))
       go true = refl
       go false = inside
@@ -239,9 +240,9 @@ steps o (entered {h = h} {h′ = h′} {h″ = h″} {e = e} {number = number} {
     zero-or number
     (λ (z : number ≡ 0).
     let s = add-accepted h e h′ (subst (λ (i : ℕ). AddsEpoch h e i h′) z a) in
-    subst (λ (x : Outcome). Both (tableAfter x o) h′) (sym (flat-added o h b e h′ s (new-narrow e (w .0)))) (both-added o h b e h′ s (new-narrow e (w .0))))
+    subst (λ (x : AddOutcome). Both (tableAfter x o) h′) (sym (flat-added o h b e h′ s (new-narrow e (w .0)))) (both-added o h b e h′ s (new-narrow e (w .0))))
     (λ (n : number ≡ 0 → ⊥).
-    subst (λ (x : Table). Both x h′) (sym (ap (λ (x : Outcome). tableAfter x o) (sym (epoch-both o h b e)) ∙ flat-kept (addingOf h e) o (λ z. n (a .places .number-is ∙ z))))
+    subst (λ (x : Table). Both x h′) (sym (ap (λ (x : AddOutcome). tableAfter x o) (sym (epoch-both o h b e)) ∙ flat-kept (addingOf h e) o (λ z. n (a .places .number-is ∙ z))))
     (subst (λ (x : Caller). Both o x) (sym (add-refused h e number h′ a n)) b)) in
     let goes = steps (tableAfter (flatAddition o e) o) r next (w .1) in
     (told k (goes .0), goes .1)

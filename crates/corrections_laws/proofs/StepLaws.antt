@@ -10,33 +10,34 @@ use lib.Seq.{length-take-le}
 use borrow.Author.Tests.{eqb-true, eqb-false, ltb-false, lt-ltb, le-ltb}
 use lib.Ieee.{Float}
 use lib.Ieee.Scale.{finite}
-use Rattle.walk.specs.Walk.{every}
+use Rattle.lists.specs.Walk.{every}
 use Rattle.numeric.specs.Refusal.{numberOf}
 use Rattle.numeric.specs.Real.{inRange}
 use Rattle.numeric.specs.declared.refusal.Refusal.{Refusal}
 use Rattle.numeric.specs.declared.refusal.Refusal.the-variants.{TooMany, SettingOutOfRange, RecordOutOfRange, TableFull, BadDropTime}
-use Rattle.table.specs.Table.{ranged, soundTable}
-use Rattle.table.specs.Add.{insertAll}
-use Rattle.table.specs.declared.sample.Sample.{Sample}
-use Rattle.table.proofs.TableLaws.{and-right}
-use Rattle.table.proofs.InsertLaws.{insertAll-sound, insertAll-length}
-use Rattle.directory.specs.Directory.{blockCapacity, Blocks, blocksWith, Directory, directoryIn, directoryOf, flat, PatternsWith, readingOf, readingsIn, soundDirectory}
-use Rattle.directory.proofs.DirectoryLaws.{flat-directory, sound-flat}
-use Rattle.directory.proofs.ColumnLaws.{flat-length}
-use Rattle.addition.specs.Add as Add
-use Rattle.addition.specs.Add.{addedIn, additionNumber, directoryWith, PatternsAfter, Placed, Places, refusedIn}
-use Rattle.addition.proofs.SameLaws.{few-entries}
-use Rattle.forget.specs.Forget.{Forgets, Outcome, forget, forgetIn, forgettingNumber, forgettingOf, leaves, outcomeOf, refused, testIn}
-use Rattle.table.specs.declared.add.Test.the-variants as Test
-use Rattle.forget.proofs.HistoryLaws.{forget-length}
-use Rattle.forget.proofs.FormLaws.{columns-hold}
-use Rattle.forget.proofs.ForgetLaws.{forget-sound}
-use Rattle.differential.specs.AddEpoch.{epochIn, recordsInRange, settingsInRange, tooMany}
-use Rattle.differential.specs.Sample.{epochSamples}
-use Rattle.differential.proofs.EpochLaws.{samples-ranged, time-in-range}
-use Rattle.epoch_columns.specs.Epoch.{entryIn}
-use Rattle.corrections_laws.specs.Calls.{Caller, Epoch, AddsEpoch, Drops, EpochPasses, addingOf, baseEpoch, asBlocks, directory, droppingOf, heldSamples, newSamples, room, shortOf, statesBeside}
-use Rattle.forget.specs.Forget as Forgetting
+use Rattle.corrections_table.specs.Table.{ranged, soundTable}
+use Rattle.corrections_table.specs.Add.{insertAll}
+use Rattle.corrections_table.specs.declared.sample.Sample.{Sample}
+use Rattle.corrections_table.proofs.TableLaws.{and-right}
+use Rattle.corrections_table.proofs.InsertLaws.{insertAll-sound, insertAll-length}
+use Rattle.corrections_directory.specs.Directory.{blockCapacity, Blocks, blocksWith, Directory, directoryIn, directoryOf, flat, PatternsWith, readingOf, readingsIn, soundDirectory}
+use Rattle.corrections_directory.proofs.DirectoryLaws.{flat-directory, sound-flat}
+use Rattle.corrections_directory.proofs.ColumnLaws.{flat-length}
+use Rattle.corrections_add.specs.Add as Add
+use Rattle.corrections_add.specs.Add.{addedIn, additionNumber, directoryWith, PatternsAfter, Placed, Places, refusedIn}
+use Rattle.corrections_add.proofs.SameLaws.{few-entries}
+use Rattle.corrections_forget.specs.Forget.{Forgets, ForgetOutcome, forget, forgetIn, forgettingNumber, forgettingOf, leaves, outcomeOf, refused, testIn}
+use Rattle.corrections_table.specs.declared.add.Test.the-variants as Test
+use Rattle.corrections_forget.proofs.HistoryLaws.{forget-length}
+use Rattle.corrections_forget.proofs.FormLaws.{columns-hold}
+use Rattle.corrections_forget.proofs.ForgetLaws.{forget-sound}
+use Rattle.corrections_epoch.specs.AddEpoch.{epochPlaced, recordsInRange, settingsInRange, tooMany}
+use Rattle.corrections_epoch.specs.Sample.{epochSamples}
+use Rattle.corrections_epoch.proofs.EpochLaws.{samples-ranged, time-in-range}
+use Rattle.corrections_epoch_columns.specs.Epoch.{entryIn}
+use Rattle.corrections_laws.proofs.Hypotheses.{EpochPasses}
+use Rattle.corrections_laws.specs.Calls.{Caller, Epoch, AddsEpoch, Drops, addingOf, baseEpoch, asBlocks, directory, droppingOf, heldSamples, newSamples, room, shortOf, statesBeside}
+use Rattle.corrections_forget.specs.Forget as Forgetting
 use Rattle.corrections_laws.proofs.NumberLaws.{not-zero}
 use Rattle.corrections_laws.proofs.ColumnLaws.{same-capacity, with-holds}
 
@@ -53,7 +54,7 @@ pub record Turned (o : Placed) : Type 0 where
 
 module _ (h : Caller) (e : Epoch) where
   pub passed : EpochPasses h e → addingOf h e ≡ cond (ltb (room h) (h .samples + length (newSamples e))) (refusedIn TableFull) (addedIn (directoryWith (directory h) (newSamples e)))
-  unfolding entryIn epochIn tooMany
+  unfolding entryIn epochPlaced tooMany
   passed p =
       rw (
         p .long-columns,
@@ -68,7 +69,7 @@ module _ (h : Caller) (e : Epoch) where
 
   -- either 2 to 4 let it pass, or one of them turns it away
   pub decide : {A : Type 0} → (EpochPasses h e → A) → (Turned (addingOf h e) → A) → A
-  unfolding entryIn epochIn tooMany
+  unfolding entryIn epochPlaced tooMany
   decide {A} good bad =
       go (shortOf e) (ltb (room h) (h .entries)) (ltb (room h) (h .samples)) (ltb 64 (e .ranges)) (ltb 64 (cond (e .present) (e .states) 0)) (settingsInRange (e .settings))
       (recordsInRange (baseEpoch e) (statesBeside e) (e .base) (e .rover)) (soundDirectory (directory h)) refl refl refl refl refl refl refl refl bad
@@ -209,7 +210,7 @@ add-accepted h e h′ a = decide h e accepts (λ (t : Turned (addingOf h e)). ab
 pub drop-refused : (h : Caller) (time : Float) (number : ℕ) (h′ : Caller) → Drops h time number h′ → (number ≡ 0 → ⊥) → h′ ≡ h
 drop-refused h time number h′ a n = go (droppingOf h time) (a .forgets) (a .patterns)
   where
-    go : (o : Outcome) → Forgets o number (h .entries) (h .samples) (h′ .samples) (asBlocks h) (asBlocks h′) → Forgetting.PatternsAfter o (h .times) (h .corrections) (h′ .times) (h′ .corrections) → h′ ≡ h
+    go : (o : ForgetOutcome) → Forgets o number (h .entries) (h .samples) (h′ .samples) (asBlocks h) (asBlocks h′) → Forgetting.PatternsAfter o (h .times) (h .corrections) (h′ .times) (h′ .corrections) → h′ ≡ h
     go (refused r) b p = same-caller h h′ (a .entries-stay) (b .count) (b .columns) (p .0) (p .1)
     go (leaves d) b p = absurd (n (b .number-is))
 
@@ -289,7 +290,7 @@ numberBy a b c d f g i j x = cond a 2 (cond (b || (c || d || f)) 2 (cond (not g)
 pub number-by : (h : Caller) (e : Epoch) (number : ℕ) (h′ : Caller) → AddsEpoch h e number h′
     → number ≡ numberBy (shortOf e) (ltb (room h) (h .entries)) (ltb (room h) (h .samples)) (ltb 64 (e .ranges)) (ltb 64 (cond (e .present) (e .states) 0)) (settingsInRange (e .settings))
     (recordsInRange (baseEpoch e) (statesBeside e) (e .base) (e .rover)) (soundDirectory (directory h)) (ltb (room h) (h .samples + length (newSamples e)))
-unfolding entryIn epochIn tooMany
+unfolding entryIn epochPlaced tooMany
 number-by h e number h′ s =
     s .places .number-is
     ∙ go (shortOf e) (ltb (room h) (h .entries)) (ltb (room h) (h .samples)) (ltb 64 (e .ranges)) (ltb 64 (cond (e .present) (e .states) 0)) (settingsInRange (e .settings))

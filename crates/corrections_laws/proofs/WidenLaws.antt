@@ -7,25 +7,26 @@ use lib.Dec.{ltb}
 use borrow.Author.Tests.{lt-ltb, ltb-true}
 use lib.ListN.{length, getD, take, drop}
 use lib.Ieee.{Float}
-use Rattle.walk.specs.Walk.{every, fold}
+use Rattle.lists.specs.Walk.{every, fold}
 use Rattle.numeric.specs.declared.refusal.Refusal.{Refusal}
 use Rattle.numeric.specs.declared.refusal.Refusal.the-variants.{TooMany, SettingOutOfRange, RecordOutOfRange, TableFull}
-use Rattle.table.specs.Table.{beside, capacity, lent, rows, soundTable, tableOf}
-use Rattle.table.specs.Add.{Outcome, added, insertAll, refused}
-use Rattle.table.specs.Widen.{bandsAfter, bandsShort, widenOf, widened, wideningNumber}
-use Rattle.table.specs.declared.sample.Sample.{Sample}
-use Rattle.table.specs.declared.widen.Widening.the-variants.{Refused, Widened}
-use Rattle.table.proofs.TableLaws.{and-left, and-right}
-use Rattle.table.proofs.Places.{sorted-rises}
-use Rattle.table.proofs.WidenLaws.{Roomy, capacity-widened, not-short, table-widened}
-use Rattle.directory.specs.Directory.{columnOf, directoryIn, directoryOf, entriesFrom, entryRows, floats, lentBlocks}
-use Rattle.directory.specs.Rearrange.{filedOf}
-use Rattle.forget.proofs.HistoryLaws.{sorted-of}
-use Rattle.differential.specs.AddEpoch.{addedOf, recordsInRange, settingsInRange, tooMany}
-use Rattle.rearrange.specs.Lent.{Files}
+use Rattle.corrections_table.specs.Table.{beside, capacity, lentSamples, rows, soundTable, tableOf}
+use Rattle.corrections_table.specs.Add.{AddOutcome, added, insertAll, refused}
+use Rattle.corrections_table.specs.Widen.{bandsAfter, bandsShort, widenOf, widened, wideningNumber}
+use Rattle.corrections_table.specs.declared.sample.Sample.{Sample}
+use Rattle.corrections_table.specs.declared.widen.Widening.the-variants.{Refused, Widened}
+use Rattle.corrections_table.proofs.TableLaws.{and-left, and-right}
+use Rattle.corrections_table.proofs.Places.{sorted-rises}
+use Rattle.corrections_table.proofs.WidenLaws.{Roomy, capacity-widened, not-short, table-widened}
+use Rattle.corrections_directory.specs.Directory.{columnOf, directoryIn, directoryOf, entriesFrom, entryRows, floats, lentBlocks}
+use Rattle.corrections_directory.specs.Rearrange.{filedOf}
+use Rattle.corrections_forget.proofs.HistoryLaws.{sorted-of}
+use Rattle.corrections_epoch.specs.AddEpoch.{addedOf, recordsInRange, settingsInRange, tooMany}
+use Rattle.corrections_convert.specs.Lent.{Files}
+use Rattle.corrections_laws.proofs.Hypotheses.{BlockRun, TypedSteps}
 use Rattle.corrections_laws.specs.Typed.{Typed}
 use Rattle.corrections_laws.specs.Calls.{Caller, Epoch, baseEpoch, asBlocks, newSamples, room, shortOf, statesBeside}
-use Rattle.corrections_laws.specs.Flat.{BlockRun, BothForms, ByteSteps, InBytes, Step, Table, Told, TypedSteps, ask, flatAddition, flatEnd, flatTells, roomIn, samplesIn, tableAfter, enter}
+use Rattle.corrections_laws.specs.Flat.{BothForms, ByteSteps, InBytes, Step, Table, Told, ask, flatAddition, flatEnd, flatTells, roomIn, samplesIn, tableAfter, enter}
 use Rattle.corrections_laws.proofs.NumberLaws.{not-zero}
 use Rattle.corrections_laws.proofs.FormLaws.{files-count, files-fit, files-hold, files-steady}
 use Rattle.corrections_laws.proofs.NarrowLaws.{insertAll-pass, new-pass}
@@ -47,7 +48,7 @@ widens n narrow wide e = go (ltb 2048 n || ltb (length narrow) n || ltb (length 
 -- `zaqnuti_widen_bands` and `zaqnuti_directory_of` answer 0, the wide column is as long as the narrow one, and the capacity is the old one
 module _ (o : Table) (wide wide′ : List ℕ) (widening : (0 ≡ wideningNumber (widenOf (o .samples) (o .bands) wide)) × (wide′ ≡ bandsAfter (widenOf (o .samples) (o .bands) wide) (o .samples) (o .bands) wide))
     (as-long : length wide ≡ length (o .bands)) (m : ℕ) (dc dv db df dn : List ℕ) (h : Caller) (samples-are : h .samples ≡ o .samples) (same-times : h .times ≡ o .times) (same-corrections : h .corrections ≡ o .corrections)
-    (files : Files (filedOf (o .samples) (length (entryRows dc dv db df dn)) (lent (o .constellations) (o .svids) wide′ (floats (o .times)) (floats (o .corrections)))) 0 m (h .entries)
+    (files : Files (filedOf (o .samples) (length (entryRows dc dv db df dn)) (lentSamples (o .constellations) (o .svids) wide′ (floats (o .times)) (floats (o .corrections)))) 0 m (h .entries)
     (lentBlocks dc dv db df dn (floats (o .times)) (floats (o .corrections))) (asBlocks h))
     (same-room : room h ≡ roomIn o) where
   w : Widens (o .samples) (o .bands) wide
@@ -56,15 +57,15 @@ module _ (o : Table) (wide wide′ : List ℕ) (widening : (0 ≡ wideningNumber
   wide-is : wide′ ≡ widened (o .samples) (o .bands) wide
   wide-is = widening .1 ∙ rw (w .is)
 
-  table-same : tableOf (o .samples) (lent (o .constellations) (o .svids) wide′ (floats (o .times)) (floats (o .corrections))) ≡ samplesIn o
+  table-same : tableOf (o .samples) (lentSamples (o .constellations) (o .svids) wide′ (floats (o .times)) (floats (o .corrections))) ≡ samplesIn o
   table-same = rw wide-is (table-widened (o .samples) (o .constellations) (o .svids) (o .bands) wide (floats (o .times)) (floats (o .corrections)) (w .fits))
 
   forms : BothForms o h
   forms =
-      let l = lent (o .constellations) (o .svids) wide′ (floats (o .times)) (floats (o .corrections)) in
+      let l = lentSamples (o .constellations) (o .svids) wide′ (floats (o .times)) (floats (o .corrections)) in
       let hold = files-hold (o .samples) m (h .entries) l dc dv db df dn (asBlocks h) files in
       let steady : soundTable (samplesIn o) ≡ true = ap soundTable (sym table-same) ∙ files-steady (o .samples) m (h .entries) l dc dv db df dn (asBlocks h) files in
-      let cap : capacity l ≡ roomIn o = ap (λ (b : List ℕ). capacity (lent (o .constellations) (o .svids) b (floats (o .times)) (floats (o .corrections)))) wide-is ∙ capacity-widened (o .samples) (o .constellations) (o .svids) (o .bands) wide (floats (o .times)) (floats (o .corrections)) (w .fits) as-long in
+      let cap : capacity l ≡ roomIn o = ap (λ (b : List ℕ). capacity (lentSamples (o .constellations) (o .svids) b (floats (o .times)) (floats (o .corrections)))) wide-is ∙ capacity-widened (o .samples) (o .constellations) (o .svids) (o .bands) wide (floats (o .times)) (floats (o .corrections)) (w .fits) as-long in
       record {
         in-order = sorted-rises (samplesIn o) ∙ sorted-of (samplesIn o) steady;
         within = subst (λ (k : ℕ). o .samples ≤ k) cap (files-fit (o .samples) m (h .entries) l dc dv db df dn (asBlocks h) files);
@@ -138,10 +139,10 @@ left-bytes : (o : Table) (e : Epoch) → InBytes (o .bands) → InBytes (e .rang
 left-bytes o e k b =
     flat-cases o e
     (λ (q : flatAddition o e ≡ added (insertAll (samplesIn o) (newSamples e))).
-    subst (λ (x : Outcome). InBytes (tableAfter x o .bands)) (sym q)
+    subst (λ (x : AddOutcome). InBytes (tableAfter x o .bands)) (sym q)
     (column-bytes (insertAll (samplesIn o) (newSamples e)) (o .bands)
     (insertAll-pass byte (samplesIn o) (newSamples e) (new-pass (λ v c. ltb c (2 ^ 8)) e (λ i. lt-ltb (getD (e .range-bands) i 0) (2 ^ 8) (b i))) (table-bytes o k)) k))
-    (λ (r : Refusal) (q : flatAddition o e ≡ refused r). subst (λ (x : Outcome). InBytes (tableAfter x o .bands)) (sym q) k)
+    (λ (r : Refusal) (q : flatAddition o e ≡ refused r). subst (λ (x : AddOutcome). InBytes (tableAfter x o .bands)) (sym q) k)
 
 -- for every list of queries and epochs
 pub bytes-stay : (o : Table) (ss : List Step) → InBytes (o .bands) → ByteSteps ss → InBytes (flatEnd o ss .bands)

@@ -1,27 +1,26 @@
 -- The calls on one caller's table, by the contracts' own statements, and lists of them, each call on what the last one left. Definitions only.
-use Prim.Native.Nat.{ℕ, _^_, _≤_, _<_}
+use Prim.Native.Nat.{ℕ, _^_, _<_}
 use mathlib.Core.Path.{_≡_}
-use mathlib.Core.Bool.{Bool, true, false, cond}
+use mathlib.Core.Bool.{Bool, cond}
 use mathlib.Core.List.{List, [], _∷_}
 use lib.Dec.{eqb}
 use lib.ListN.{length, getD}
 use lib.Ieee.{Float}
 use Rattle.numeric.specs.declared.vec3.Vec3.{Vec3}
-use Rattle.table.specs.declared.sample.Sample.{Sample}
-use Rattle.directory.specs.Directory.{blockCapacity, Blocks, blocksWith, Directory, directoryIn, directoryOf, flat, floats, lentBlocks, PatternsWith, soundDirectory}
-use Rattle.addition.specs.Add.{PatternsAfter, Placed, Places}
-use Rattle.query.specs.Query.{answerAt, Answers, queryIn}
-use Rattle.query.specs.declared.query.Correction.{Correction}
-use Rattle.forget.specs.Forget.{Outcome, Forgets, forgetIn}
-use Rattle.forget.specs.History.{Event, add, drop}
-use Rattle.differential.specs.Sample.{epochSamples}
-use Rattle.differential.specs.AddEpoch.{recordsInRange, settingsInRange}
-use Rattle.differential.specs.Build.{Input}
-use Rattle.differential.specs.declared.record.BaseEpoch.{BaseEpoch}
-use Rattle.differential.specs.declared.record.States.{States}
-use Rattle.differential.specs.declared.record.Settings.{Settings}
-use Rattle.epoch_columns.specs.Epoch.{entryIn, epochOf, recordsShort, statesIn}
-use Rattle.forget.specs.Forget as Forgetting
+use Rattle.corrections_table.specs.declared.sample.Sample.{Sample}
+use Rattle.corrections_directory.specs.Directory.{blockCapacity, Blocks, blocksWith, Directory, directoryIn, directoryOf, flat, floats, lentBlocks, PatternsWith}
+use Rattle.corrections_add.specs.Add.{PatternsAfter, Placed, Places}
+use Rattle.corrections_query.specs.Query.{answerAt, Answers, queryIn}
+use Rattle.corrections_query.specs.declared.query.Correction.{Correction}
+use Rattle.corrections_forget.specs.Forget.{ForgetOutcome, Forgets, forgetIn}
+use Rattle.corrections_forget.specs.History.{Event, add, drop}
+use Rattle.corrections_epoch.specs.Sample.{epochSamples}
+use Rattle.corrections_epoch.specs.Build.{EpochInput}
+use Rattle.corrections_epoch.specs.declared.record.BaseEpoch.{BaseEpoch}
+use Rattle.corrections_epoch.specs.declared.record.States.{States}
+use Rattle.corrections_epoch.specs.declared.record.Settings.{Settings}
+use Rattle.corrections_epoch_columns.specs.Epoch.{entryIn, baseEpochOf, recordsShort, statesIn}
+use Rattle.corrections_forget.specs.Forget as Forgetting
 use Rattle.corrections_laws.specs.Typed.{Typed}
 
 -- ---- what a caller hands over
@@ -84,7 +83,7 @@ heldSamples h = flat (directory h)
 
 -- the epoch and the states that the columns hold, and their samples
 abbrev pub baseEpoch : Epoch → BaseEpoch
-baseEpoch e = epochOf (e .time) (e .ranges) (e .range-constellations) (e .range-svids) (e .range-bands) (e .pseudoranges)
+baseEpoch e = baseEpochOf (e .time) (e .ranges) (e .range-constellations) (e .range-svids) (e .range-bands) (e .pseudoranges)
 
 abbrev pub statesBeside : Epoch → States
 statesBeside e = statesIn (e .present) (e .states) (e .state-constellations) (e .state-svids) (e .state-bands) (e .state-floats)
@@ -112,7 +111,7 @@ pub record AddsEpoch (h : Caller) (e : Epoch) (number : ℕ) (h′ : Caller) : T
   pub patterns : PatternsAfter (addingOf h e) (h .times) (h .corrections) (h′ .times) (h′ .corrections)
 
 -- the outcome of dropping the samples before the time
-abbrev pub droppingOf : Caller → Float → Outcome
+abbrev pub droppingOf : Caller → Float → ForgetOutcome
 droppingOf h time = forgetIn (h .entries) (h .samples) (room h) (directory h) time
 
 -- `zaqnuti_forget` gave the number, and left h′; the count of entries is not lent to it, nor are the three columns of signals lent to be written
@@ -132,17 +131,6 @@ answerBy t q = answerAt t (q .gap) (q .constellation) (q .svid) (q .band) (q .ti
 -- `zaqnuti_query` gave the number, and left metres′ where metres was
 abbrev pub Asks : Caller → Query → ℕ → ℕ → ℕ → Type 0
 Asks h q number metres metres′ = Answers (queryOn h q) number metres metres′
-
--- ---- numbers 2 to 4 let an epoch pass
-pub record EpochPasses (h : Caller) (e : Epoch) : Type 0 where
-  pub few-entries : h .entries ≤ room h
-  pub few-samples : h .samples ≤ room h
-  pub few-ranges : e .ranges ≤ 64
-  pub few-states : cond (e .present) (e .states) 0 ≤ 64
-  pub long-columns : shortOf e ≡ false
-  pub settings-in-range : settingsInRange (e .settings) ≡ true
-  pub records-in-range : recordsInRange (baseEpoch e) (statesBeside e) (e .base) (e .rover) ≡ true
-  pub steady : soundDirectory (directory h) ≡ true
 
 -- ---- lists of calls
 pub data Call : Type 0 where
@@ -190,17 +178,6 @@ pub record TypedTable (h : Caller) : Type 0 where
   pub time : (i : ℕ) → getD (h .times) i 0 < 2 ^ 64
   pub correction : (i : ℕ) → getD (h .corrections) i 0 < 2 ^ 64
 
-abbrev pub TypedEpoch : Epoch → Type 0
-TypedEpoch e = Typed (e .range-svids) (e .range-bands)
-
-abbrev pub TypedCall : Call → Type 0
-TypedCall (adding e) = TypedEpoch e
-TypedCall (dropping time) = Unit {0}
-
-abbrev pub TypedCalls : List Call → Type 0
-TypedCalls [] = Unit {0}
-TypedCalls (c ∷ cs) = TypedCall c × TypedCalls cs
-
 -- ---- `build`: epochs with the same base, rover and settings
 abbrev pub AllBy : Vec3 → Vec3 → Settings → List Call → Type 0
 AllBy base rover set [] = Unit {0}
@@ -208,7 +185,7 @@ AllBy base rover set (adding e ∷ cs) = ((e .base ≡ base) × (e .rover ≡ ro
 AllBy base rover set (dropping time ∷ cs) = ⊥
 
 -- the epochs that were accepted, as `build` is handed them
-unfoldable pub builtFrom : List Call → List ℕ → List Input
+unfoldable pub builtFrom : List Call → List ℕ → List EpochInput
 builtFrom [] ks = []
 builtFrom (c ∷ cs) [] = []
 builtFrom (adding e ∷ cs) (k ∷ ks) = cond (eqb k 0) (record { epoch = baseEpoch e; states = statesBeside e } ∷ builtFrom cs ks) (builtFrom cs ks)

@@ -4,18 +4,18 @@ use mathlib.Core.Path.{_≡_}
 use mathlib.Core.Bool.{true, cond}
 use mathlib.Core.List.{List, [], _∷_}
 use lib.ListN.{length, getD}
-use Rattle.walk.specs.Walk.{fold}
+use Rattle.lists.specs.Walk.{fold}
 use Rattle.numeric.specs.Order.{patternOf}
 use Rattle.numeric.specs.Refusal.{numberOf}
 use Rattle.numeric.specs.declared.refusal.Refusal.the-variants.{TooMany}
-use Rattle.table.specs.Table.{Columns, capacity, lent, sorted, tableOf}
-use Rattle.table.specs.Add.{Outcome, added, refused}
-use Rattle.table.specs.declared.sample.Sample.{Sample}
-use Rattle.directory.specs.Directory.{columnOf, directoryOf, floats}
-use Rattle.query.specs.Query.{patternAfter, queryNumber, queryOf}
-use Rattle.query.specs.declared.query.Correction.{Correction}
-use Rattle.differential.specs.AddEpoch.{addedOf}
-use Rattle.corrections_laws.specs.Calls.{AddsEpoch, Asks, Caller, Epoch, Query, TypedEpoch, baseEpoch, directory, room, shortOf, statesBeside}
+use Rattle.corrections_table.specs.Table.{Columns, capacity, lentSamples, sorted, tableOf}
+use Rattle.corrections_table.specs.Add.{AddOutcome, added, refused}
+use Rattle.corrections_table.specs.declared.sample.Sample.{Sample}
+use Rattle.corrections_directory.specs.Directory.{columnOf, directoryOf, floats}
+use Rattle.corrections_query.specs.Query.{patternAfter, queryNumber, queryOf}
+use Rattle.corrections_query.specs.declared.query.Correction.{Correction}
+use Rattle.corrections_epoch.specs.AddEpoch.{addedOf}
+use Rattle.corrections_laws.specs.Calls.{Caller, Epoch, Query, baseEpoch, directory, room, shortOf, statesBeside}
 
 -- ---- the old form
 
@@ -30,7 +30,7 @@ pub record Table : Type 0 where
 
 -- the columns as the calls read them
 abbrev pub fiveColumns : Table → Columns
-fiveColumns o = lent (o .constellations) (o .svids) (o .bands) (floats (o .times)) (floats (o .corrections))
+fiveColumns o = lentSamples (o .constellations) (o .svids) (o .bands) (floats (o .times)) (floats (o .corrections))
 
 abbrev pub roomIn : Table → ℕ
 roomIn o = capacity (fiveColumns o)
@@ -44,13 +44,13 @@ abbrev pub flatAnswer : Table → Query → Correction
 flatAnswer o q = queryOf (o .samples) (roomIn o) (samplesIn o) (q .gap) (q .constellation) (q .svid) (q .band) (q .time)
 
 -- an added epoch: the refusal, or the samples with the epoch's
-unfoldable pub flatAddition : Table → Epoch → Outcome
+unfoldable pub flatAddition : Table → Epoch → AddOutcome
 flatAddition o e =
     cond (shortOf e) (refused TooMany)
     (addedOf (o .samples) (roomIn o) (samplesIn o) (baseEpoch e) (statesBeside e) (e .base) (e .rover) (e .settings))
 
 -- 0, or the number of the refusal
-abbrev pub flatNumber : Outcome → ℕ
+abbrev pub flatNumber : AddOutcome → ℕ
 flatNumber (refused r) = numberOf r
 flatNumber (added t) = 0
 
@@ -67,7 +67,7 @@ tableWith t o =
     }
 
 -- count and columns afterwards: unchanged where adding is refused
-abbrev pub tableAfter : Outcome → Table → Table
+abbrev pub tableAfter : AddOutcome → Table → Table
 tableAfter (refused r) o = o
 tableAfter (added t) o = tableWith t o
 
@@ -99,20 +99,6 @@ flatTells o (s ∷ ss) = flatTold o s ∷ flatTells (flatLeft o s) ss
 
 abbrev pub flatEnd : Table → List Step → Table
 flatEnd o ss = fold flatLeft o ss
-
--- steps on the second form, by the contracts of its calls
-pub data BlockRun : Caller → List Step → List Told → Caller → Type 0 where
-  done : {h : Caller} → BlockRun h [] [] h
-  asked : {h h′ : Caller} {q : Query} {metres number metres′ : ℕ} {ss : List Step} {ts : List Told} → Asks h q number metres metres′ → BlockRun h ss ts h′
-      → BlockRun h (ask q metres ∷ ss) (answered number metres′ ∷ ts) h′
-  entered : {h h′ h″ : Caller} {e : Epoch} {number : ℕ} {ss : List Step} {ts : List Told} → AddsEpoch h e number h′ → BlockRun h′ ss ts h″
-      → BlockRun h (enter e ∷ ss) (numbered number ∷ ts) h″
-
--- what the types of the lent columns guarantee
-abbrev pub TypedSteps : List Step → Type 0
-TypedSteps [] = Unit {0}
-TypedSteps (ask q metres ∷ ss) = TypedSteps ss
-TypedSteps (enter e ∷ ss) = TypedEpoch e × TypedSteps ss
 
 -- ---- one table in both forms
 

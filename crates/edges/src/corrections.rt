@@ -1,16 +1,17 @@
 // The trials of the corrections.
 use crate::report::adding;
 use crate::report::correction;
-use differential::add_epoch::add_epoch;
-use differential::record::BaseEpoch;
-use differential::record::Range;
-use differential::record::Settings;
-use differential::record::State;
-use differential::record::States;
+use corrections_epoch::add_epoch::add_epoch;
+use corrections_epoch::record::BaseEpoch;
+use corrections_epoch::record::Range;
+use corrections_epoch::record::Settings;
+use corrections_epoch::record::State;
+use corrections_epoch::record::States;
+use corrections_query::query::query;
 use numeric::vec3::Vec3;
-use query::query::query;
+use signal::signal::signal_of;
 
-// The range of satellite `svid`, which is 20,000 km off.
+// Returns the range to satellite `svid`, 20,000 km away.
 fn range(svid: u16, pseudorange: f64) -> Range {
     Range {
         constellation: 1,
@@ -20,7 +21,7 @@ fn range(svid: u16, pseudorange: f64) -> Range {
     }
 }
 
-// The states of three satellites at one place.
+// Returns the states of three satellites at one place.
 fn states(zero: Vec3) -> States {
     let position = Vec3 {
         x: 0.0,
@@ -49,53 +50,57 @@ fn states(zero: Vec3) -> States {
     out
 }
 
-// Three ranges, of which the last is 5 m too long: its correction is 5 m, since the clock is that of the other two.
+// Returns an epoch of three ranges, the last of them 5 m too long.
+fn three_ranges() -> BaseEpoch {
+    let mut ranges = [range(1, 2e7); 64];
+    ranges[1] = range(2, 2e7);
+    ranges[2] = range(3, 2e7 + 5.0);
+    BaseEpoch {
+        count: 3,
+        time: 10.0,
+        ranges: ranges,
+    }
+}
+
+// Reports the corrections of three ranges. The last is 5 m too long and its correction is 5 m, since the other two set the clock.
 fn five_metres(name: &[u8], maximum: f64) {
     let zero = Vec3 {
         x: 0.0,
         y: 0.0,
         z: 0.0,
     };
-    let mut ranges = [range(1, 2e7); 64];
-    ranges[1] = range(2, 2e7);
-    ranges[2] = range(3, 2e7 + 5.0);
-    let epoch = BaseEpoch {
-        count: 3,
-        time: 10.0,
-        ranges: ranges,
-    };
     let settings = Settings {
         max_gap: 90.0,
         max_correction: maximum,
         constellations: [true; 8],
     };
-    let mut dc = [0u8; 4];
-    let mut dv = [0u16; 4];
-    let mut db = [0u32; 4];
-    let mut df = [0usize; 4];
-    let mut dn = [0usize; 4];
-    let mut ts = [0u64; 4];
-    let mut xs = [0u64; 4];
-    let a = add_epoch(
-        &mut dc,
-        &mut dv,
-        &mut db,
-        &mut df,
-        &mut dn,
+    let mut block_constellation = [0u8; 4];
+    let mut block_svid = [0u16; 4];
+    let mut block_band = [0u32; 4];
+    let mut block_first = [0usize; 4];
+    let mut block_samples = [0usize; 4];
+    let mut table_time = [0u64; 4];
+    let mut table_metres = [0u64; 4];
+    let answer = add_epoch(
+        &mut block_constellation,
+        &mut block_svid,
+        &mut block_band,
+        &mut block_first,
+        &mut block_samples,
         0,
-        &mut ts,
-        &mut xs,
+        &mut table_time,
+        &mut table_metres,
         0,
-        epoch,
+        three_ranges(),
         states(zero),
         zero,
         zero,
         settings,
     );
-    adding(name, a);
+    adding(name, answer);
 }
 
-// Samples of 1 m at 10 s and 3 m at 20 s, asked for 15 s.
+// Reports the correction at 15 s from samples of 1 m at 10 s and 3 m at 20 s.
 fn half_way(name: &[u8], gap: f64) {
     let dc = [1u8; 2];
     let dv = [5u16; 2];
@@ -104,7 +109,8 @@ fn half_way(name: &[u8], gap: f64) {
     let dn = [2usize; 2];
     let ts = [10.0, 20.0];
     let xs = [1.0, 3.0];
-    let a = query(&dc, &dv, &db, &df, &dn, 1, &ts, &xs, 2, gap, 1, 5, 1, 15.0);
+    let signal = signal_of(1, 5, 1);
+    let a = query(&dc, &dv, &db, &df, &dn, 1, &ts, &xs, 2, gap, signal, 15.0);
     correction(name, a);
 }
 

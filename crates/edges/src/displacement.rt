@@ -8,7 +8,7 @@ use tdcp::displacement::Displacement;
 use tdcp::displacement::Settings;
 use tdcp::displacement::delta_position;
 
-// What comes of two epochs a second apart.
+// Returns the displacement between two epochs a second apart.
 fn between(previous: Epoch, current: Epoch, rounds: u32) -> Displacement {
     let settings = Settings {
         screen: 0.5,
@@ -22,7 +22,7 @@ fn between(previous: Epoch, current: Epoch, rounds: u32) -> Displacement {
     delta_position(previous, current, 1.0, start(), settings)
 }
 
-// n carriers of so many constellations at either epoch.
+// Reports the displacement of n carriers at either epoch, from `slots` constellations.
 fn of(name: &[u8], n: usize, slots: u8) {
     report(
         name,
@@ -30,7 +30,7 @@ fn of(name: &[u8], n: usize, slots: u8) {
     );
 }
 
-// Seven carriers, of which the first is as high as said at the current epoch.
+// Reports the displacement of seven carriers. The first has the given elevation at the current epoch.
 fn first_up(name: &[u8], elevation: f64) {
     let mut current = epoch(7, 1, true);
     let mut c = current.carriers[0];
@@ -39,7 +39,7 @@ fn first_up(name: &[u8], elevation: f64) {
     report(name, between(epoch(7, 1, false), current, 8));
 }
 
-// Seven carriers, of which the first has so much more phase at the current epoch: so large is its detector, and each of the others is 0.
+// Reports the displacement of seven carriers. The first has `slip` metres more phase at the current epoch: that is its detector, and the others are 0.
 fn first_slips(name: &[u8], slip: f64) {
     let mut current = epoch(7, 1, true);
     let mut c = current.carriers[0];

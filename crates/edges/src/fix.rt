@@ -7,7 +7,7 @@ use wls::fix::Fix;
 use wls::fix::Settings;
 use wls::fix::solve_full;
 
-// What comes of the observations, from a guess 100 km off.
+// Returns the fix of the observations, from a guess 100 km away.
 fn from(o: Observations) -> Fix {
     let settings = Settings {
         sigma_a: 0.5,
@@ -24,12 +24,12 @@ fn from(o: Observations) -> Fix {
     solve_full(o, guess, settings)
 }
 
-// n observations of so many constellations.
+// Reports the fix of n observations from `slots` constellations.
 fn of(name: &[u8], n: usize, slots: u8) {
     report(name, from(observations(n, slots)));
 }
 
-// Seven observations, of which the first is as high as said.
+// Reports the fix of seven observations. The first has the given elevation.
 fn first_up(name: &[u8], elevation: f64) {
     let mut o = observations(7, 1);
     let mut x = o.observation[0];

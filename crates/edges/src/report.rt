@@ -1,10 +1,10 @@
-// A line for each trial: its name, and what came.
-use addition::add::Addition;
+// Writes a line for each trial: its name and its answer.
+use corrections_add::add::Addition;
+use corrections_query::query::Correction;
 use libc::STDOUT_FILENO;
 use numeric::order::pattern;
 use numeric::refusal::Refusal;
 use numeric::vec3::Vec3;
-use query::query::Correction;
 use tdcp::displacement::Displacement;
 use wls::fix::Fix;
 
@@ -16,7 +16,7 @@ fn number(n: u64) {
     io::print_decimal(STDOUT_FILENO, n);
 }
 
-// A float as its 64 bits.
+// Writes a float as its 64 bits.
 fn float(x: f64) {
     text(b" ");
     io::print_hex(STDOUT_FILENO, pattern(x), 16);

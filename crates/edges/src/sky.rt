@@ -1,4 +1,4 @@
-// One maker of skies: satellites well apart, over a receiver that moves from one place to another between two epochs.
+// Makes skies: satellites well apart, over a receiver that moves from one place to another between two epochs.
 use numeric::sight::sight_of;
 use numeric::vec3::Vec3;
 use records::record::Carrier;
@@ -7,7 +7,7 @@ use records::record::Observation;
 use records::record::Observations;
 use std::num::nearest_u64_to_f64;
 
-// Where the receiver is at the previous epoch, and where a fix finds it.
+// Returns the place of the receiver at the previous epoch, which is also the place that a fix finds.
 pub fn start() -> Vec3 {
     Vec3 {
         x: 0.0,
@@ -16,7 +16,7 @@ pub fn start() -> Vec3 {
     }
 }
 
-// Where it is at the current epoch.
+// Returns its place at the current epoch.
 fn end() -> Vec3 {
     Vec3 {
         x: 1.0,
@@ -25,12 +25,12 @@ fn end() -> Vec3 {
     }
 }
 
-// A coordinate: one of 64 steps.
+// Returns a coordinate, one of 64 steps.
 fn along(n: u64) -> f64 {
     (nearest_u64_to_f64(n % 64) - 31.5) * 6e5
 }
 
-// The place of satellite k.
+// Returns the place of satellite k.
 fn satellite(k: u64) -> Vec3 {
     let i = k % 64;
     Vec3 {
@@ -40,7 +40,7 @@ fn satellite(k: u64) -> Vec3 {
     }
 }
 
-// The constellation after g, where there are so many of them.
+// Returns the constellation after g, of `slots` in turn.
 fn after(g: u8, slots: u8) -> u8 {
     if g >= slots {
         return 0;
@@ -67,7 +67,7 @@ fn carrier(k: u64, g: u8, current: bool) -> Carrier {
     }
 }
 
-// An epoch that counts n equal carriers.
+// Returns an epoch with a count of n and equal carriers.
 pub fn equal(n: usize, current: bool) -> Epoch {
     let first = carrier(0, 0, current);
     let carriers = [first; 64];
@@ -77,7 +77,7 @@ pub fn equal(n: usize, current: bool) -> Epoch {
     }
 }
 
-// An epoch that counts n carriers of so many constellations in turn.
+// Returns an epoch with a count of n and carriers from `slots` constellations in turn.
 pub fn epoch(n: usize, slots: u8, current: bool) -> Epoch {
     let mut out = equal(n, current);
     let mut g: u8 = 0;
@@ -89,7 +89,7 @@ pub fn epoch(n: usize, slots: u8, current: bool) -> Epoch {
     out
 }
 
-// The observation of satellite k of the constellation g: the pseudorange is the range.
+// Returns the observation of satellite k of constellation g. The pseudorange is the range.
 fn observation(k: u64, g: u8) -> Observation {
     let place = satellite(k);
     Observation {
@@ -103,7 +103,7 @@ fn observation(k: u64, g: u8) -> Observation {
     }
 }
 
-// An epoch that counts n observations of so many constellations in turn.
+// Returns n observations from `slots` constellations in turn.
 pub fn observations(n: usize, slots: u8) -> Observations {
     let first = observation(0, 0);
     let all = [first; 64];

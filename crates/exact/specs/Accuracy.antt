@@ -57,6 +57,6 @@ symmetric a i j = exactly (entry a i j)
 abbrev pub triangle : (ℕ → ℕ → Float) → Matrix
 triangle l i k = cond (leb k i) (exactly (l i k)) 0ₑ
 
--- the same of floats: a is the matrix's lower triangle, l the factor's
+-- demand 3 for floats: a is the lower triangle of the matrix, l that of the factor
 abbrev pub Accurate : ℕ → (ℕ → ℕ → Float) → (ℕ → ℕ → Float) → (ℕ → Float) → (ℕ → Float) → Type 0
 Accurate n a l b x = Within n (symmetric a) (triangle l) (column b) (column x)

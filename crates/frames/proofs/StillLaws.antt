@@ -12,7 +12,7 @@ use Rattle.exact.proofs.Ops.{add-finite, mul-finite}
 use Rattle.numeric.proofs.Zeros.{isZero, round-none, zero-times}
 use Rattle.numeric.specs.declared.refusal.Refusal.the-variants.{NotTurned}
 use Rattle.numeric.specs.declared.vec3.Vec3.{Vec3}
-use Rattle.frames.specs.Frames.{turned, nedAt, inRange, allFinite, northEastDown}
+use Rattle.frames.specs.Frames.{axisTurned, nedAt, placeInRange, allFinite, northEastDown}
 use Rattle.frames.specs.declared.frames.Ned.{Ned}
 use Rattle.frames.specs.declared.frames.Compass.{Compass}
 use Rattle.frames.specs.declared.frames.Compass.the-variants.{Refused, Along}
@@ -94,7 +94,7 @@ whole w f =
 
 module _ (r v : Vec3) (zx : T (isZero (v .x))) (zy : T (isZero (v .y))) (zz : T (isZero (v .z))) where
   no-way : T (allFinite (nedAt r v)) → NoWay (nedAt r v)
-  unfolding nedAt turned
+  unfolding nedAt axisTurned
   no-way f =
       let g = whole (nedAt r v) f in
       record {
@@ -105,7 +105,7 @@ module _ (r v : Vec3) (zx : T (isZero (v .x))) (zy : T (isZero (v .y))) (zz : T 
 
   pub still : (w : Ned) → northEastDown r v ≡ Along w → NoWay w
   unfolding northEastDown
-  still w = go (inRange r && inRange v) (allFinite (nedAt r v)) no-way
+  still w = go (placeInRange r && placeInRange v) (allFinite (nedAt r v)) no-way
     where
       way : Compass → Ned
       way (Refused x) = nedAt r v

@@ -48,8 +48,8 @@ latitude p z = cond (onAxis p) (record { sin = cond (le +0 z) 1·0 -1·0; cos = 
 -- ---- the turned vector
 
 -- the transposed `dcm_ecef_from_ned` times v, each component's three products summed left to right
-unfoldable pub turned : Angle → Angle → Vec3 → Ned
-turned lon lat v = record {
+unfoldable pub axisTurned : Angle → Angle → Vec3 → Ned
+axisTurned lon lat v = record {
   n = neg (lat .sin) ⊗ lon .cos ⊗ v .x ⊕ neg (lat .sin) ⊗ lon .sin ⊗ v .y ⊕ lat .cos ⊗ v .z;
   e = neg (lon .sin) ⊗ v .x ⊕ lon .cos ⊗ v .y ⊕ +0 ⊗ v .z;
   d = neg (lat .cos) ⊗ lon .cos ⊗ v .x ⊕ neg (lat .cos) ⊗ lon .sin ⊗ v .y ⊕ neg (lat .sin) ⊗ v .z;
@@ -57,12 +57,12 @@ turned lon lat v = record {
 
 -- v at the position r
 unfoldable pub nedAt : Vec3 → Vec3 → Ned
-nedAt r v = let p = hypot (r .x) (r .y) in turned (longitude (r .x) (r .y) p) (latitude p (r .z)) v
+nedAt r v = let p = hypot (r .x) (r .y) in axisTurned (longitude (r .x) (r .y) p) (latitude p (r .z)) v
 
 -- ---- the answer: 19 where a coordinate is not finite or above 1e9 in magnitude, or where a component of the result is not finite
 
-unfoldable pub inRange : Vec3 → Bool
-inRange v = coordinateInRange (v .x) && coordinateInRange (v .y) && coordinateInRange (v .z)
+unfoldable pub placeInRange : Vec3 → Bool
+placeInRange v = coordinateInRange (v .x) && coordinateInRange (v .y) && coordinateInRange (v .z)
 
 unfoldable pub allFinite : Ned → Bool
 allFinite v = finite (v .n) && finite (v .e) && finite (v .d)
@@ -70,7 +70,7 @@ allFinite v = finite (v .n) && finite (v .e) && finite (v .d)
 unfoldable pub northEastDown : Vec3 → Vec3 → Compass
 northEastDown position displacement =
     let v = nedAt position displacement in
-    cond (inRange position && inRange displacement && allFinite v) (Along v) (Refused NotTurned)
+    cond (placeInRange position && placeInRange displacement && allFinite v) (Along v) (Refused NotTurned)
 
 -- 0, or the number of the refusal
 abbrev pub compassNumber : Compass → ℕ
@@ -78,6 +78,6 @@ compassNumber (Refused r) = numberOf r
 compassNumber (Along v) = 0
 
 -- every displacement given is finite
-abbrev pub GivesFinite : Compass → Type 0
-GivesFinite (Refused r) = Unit {0}
-GivesFinite (Along v) = allFinite v ≡ true
+abbrev pub DirectionFinite : Compass → Type 0
+DirectionFinite (Refused r) = Unit {0}
+DirectionFinite (Along v) = allFinite v ≡ true

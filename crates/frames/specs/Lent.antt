@@ -5,7 +5,7 @@ use mathlib.Core.List.{List, [], _∷_}
 use lib.Ieee.{Float}
 use Rattle.numeric.specs.Order.{patternOf}
 use Rattle.numeric.specs.Vec3.{vectorAt}
-use Rattle.frames.specs.Frames.{northEastDown, compassNumber, GivesFinite}
+use Rattle.frames.specs.Frames.{northEastDown, compassNumber, DirectionFinite}
 use Rattle.frames.specs.declared.frames.Compass.{Compass}
 use Rattle.frames.specs.declared.frames.Compass.the-variants.{Refused, Along}
 
@@ -15,7 +15,7 @@ nedAfter (Refused r) before = before
 nedAfter (Along v) before = patternOf (v .n) ∷ patternOf (v .e) ∷ patternOf (v .d) ∷ []
 
 -- The number and the lent result afterwards are those of the displacement at the position, and what is given is finite.
-pub record Answered (position displacement : List Float) (number : ℕ) (ned₀ ned : List ℕ) : Type 0 where
+pub record DirectionAnswered (position displacement : List Float) (number : ℕ) (ned₀ ned : List ℕ) : Type 0 where
   pub number-is : number ≡ compassNumber (northEastDown (vectorAt position 0) (vectorAt displacement 0))
   pub ned-is : ned ≡ nedAfter (northEastDown (vectorAt position 0) (vectorAt displacement 0)) ned₀
-  pub finite-given : GivesFinite (northEastDown (vectorAt position 0) (vectorAt displacement 0))
+  pub finite-given : DirectionFinite (northEastDown (vectorAt position 0) (vectorAt displacement 0))

@@ -1,15 +1,15 @@
 // North, east, down of floats that a caller lends. The result is taken as patterns, so that a refusal is promised to leave every bit.
 ghost use mathlib.Core.Path.{_≡_};
-ghost use Rattle.frames.specs.Lent.{Answered};
+ghost use Rattle.frames.specs.Lent.{DirectionAnswered};
 use crate::frames::Compass;
 use crate::frames::north_east_down;
 use numeric::order::pattern;
 use numeric::refusal::Refusal;
 use numeric::vec3::vector;
 
-// The displacement at the position along north, east and down in ned and 0, or 19, which leaves ned as it was.
+// Writes the displacement at the position along north, east and down to `ned` and returns 0. On refusal, returns 19 and changes nothing.
 pub fn ned_into(position: &[f64; 3], displacement: &[f64; 3], ned: &mut [u64; 3]) -> u8
-    ensures { λ r. ⌜ Answered (now (position .entry)) (now (displacement .entry)) r (now (ned .entry)) (now (ned .exit)) ⌝ }
+    ensures { λ r. ⌜ DirectionAnswered (now (position .entry)) (now (displacement .entry)) r (now (ned .entry)) (now (ned .exit)) ⌝ }
 {
     let p = vector(position);
     let v = vector(displacement);

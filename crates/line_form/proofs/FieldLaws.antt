@@ -14,10 +14,10 @@ use mir.Facts.{toZ-ofZ, toZ-pos}
 use borrow.Author.Tests.{lt-ltb, le-ltb, leb-true, leb-false, le-leb, lt-leb, eq-eqb, ne-eqb}
 use lib.ListN.{length, getD, take, drop}
 use lib.Seq.{take-length}
-use Rattle.walk.specs.Walk.{every}
+use Rattle.lists.specs.Walk.{every}
 use Rattle.line_form.specs.Field.{isDigit, decimalValue, plain, isNumber, number, isState, state, isHexDigit, hexValue, hex, isFloat, patternIn}
 use Rattle.line_form.specs.Line.{letter}
-use Rattle.line_form.specs.Reads.{ReadsNumber, ReadsState, ReadsPattern}
+use Rattle.line_form.specs.Steps.{ReadsNumber, ReadsState, ReadsPattern}
 use Rattle.line_form.specs.declared.field.Number.{Number}
 use Rattle.line_form.specs.declared.field.Signed.{Signed}
 use Rattle.line_form.proofs.SplitLaws.{left-end, left-at, every-at}

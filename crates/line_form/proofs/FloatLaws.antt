@@ -9,8 +9,8 @@ use lib.Dec.{eqb, ltb, leb}
 use borrow.Author.Tests.{lt-ltb, le-ltb, ltb-true, ltb-false, leb-true, leb-false, le-leb, lt-leb, eqb-true}
 use lib.ListN.{length}
 use lib.Seq.{append-snoc}
-use Rattle.walk.proofs.Walk.{and-both}
-use Rattle.walk.specs.Walk.{every}
+use Rattle.lists.proofs.Walk.{and-both}
+use Rattle.lists.specs.Walk.{every}
 use Rattle.line_form.specs.Field.{isHexDigit, hexValue, hex, isFloat, patternIn}
 use Rattle.line_form.specs.Print.{glyph, digitsText, hexText}
 use Rattle.line_form.proofs.PrintLaws.{length-digits}

@@ -8,8 +8,8 @@ use borrow.Author.Tests.{eq-eqb, ne-eqb}
 use Rattle.exact.specs.Float.{+0}
 use Rattle.records.specs.declared.record.Carrier.{Carrier}
 use Rattle.line_form.specs.Split.{field}
-use Rattle.line_form.specs.Line.{eleven, tag, isPlace, place, settingsForm, isSettings, given, firstOf, carrierForm, carrier, lineOf}
-use Rattle.line_form.specs.Reads.{ReadsNumber, ReadsState, ReadsFloat, ReadsPlace, ReadsCarrier, ReadsGiven}
+use Rattle.line_form.specs.Line.{eleven, tag, isVector, vectorIn, settingsForm, isSettings, givenIn, carrierForm, carrier, lineOf}
+use Rattle.line_form.specs.Steps.{firstLine, ReadsNumber, ReadsState, ReadsFloat, ReadsPlace, ReadsCarrier, ReadsGiven}
 use Rattle.line_form.specs.declared.field.Number.{Number}
 use Rattle.line_form.specs.declared.field.Signed.{Signed}
 use Rattle.line_form.specs.declared.field.Real.{Real}
@@ -33,7 +33,7 @@ of-float {t} {u} {r} q e = subst (λ (s : List ℕ). ReadsFloat s r) e q
 
 pub place-is : (l : List ℕ) (k : ℕ) (x y z : Real) → ReadsFloat (field l k) x → ReadsFloat (field l (k + 1)) y → ReadsFloat (field l (k + 2)) z
     → ReadsPlace l k (record { formed = x .formed && y .formed && z .formed; value = record { x = x .value; y = y .value; z = z .value } })
-unfolding isPlace place
+unfolding isVector vectorIn
 place-is l k x y z p q r = record { formed = rw (p .formed, q .formed, r .formed); value = rw (p .value, q .value, r .value) }
 
 pub carrier-is : (l : List ℕ) (constellation svid band : Number) (adr : Real) (state : Signed) (satellite : Place) (elevation rate : Real) (z : ℤ)
@@ -81,7 +81,7 @@ pub given-is : (l : List ℕ) (dt : Real) (receiver : Place) (screen sigma-a sig
         };
       };
     })
-unfolding settingsForm given
+unfolding settingsForm givenIn
 given-is l a b d e f g h i pa pb pd pe pf pg ph pi =
     record {
       formed = rw (pa .formed, pb .formed, pd .formed, pe .formed, pf .formed, pg .formed, ph .formed, pi .formed);
@@ -95,8 +95,8 @@ module _ (l : List ℕ) where
   unfolding lineOf
   line-few e = simp e
 
-  pub first-few : eleven l ≡ false → First·Broken ≡ firstOf l
-  unfolding firstOf isSettings
+  pub first-few : eleven l ≡ false → First·Broken ≡ firstLine l
+  unfolding firstLine isSettings
   first-few e = simp e
 
   module _ (n : eleven l ≡ true) where
@@ -118,15 +118,15 @@ module _ (l : List ℕ) where
         unfolding lineOf
         line-other t = simp (n, f, ne-eqb _ _ p, ne-eqb _ _ t)
 
-    pub first-tag : (tag l ≡ 83 → ⊥) → First·Broken ≡ firstOf l
-    unfolding firstOf isSettings
+    pub first-tag : (tag l ≡ 83 → ⊥) → First·Broken ≡ firstLine l
+    unfolding firstLine isSettings
     first-tag t = simp (n, ne-eqb _ _ t)
 
     module _ (t : tag l ≡ 83) where
-      pub first-form : settingsForm l ≡ false → First·Broken ≡ firstOf l
-      unfolding firstOf isSettings
+      pub first-form : settingsForm l ≡ false → First·Broken ≡ firstLine l
+      unfolding firstLine isSettings
       first-form f = simp (n, eq-eqb _ _ t, f)
 
-      pub first-is : settingsForm l ≡ true → (g : Given) → g ≡ given l → Is g ≡ firstOf l
-      unfolding firstOf isSettings
+      pub first-is : settingsForm l ≡ true → (g : Given) → g ≡ givenIn l → Is g ≡ firstLine l
+      unfolding firstLine isSettings
       first-is f g e = rw e (simp (n, eq-eqb _ _ t, f))

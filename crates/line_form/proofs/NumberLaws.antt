@@ -6,7 +6,7 @@ use Prim.Native.Nat.{ℕ, zero, suc, _+_, _-_, _*_, _/_, _%_, _^_, _<_}
 use native.Mathlib.Omega.{arith}
 use lib.Dec.{T, eqb, ltb}
 use borrow.Author.Tests.{lt-ltb, ltb-true, ltb-false, le-leb, ne-eqb}
-use Rattle.walk.specs.Walk.{every}
+use Rattle.lists.specs.Walk.{every}
 use Rattle.line_form.specs.Field.{isDigit, decimalValue, plain, isNumber, number}
 use Rattle.line_form.specs.Print.{glyph, digitsText, digitCount, decimalText}
 use Rattle.line_form.proofs.FloatLaws.{every-append}

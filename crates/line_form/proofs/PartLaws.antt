@@ -10,9 +10,9 @@ use lib.Dec.{T, eqb}
 use borrow.Author.Tests.{eq-eqb, ne-eqb}
 use lib.ListN.{length, getD, take, drop, set, length-drop, length-set}
 use lib.Seq.{getD-set-same, getD-set-other, getD-drop, drop-drop}
-use Rattle.line_form.specs.Split.{split, countBefore, field}
+use Rattle.line_form.specs.Split.{split, field}
+use Rattle.line_form.specs.Steps.{countBefore, Part, FieldsOf}
 use Rattle.line_form.specs.Line.{eleven}
-use Rattle.line_form.specs.Fields.{Part, FieldsOf}
 use Rattle.line_form.proofs.SplitLaws.{split-some, part-last, part-next, part-head, found-le}
 
 -- the fields before k are found, and the field k begins at `at`

@@ -9,7 +9,7 @@ use borrow.Author.Tests.{lt-ltb, le-ltb}
 use lib.ListN.{length, take, drop, set, length-append, length-drop, length-set, take-append-drop}
 use lib.Seq.{take-at, drop-at, drop-drop, take-set-le, set-split, append-snoc, length-take-le}
 use Rattle.line_form.specs.Print.{glyph, digitsText, digitCount, decimalText}
-use Rattle.line_form.specs.Written.{written, Put}
+use Rattle.line_form.specs.Steps.{overwritten, PutBytes}
 
 pub length-digits : (b k n : ℕ) → length (digitsText b k n) ≡ k
 unfolding digitsText
@@ -20,17 +20,17 @@ drop-set : (d : List ℕ) (n g : ℕ) → n < length d → drop n (set d n g) �
 drop-set d n g l = ap (drop n) (set-split d n g l) ∙ drop-at (take n d) (g ∷ drop (suc n) d) n (length-take-le n d (le-of-lt l))
 
 module _ (d : List ℕ) (at : ℕ) where
-  pub written-none : written d at [] ≡ d
+  pub written-none : overwritten d at [] ≡ d
   written-none = ap (λ (l : List ℕ). l ++ drop (at + 0) d) (append-nil (take at d)) ∙ ap (λ (n : ℕ). take at d ++ drop n d) (add-zero at) ∙ take-append-drop at d
 
   module _ (xs : List ℕ) (h : at + length xs ≤ length d) where
     front : length (take at d ++ xs) ≡ at + length xs
     front = length-append (take at d) xs ∙ ap (λ (n : ℕ). n + length xs) (length-take-le at d (omega arith))
 
-    pub length-written : length (written d at xs) ≡ length d
+    pub length-written : length (overwritten d at xs) ≡ length d
     length-written = length-append (take at d ++ xs) (drop (at + length xs) d) ∙ (let e = length-drop (at + length xs) d in omega (arith, front, e))
 
-    pub written-written : (ys : List ℕ) → written (written d at xs) (at + length xs) ys ≡ written d at (xs ++ ys)
+    pub written-written : (ys : List ℕ) → overwritten (overwritten d at xs) (at + length xs) ys ≡ overwritten d at (xs ++ ys)
     written-written ys =
         let n = at + length xs in
         let back = drop n d in
@@ -42,7 +42,7 @@ module _ (d : List ℕ) (at : ℕ) where
         ∙ ap (λ (j : ℕ). (take at d ++ (xs ++ ys)) ++ drop j d) m
 
   -- the last byte first
-  pub written-set : (xs : List ℕ) (g k : ℕ) → length xs ≡ k → at + k < length d → written (set d (at + k) g) at xs ≡ written d at (xs ++ (g ∷ []))
+  pub written-set : (xs : List ℕ) (g k : ℕ) → length xs ≡ k → at + k < length d → overwritten (set d (at + k) g) at xs ≡ overwritten d at (xs ++ (g ∷ []))
   written-set xs g k e l =
       let d′ = set d (at + k) g in
       let m : suc (at + k) ≡ at + length (xs ++ (g ∷ [])) = omega (arith, length-append xs (g ∷ [])) in
@@ -53,21 +53,21 @@ module _ (d : List ℕ) (at : ℕ) where
       ∙ ap (λ (t : List ℕ). t ++ drop (suc (at + k)) d) (append-assoc (take at d) xs (g ∷ []))
       ∙ ap (λ (j : ℕ). (take at d ++ (xs ++ (g ∷ []))) ++ drop j d) m
 
-  set-written : (g : ℕ) → at < length d → set d at g ≡ written d at (g ∷ [])
+  set-written : (g : ℕ) → at < length d → set d at g ≡ overwritten d at (g ∷ [])
   set-written g l = set-split d at g l ∙ sym (append-snoc (take at d) g (drop (suc at) d)) ∙ ap (λ (j : ℕ). (take at d ++ (g ∷ [])) ++ drop j d) (sym (add-one at))
 
-  pub put-set : (g : ℕ) → at < length d → Put d (set d at g) at (g ∷ []) (at + 1)
+  pub put-set : (g : ℕ) → at < length d → PutBytes d (set d at g) at (g ∷ []) (at + 1)
   put-set g l = record { bytes = set-written g l; next = refl; room = omega arith }
 
-  pub put-spelt : (a xs : List ℕ) → a ≡ written d at xs → at + length xs ≤ length d → Put d a at xs (at + length xs)
+  pub put-spelt : (a xs : List ℕ) → a ≡ overwritten d at xs → at + length xs ≤ length d → PutBytes d a at xs (at + length xs)
   put-spelt a xs e l = record { bytes = e; next = refl; room = l }
 
-pub put-put : {d a b xs ys : List ℕ} {at r q : ℕ} → Put d a at xs r → Put a b r ys q → Put d b at (xs ++ ys) q
+pub put-put : {d a b xs ys : List ℕ} {at r q : ℕ} → PutBytes d a at xs r → PutBytes a b r ys q → PutBytes d b at (xs ++ ys) q
 put-put {d} {a} {b} {xs} {ys} {at} {r} {q} p p′ =
     let l : at + length xs ≤ length d = omega (arith, p .next, p .room) in
     let e : length a ≡ length d = ap length (p .bytes) ∙ length-written d at xs l in
     record {
-      bytes = p′ .bytes ∙ ap (λ (n : ℕ). written a n ys) (p .next) ∙ ap (λ (t : List ℕ). written t (at + length xs) ys) (p .bytes) ∙ written-written d at xs l ys;
+      bytes = p′ .bytes ∙ ap (λ (n : ℕ). overwritten a n ys) (p .next) ∙ ap (λ (t : List ℕ). overwritten t (at + length xs) ys) (p .bytes) ∙ written-written d at xs l ys;
       next = omega (arith, p .next, p′ .next, length-append xs ys);
       room = omega (arith, p′ .room);
     }
@@ -76,7 +76,7 @@ put-put {d} {a} {b} {xs} {ys} {at} {r} {q} p p′ =
 pub record Spelling (d : List ℕ) (at k b n : ℕ) (a : List ℕ) (i rest : ℕ) : Type 0 where
   pub few : i ≤ k
   pub long : length a ≡ length d
-  pub same : written a at (digitsText b i rest) ≡ written d at (digitsText b k n)
+  pub same : overwritten a at (digitsText b i rest) ≡ overwritten d at (digitsText b k n)
 
 module _ (d : List ℕ) (at k b n : ℕ) where
   pub spelling-start : Spelling d at k b n d k n
@@ -94,16 +94,16 @@ module _ (d : List ℕ) (at k b n : ℕ) where
           long = length-set a (at + j) v ∙ inv .long;
           same =
               written-set a at (digitsText b j (rest / b)) v j (length-digits b j (rest / b)) f
-              ∙ ap (λ (x : ℕ). written a at (digitsText b j (rest / b) ++ (x ∷ []))) e
-              ∙ ap (λ (x : ℕ). written a at (digitsText b x rest)) s
+              ∙ ap (λ (x : ℕ). overwritten a at (digitsText b j (rest / b) ++ (x ∷ []))) e
+              ∙ ap (λ (x : ℕ). overwritten a at (digitsText b x rest)) s
               ∙ inv .same;
         }
 
-    pub spelling-end : i ≤ 0 → a ≡ written d at (digitsText b k n)
+    pub spelling-end : i ≤ 0 → a ≡ overwritten d at (digitsText b k n)
     unfolding digitsText
     spelling-end l =
         let z : 0 ≡ i = omega arith in
-        sym (written-none a at) ∙ ap (λ (x : ℕ). written a at (digitsText b x rest)) z ∙ inv .same
+        sym (written-none a at) ∙ ap (λ (x : ℕ). overwritten a at (digitsText b x rest)) z ∙ inv .same
 
 -- ---- how many digits
 pub record Placing (n j rest : ℕ) : Type 0 where
@@ -143,17 +143,17 @@ module _ (n j rest : ℕ) (inv : Placing n j rest) where
           }
 
 -- digits, and a byte after them
-pub put-spell : (d a : List ℕ) (at k j b n g r : ℕ) → a ≡ written d at (digitsText b k n) → k ≡ j → r ≡ at + k + 1 → r ≤ length d
-    → Put d (set a (at + k) g) at (digitsText b j n ++ (g ∷ [])) r
+pub put-spell : (d a : List ℕ) (at k j b n g r : ℕ) → a ≡ overwritten d at (digitsText b k n) → k ≡ j → r ≡ at + k + 1 → r ≤ length d
+    → PutBytes d (set a (at + k) g) at (digitsText b j n ++ (g ∷ [])) r
 put-spell d a at k j b n g r e q f l =
     let ds = digitsText b k n in
     let m : at + length ds ≡ at + k = ap (λ (i : ℕ). at + i) (length-digits b k n) in
     let h : at + length ds ≤ length d = omega arith in
     let long : length a ≡ length d = ap length e ∙ length-written d at ds h in
-    let p : Put d a at ds (at + k) = record { bytes = e; next = sym m; room = omega arith } in
-    let s : Put d (set a (at + k) g) at (ds ++ (g ∷ [])) (at + k + 1) = put-put p (put-set a (at + k) g (omega arith)) in
-    subst₂ (λ (i x : ℕ). Put d (set a (at + k) g) at (digitsText b i n ++ (g ∷ [])) x) q (sym f) s
+    let p : PutBytes d a at ds (at + k) = record { bytes = e; next = sym m; room = omega arith } in
+    let s : PutBytes d (set a (at + k) g) at (ds ++ (g ∷ [])) (at + k + 1) = put-put p (put-set a (at + k) g (omega arith)) in
+    subst₂ (λ (i x : ℕ). PutBytes d (set a (at + k) g) at (digitsText b i n ++ (g ∷ [])) x) q (sym f) s
 
 -- the number of a refusal, by what the code has of it
-pub put-refused : {d a : List ℕ} {n : ℕ} (m k : ℕ) → m ≡ k → Put d a 0 ((82 ∷ 44 ∷ []) ++ (decimalText m ++ (10 ∷ []))) n → Put d a 0 ((82 ∷ 44 ∷ []) ++ (decimalText k ++ (10 ∷ []))) n
-put-refused {d} {a} {n} m k e p = subst (λ (x : ℕ). Put d a 0 ((82 ∷ 44 ∷ []) ++ (decimalText x ++ (10 ∷ []))) n) e p
+pub put-refused : {d a : List ℕ} {n : ℕ} (m k : ℕ) → m ≡ k → PutBytes d a 0 ((82 ∷ 44 ∷ []) ++ (decimalText m ++ (10 ∷ []))) n → PutBytes d a 0 ((82 ∷ 44 ∷ []) ++ (decimalText k ++ (10 ∷ []))) n
+put-refused {d} {a} {n} m k e p = subst (λ (x : ℕ). PutBytes d a 0 ((82 ∷ 44 ∷ []) ++ (decimalText x ++ (10 ∷ []))) n) e p

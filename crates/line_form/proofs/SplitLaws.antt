@@ -9,8 +9,9 @@ use lib.Dec.{eqb}
 use borrow.Author.Tests.{eq-eqb, ne-eqb}
 use lib.ListN.{length, getD, take, drop, length-drop, drop-of-length-le}
 use lib.Seq.{drop-cons, drop-drop, length-take-le}
-use Rattle.walk.specs.Walk.{every}
-use Rattle.line_form.specs.Split.{onto, split, countBefore}
+use Rattle.lists.specs.Walk.{every}
+use Rattle.line_form.specs.Split.{onto, split}
+use Rattle.line_form.specs.Steps.{countBefore}
 
 -- ---- before and split along a list
 

@@ -11,12 +11,13 @@ use lib.Seq.{set-out, getD-set-same, getD-set-other}
 use lib.IntN.{ℤ}
 use lib.Ieee.{Float, isNan, nan, inf, fin}
 use lib.Ieee.Scale.{finite}
-use Rattle.walk.specs.Walk.{fold}
-use Rattle.walk.proofs.Walk.{places-all, places-take}
+use Rattle.lists.specs.Walk.{fold}
+use Rattle.lists.proofs.Walk.{places-all, places-take}
 use Rattle.numeric.specs.declared.vec3.Vec3.{Vec3}
 use Rattle.numeric.specs.declared.refusal.Refusal.the-variants.{TooMany, BrokenForm}
-use Rattle.records.specs.Record.{counted}
-use Rattle.records.specs.Signals.{epochIn, Fit, Put, Laid}
+use Rattle.records.specs.Record.{countedCarriers}
+use Rattle.records.specs.Signals.{epochIn, SignalsFit}
+use Rattle.records.specs.Steps.{Put, Laid}
 use Rattle.records.specs.declared.record.Carrier.{Carrier}
 use Rattle.records.specs.declared.record.Epoch.{Epoch}
 use Rattle.records.specs.declared.pair.Profile.the-variants.{General}
@@ -30,11 +31,10 @@ use Rattle.tdcp.specs.declared.displacement.Displacement.{Displacement}
 use Rattle.tdcp.specs.declared.displacement.Displacement.the-variants.{Refused, Moved}
 use Rattle.tdcp.proofs.CountedLaws.{displacement-counted}
 use Rattle.tdcp.proofs.DisplacementCall.{too-many}
-use Rattle.line_form.specs.Split.{split, countBefore}
-use Rattle.line_form.specs.Line.{isSettings, given, firstOf, lineOf}
-use Rattle.line_form.specs.Text.{whole, recordsForm, linesForm, isText, none, added, previousAfter, currentAfter, previousFrom, currentFrom, inputIn, inputOf, linesDisplacement, displacementIn}
-use Rattle.line_form.specs.Written.{Printable}
-use Rattle.line_form.specs.Reads.{Holds, Keeps, ReadsNext, LinesDisplace, Displaces}
+use Rattle.line_form.specs.Split.{split}
+use Rattle.line_form.specs.Steps.{countBefore, firstLine, linesDisplacement, Printable, HoldsEpoch, Keeps, ReadsNext, LinesDisplace, Displaces}
+use Rattle.line_form.specs.Line.{isSettings, givenIn, lineOf}
+use Rattle.line_form.specs.Text.{isRecord, recordsForm, linesForm, isText, noCarriers, withCarrier, previousAfter, currentAfter, previousFrom, currentFrom, inputIn, textInput, displacementIn}
 use Rattle.line_form.specs.declared.line.Given.{Given}
 use Rattle.line_form.specs.declared.line.First.{First}
 use Rattle.line_form.specs.declared.line.First.the-variants.{Is, Broken as First·Broken}
@@ -58,10 +58,10 @@ module _ (c : Carrier) (n : ℕ) {ss : List ℕ} {ts : List ℤ} {fs : List Floa
       }
 
   pub keeps-room : {r : ℕ} {ss′ : List ℕ} {ts′ : List ℤ} {fs′ : List Float} → n < 64 → r ≡ n + 1 → Put c n ss ts fs ss′ ts′ fs′ → Keeps c n r ss ts fs ss′ ts′ fs′
-  unfolding added
+  unfolding withCarrier
   keeps-room {r} {ss′} {ts′} {fs′} l e p = record { kept = go }
     where
-      go : (x : Epoch) → length (x .carriers) ≡ 64 → Holds x n ss ts fs → Holds (record { count = x .count + 1; carriers = set (x .carriers) (x .count) c }) r ss′ ts′ fs′
+      go : (x : Epoch) → length (x .carriers) ≡ 64 → HoldsEpoch x n ss ts fs → HoldsEpoch (record { count = x .count + 1; carriers = set (x .carriers) (x .count) c }) r ss′ ts′ fs′
       go x long h =
           let few : min n 64 ≡ n = omega arith in
           let few′ : min r 64 ≡ n + 1 = omega arith in
@@ -70,10 +70,10 @@ module _ (c : Carrier) (n : ℕ) {ss : List ℕ} {ts : List ℤ} {fs : List Floa
           record { count-is = omega (arith, h .count-is); laid = rw (← h .count-is, few′) new }
 
   pub keeps-full : {r : ℕ} → 64 ≤ n → r ≡ n + 1 → Keeps c n r ss ts fs ss ts fs
-  unfolding added
+  unfolding withCarrier
   keeps-full {r} l e = record { kept = go }
     where
-      go : (x : Epoch) → length (x .carriers) ≡ 64 → Holds x n ss ts fs → Holds (record { count = x .count + 1; carriers = set (x .carriers) (x .count) c }) r ss ts fs
+      go : (x : Epoch) → length (x .carriers) ≡ 64 → HoldsEpoch x n ss ts fs → HoldsEpoch (record { count = x .count + 1; carriers = set (x .carriers) (x .count) c }) r ss ts fs
       go x long h =
           let full : min n 64 ≡ 64 = omega arith in
           let full′ : min r 64 ≡ 64 = omega arith in
@@ -82,7 +82,7 @@ module _ (c : Carrier) (n : ℕ) {ss : List ℕ} {ts : List ℤ} {fs : List Floa
 
 -- ---- a line before others
 
-records-cons : (l : List ℕ) (ls : List (List ℕ)) → 0 < length ls → recordsForm (l ∷ ls) ≡ (whole (lineOf l) && recordsForm ls)
+records-cons : (l : List ℕ) (ls : List (List ℕ)) → 0 < length ls → recordsForm (l ∷ ls) ≡ (isRecord (lineOf l) && recordsForm ls)
 unfolding recordsForm
 records-cons l [] h = absurd (omega arith)
 records-cons l (m ∷ ls) h = refl
@@ -116,7 +116,7 @@ module _ (s : List ℕ) (at : ℕ) (within : at < length s) (r : ℕ) (is : r �
           within = omega arith;
           form =
               ap recordsForm parts ∙ records-cons (take (r - at) (drop at s)) (split 10 (drop (r + 1) s)) (split-some 10 (drop (r + 1) s))
-              ∙ sym (ap (λ (y : Line). whole y && recordsForm (split 10 (drop (r + 1) s))) e);
+              ∙ sym (ap (λ (y : Line). isRecord y && recordsForm (split 10 (drop (r + 1) s))) e);
           past = λ h p. ap (previousFrom p) parts ∙ sym (ap (λ (y : Line). previousFrom (previousAfter p y) (split 10 (drop (r + 1) s))) e);
           present = λ h p. ap (currentFrom p) parts ∙ sym (ap (λ (y : Line). currentFrom (currentAfter p y) (split 10 (drop (r + 1) s))) e);
         }
@@ -131,35 +131,35 @@ pub record Going (s : List ℕ) (f at m n : ℕ) (ss : List ℕ) (ts : List ℤ)
   pub few′ : n ≤ at
   pub room : length (previous .carriers) ≡ 64
   pub room′ : length (current .carriers) ≡ 64
-  pub held : Holds previous m ss ts fs
-  pub held′ : Holds current n ss′ ts′ fs′
+  pub held : HoldsEpoch previous m ss ts fs
+  pub held′ : HoldsEpoch current n ss′ ts′ fs′
   pub form : recordsForm (split 10 (drop at s)) ≡ recordsForm (split 10 (drop f s))
-  pub past : previousFrom previous (split 10 (drop at s)) ≡ previousFrom none (split 10 (drop f s))
-  pub present : currentFrom current (split 10 (drop at s)) ≡ currentFrom none (split 10 (drop f s))
+  pub past : previousFrom previous (split 10 (drop at s)) ≡ previousFrom noCarriers (split 10 (drop f s))
+  pub present : currentFrom current (split 10 (drop at s)) ≡ currentFrom noCarriers (split 10 (drop f s))
 
-nothing : {ss : List ℕ} {ts : List ℤ} {fs : List Float} → length ss ≡ 64 → length ts ≡ 64 → length fs ≡ 384 → Holds none 0 ss ts fs
-unfolding none
+nothing : {ss : List ℕ} {ts : List ℤ} {fs : List Float} → length ss ≡ 64 → length ts ≡ 64 → length fs ≡ 384 → HoldsEpoch noCarriers 0 ss ts fs
+unfolding noCarriers
 nothing a b c = record { count-is = refl; laid = record { signals-long = a; states-long = b; floats-long = c; small = λ i l. absurd (omega arith); all = λ i l d. absurd (omega arith) } }
 
 -- the first n signals with their states and floats count what the epoch counts
-cut-counted : (e : Epoch) {n : ℕ} {ss : List ℕ} {ts : List ℤ} {fs : List Float} → Laid (e .carriers) n ss ts fs → n ≤ 64 → n ≡ e .count → length (e .carriers) ≡ 64 → counted (epochIn (take n ss) ts fs) ≡ counted e
+cut-counted : (e : Epoch) {n : ℕ} {ss : List ℕ} {ts : List ℤ} {fs : List Float} → Laid (e .carriers) n ss ts fs → n ≤ 64 → n ≡ e .count → length (e .carriers) ≡ 64 → countedCarriers (epochIn (take n ss) ts fs) ≡ countedCarriers e
 cut-counted e {n} {ss} {ts} {fs} h few is long =
     let g : ℕ → Carrier = λ k. getD (e .carriers) k blank in
-    ap counted (cut-is ss ts fs n (h .signals-long) few g (λ k l. h .all k l blank))
+    ap countedCarriers (cut-is ss ts fs n (h .signals-long) few g (λ k l. h .all k l blank))
     ∙ places-all g n
     ∙ places-take (e .carriers) blank n (omega (arith, few, long))
     ∙ ap (λ (k : ℕ). take k (e .carriers)) is
 
-room-none : length (none .carriers) ≡ 64
-unfolding none
+room-none : length (noCarriers .carriers) ≡ 64
+unfolding noCarriers
 room-none = refl
 
 pub going-start : (s : List ℕ) (f : ℕ) {ss : List ℕ} {ts : List ℤ} {fs : List Float} {ss′ : List ℕ} {ts′ : List ℤ} {fs′ : List Float} → f ≤ length s
     → length ss ≡ 64 → length ts ≡ 64 → length fs ≡ 384 → length ss′ ≡ 64 → length ts′ ≡ 64 → length fs′ ≡ 384 → Going s f f 0 0 ss ts fs ss′ ts′ fs′
 going-start s f h a b c a′ b′ c′ =
     record {
-      previous = none;
-      current = none;
+      previous = noCarriers;
+      current = noCarriers;
       within = h;
       few = omega arith;
       few′ = omega arith;
@@ -179,28 +179,28 @@ module _ {s : List ℕ} {f at m n : ℕ} {ss : List ℕ} {ts : List ℤ} {fs : L
     unfolding recordsForm split
     going-form = sym (inv .form) ∙ ap (λ (t : List ℕ). recordsForm (split 10 t)) (left-end s at l)
 
-    pub going-past : previousFrom none (split 10 (drop f s)) ≡ inv .previous
+    pub going-past : previousFrom noCarriers (split 10 (drop f s)) ≡ inv .previous
     unfolding fold split lineOf
     going-past = sym (inv .past) ∙ ap (λ (t : List ℕ). previousFrom (inv .previous) (split 10 t)) (left-end s at l)
 
-    pub going-present : currentFrom none (split 10 (drop f s)) ≡ inv .current
+    pub going-present : currentFrom noCarriers (split 10 (drop f s)) ≡ inv .current
     unfolding fold split lineOf
     going-present = sym (inv .present) ∙ ap (λ (t : List ℕ). currentFrom (inv .current) (split 10 t)) (left-end s at l)
 
   module _ {x : Next} (read : ReadsNext s at x) where
     pub going-broken : x .line ≡ Broken → recordsForm (split 10 (drop f s)) ≡ false
-    going-broken b = sym (inv .form) ∙ read .form ∙ ap (λ (y : Line). whole y && recordsForm (split 10 (drop (x .at) s))) b
+    going-broken b = sym (inv .form) ∙ read .form ∙ ap (λ (y : Line). isRecord y && recordsForm (split 10 (drop (x .at) s))) b
 
-    going-form-on : whole (x .line) ≡ true → recordsForm (split 10 (drop (x .at) s)) ≡ recordsForm (split 10 (drop f s))
+    going-form-on : isRecord (x .line) ≡ true → recordsForm (split 10 (drop (x .at) s)) ≡ recordsForm (split 10 (drop f s))
     going-form-on h = sym (ap (λ (b : Bool). b && recordsForm (split 10 (drop (x .at) s))) h) ∙ sym (read .form) ∙ inv .form
 
     pub going-previous : (c : Carrier) → x .line ≡ Previous c → {r : ℕ} {ss″ : List ℕ} {ts″ : List ℤ} {fs″ : List Float} → Keeps c m r ss ts fs ss″ ts″ fs″ → Going s f (x .at) r n ss″ ts″ fs″ ss′ ts′ fs′
-    unfolding added
+    unfolding withCarrier
     going-previous c e k =
-        let h : whole (x .line) ≡ true = ap whole e in
+        let h : isRecord (x .line) ≡ true = ap isRecord e in
         let now = k .kept (inv .previous) (inv .room) (inv .held) in
         record {
-          previous = added (inv .previous) c;
+          previous = withCarrier (inv .previous) c;
           current = inv .current;
           within = read .within;
           few = omega (arith, inv .few, read .onward, inv .held .count-is, now .count-is);
@@ -215,13 +215,13 @@ module _ {s : List ℕ} {f at m n : ℕ} {ss : List ℕ} {ts : List ℤ} {fs : L
         }
 
     pub going-current : (c : Carrier) → x .line ≡ Current c → {r : ℕ} {ss″ : List ℕ} {ts″ : List ℤ} {fs″ : List Float} → Keeps c n r ss′ ts′ fs′ ss″ ts″ fs″ → Going s f (x .at) m r ss ts fs ss″ ts″ fs″
-    unfolding added
+    unfolding withCarrier
     going-current c e k =
-        let h : whole (x .line) ≡ true = ap whole e in
+        let h : isRecord (x .line) ≡ true = ap isRecord e in
         let now = k .kept (inv .current) (inv .room′) (inv .held′) in
         record {
           previous = inv .previous;
-          current = added (inv .current) c;
+          current = withCarrier (inv .current) c;
           within = read .within;
           few = omega (arith, inv .few, read .onward);
           few′ = omega (arith, inv .few′, read .onward, inv .held′ .count-is, now .count-is);
@@ -238,7 +238,7 @@ module _ {s : List ℕ} {f at m n : ℕ} {ss : List ℕ} {ts : List ℤ} {fs : L
 
 pub refused : (s : List ℕ) → isText s ≡ false → Displaces s (Refused BrokenForm)
 unfolding displacementIn
-refused s e = record { answer = sym (ap (λ (t : Bool). cond t (displacementOf (inputOf s)) (Refused BrokenForm)) e); printable = tt }
+refused s e = record { answer = sym (ap (λ (t : Bool). cond t (displacementOf (textInput s)) (Refused BrokenForm)) e); printable = tt }
 
 pub text-long : (s : List ℕ) → 32768 < length s → isText s ≡ false
 unfolding isText
@@ -292,10 +292,10 @@ module _ (s : List ℕ) (f : ℕ) (dt : Float) (receiver : Vec3) (settings : Set
       pub cut-room′ : length (take n ss′) ≡ n
       cut-room′ = cut-count ss′ ts′ fs′ n (laid′ .signals-long) few′
 
-      pub fits : Fit (take m ss) ts fs
+      pub fits : SignalsFit (take m ss) ts fs
       fits = cut-fits ss ts fs m (laid .signals-long) few (omega (arith, laid .states-long)) (omega (arith, laid .floats-long)) (laid .small)
 
-      pub fits′ : Fit (take n ss′) ts′ fs′
+      pub fits′ : SignalsFit (take n ss′) ts′ fs′
       fits′ = cut-fits ss′ ts′ fs′ n (laid′ .signals-long) few′ (omega (arith, laid′ .states-long)) (omega (arith, laid′ .floats-long)) (laid′ .small)
 
       pub lines-are : (d : Displacement) → Promised (general (epochIn (take m ss) ts fs) (epochIn (take n ss′) ts′ fs′) dt receiver settings) d → LinesDisplace (drop f s) dt receiver settings d
@@ -316,7 +316,7 @@ module _ (s : List ℕ) (h : length s ≤ 32768) (r : ℕ) (is : r ≡ 0 + count
   unfolding recordsForm
   text-one e = inside ∙ ap linesForm (part-last 10 s 0 r (omega arith) is e) ∙ and-false (isSettings s)
 
-  module _ (l : r < length s) (x : First) (e : x ≡ firstOf (take r s)) where
+  module _ (l : r < length s) (x : First) (e : x ≡ firstLine (take r s)) where
     lines : split 10 s ≡ take r s ∷ split 10 (drop (r + 1) s)
     lines =
         let z : r - 0 ≡ r = omega arith in
@@ -329,19 +329,19 @@ module _ (s : List ℕ) (h : length s ≤ 32768) (r : ℕ) (is : r ≡ 0 + count
     text-cut b = text-form ∙ ap (λ (t : Bool). isSettings (take r s) && t) b ∙ and-false (isSettings (take r s))
 
     pub text-first : x ≡ First·Broken → isText s ≡ false
-    unfolding firstOf
+    unfolding firstLine
     text-first b = text-form ∙ go (isSettings (take r s)) refl
       where
         never : (g : Given) → _≡_ {A = First} First·Broken (Is g) → ⊥
         never g q = let z : _≡_ {A = ℕ} 0 1 = cc in omega arith
 
         go : (t : Bool) → isSettings (take r s) ≡ t → (t && recordsForm (split 10 (drop (r + 1) s))) ≡ false
-        go true q = absurd (never (given (take r s)) (sym b ∙ e ∙ ap (λ (t : Bool). cond t (Is (given (take r s))) First·Broken) q))
+        go true q = absurd (never (givenIn (take r s)) (sym b ∙ e ∙ ap (λ (t : Bool). cond t (Is (givenIn (take r s))) First·Broken) q))
         go false q = refl
 
     module _ (g : Given) (b : x ≡ Is g) where
-      first : (isSettings (take r s) ≡ true) × (given (take r s) ≡ g)
-      unfolding firstOf
+      first : (isSettings (take r s) ≡ true) × (givenIn (take r s) ≡ g)
+      unfolding firstLine
       first = go (isSettings (take r s)) refl
         where
           never : _≡_ {A = First} First·Broken (Is g) → ⊥
@@ -350,20 +350,20 @@ module _ (s : List ℕ) (h : length s ≤ 32768) (r : ℕ) (is : r ≡ 0 + count
           same : (a : Given) → _≡_ {A = First} (Is a) (Is g) → a ≡ g
           same a q = cc
 
-          go : (t : Bool) → isSettings (take r s) ≡ t → (isSettings (take r s) ≡ true) × (given (take r s) ≡ g)
-          go true q = (q, same (given (take r s)) (sym (ap (λ (t : Bool). cond t (Is (given (take r s))) First·Broken) q) ∙ sym e ∙ b))
-          go false q = absurd (never (sym (ap (λ (t : Bool). cond t (Is (given (take r s))) First·Broken) q) ∙ sym e ∙ b))
+          go : (t : Bool) → isSettings (take r s) ≡ t → (isSettings (take r s) ≡ true) × (givenIn (take r s) ≡ g)
+          go true q = (q, same (givenIn (take r s)) (sym (ap (λ (t : Bool). cond t (Is (givenIn (take r s))) First·Broken) q) ∙ sym e ∙ b))
+          go false q = absurd (never (sym (ap (λ (t : Bool). cond t (Is (givenIn (take r s))) First·Broken) q) ∙ sym e ∙ b))
 
       -- the displacement of the lines after the first
       pub text-is : (d : Displacement) → LinesDisplace (drop (r + 1) s) (g .dt) (g .receiver) (g .settings) d → Displaces s d
-      unfolding displacementIn inputOf linesDisplacement
+      unfolding displacementIn textInput linesDisplacement
       text-is d y =
           let ls = split 10 (drop (r + 1) s) in
           let f : isText s ≡ recordsForm ls = text-form ∙ ap (λ (t : Bool). t && recordsForm ls) (first .0) in
-          let i : general (previousFrom none ls) (currentFrom none ls) (g .dt) (g .receiver) (g .settings) ≡ inputOf s =
+          let i : general (previousFrom noCarriers ls) (currentFrom noCarriers ls) (g .dt) (g .receiver) (g .settings) ≡ textInput s =
           sym (ap (λ (v : List (List ℕ)). inputIn (getD v 0 []) (drop 1 v)) lines
-          ∙ ap (λ (a : Given). general (previousFrom none ls) (currentFrom none ls) (a .dt) (a .receiver) (a .settings)) (first .1)) in
+          ∙ ap (λ (a : Given). general (previousFrom noCarriers ls) (currentFrom noCarriers ls) (a .dt) (a .receiver) (a .settings)) (first .1)) in
           record {
-            answer = y .answer ∙ ap (λ (v : Input). cond (recordsForm ls) (displacementOf v) (Refused BrokenForm)) i ∙ sym (ap (λ (t : Bool). cond t (displacementOf (inputOf s)) (Refused BrokenForm)) f);
+            answer = y .answer ∙ ap (λ (v : Input). cond (recordsForm ls) (displacementOf v) (Refused BrokenForm)) i ∙ sym (ap (λ (t : Bool). cond t (displacementOf (textInput s)) (Refused BrokenForm)) f);
             printable = y .printable;
           }

@@ -7,9 +7,9 @@ use lib.ListN.{replicate}
 use lib.IntN.{negsuc}
 use lib.Ieee.{ofInt, ofBits, toBits, neg, le, lt, isNan}
 use Rattle.exact.specs.Float.{+0, bits}
-use Rattle.walk.specs.Walk.{every, collect, fold}
+use Rattle.lists.specs.Walk.{every, collect, fold}
 use Rattle.numeric.specs.Real.{abs, inRange}
-use Rattle.estimator.specs.Rules.{ruled, rowRules}
+use Rattle.estimate_rounds.specs.Rules.{ruled, rowRules}
 use Rattle.records.specs.Record.{placeable}
 use Rattle.records.specs.Pair.{pairsOf}
 use Rattle.tdcp.specs.Valid.{settingsPass, badInterval, epochRules, intervalRules, fewRules}
@@ -20,9 +20,9 @@ use Rattle.records.specs.declared.record.Carrier.{Carrier}
 use Rattle.tdcp.specs.declared.displacement.Displacement.the-variants.{Refused, Moved}
 use Rattle.line_form.specs.Split.{split}
 use Rattle.line_form.specs.Field.{decimalValue, plain, isNumber, number, isState, state, hex, isFloat, patternIn}
-use Rattle.line_form.specs.Line.{isPlace, place, settingsForm, isSettings, given, carrierForm, carrier, lineOf}
-use Rattle.line_form.specs.Text.{recordsForm, isText, none, inputOf, displacementIn}
-use Rattle.line_form.specs.Answer.{answerOf}
+use Rattle.line_form.specs.Line.{isVector, vectorIn, settingsForm, isSettings, givenIn, carrierForm, carrier, lineOf}
+use Rattle.line_form.specs.Text.{recordsForm, isText, noCarriers, textInput, displacementIn}
+use Rattle.line_form.specs.Answer.{answerLine}
 use Rattle.line_form.specs.Print.{digitsText, digitCount, answerText}
 use Rattle.line_form.specs.declared.line.Line.the-variants.{Previous}
 
@@ -121,42 +121,42 @@ first =
 
 -- the example is of the form
 the-example : isText example ≡ true
-unfolding isText recordsForm split isSettings settingsForm lineOf carrierForm carrier isPlace place number isNumber plain every decimalValue state isState patternIn isFloat hex example
+unfolding isText recordsForm split isSettings settingsForm lineOf carrierForm carrier isVector vectorIn number isNumber plain every decimalValue state isState patternIn isFloat hex example
 the-example = refl
 
 -- so is a carrier after it
 with-carrier : isText (example ++ first) ≡ true
-unfolding isText recordsForm split isSettings settingsForm lineOf carrierForm carrier isPlace place number isNumber plain every decimalValue state isState patternIn isFloat hex example first
+unfolding isText recordsForm split isSettings settingsForm lineOf carrierForm carrier isVector vectorIn number isNumber plain every decimalValue state isState patternIn isFloat hex example first
 with-carrier = refl
 
 -- the settings come first
 not-first : isText (first ++ example) ≡ false
-unfolding isText recordsForm split isSettings settingsForm lineOf carrierForm carrier isPlace place number isNumber plain every decimalValue state isState patternIn isFloat hex example first
+unfolding isText recordsForm split isSettings settingsForm lineOf carrierForm carrier isVector vectorIn number isNumber plain every decimalValue state isState patternIn isFloat hex example first
 not-first = refl
 
 -- and once
 twice : isText (example ++ example) ≡ false
-unfolding isText recordsForm split isSettings settingsForm lineOf carrierForm carrier isPlace place number isNumber plain every decimalValue state isState patternIn isFloat hex example
+unfolding isText recordsForm split isSettings settingsForm lineOf carrierForm carrier isVector vectorIn number isNumber plain every decimalValue state isState patternIn isFloat hex example
 twice = refl
 
 -- no text is not of the form
 no-text : isText [] ≡ false
-unfolding isText recordsForm split isSettings settingsForm lineOf carrierForm carrier isPlace place number isNumber plain every decimalValue state isState patternIn isFloat hex example
+unfolding isText recordsForm split isSettings settingsForm lineOf carrierForm carrier isVector vectorIn number isNumber plain every decimalValue state isState patternIn isFloat hex example
 no-text = refl
 
 -- nor is an empty line
 blank-line : isText (example ++ (10 ∷ [])) ≡ false
-unfolding isText recordsForm split isSettings settingsForm lineOf carrierForm carrier isPlace place number isNumber plain every decimalValue state isState patternIn isFloat hex example
+unfolding isText recordsForm split isSettings settingsForm lineOf carrierForm carrier isVector vectorIn number isNumber plain every decimalValue state isState patternIn isFloat hex example
 blank-line = refl
 
 -- nor is a last line without LF
 no-last-line-feed : isText (example ++ (80 ∷ 44 ∷ [])) ≡ false
-unfolding isText recordsForm split isSettings settingsForm lineOf carrierForm carrier isPlace place number isNumber plain every decimalValue state isState patternIn isFloat hex example first
+unfolding isText recordsForm split isSettings settingsForm lineOf carrierForm carrier isVector vectorIn number isNumber plain every decimalValue state isState patternIn isFloat hex example first
 no-last-line-feed = refl
 
 -- 1 comes before every other number
 broken : displacementIn [] ≡ Refused BrokenForm
-unfolding displacementIn isText recordsForm split isSettings settingsForm lineOf carrierForm carrier isPlace place number isNumber plain every decimalValue state isState patternIn isFloat hex example
+unfolding displacementIn isText recordsForm split isSettings settingsForm lineOf carrierForm carrier isVector vectorIn number isNumber plain every decimalValue state isState patternIn isFloat hex example
 broken = refl
 
 one : Carrier
@@ -178,12 +178,12 @@ the-carrier : lineOf (80 ∷ 44 ∷ 54 ∷ 44 ∷ 49 ∷ 50 ∷ 44 ∷ 49 ∷ 53
     48 ∷ 48 ∷ 48 ∷ 48 ∷ 48 ∷ 48 ∷ 48 ∷ 48 ∷ 48 ∷ 48 ∷ 48 ∷ 49 ∷ 44 ∷ 55 ∷ 70 ∷ 69 ∷ 70 ∷ 70 ∷ 70 ∷ 70 ∷ 70 ∷ 70 ∷ 70 ∷ 70 ∷ 70 ∷ 70 ∷ 70 ∷ 70 ∷ 70 ∷ 44 ∷
     52 ∷ 48 ∷ 50 ∷ 52 ∷ 48 ∷ 48 ∷ 48 ∷ 48 ∷ 48 ∷ 48 ∷ 48 ∷ 48 ∷ 48 ∷ 48 ∷ 48 ∷ 48 ∷ 44 ∷ 56 ∷ 48 ∷ 48 ∷ 48 ∷ 48 ∷ 48 ∷ 48 ∷ 48 ∷ 48 ∷ 48 ∷ 48 ∷ 48 ∷ 48 ∷
     48 ∷ 48 ∷ 48 ∷ []) ≡ Previous one
-unfolding isText recordsForm split isSettings settingsForm lineOf carrierForm carrier isPlace place number isNumber plain every decimalValue state isState patternIn isFloat hex example one ofBits
+unfolding isText recordsForm split isSettings settingsForm lineOf carrierForm carrier isVector vectorIn number isNumber plain every decimalValue state isState patternIn isFloat hex example one ofBits
 the-carrier = refl
 
 -- the example alone gives R,7
-the-answer : answerOf example ≡ 82 ∷ 44 ∷ 55 ∷ 10 ∷ []
-unfolding answerOf displacementIn inputOf given none fold isText recordsForm split isSettings settingsForm lineOf isPlace place number isNumber plain every decimalValue patternIn isFloat hex example displacementOf movedBy ruled epochRules intervalRules pairRules sightRules countRules fewRules rowRules settingsPass badInterval placeable abs inRange pairsOf collect digitsText digitCount ofInt ofBits neg le lt isNan
+the-answer : answerLine example ≡ 82 ∷ 44 ∷ 55 ∷ 10 ∷ []
+unfolding answerLine displacementIn textInput givenIn noCarriers fold isText recordsForm split isSettings settingsForm lineOf isVector vectorIn number isNumber plain every decimalValue patternIn isFloat hex example displacementOf movedBy ruled epochRules intervalRules pairRules sightRules countRules fewRules rowRules settingsPass badInterval placeable abs inRange pairsOf collect digitsText digitCount ofInt ofBits neg le lt isNan
 the-answer = refl
 
 -- ---- answers

@@ -1,9 +1,7 @@
 pub mod Split
 pub mod Field
 pub mod Line
-pub mod Fields
-pub mod Reads
 pub mod Text
 pub mod Print
-pub mod Written
 pub mod Answer
+pub mod Steps

@@ -10,8 +10,6 @@ use Rattle.records.specs.declared.record.Carrier.{Carrier}
 use Rattle.line_form.specs.Split.{fields, field}
 use Rattle.line_form.specs.Field.{isNumber, number, isState, state, isFloat, floatIn}
 use Rattle.line_form.specs.declared.line.Given.{Given}
-use Rattle.line_form.specs.declared.line.First.{First}
-use Rattle.line_form.specs.declared.line.First.the-variants.{Is, Broken as First·Broken}
 use Rattle.line_form.specs.declared.line.Line.{Line}
 use Rattle.line_form.specs.declared.line.Line.the-variants.{Previous, Current, Broken}
 
@@ -30,17 +28,17 @@ abbrev pub tag : List ℕ → ℕ
 tag l = letter (field l 0)
 
 -- x,y,z: the fields k, k + 1 and k + 2
-unfoldable pub isPlace : List ℕ → ℕ → Bool
-isPlace l k = isFloat (field l k) && isFloat (field l (k + 1)) && isFloat (field l (k + 2))
+unfoldable pub isVector : List ℕ → ℕ → Bool
+isVector l k = isFloat (field l k) && isFloat (field l (k + 1)) && isFloat (field l (k + 2))
 
-unfoldable pub place : List ℕ → ℕ → Vec3
-place l k = record { x = floatIn (field l k); y = floatIn (field l (k + 1)); z = floatIn (field l (k + 2)) }
+unfoldable pub vectorIn : List ℕ → ℕ → Vec3
+vectorIn l k = record { x = floatIn (field l k); y = floatIn (field l (k + 1)); z = floatIn (field l (k + 2)) }
 
 -- ---- S,dt,x,y,z,screen,sigma_a,sigma_b,huber,mask,rounds
 
 unfoldable pub settingsForm : List ℕ → Bool
 settingsForm l =
-    isFloat (field l 1) && isPlace l 2 && isFloat (field l 5) && isFloat (field l 6) && isFloat (field l 7) && isFloat (field l 8)
+    isFloat (field l 1) && isVector l 2 && isFloat (field l 5) && isFloat (field l 6) && isFloat (field l 7) && isFloat (field l 8)
     && isFloat (field l 9) && isNumber (2 ^ 32) (field l 10)
 
 -- S (83), and the fields after it
@@ -48,11 +46,11 @@ unfoldable pub isSettings : List ℕ → Bool
 isSettings l = eleven l && eqb (tag l) 83 && settingsForm l
 
 -- `agreement` has no field, and nothing reads it
-unfoldable pub given : List ℕ → Given
-given l =
+unfoldable pub givenIn : List ℕ → Given
+givenIn l =
     record {
       dt = floatIn (field l 1);
-      receiver = place l 2;
+      receiver = vectorIn l 2;
       settings = record {
         screen = floatIn (field l 5);
         «sigma_a» = floatIn (field l 6);
@@ -64,16 +62,12 @@ given l =
       };
     }
 
--- the first line
-unfoldable pub firstOf : List ℕ → First
-firstOf l = cond (isSettings l) (Is (given l)) First·Broken
-
 -- ---- P or C, and constellation,svid,band,adr,state,x,y,z,elevation,rate
 
 unfoldable pub carrierForm : List ℕ → Bool
 carrierForm l =
     isNumber (2 ^ 8) (field l 1) && isNumber (2 ^ 16) (field l 2) && isNumber (2 ^ 32) (field l 3) && isFloat (field l 4) && isState (field l 5)
-    && isPlace l 6 && isFloat (field l 9) && isFloat (field l 10)
+    && isVector l 6 && isFloat (field l 9) && isFloat (field l 10)
 
 unfoldable pub carrier : List ℕ → Carrier
 carrier l =
@@ -83,7 +77,7 @@ carrier l =
       band = number (2 ^ 32) (field l 3);
       adr = floatIn (field l 4);
       state = state (field l 5);
-      satellite = place l 6;
+      satellite = vectorIn l 6;
       elevation = floatIn (field l 9);
       rate = floatIn (field l 10);
     }

@@ -33,14 +33,14 @@ hexText p = digitsText 16 16 p
 abbrev pub floatText : Float → List ℕ
 floatText x = hexText (toBits binary64 x)
 
--- fields parted by commas (44), and an LF (10)
-abbrev pub ended : List ℕ → List (List ℕ) → List ℕ
-ended f [] = f ++ (10 ∷ [])
-ended f (g ∷ fs) = (f ++ (44 ∷ [])) ++ ended g fs
+-- fields separated by commas (44), and an LF (10)
+abbrev pub lineText : List ℕ → List (List ℕ) → List ℕ
+lineText f [] = f ++ (10 ∷ [])
+lineText f (g ∷ fs) = (f ++ (44 ∷ [])) ++ lineText g fs
 
 -- R,number (R is 82) and A,used,screened,dx,dy,dz (A is 65)
 abbrev pub answerText : Displacement → List ℕ
-answerText (Refused r) = ended (82 ∷ []) (decimalText (numberOf r) ∷ [])
+answerText (Refused r) = lineText (82 ∷ []) (decimalText (numberOf r) ∷ [])
 answerText (Moved d) =
-    ended (65 ∷ [])
+    lineText (65 ∷ [])
     (decimalText (d .used) ∷ decimalText (d .screened) ∷ floatText (d .delta .x) ∷ floatText (d .delta .y) ∷ floatText (d .delta .z) ∷ [])

@@ -1,5 +1,5 @@
 -- Parts of a text: its lines, and the fields of a line (docs/SCOPE.md, "The line form and its program"). Definitions only.
-use Prim.Native.Nat.{ℕ, suc}
+use Prim.Native.Nat.{ℕ}
 use mathlib.Core.Bool.{cond}
 use mathlib.Core.List.{List, [], _∷_}
 use lib.Dec.{eqb}
@@ -15,12 +15,7 @@ unfoldable pub split : ℕ → List ℕ → List (List ℕ)
 split c [] = [] ∷ []
 split c (b ∷ s) = let ps = split c s in cond (eqb b c) ([] ∷ ps) (onto b ps)
 
--- how many bytes stand before the first c
-unfoldable pub countBefore : ℕ → List ℕ → ℕ
-countBefore c [] = 0
-countBefore c (b ∷ s) = cond (eqb b c) 0 (suc (countBefore c s))
-
--- the fields of a line, parted by commas (44)
+-- the fields of a line, separated by commas (44)
 abbrev pub fields : List ℕ → List (List ℕ)
 fields line = split 44 line
 

@@ -4,10 +4,10 @@ ghost use mathlib.Core.Bool.{true};
 ghost use Prim.Native.Nat.{_≤_, _<_, _^_};
 ghost use lib.IntN.{pos, negℤ};
 ghost use Rattle.line_form.specs.Field.{plain, isHexDigit, hexValue};
-ghost use Rattle.line_form.specs.Reads.{ReadsNumber, ReadsState, ReadsPattern, ReadsFloat};
+ghost use Rattle.line_form.specs.Steps.{ReadsNumber, ReadsState, ReadsPattern, ReadsFloat};
 use numeric::order::float;
 
-// Whether a field is of the form, and what it says: 0 where it is not.
+// A field's value, and whether the field has its form; the value is 0 where it has not.
 pub(crate) struct Number {
     pub formed: bool,
     pub value: u64,
@@ -23,7 +23,7 @@ pub(crate) struct Real {
     pub value: f64,
 }
 
-// Whether a field is not empty and has no zero in front.
+// Checks that a field is not empty and has no leading zero.
 fn is_plain(s: &[u8]) -> bool
     ensures { λ r. ⌜ r ≡ plain (now (s .entry)) ⌝ }
 {
@@ -37,7 +37,7 @@ fn is_plain(s: &[u8]) -> bool
     s[0] != 48
 }
 
-// A decimal number below the limit.
+// Reads a decimal number below the limit.
 pub(crate) fn number_of(s: &[u8], limit: u64) -> Number
     requires { ⌜ 0 < limit ⌝ }
     requires { ⌜ limit ≤ 2 ^ 32 ⌝ }
@@ -80,7 +80,7 @@ pub(crate) fn number_of(s: &[u8], limit: u64) -> Number
     }
 }
 
-// -n
+// Returns -n.
 fn negated(n: u64) -> i32
     requires { ⌜ n ≤ 2 ^ 31 ⌝ }
     ensures { λ r. ⌜ r ≡ negℤ (pos n) ⌝ }
@@ -91,7 +91,7 @@ fn negated(n: u64) -> i32
     -1 - ((n - 1) as i32)
 }
 
-// A signed number of 32 bits.
+// Reads a signed number of 32 bits.
 pub(crate) fn state_of(s: &[u8]) -> Signed
     ensures { λ r. ⌜ ReadsState (now (s .entry)) r ⌝ }
 {
@@ -133,7 +133,7 @@ fn hex_value(b: u8) -> u64
     }
 }
 
-// Sixteen hexadecimal digits.
+// Reads sixteen hexadecimal digits.
 pub(crate) fn pattern_of(s: &[u8]) -> Number
     ensures { λ r. ⌜ ReadsPattern (now (s .entry)) r ⌝ }
 {
@@ -162,7 +162,7 @@ pub(crate) fn pattern_of(s: &[u8]) -> Number
     }
 }
 
-// A float by its pattern.
+// Reads a float by its pattern.
 pub(crate) fn float_of(s: &[u8]) -> Real
     ensures { λ r. ⌜ ReadsFloat (now (s .entry)) r ⌝ }
 {

@@ -5,19 +5,27 @@ mod print;
 mod split;
 mod text;
 
-ghost use Rattle.line_form.specs.Answer.{Answered};
+ghost use Rattle.line_form.specs.Answer.{LineAnswered};
 use crate::print::print_to;
 use crate::text::displacement_in;
+use numeric::refusal::Refusal;
 
-// Writes the answer's line to the start of `line`, and tells its length; a `line` that is too short for it is left as it was, and 0 told.
-pub fn answer(text: &[u8], line: &mut [u8]) -> usize
-    ensures { λ r. ⌜ Answered (now (text .entry)) (now (line .entry)) (now (line .exit)) r ⌝ }
+// The outcome of writing a line: its length, or 2 where the buffer is shorter than the line.
+pub enum Printed {
+    Line(usize),
+    Refused(Refusal),
+}
+
+// Writes the line that answers `text` to the start of `line` and returns its length. On refusal, changes nothing.
+pub fn answer(text: &[u8], line: &mut [u8]) -> Printed
+    ensures { λ r. ⌜ LineAnswered (now (text .entry)) (now (line .entry)) (now (line .exit)) r ⌝ }
 {
     let d = displacement_in(text);
     let mut out = [0u8; 128];
     let n = print_to(&mut out, d);
     if line.len() < n {
-        return 0;
+        return Printed::Refused(Refusal::TooMany);
     }
-    bytes::copy(&out[..n], line)
+    let length = bytes::copy(&out[..n], line);
+    Printed::Line(length)
 }

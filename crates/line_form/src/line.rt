@@ -2,9 +2,8 @@
 ghost use mathlib.Core.Path.{_≡_};
 ghost use Prim.Native.Nat.{_≤_};
 ghost use lib.ListN.{length};
-ghost use Rattle.line_form.specs.Line.{letter, lineOf, firstOf};
-ghost use Rattle.line_form.specs.Fields.{Parted};
-ghost use Rattle.line_form.specs.Reads.{ReadsPlace, ReadsCarrier, ReadsGiven};
+ghost use Rattle.line_form.specs.Line.{letter, lineOf};
+ghost use Rattle.line_form.specs.Steps.{firstLine, Parted, ReadsPlace, ReadsCarrier, ReadsGiven};
 use crate::field::float_of;
 use crate::field::number_of;
 use crate::field::state_of;
@@ -24,7 +23,7 @@ pub(crate) struct Carried {
     pub value: Carrier,
 }
 
-// What the first line says.
+// The values of the first line.
 pub(crate) struct Given {
     pub dt: f64,
     pub receiver: Vec3,
@@ -48,14 +47,14 @@ pub(crate) enum Line {
     Broken,
 }
 
-// The byte of a field of one byte; 0 for any other.
+// Returns the byte of a field of one byte, and 0 for any other field.
 fn letter_of(s: &[u8]) -> u8
     ensures { λ r. ⌜ r ≡ letter (now (s .entry)) ⌝ }
 {
     if s.len() == 1 { s[0] } else { 0 }
 }
 
-// Three floats, from the field k on.
+// Reads three floats, from field k on.
 fn place_of(line: &[u8], from: [usize; 12], k: usize) -> Place
     requires { ⌜ Parted (now line) from ⌝ }
     requires { ⌜ k ≤ 8 ⌝ }
@@ -74,7 +73,7 @@ fn place_of(line: &[u8], from: [usize; 12], k: usize) -> Place
     }
 }
 
-// The ten fields of a carrier.
+// Reads the ten fields of a carrier.
 fn carrier_of(line: &[u8], from: [usize; 12]) -> Carried
     requires { ⌜ Parted (now line) from ⌝ }
     ensures { λ r. ⌜ ReadsCarrier (now (line .entry)) r ⌝ }
@@ -134,7 +133,7 @@ pub(crate) fn line_of(line: &[u8]) -> Line
     Line::Broken
 }
 
-// The ten fields of the first line.
+// Reads the ten fields of the first line.
 fn given_of(line: &[u8], from: [usize; 12]) -> Giving
     requires { ⌜ Parted (now line) from ⌝ }
     ensures { λ r. ⌜ ReadsGiven (now (line .entry)) r ⌝ }
@@ -175,7 +174,7 @@ fn given_of(line: &[u8], from: [usize; 12]) -> Giving
 
 pub(crate) fn first_of(line: &[u8]) -> First
     requires { ⌜ length (now line) ≤ 32768 ⌝ }
-    ensures { λ r. ⌜ r ≡ firstOf (now (line .entry)) ⌝ }
+    ensures { λ r. ⌜ r ≡ firstLine (now (line .entry)) ⌝ }
 {
     let fields = fields_of(line);
     if !fields.eleven {

@@ -1,11 +1,11 @@
-// Where the parts of a text stand.
+// The lines of a text and the fields of a line, by their places.
 ghost use mathlib.Core.Path.{_≡_};
 ghost use Prim.Native.Nat.{_+_, _≤_};
 ghost use lib.ListN.{length, drop};
-ghost use Rattle.line_form.specs.Split.{countBefore, field};
-ghost use Rattle.line_form.specs.Fields.{FieldsOf, Parted};
+ghost use Rattle.line_form.specs.Split.{field};
+ghost use Rattle.line_form.specs.Steps.{countBefore, FieldsOf, Parted};
 
-// Where the first byte c at or after `at` stands, or the end.
+// Returns the place of the first byte c at or after `at`, or the length where there is none.
 pub(crate) fn find(s: &[u8], at: usize, c: u8) -> usize
     requires { ⌜ at ≤ length (now s) ⌝ }
     ensures { λ r. ⌜ r ≡ at + countBefore c (drop at (now (s .entry))) ⌝ }
@@ -20,7 +20,7 @@ pub(crate) fn find(s: &[u8], at: usize, c: u8) -> usize
     i
 }
 
-// Whether a line has eleven fields, and then where each begins; the twelfth place is past the line's end.
+// Whether a line has eleven fields, and where each begins; the twelfth place is past the line's end.
 pub(crate) struct Fields {
     pub eleven: bool,
     pub from: [usize; 12],
@@ -53,7 +53,7 @@ pub(crate) fn fields_of(line: &[u8]) -> Fields
     }
 }
 
-// The field k of a line of eleven fields.
+// Returns field k of a line of eleven fields.
 pub(crate) fn field_at(line: &[u8], from: [usize; 12], k: usize) -> &[u8]
     requires { ⌜ Parted (now line) from ⌝ }
     requires { ⌜ k ≤ 10 ⌝ }

@@ -2,7 +2,7 @@
 ghost use mathlib.Core.Path.{_≡_};
 ghost use Prim.Native.Nat.{_<_, _≤_};
 ghost use lib.ListN.{length, drop};
-ghost use Rattle.line_form.specs.Reads.{Displaces, LinesDisplace, Keeps, ReadsNext};
+ghost use Rattle.line_form.specs.Steps.{Displaces, LinesDisplace, Keeps, ReadsNext};
 use crate::line::First;
 use crate::line::Line;
 use crate::line::first_of;
@@ -24,7 +24,7 @@ struct Next {
     at: usize,
 }
 
-// The line that begins at this place.
+// Reads the line that begins at this place.
 fn next_line(text: &[u8], at: usize) -> Next
     requires { ⌜ (at < length (now text)) × (length (now text) ≤ 32768) ⌝ }
     ensures { λ r. ⌜ ReadsNext (now (text .entry)) at r ⌝ }
@@ -44,7 +44,7 @@ fn next_line(text: &[u8], at: usize) -> Next
     }
 }
 
-// One carrier more than the n of an epoch, written where there is room: those past the 64th are only counted.
+// Adds a carrier to the n of an epoch and returns the new count. Carriers past the 64th are counted but not written.
 fn keep(
     c: Carrier,
     n: usize,
@@ -62,7 +62,7 @@ fn keep(
     n + 1
 }
 
-// The displacement of the epochs that the lines from place `from` on make. They are filled in place, line by line.
+// Returns the displacement between the epochs of the lines from place `from` on, which are filled in place, line by line.
 fn displacement_after(
     text: &[u8],
     from: usize,
@@ -115,7 +115,7 @@ fn displacement_after(
     )
 }
 
-// The displacement that the text asks for.
+// Returns the displacement that the text asks for.
 pub(crate) fn displacement_in(text: &[u8]) -> Displacement
     ensures { λ r. ⌜ Displaces (now (text .entry)) r ⌝ }
 {

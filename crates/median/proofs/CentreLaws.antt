@@ -11,11 +11,16 @@ use lib.Ieee.{Float, div, ofInt, ofBits}
 use borrow.Author.Tests.{lt-ltb, le-ltb}
 use Rattle.exact.specs.Float.{_⊕_, _⊗_, +0, 1·0, bits}
 use Rattle.numeric.specs.declared.refusal.Refusal.the-variants.{TooMany}
-use Rattle.median.specs.Sorted.{medianOf, count}
-use Rattle.median.specs.Centre.{centreOf, deviationsOf, madFactor, leastScale, scaleOf, centreAndScaleOf, centreScaleOf}
+use Rattle.median.specs.Sorted.{medianOf, occurrences}
+use Rattle.median.specs.Centre.{centreOf, deviationsOf, madFactor, leastScale, scaleOf, centreAndScaleOf, centreScaleOf, centreNumber, centreFloats, Centred}
+use Rattle.median.specs.declared.centre.Centre.{Centre}
 use Rattle.median.specs.declared.centre.Centre.the-variants.{Refused, Of}
 use Rattle.median.specs.declared.centre.CentreScale.{CentreScale}
 use Rattle.median.proofs.SortedLaws.{median-element}
+
+-- number and values follow the answer
+pub centred : {xs : List ℕ} {r : Centre} → r ≡ centreScaleOf xs → Centred xs r
+centred e = record { answer = e; number-is = ap centreNumber e; floats-are = ap centreFloats e }
 
 -- more than 64 residuals
 pub centre-refused : (xs : List ℕ) → 64 < length xs → Refused TooMany ≡ centreScaleOf xs
@@ -45,7 +50,7 @@ centre-some [] c d p h e f = absurd (not-suc-le-zero p)
 centre-some (x ∷ xs) c d p h e f = rw (le-ltb 64 (length (x ∷ xs)) h, f, e, ← mad-factor, ← least-scale)
 
 -- The centre that the call gives of residuals is one of them.
-pub centre-element : (xs : List ℕ) (c : CentreScale) → 0 < length xs → Of c ≡ centreScaleOf xs → (0 < count (medianOf xs) xs) × (c .centre ≡ bits (medianOf xs))
+pub centre-element : (xs : List ℕ) (c : CentreScale) → 0 < length xs → Of c ≡ centreScaleOf xs → (0 < occurrences (medianOf xs) xs) × (c .centre ≡ bits (medianOf xs))
 unfolding centreScaleOf centreAndScaleOf centreOf
 centre-element [] c p e = absurd (not-suc-le-zero p)
 centre-element (x ∷ xs) c p e = (median-element (x ∷ xs) p, go (ltb 64 (length (x ∷ xs))) e)

@@ -9,8 +9,8 @@ use lib.ListN.{getD, take, drop, length}
 use lib.Seq.{drop-length, drop-cons, getD-take, length-take-le}
 use lib.Dec.{leb}
 use borrow.Author.Tests.{le-leb, lt-leb, leb-true, leb-false}
-use Rattle.median.specs.Sorted.{insertBy, sortedBy, Each, Unsigned}
-use Rattle.median.specs.Select.{placed}
+use Rattle.median.specs.Sorted.{insertBy, sortedBy, Each}
+use Rattle.median.specs.Steps.{Unsigned, numberAt}
 use Rattle.median.proofs.SortedLaws.{Ascending, sort-ascending, sorted-each, sorted-length, each-weaker, each-at, getD-any}
 
 -- ---- what stands at a place after an insertion; a place behind the end has the bound
@@ -101,7 +101,7 @@ module _ (bound : ℕ) where
         fourth = rw (insert-next bound x few s 2 o e, h .third, h .fourth);
       }
 
-  pub lowest-at : (l : List ℕ) (m : ℕ) {a b c d : ℕ} → m < length l → m < 4 → Lowest l a b c d → getD (a ∷ (b ∷ (c ∷ (d ∷ [])))) m 0 ≡ placed m l
+  pub lowest-at : (l : List ℕ) (m : ℕ) {a b c d : ℕ} → m < length l → m < 4 → Lowest l a b c d → getD (a ∷ (b ∷ (c ∷ (d ∷ [])))) m 0 ≡ numberAt m l
   lowest-at l m {a} {b} {c} {d} i f h = go m f ∙ getD-any (sortedBy leb l) m bound 0 (omega (arith, sorted-length leb l))
     where
       go : (m : ℕ) → m < 4 → getD (a ∷ (b ∷ (c ∷ (d ∷ [])))) m 0 ≡ getD (sortedBy leb l) m bound
@@ -171,7 +171,7 @@ module _ (bound : ℕ) where
       behind (x ∷ xs) zero h = absurd (omega arith)
       behind (x ∷ xs) (suc i) h = behind xs i (omega arith)
 
-  pub highest-at : (l : List ℕ) (m : ℕ) {a b c d : ℕ} → m < length l → m < 4 → Highest l a b c d → getD (a ∷ (b ∷ (c ∷ (d ∷ [])))) m 0 ≡ placed (length l - 1 - m) l
+  pub highest-at : (l : List ℕ) (m : ℕ) {a b c d : ℕ} → m < length l → m < 4 → Highest l a b c d → getD (a ∷ (b ∷ (c ∷ (d ∷ [])))) m 0 ≡ numberAt (length l - 1 - m) l
   highest-at l m {a} {b} {c} {d} i f h =
       go m (suc (suc (suc (suc (length l - 1 - m))))) (omega arith) f ∙ getD-any (sortedBy leb l) (length l - 1 - m) bound 0 (omega (arith, sorted-length leb l))
     where

@@ -8,28 +8,28 @@ use mathlib.Core.List.{List, [], _∷_, _++_, append-nil, map}
 use lib.ListN.{getD, set, take, drop, length, length-append, length-set}
 use lib.Seq.{take-length, take-suc, take-suc-set, take-set-le, drop-cons, drop-set-lt}
 use Rattle.exact.specs.Pattern.{sign}
-use Rattle.median.specs.Select.{keep, kept, unsigned, ofSign, Front}
+use Rattle.median.specs.Steps.{inFront, passing, withoutSign, ofSign, Front}
 
-kept-snoc : (test : ℕ → Bool) (l : List ℕ) (x : ℕ) → kept test (l ++ (x ∷ [])) ≡ kept test l ++ keep (test x) x []
-unfolding kept
+kept-snoc : (test : ℕ → Bool) (l : List ℕ) (x : ℕ) → passing test (l ++ (x ∷ [])) ≡ passing test l ++ inFront (test x) x []
+unfolding passing
 kept-snoc test [] x = refl
 kept-snoc test (y ∷ ys) x = rw (kept-snoc test ys x) (go (test y))
   where
-    go : (b : Bool) → keep b y (kept test ys ++ keep (test x) x []) ≡ keep b y (kept test ys) ++ keep (test x) x []
+    go : (b : Bool) → inFront b y (passing test ys ++ inFront (test x) x []) ≡ inFront b y (passing test ys) ++ inFront (test x) x []
     go true = refl
     go false = refl
 
 -- ---- counting what passes the test
 
-pub passed-none : (test : ℕ → Bool) (k : List ℕ) → 0 ≡ length (kept test (take 0 k))
-unfolding kept
+pub passed-none : (test : ℕ → Bool) (k : List ℕ) → 0 ≡ length (passing test (take 0 k))
+unfolding passing
 passed-none test k = refl
 
 module _ (test : ℕ → Bool) (k : List ℕ) (j : ℕ) (h : j < length k) where
-  pub passed-yes : test (getD k j 0) ≡ true → length (kept test (take (j + 1) k)) ≡ length (kept test (take j k)) + 1
-  passed-yes e = rw (add-one j, take-suc k j 0 h, kept-snoc, e) (length-append (kept test (take j k)) (getD k j 0 ∷ []))
+  pub passed-yes : test (getD k j 0) ≡ true → length (passing test (take (j + 1) k)) ≡ length (passing test (take j k)) + 1
+  passed-yes e = rw (add-one j, take-suc k j 0 h, kept-snoc, e) (length-append (passing test (take j k)) (getD k j 0 ∷ []))
 
-  pub passed-no : test (getD k j 0) ≡ false → length (kept test (take (j + 1) k)) ≡ length (kept test (take j k))
+  pub passed-no : test (getD k j 0) ≡ false → length (passing test (take (j + 1) k)) ≡ length (passing test (take j k))
   passed-no e = rw (add-one, take-suc k j 0 h, kept-snoc, e, append-nil)
 
 -- ---- moving what passes the test to the front
@@ -39,10 +39,10 @@ pub record Keeping (test : ℕ → Bool) (a : List ℕ) (j w : ℕ) (b : List �
   pub few : w ≤ j
   pub long : length b ≡ length a
   pub rest : drop j b ≡ drop j a
-  pub done : take w b ≡ kept test (take j a)
+  pub done : take w b ≡ passing test (take j a)
 
 pub keeping-none : (test : ℕ → Bool) (a : List ℕ) → Keeping test a 0 0 a
-unfolding kept
+unfolding passing
 keeping-none test a = record { few = omega arith; long = refl; rest = refl; done = refl }
 
 module _ (test : ℕ → Bool) (a : List ℕ) (j w : ℕ) (b : List ℕ) (i : j < length a) (h : Keeping test a j w b) where
@@ -55,7 +55,7 @@ module _ (test : ℕ → Bool) (a : List ℕ) (j w : ℕ) (b : List ℕ) (i : j 
   after : drop (j + 1) (set b w (getD b j 0)) ≡ drop (j + 1) a
   after = let e = both in rw add-one (drop-set-lt (suc j) b w (getD b j 0) (omega (arith, h .few)) ∙ cc)
 
-  next : kept test (take (j + 1) a) ≡ kept test (take j a) ++ keep (test (getD b j 0)) (getD b j 0) []
+  next : passing test (take (j + 1) a) ≡ passing test (take j a) ++ inFront (test (getD b j 0)) (getD b j 0) []
   next = rw (add-one, take-suc a j 0 i, kept-snoc, here)
 
   pub keep-yes : test (getD b j 0) ≡ true → Keeping test a (j + 1) (w + 1) (set b w (getD b j 0))
@@ -74,17 +74,17 @@ module _ (test : ℕ → Bool) (a : List ℕ) (j w : ℕ) (b : List ℕ) (i : j 
     done = rw (next, e, ← (h .done), append-nil) (take-set-le w b w (getD b j 0) (omega arith));
   }
 
-pub keeping-all : (test : ℕ → Bool) (a : List ℕ) (n w : ℕ) (b : List ℕ) → n ≤ 64 → length a ≡ 64 → Keeping test a n w b → Front (kept test (take n a)) w b
+pub keeping-all : (test : ℕ → Bool) (a : List ℕ) (n w : ℕ) (b : List ℕ) → n ≤ 64 → length a ≡ 64 → Keeping test a n w b → Front (passing test (take n a)) w b
 keeping-all test a n w b r l h = record { long = h .long ∙ l; few = omega (arith, h .few); is = h .done }
 
 -- ---- collecting the patterns of one sign
 
-ofSign-snoc : (s : Bool) (l : List ℕ) (x : ℕ) → ofSign s (l ++ (x ∷ [])) ≡ ofSign s l ++ keep (Bool·beq (sign x) s) (unsigned x) []
+ofSign-snoc : (s : Bool) (l : List ℕ) (x : ℕ) → ofSign s (l ++ (x ∷ [])) ≡ ofSign s l ++ inFront (Bool·beq (sign x) s) (withoutSign x) []
 unfolding ofSign
 ofSign-snoc s [] x = refl
 ofSign-snoc s (y ∷ ys) x = rw (ofSign-snoc s ys x) (go (Bool·beq (sign y) s))
   where
-    go : (b : Bool) → keep b (unsigned y) (ofSign s ys ++ keep (Bool·beq (sign x) s) (unsigned x) []) ≡ keep b (unsigned y) (ofSign s ys) ++ keep (Bool·beq (sign x) s) (unsigned x) []
+    go : (b : Bool) → inFront b (withoutSign y) (ofSign s ys ++ inFront (Bool·beq (sign x) s) (withoutSign x) []) ≡ inFront b (withoutSign y) (ofSign s ys) ++ inFront (Bool·beq (sign x) s) (withoutSign x) []
     go true = refl
     go false = refl
 
@@ -99,21 +99,21 @@ unfolding ofSign
 parting-none s a b h = record { few = omega arith; long = h; done = refl }
 
 module _ (s : Bool) (a : List ℕ) (j w : ℕ) (b : List ℕ) (i : j < length a) (few : length a ≤ 64) (h : Parting s a j w b) where
-  next-part : ofSign s (take (j + 1) a) ≡ ofSign s (take j a) ++ keep (Bool·beq (sign (getD a j 0)) s) (unsigned (getD a j 0)) []
+  next-part : ofSign s (take (j + 1) a) ≡ ofSign s (take j a) ++ inFront (Bool·beq (sign (getD a j 0)) s) (withoutSign (getD a j 0)) []
   next-part = rw (add-one, take-suc a j 0 i, ofSign-snoc)
 
-  pub part-yes : Bool·beq (sign (getD a j 0)) s ≡ true → Parting s a (j + 1) (w + 1) (set b w (unsigned (getD a j 0)))
+  pub part-yes : Bool·beq (sign (getD a j 0)) s ≡ true → Parting s a (j + 1) (w + 1) (set b w (withoutSign (getD a j 0)))
   part-yes e = record {
     few = omega (arith, h .few);
-    long = length-set b w (unsigned (getD a j 0)) ∙ h .long;
-    done = rw (next-part, e, ← (h .done), add-one w) (take-suc-set b w (unsigned (getD a j 0)) (omega (arith, h .few, h .long)));
+    long = length-set b w (withoutSign (getD a j 0)) ∙ h .long;
+    done = rw (next-part, e, ← (h .done), add-one w) (take-suc-set b w (withoutSign (getD a j 0)) (omega (arith, h .few, h .long)));
   }
 
-  pub part-no : Bool·beq (sign (getD a j 0)) s ≡ false → Parting s a (j + 1) w (set b w (unsigned (getD a j 0)))
+  pub part-no : Bool·beq (sign (getD a j 0)) s ≡ false → Parting s a (j + 1) w (set b w (withoutSign (getD a j 0)))
   part-no e = record {
     few = omega (arith, h .few);
-    long = length-set b w (unsigned (getD a j 0)) ∙ h .long;
-    done = rw (next-part, e, ← (h .done), append-nil) (take-set-le w b w (unsigned (getD a j 0)) (omega arith));
+    long = length-set b w (withoutSign (getD a j 0)) ∙ h .long;
+    done = rw (next-part, e, ← (h .done), append-nil) (take-set-le w b w (withoutSign (getD a j 0)) (omega arith));
   }
 
 pub parting-all : (s : Bool) (a : List ℕ) (j w : ℕ) (b : List ℕ) → length a ≤ 64 → j ≡ length a → Parting s a j w b → Front (ofSign s a) w b

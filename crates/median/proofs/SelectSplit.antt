@@ -12,9 +12,9 @@ use lib.ListN.{getD, take, length, replicate, length-replicate, List·getD-appen
 use lib.Seq.{getD-append-add, getD-take, length-take-le}
 use lib.Dec.{leb, ltb, eqb}
 use borrow.Author.Tests.{le-leb, lt-leb, ltb-true, ltb-false, eq-eqb, ne-eqb}
-use Rattle.median.specs.Sorted.{insertBy, sortedBy, Each, count}
+use Rattle.median.specs.Sorted.{insertBy, sortedBy, Each, occurrences}
 use Rattle.median.proofs.SortedLaws.{sorted-length, sorted-each, each-weaker, each-at}
-use Rattle.median.specs.Select.{placed, keep, kept, lows, highs}
+use Rattle.median.specs.Steps.{numberAt, inFront, passing, lows, highs}
 
 -- ---- where an insertion ends
 
@@ -51,22 +51,22 @@ unfolding Each
 each-replicate P zero x h = tt
 each-replicate P (suc n) x h = (h, each-replicate P n x h)
 
-each-kept : (P : ℕ → Type 0) (test : ℕ → Bool) → ((x : ℕ) → test x ≡ true → P x) → (l : List ℕ) → Each P (kept test l)
-unfolding Each kept
+each-kept : (P : ℕ → Type 0) (test : ℕ → Bool) → ((x : ℕ) → test x ≡ true → P x) → (l : List ℕ) → Each P (passing test l)
+unfolding Each passing
 each-kept P test w [] = tt
 each-kept P test w (x ∷ xs) = go (test x) refl (each-kept P test w xs)
   where
-    go : (b : Bool) → test x ≡ b → Each P (kept test xs) → Each P (keep b x (kept test xs))
+    go : (b : Bool) → test x ≡ b → Each P (passing test xs) → Each P (inFront b x (passing test xs))
     go true e r = (w x e, r)
     go false e r = r
 
 -- what is kept has what each has
-pub kept-each : (P : ℕ → Type 0) (test : ℕ → Bool) (l : List ℕ) → Each P l → Each P (kept test l)
-unfolding Each kept
+pub kept-each : (P : ℕ → Type 0) (test : ℕ → Bool) (l : List ℕ) → Each P l → Each P (passing test l)
+unfolding Each passing
 kept-each P test [] h = tt
 kept-each P test (x ∷ xs) h = go (test x) (kept-each P test xs (h .1))
   where
-    go : (b : Bool) → Each P (kept test xs) → Each P (keep b x (kept test xs))
+    go : (b : Bool) → Each P (passing test xs) → Each P (inFront b x (passing test xs))
     go true r = (h .0, r)
     go false r = r
 
@@ -87,7 +87,7 @@ module _ (p x : ℕ) (a h : List ℕ) (n : ℕ) (u : Each (λ (y : ℕ). y < p) 
 
   split-step : (b c : Bool) → ltb x p ≡ b → ltb p x ≡ c
       → insertBy leb x (sortedBy leb a ++ (replicate n p ++ sortedBy leb h))
-      ≡ sortedBy leb (keep b x a) ++ (replicate (cond (eqb p x) 1 0 + n) p ++ sortedBy leb (keep c x h))
+      ≡ sortedBy leb (inFront b x a) ++ (replicate (cond (eqb p x) 1 0 + n) p ++ sortedBy leb (inFront c x h))
   unfolding sortedBy rest
   split-step true true e q =
       let i : x < p = ltb-true _ _ e in
@@ -106,7 +106,7 @@ module _ (p x : ℕ) (a h : List ℕ) (n : ℕ) (u : Each (λ (y : ℕ). y < p) 
       rw (k, eq-eqb p p refl, one-add, insert-past p (sortedBy leb a) rest (front-below p (le-refl p)), insert-front p rest (rest-from p (le-refl p)))
 
   parts-step : (l : List ℕ) (b c : Bool) → ltb x p ≡ b → ltb p x ≡ c → length a + n + length h ≡ length l
-      → length (keep b x a) + (cond (eqb p x) 1 0 + n) + length (keep c x h) ≡ suc (length l)
+      → length (inFront b x a) + (cond (eqb p x) 1 0 + n) + length (inFront c x h) ≡ suc (length l)
   parts-step l true true e q i =
       let u : x < p = ltb-true _ _ e in
       let v : p < x = ltb-true _ _ q in
@@ -126,20 +126,20 @@ module _ (p : ℕ) where
   highs-above l = each-kept (λ (y : ℕ). p < y) (λ (x : ℕ). ltb p x) (λ x e. ltb-true p x e) l
 
   -- the three parts, one after the other
-  split : (l : List ℕ) → sortedBy leb l ≡ sortedBy leb (lows p l) ++ (replicate (count p l) p ++ sortedBy leb (highs p l))
-  unfolding sortedBy kept count
+  split : (l : List ℕ) → sortedBy leb l ≡ sortedBy leb (lows p l) ++ (replicate (occurrences p l) p ++ sortedBy leb (highs p l))
+  unfolding sortedBy passing occurrences
   split [] = refl
-  split (x ∷ xs) = rw (split xs) (split-step p x (lows p xs) (highs p xs) (count p xs) (lows-below xs) (highs-above xs) (ltb x p) (ltb p x) refl refl)
+  split (x ∷ xs) = rw (split xs) (split-step p x (lows p xs) (highs p xs) (occurrences p xs) (lows-below xs) (highs-above xs) (ltb x p) (ltb p x) refl refl)
 
   -- the three parts make the whole
-  pub parts : (l : List ℕ) → length (lows p l) + count p l + length (highs p l) ≡ length l
-  unfolding kept count
+  pub parts : (l : List ℕ) → length (lows p l) + occurrences p l + length (highs p l) ≡ length l
+  unfolding passing occurrences
   parts [] = refl
-  parts (x ∷ xs) = parts-step p x (lows p xs) (highs p xs) (count p xs) (lows-below xs) (highs-above xs) xs (ltb x p) (ltb p x) refl refl (parts xs)
+  parts (x ∷ xs) = parts-step p x (lows p xs) (highs p xs) (occurrences p xs) (lows-below xs) (highs-above xs) xs (ltb x p) (ltb p x) refl refl (parts xs)
 
 -- an element stands in its list
-pub count-at : (l : List ℕ) (i : ℕ) → i < length l → 1 ≤ count (getD l i 0) l
-unfolding count
+pub count-at : (l : List ℕ) (i : ℕ) → i < length l → 1 ≤ occurrences (getD l i 0) l
+unfolding occurrences
 count-at [] i h = absurd (not-suc-le-zero h)
 count-at (x ∷ xs) zero h = rw (eq-eqb x x refl) (omega arith)
 count-at (x ∷ xs) (suc i) h = let r = count-at xs i (le-of-suc-le-suc h) in omega arith
@@ -163,13 +163,13 @@ module _ (P : ℕ → Type 0) (a b : ℕ) (p : P a) (q : P b) where
 
 -- of three of the first n numbers of k the one in the middle is one of them
 module _ (k : List ℕ) (n : ℕ) (g : n ≤ length k) where
-  first-counts : (i : ℕ) → i < n → 1 ≤ count (getD k i 0) (take n k)
+  first-counts : (i : ℕ) → i < n → 1 ≤ occurrences (getD k i 0) (take n k)
   first-counts i h = rw (← (getD-take n k i 0 h)) (count-at (take n k) i (omega (arith, length-take-le n k g)))
 
   pub middle-counts : (i j l : ℕ) → i < n → j < n → l < n
-      → 1 ≤ count (max (min (getD k i 0) (getD k j 0)) (min (max (getD k i 0) (getD k j 0)) (getD k l 0))) (take n k)
+      → 1 ≤ occurrences (max (min (getD k i 0) (getD k j 0)) (min (max (getD k i 0) (getD k j 0)) (getD k l 0))) (take n k)
   middle-counts i j l hi hj hl =
-      let P : ℕ → Type 0 = λ (x : ℕ). 1 ≤ count x (take n k) in
+      let P : ℕ → Type 0 = λ (x : ℕ). 1 ≤ occurrences x (take n k) in
       let a : ℕ = getD k i 0 in
       let b : ℕ = getD k j 0 in
       let d : ℕ = getD k l 0 in
@@ -181,51 +181,51 @@ module _ (k : List ℕ) (n : ℕ) (g : n ≤ length k) where
 
 module _ (p m : ℕ) (l : List ℕ) where
   -- a place below the numbers below p
-  pub placed-low : m < length (lows p l) → placed m l ≡ placed m (lows p l)
+  pub placed-low : m < length (lows p l) → numberAt m l ≡ numberAt m (lows p l)
   placed-low h =
       rw (split p l)
-      (List·getD-append (sortedBy leb (lows p l)) (replicate (count p l) p ++ sortedBy leb (highs p l)) 0 m (omega (arith, sorted-length leb (lows p l))))
+      (List·getD-append (sortedBy leb (lows p l)) (replicate (occurrences p l) p ++ sortedBy leb (highs p l)) 0 m (omega (arith, sorted-length leb (lows p l))))
 
   -- a place of p
-  pub placed-same : length (lows p l) ≤ m → m < length (lows p l) + count p l → placed m l ≡ p
+  pub placed-same : length (lows p l) ≤ m → m < length (lows p l) + occurrences p l → numberAt m l ≡ p
   placed-same h k =
       let n : ℕ = m - length (lows p l) in
       let e : length (sortedBy leb (lows p l)) + n ≡ m = omega (arith, sorted-length leb (lows p l)) in
-      let r = replicate (count p l) p ++ sortedBy leb (highs p l) in
+      let r = replicate (occurrences p l) p ++ sortedBy leb (highs p l) in
       rw (split p l, ← e, getD-append-add (sortedBy leb (lows p l)) r n 0)
-      (List·getD-append (replicate (count p l) p) (sortedBy leb (highs p l)) 0 n (omega (arith, length-replicate (count p l) p)) ∙ getD-replicate (count p l) n p 0 (omega arith))
+      (List·getD-append (replicate (occurrences p l) p) (sortedBy leb (highs p l)) 0 n (omega (arith, length-replicate (occurrences p l) p)) ∙ getD-replicate (occurrences p l) n p 0 (omega arith))
 
-  placed-at : (k : ℕ) → length (sortedBy leb (lows p l)) + (length (replicate (count p l) p) + k) ≡ m → placed m l ≡ placed k (highs p l)
+  placed-at : (k : ℕ) → length (sortedBy leb (lows p l)) + (length (replicate (occurrences p l) p) + k) ≡ m → numberAt m l ≡ numberAt k (highs p l)
   placed-at k e =
       rw (
         split p l,
         ← e,
-        getD-append-add (sortedBy leb (lows p l)) (replicate (count p l) p ++ sortedBy leb (highs p l)) (length (replicate (count p l) p) + k) 0,
-        getD-append-add (replicate (count p l) p) (sortedBy leb (highs p l)) k 0,
+        getD-append-add (sortedBy leb (lows p l)) (replicate (occurrences p l) p ++ sortedBy leb (highs p l)) (length (replicate (occurrences p l) p) + k) 0,
+        getD-append-add (replicate (occurrences p l) p) (sortedBy leb (highs p l)) k 0,
       )
 
   -- a place above
-  pub placed-high : length (lows p l) + count p l ≤ m → placed m l ≡ placed (m - (length (lows p l) + count p l)) (highs p l)
-  placed-high h = placed-at (m - (length (lows p l) + count p l)) (omega (arith, sorted-length leb (lows p l), length-replicate (count p l) p))
+  pub placed-high : length (lows p l) + occurrences p l ≤ m → numberAt m l ≡ numberAt (m - (length (lows p l) + occurrences p l)) (highs p l)
+  placed-high h = placed-at (m - (length (lows p l) + occurrences p l)) (omega (arith, sorted-length leb (lows p l), length-replicate (occurrences p l) p))
 
 -- what stands at a place: so many are below it, and it stands so often
-pub placed-counts : (v m : ℕ) (l : List ℕ) → m < length l → placed m l ≡ v → (length (lows v l) ≤ m) × (m < length (lows v l) + count v l)
-placed-counts v m l h e = go (ltb m (length (lows v l))) (ltb m (length (lows v l) + count v l)) refl refl
+pub placed-counts : (v m : ℕ) (l : List ℕ) → m < length l → numberAt m l ≡ v → (length (lows v l) ≤ m) × (m < length (lows v l) + occurrences v l)
+placed-counts v m l h e = go (ltb m (length (lows v l))) (ltb m (length (lows v l) + occurrences v l)) refl refl
   where
-    go : (s t : Bool) → ltb m (length (lows v l)) ≡ s → ltb m (length (lows v l) + count v l) ≡ t → (length (lows v l) ≤ m) × (m < length (lows v l) + count v l)
+    go : (s t : Bool) → ltb m (length (lows v l)) ≡ s → ltb m (length (lows v l) + occurrences v l) ≡ t → (length (lows v l) ≤ m) × (m < length (lows v l) + occurrences v l)
     go true t p q =
         let i : m < length (lows v l) = ltb-true _ _ p in
-        let below : placed m (lows v l) < v =
+        let below : numberAt m (lows v l) < v =
         each-at (λ (y : ℕ). y < v) (sortedBy leb (lows v l)) (sorted-each leb (λ (y : ℕ). y < v) (lows v l) (lows-below v l)) m (omega (arith, sorted-length leb (lows v l))) in
         absurd (omega (arith, placed-low v m l i))
     go false true p q = (ltb-false _ _ p, ltb-true _ _ q)
     go false false p q =
-        let i : length (lows v l) + count v l ≤ m = ltb-false _ _ q in
-        let n : ℕ = m - (length (lows v l) + count v l) in
-        let above : v < placed n (highs v l) =
+        let i : length (lows v l) + occurrences v l ≤ m = ltb-false _ _ q in
+        let n : ℕ = m - (length (lows v l) + occurrences v l) in
+        let above : v < numberAt n (highs v l) =
         each-at (λ (y : ℕ). v < y) (sortedBy leb (highs v l)) (sorted-each leb (λ (y : ℕ). v < y) (highs v l) (highs-above v l)) n (omega (arith, sorted-length leb (highs v l), parts v l)) in
         absurd (omega (arith, placed-high v m l i))
 
 -- what stands at a place of a list has the property that each has
-pub placed-each : (P : ℕ → Type 0) (m : ℕ) (l : List ℕ) → m < length l → Each P l → P (placed m l)
+pub placed-each : (P : ℕ → Type 0) (m : ℕ) (l : List ℕ) → m < length l → Each P l → P (numberAt m l)
 placed-each P m l h e = each-at P (sortedBy leb l) (sorted-each leb P l e) m (omega (arith, sorted-length leb l))

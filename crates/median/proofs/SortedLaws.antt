@@ -10,7 +10,8 @@ use lib.Dec.{leb, eqb}
 use borrow.Author.Tests.{le-leb, leb-true, leb-false, eq-eqb}
 use Rattle.numeric.specs.Order.{totalOrder}
 use Rattle.numeric.proofs.OrderLaws.{keyOf, key-positive, sign-plus, leb-same, totalOrder-key}
-use Rattle.median.specs.Sorted.{insertBy, sortedBy, sorted, medianOf, Each, Patterns, Unsigned, count}
+use Rattle.median.specs.Sorted.{insertBy, sortedBy, inTotalOrder, medianOf, Each, Patterns, occurrences}
+use Rattle.median.specs.Steps.{Unsigned}
 
 -- ---- by any order
 
@@ -30,19 +31,19 @@ module _ (before : ℕ → ℕ → Bool) where
   sorted-length [] = refl
   sorted-length (x ∷ xs) = insert-length x (sortedBy before xs) ∙ ap suc (sorted-length xs)
 
-  insert-count : (z x : ℕ) (l : List ℕ) → count z (insertBy before x l) ≡ cond (eqb z x) 1 0 + count z l
-  unfolding insertBy count
+  insert-count : (z x : ℕ) (l : List ℕ) → occurrences z (insertBy before x l) ≡ cond (eqb z x) 1 0 + occurrences z l
+  unfolding insertBy occurrences
   insert-count z x [] = refl
   insert-count z x (y ∷ ys) = go (before x y) (insert-count z x ys)
     where
-      go : (b : Bool) → count z (insertBy before x ys) ≡ cond (eqb z x) 1 0 + count z ys
-          → count z (cond b (x ∷ (y ∷ ys)) (y ∷ insertBy before x ys)) ≡ cond (eqb z x) 1 0 + (cond (eqb z y) 1 0 + count z ys)
+      go : (b : Bool) → occurrences z (insertBy before x ys) ≡ cond (eqb z x) 1 0 + occurrences z ys
+          → occurrences z (cond b (x ∷ (y ∷ ys)) (y ∷ insertBy before x ys)) ≡ cond (eqb z x) 1 0 + (cond (eqb z y) 1 0 + occurrences z ys)
       go true h = refl
       go false h = rw h (omega arith)
 
   -- each element stands in the sorted list as often as in the list
-  pub sorted-count : (z : ℕ) (l : List ℕ) → count z (sortedBy before l) ≡ count z l
-  unfolding sortedBy count
+  pub sorted-count : (z : ℕ) (l : List ℕ) → occurrences z (sortedBy before l) ≡ occurrences z l
+  unfolding sortedBy occurrences
   sorted-count z [] = refl
   sorted-count z (x ∷ xs) = insert-count z x (sortedBy before xs) ∙ ap (λ (n : ℕ). cond (eqb z x) 1 0 + n) (sorted-count z xs)
 
@@ -148,7 +149,7 @@ unsigned-order x y h k =
     totalOrder-key x y
     ∙ rw (key-positive x (sign-plus x h) .1, key-positive y (sign-plus y k) .1) (leb-same (x + 2 ^ 63) (y + 2 ^ 63) x y (omega arith) (omega arith))
 
-pub unsigned-sorted : (l : List ℕ) → Unsigned l → sorted l ≡ sortedBy leb l
+pub unsigned-sorted : (l : List ℕ) → Unsigned l → inTotalOrder l ≡ sortedBy leb l
 unsigned-sorted l h = sorted-same totalOrder leb (λ (x : ℕ). x < 2 ^ 63) unsigned-order l h
 
 -- inside a list the default does not count
@@ -158,20 +159,20 @@ getD-any (x ∷ xs) zero d e h = refl
 getD-any (x ∷ xs) (suc i) d e h = getD-any xs i d e (le-of-suc-le-suc h)
 
 -- the keys of the sorted patterns are the sorted keys
-pub sorted-keys : (xs : List ℕ) → Patterns xs → map keyOf (sorted xs) ≡ sortedBy leb (map keyOf xs)
+pub sorted-keys : (xs : List ℕ) → Patterns xs → map keyOf (inTotalOrder xs) ≡ sortedBy leb (map keyOf xs)
 sorted-keys xs h = sorted-map totalOrder (λ (x : ℕ). x < 2 ^ 64) leb keyOf (λ x y p q. totalOrder-key x y) xs h
 
 -- the key of the pattern at a place is at that place of the sorted keys
-key-at : (xs : List ℕ) (i : ℕ) → Patterns xs → i < length xs → keyOf (getD (sorted xs) i 0) ≡ getD (sortedBy leb (map keyOf xs)) i 0
+key-at : (xs : List ℕ) (i : ℕ) → Patterns xs → i < length xs → keyOf (getD (inTotalOrder xs) i 0) ≡ getD (sortedBy leb (map keyOf xs)) i 0
 key-at xs i h b =
-    let n : i < length (map keyOf (sorted xs)) = rw (length-map (sorted xs) keyOf, sorted-length totalOrder xs) b in
-    sym (List·getD-map keyOf (sorted xs) i 0) ∙ getD-any (map keyOf (sorted xs)) i (keyOf 0) 0 n ∙ ap (λ (l : List ℕ). getD l i 0) (sorted-keys xs h)
+    let n : i < length (map keyOf (inTotalOrder xs)) = rw (length-map (inTotalOrder xs) keyOf, sorted-length totalOrder xs) b in
+    sym (List·getD-map keyOf (inTotalOrder xs) i 0) ∙ getD-any (map keyOf (inTotalOrder xs)) i (keyOf 0) 0 n ∙ ap (λ (l : List ℕ). getD l i 0) (sorted-keys xs h)
 
 -- at two places of the sorted list the earlier pattern comes before the later one, or is equal to it
-pub sorted-ordered : (xs : List ℕ) → Patterns xs → (i j : ℕ) → i ≤ j → j < length xs → totalOrder (getD (sorted xs) i 0) (getD (sorted xs) j 0) ≡ true
+pub sorted-ordered : (xs : List ℕ) → Patterns xs → (i j : ℕ) → i ≤ j → j < length xs → totalOrder (getD (inTotalOrder xs) i 0) (getD (inTotalOrder xs) j 0) ≡ true
 sorted-ordered xs h i j o b =
     let k : length (sortedBy leb (map keyOf xs)) ≡ length xs = sorted-length leb (map keyOf xs) ∙ length-map xs keyOf in
-    rw (totalOrder-key (getD (sorted xs) i 0) (getD (sorted xs) j 0), key-at xs i h (omega arith), key-at xs j h b)
+    rw (totalOrder-key (getD (inTotalOrder xs) i 0) (getD (inTotalOrder xs) j 0), key-at xs i h (omega arith), key-at xs j h b)
     (le-leb _ _ (ascending-at (sortedBy leb (map keyOf xs)) (sort-ascending (map keyOf xs)) i j o (omega arith)))
 
 -- the key of the median is at place len/2 of the sorted keys
@@ -183,21 +184,21 @@ median-key xs h p = key-at xs (length xs / 2) h (omega arith)
 pub median-pattern : (xs : List ℕ) → Patterns xs → 0 < length xs → medianOf xs < 2 ^ 64
 unfolding medianOf
 median-pattern xs h p =
-    let m : length (sorted xs) ≡ length xs = sorted-length totalOrder xs in
-    each-at (λ (x : ℕ). x < 2 ^ 64) (sorted xs) (sorted-each totalOrder (λ (x : ℕ). x < 2 ^ 64) xs h) (length xs / 2) (omega arith)
+    let m : length (inTotalOrder xs) ≡ length xs = sorted-length totalOrder xs in
+    each-at (λ (x : ℕ). x < 2 ^ 64) (inTotalOrder xs) (sorted-each totalOrder (λ (x : ℕ). x < 2 ^ 64) xs h) (length xs / 2) (omega arith)
 
 -- ---- the median is no mean
 
 -- what stands at a place of a list stands in it
-place-counts : (ys : List ℕ) (i : ℕ) → i < length ys → 0 < count (getD ys i 0) ys
-unfolding count
+place-counts : (ys : List ℕ) (i : ℕ) → i < length ys → 0 < occurrences (getD ys i 0) ys
+unfolding occurrences
 place-counts [] i h = absurd (not-suc-le-zero h)
 place-counts (y ∷ ys) zero h = rw (eq-eqb y y refl) (omega arith)
 place-counts (y ∷ ys) (suc i) h = omega (arith, place-counts ys i (le-of-suc-le-suc h))
 
 -- The median of a list that is not empty is one of its elements.
-pub median-element : (xs : List ℕ) → 0 < length xs → 0 < count (medianOf xs) xs
+pub median-element : (xs : List ℕ) → 0 < length xs → 0 < occurrences (medianOf xs) xs
 unfolding medianOf
 median-element xs h =
-    let n : length (sorted xs) ≡ length xs = sorted-length totalOrder xs in
-    rw (← sorted-count totalOrder (getD (sorted xs) (length xs / 2) 0) xs) (place-counts (sorted xs) (length xs / 2) (omega arith))
+    let n : length (inTotalOrder xs) ≡ length xs = sorted-length totalOrder xs in
+    rw (← sorted-count totalOrder (getD (inTotalOrder xs) (length xs / 2) 0) xs) (place-counts (inTotalOrder xs) (length xs / 2) (omega arith))

@@ -4,10 +4,10 @@ use mathlib.Core.List.{[], _∷_}
 use lib.Ieee.{ofBits, lt, eq}
 use Rattle.exact.specs.Pattern.{sign, exponent, digits}
 use Rattle.numeric.specs.Order.{isNanPattern, unordered, totalOrder}
-use Rattle.median.specs.Sorted.{insertBy, sortedBy, sorted, medianOf}
+use Rattle.median.specs.Sorted.{insertBy, sortedBy, inTotalOrder, medianOf}
 
 -- negative NaN, -infinity, -1, -0, +0, 1, infinity, NaN, from the reverse order
-pub sorted-signs : sorted (
+pub sorted-signs : inTotalOrder (
     0x7FF8_0000_0000_0000
     ∷ 0x7FF0_0000_0000_0000
     ∷ 0x3FF0_0000_0000_0000

@@ -1,6 +1,7 @@
 -- The centre of residuals and their scale (docs/SCOPE.md, "Centre"; `centre_scale` of robust.rs). Definitions only.
 -- A residual is a pattern, since totalOrder tells NaNs of either sign apart.
 use Prim.Native.Nat.{ℕ}
+use mathlib.Core.Path.{_≡_}
 use mathlib.Core.Bool.{cond}
 use mathlib.Core.List.{List, [], _∷_, map}
 use lib.ListN.{length}
@@ -53,3 +54,14 @@ centreScaleOf xs = cond (ltb 64 (length xs)) (Refused TooMany) (Of (centreAndSca
 abbrev pub centreNumber : Centre → ℕ
 centreNumber (Refused r) = numberOf r
 centreNumber (Of c) = 0
+
+-- its values: the centre and the scale
+abbrev pub centreFloats : Centre → List Float
+centreFloats (Refused r) = []
+centreFloats (Of c) = c .centre ∷ c .scale ∷ []
+
+-- the answer, its number and its values are those of the definition, for every list of residuals
+pub record Centred (xs : List ℕ) (r : Centre) : Type 0 where
+  pub answer : r ≡ centreScaleOf xs
+  pub number-is : centreNumber r ≡ centreNumber (centreScaleOf xs)
+  pub floats-are : centreFloats r ≡ centreFloats (centreScaleOf xs)

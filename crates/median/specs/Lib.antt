@@ -1,3 +1,3 @@
 pub mod Sorted
-pub mod Select
+pub mod Steps
 pub mod Centre

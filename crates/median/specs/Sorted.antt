@@ -6,7 +6,7 @@ use lib.ListN.{getD, length}
 use lib.Dec.{eqb}
 use Rattle.numeric.specs.Order.{totalOrder}
 
--- x in a sorted list: it stands before the first element that it comes before or is equal to
+-- x inserted into a sorted list, before the first element that it comes before or equals
 unfoldable pub insertBy : (ℕ → ℕ → Bool) → ℕ → List ℕ → List ℕ
 insertBy before x [] = x ∷ []
 insertBy before x (y ∷ ys) = cond (before x y) (x ∷ (y ∷ ys)) (y ∷ insertBy before x ys)
@@ -17,30 +17,27 @@ sortedBy before [] = []
 sortedBy before (x ∷ xs) = insertBy before x (sortedBy before xs)
 
 -- a list of patterns sorted by totalOrder
-abbrev pub sorted : List ℕ → List ℕ
-sorted xs = sortedBy totalOrder xs
+abbrev pub inTotalOrder : List ℕ → List ℕ
+inTotalOrder xs = sortedBy totalOrder xs
 
 -- the element at place len/2, counted from 0: of an even number of patterns the later of the two in the middle.
 -- Of no patterns it is 0, the pattern of +0.
 unfoldable pub medianOf : List ℕ → ℕ
-medianOf xs = getD (sorted xs) (length xs / 2) 0
+medianOf xs = getD (inTotalOrder xs) (length xs / 2) 0
 
--- ---- what the laws speak of
+-- ---- used by the laws
 
 -- each element has the property P
-unfoldable pub Each : (ℕ → Type 0) → List ℕ → Type 0
-Each P [] = Unit
-Each P (x ∷ xs) = P x × Each P xs
+module _ {A : Type 0} where
+  unfoldable pub Each : (A → Type 0) → List A → Type 0
+  Each P [] = Unit
+  Each P (x ∷ xs) = P x × Each P xs
 
 -- each is a pattern, 64 bits
 abbrev pub Patterns : List ℕ → Type 0
 Patterns xs = Each (λ (x : ℕ). x < 2 ^ 64) xs
 
--- each is a pattern whose sign is clear
-abbrev pub Unsigned : List ℕ → Type 0
-Unsigned xs = Each (λ (x : ℕ). x < 2 ^ 63) xs
-
--- how often x stands in a list
-unfoldable pub count : ℕ → List ℕ → ℕ
-count x [] = 0
-count x (y ∷ ys) = cond (eqb x y) 1 0 + count x ys
+-- how often x occurs in a list
+unfoldable pub occurrences : ℕ → List ℕ → ℕ
+occurrences x [] = 0
+occurrences x (y ∷ ys) = cond (eqb x y) 1 0 + occurrences x ys

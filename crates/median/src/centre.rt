@@ -2,8 +2,8 @@
 ghost use mathlib.Core.Path.{_≡_};
 ghost use Prim.Native.Nat.{_≤_};
 ghost use lib.ListN.{length};
-ghost use Rattle.median.specs.Select.{Front};
-ghost use Rattle.median.specs.Centre.{deviationsOf, centreScaleOf, centreNumber};
+ghost use Rattle.median.specs.Steps.{Front};
+ghost use Rattle.median.specs.Centre.{deviationsOf, centreNumber, Centred};
 use crate::median::middle;
 use crate::median::of_like_sign;
 use numeric::order::float;
@@ -17,14 +17,14 @@ pub struct CentreScale {
     pub scale: f64,
 }
 
-// The answer: why there is none, or the centre and the scale.
+// The centre and the scale, or the refusal.
 pub enum Centre {
     Refused(Refusal),
     Of(CentreScale),
 }
 
 impl Centre {
-    // The number that a caller outside is given.
+    // Returns the number of the answer: 0, or the refusal's.
     pub fn number(self) -> u8
         ensures { λ r. ⌜ r ≡ centreNumber self ⌝ }
     {
@@ -35,7 +35,7 @@ impl Centre {
     }
 }
 
-// Puts the absolute deviations of the residuals from the centre into the front of k. They have no sign.
+// Writes the absolute deviations of the residuals from the centre to the front of k. Their signs are clear.
 fn deviations(residuals: &[u64], centre: f64, k: &mut [u64; 64])
     requires { ⌜ (length (now residuals) ≤ 64) × (length (now k) ≡ 64) ⌝ }
     ensures { λ r. ⌜ Front (deviationsOf centre (now (residuals .entry))) (length (now (residuals .entry))) (now (k .exit)) ⌝ }
@@ -48,9 +48,9 @@ fn deviations(residuals: &[u64], centre: f64, k: &mut [u64; 64])
     }
 }
 
-// The residual at place len/2, and 1.4826 times the deviation from it at that place, plus 1e-6.
+// Returns the residual at place len/2 in order, and as scale 1.4826 times the deviation at that place plus 1e-6. Refuses more than 64 residuals by 2.
 pub fn centre_scale(residuals: &[u64]) -> Centre
-    ensures { λ r. ⌜ r ≡ centreScaleOf (now (residuals .entry)) ⌝ }
+    ensures { λ r. ⌜ Centred (now (residuals .entry)) r ⌝ }
 {
     let n = residuals.len();
     if 64 < n {

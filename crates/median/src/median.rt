@@ -1,31 +1,31 @@
-// The element at place len/2 of patterns sorted by totalOrder. It is found without sorting: the patterns are parted by the cases of the clause, and only
-// the part with the place goes on. First by sign, then into numbers, infinities and NaNs, and what is left of one sign and kind by a pattern of the list:
-// those below it, it, and those above it. Of at most 16 the four lowest or the four highest are found in one pass, where the place is one of theirs.
+// The element at place len/2 of patterns sorted by totalOrder. It is found without sorting: the patterns are split by the cases of the clause, and only
+// the part that has the place is searched further. They are split by sign, then into numbers, infinities and NaNs, and then by a pivot of the list: those
+// below it, equal to it and above it. Among at most 16 numbers, the four lowest or the four highest are found in one pass.
 ghost use mathlib.Core.Path.{_≡_};
 ghost use mathlib.Core.List.{[], _∷_};
 ghost use Prim.Native.Nat.{_-_, _≤_, _<_, min, max};
 ghost use lib.ListN.{getD, take, length};
-ghost use Rattle.median.specs.Sorted.{medianOf, Unsigned, count};
-ghost use Rattle.median.specs.Select.{inOrder, placed, lows, highs, ofSign, Front};
+ghost use Rattle.median.specs.Sorted.{medianOf, occurrences};
+ghost use Rattle.median.specs.Steps.{Unsigned, patternAt, numberAt, lows, highs, ofSign, Front};
 
-// The lesser of a and b.
+// Returns the lesser of a and b.
 fn lesser(a: u64, b: u64) -> u64
     ensures { λ r. ⌜ r ≡ min a b ⌝ }
 {
     if a < b { a } else { b }
 }
 
-// The greater of a and b.
+// Returns the greater of a and b.
 fn greater(a: u64, b: u64) -> u64
     ensures { λ r. ⌜ r ≡ max a b ⌝ }
 {
     if a < b { b } else { a }
 }
 
-// One of the first n numbers of k: of the first, the middle and the last of them the one in the middle.
+// Returns one of the first n numbers of k: the median of the first, the middle and the last of them.
 fn pivot(k: &[u64; 64], n: usize) -> u64
     requires { ⌜ (0 < n) × (n ≤ 64) × (length (now k) ≡ 64) ⌝ }
-    ensures { λ r. ⌜ 1 ≤ count r (take n (now (k .entry))) ⌝ }
+    ensures { λ r. ⌜ 1 ≤ occurrences r (take n (now (k .entry))) ⌝ }
 {
     let a = k[0];
     let b = k[n / 2];
@@ -35,7 +35,7 @@ fn pivot(k: &[u64; 64], n: usize) -> u64
     greater(low, lesser(high, c))
 }
 
-// How many of the first n numbers of k are below p.
+// Counts those of the first n numbers of k that are below p.
 fn count_low(k: &[u64; 64], n: usize, p: u64) -> usize
     requires { ⌜ (n ≤ 64) × (length (now k) ≡ 64) ⌝ }
     ensures { λ r. ⌜ r ≡ length (lows p (take n (now (k .entry)))) ⌝ }
@@ -49,7 +49,7 @@ fn count_low(k: &[u64; 64], n: usize, p: u64) -> usize
     w
 }
 
-// Moves those of the first n numbers of k that are below p to the front, and says how many they are.
+// Moves those of the first n numbers of k that are below p to the front, and returns their count.
 fn keep_low(k: &mut [u64; 64], n: usize, p: u64) -> usize
     requires { ⌜ (n ≤ 64) × (length (now k) ≡ 64) ⌝ }
     ensures { λ r. ⌜ Front (lows p (take n (now (k .entry)))) r (now (k .exit)) ⌝ }
@@ -65,7 +65,7 @@ fn keep_low(k: &mut [u64; 64], n: usize, p: u64) -> usize
     w
 }
 
-// The same for those above p.
+// Moves those of the first n numbers of k that are above p to the front, and returns their count.
 fn keep_high(k: &mut [u64; 64], n: usize, p: u64) -> usize
     requires { ⌜ (n ≤ 64) × (length (now k) ≡ 64) ⌝ }
     ensures { λ r. ⌜ Front (highs p (take n (now (k .entry)))) r (now (k .exit)) ⌝ }
@@ -81,7 +81,7 @@ fn keep_high(k: &mut [u64; 64], n: usize, p: u64) -> usize
     w
 }
 
-// Of four numbers the one at place m.
+// Returns the number at place m of four.
 fn one_of(a: u64, b: u64, c: u64, d: u64, m: usize) -> u64
     requires { ⌜ m < 4 ⌝ }
     ensures { λ r. ⌜ r ≡ getD (a ∷ (b ∷ (c ∷ (d ∷ [])))) m 0 ⌝ }
@@ -92,11 +92,11 @@ fn one_of(a: u64, b: u64, c: u64, d: u64, m: usize) -> u64
     if m < 3 { c } else { d }
 }
 
-// The number at place m, one of the four lowest, of the first n patterns of k, whose signs are clear, in ascending order. a, b, c, d are the four lowest of
-// those looked at, in their order, with the highest such pattern where there are fewer: which way the code goes does not hang on the numbers.
+// Returns the number at place m, one of the four lowest, of the first n patterns of k, whose signs are clear. a, b, c, d are the four lowest so far, in
+// ascending order, filled up with the highest such pattern: no branch depends on the numbers.
 fn of_lowest(k: &[u64; 64], n: usize, m: usize) -> u64
     requires { ⌜ (m < n) × (m < 4) × (n ≤ 64) × (length (now k) ≡ 64) × Unsigned (take n (now k)) ⌝ }
-    ensures { λ r. ⌜ r ≡ placed m (take n (now (k .entry))) ⌝ }
+    ensures { λ r. ⌜ r ≡ numberAt m (take n (now (k .entry))) ⌝ }
 {
     let mut a = 0x7FFF_FFFF_FFFF_FFFFu64;
     let mut b = 0x7FFF_FFFF_FFFF_FFFFu64;
@@ -114,10 +114,10 @@ fn of_lowest(k: &[u64; 64], n: usize, m: usize) -> u64
     one_of(a, b, c, d, m)
 }
 
-// The same for one of the four highest, m places below the highest. a, b, c, d are the four highest of those looked at, with 0 where there are fewer.
+// Returns the number m places below the highest, one of the four highest. a, b, c, d are the four highest so far, filled up with 0.
 fn of_highest(k: &[u64; 64], n: usize, m: usize) -> u64
     requires { ⌜ (m < n) × (m < 4) × (n ≤ 64) × (length (now k) ≡ 64) × Unsigned (take n (now k)) ⌝ }
-    ensures { λ r. ⌜ r ≡ placed (n - 1 - m) (take n (now (k .entry))) ⌝ }
+    ensures { λ r. ⌜ r ≡ numberAt (n - 1 - m) (take n (now (k .entry))) ⌝ }
 {
     let mut a = 0u64;
     let mut b = 0u64;
@@ -135,12 +135,12 @@ fn of_highest(k: &[u64; 64], n: usize, m: usize) -> u64
     one_of(a, b, c, d, m)
 }
 
-// The number at place m of the first n numbers of k in ascending order. k is left with other contents.
-// Of patterns whose signs are clear this is the order of magnitudes, since the exponent field stands above the digits; and of NaNs the order of digits, of
-// which the first tells signaling from quiet, and the others are the payload.
+// Returns the number at place m of the first n numbers of k in ascending order, and overwrites k.
+// For patterns whose signs are clear this is the order of magnitudes, since the exponent field is above the digits; for NaNs it is the order of their digits:
+// the first tells signaling from quiet, the others are the payload.
 fn select(k: &mut [u64; 64], n: usize, m: usize) -> u64
     requires { ⌜ (m < n) × (n ≤ 64) × (length (now k) ≡ 64) × Unsigned (take n (now k)) ⌝ }
-    ensures { λ r. ⌜ (r ≡ placed m (take n (now (k .entry)))) × (length (now (k .exit)) ≡ 64) ⌝ }
+    ensures { λ r. ⌜ (r ≡ numberAt m (take n (now (k .entry)))) × (length (now (k .exit)) ≡ 64) ⌝ }
 {
     let mut len = n;
     let mut at = m;
@@ -170,7 +170,7 @@ fn select(k: &mut [u64; 64], n: usize, m: usize) -> u64
     }
 }
 
-// Puts the patterns of one sign, without it, into the front of k, and says how many they are.
+// Writes the patterns of one sign, without it, to the front of k, and returns their count.
 fn part(patterns: &[u64], negative: bool, k: &mut [u64; 64]) -> usize
     requires { ⌜ (length (now patterns) ≤ 64) × (length (now k) ≡ 64) ⌝ }
     ensures { λ r. ⌜ Front (ofSign negative (now (patterns .entry))) r (now (k .exit)) ⌝ }
@@ -188,10 +188,10 @@ fn part(patterns: &[u64], negative: bool, k: &mut [u64; 64]) -> usize
     w
 }
 
-// The pattern at place m, in totalOrder, of the first n patterns of k, whose signs are clear. k is left with other contents.
+// Returns the pattern at place m, in totalOrder, of the first n patterns of k, whose signs are clear, and overwrites k.
 pub(crate) fn of_like_sign(k: &mut [u64; 64], n: usize, m: usize) -> u64
     requires { ⌜ (m < n) × (n ≤ 64) × (length (now k) ≡ 64) × Unsigned (take n (now k)) ⌝ }
-    ensures { λ r. ⌜ (r ≡ inOrder m (take n (now (k .entry)))) × (length (now (k .exit)) ≡ 64) ⌝ }
+    ensures { λ r. ⌜ (r ≡ patternAt m (take n (now (k .entry)))) × (length (now (k .exit)) ≡ 64) ⌝ }
 {
     let numbers = count_low(k, n, 0x7FF0_0000_0000_0000);
     // numbers alone, zeros among them: by magnitude (a, b, c 3)
@@ -213,7 +213,7 @@ pub(crate) fn of_like_sign(k: &mut [u64; 64], n: usize, m: usize) -> u64
     select(k, nans, m - upto)
 }
 
-// The median of one to 64 patterns. k is left with other contents.
+// Returns the median of one to 64 patterns, and overwrites k.
 pub(crate) fn middle(patterns: &[u64], k: &mut [u64; 64]) -> u64
     requires { ⌜ (0 < length (now patterns)) × (length (now patterns) ≤ 64) × (length (now k) ≡ 64) ⌝ }
     ensures { λ r. ⌜ (r ≡ medianOf (now (patterns .entry))) × (length (now (k .exit)) ≡ 64) ⌝ }
@@ -232,7 +232,7 @@ pub(crate) fn middle(patterns: &[u64], k: &mut [u64; 64]) -> u64
     0x8000_0000_0000_0000 + found
 }
 
-// The median of one to 64 patterns.
+// Returns the median of one to 64 patterns.
 fn median_of(patterns: &[u64]) -> u64
     requires { ⌜ (0 < length (now patterns)) × (length (now patterns) ≤ 64) ⌝ }
     ensures { λ r. ⌜ r ≡ medianOf (now (patterns .entry)) ⌝ }
@@ -241,7 +241,7 @@ fn median_of(patterns: &[u64]) -> u64
     middle(patterns, &mut k)
 }
 
-// The median of the patterns. Of more than 64 only the first 64 count; the callers here have no more.
+// Returns the median of the patterns. Of more than 64 only the first 64 count; no caller here has more.
 pub fn median(patterns: &[u64]) -> u64
     ensures { λ r. ⌜ r ≡ medianOf (take 64 (now (patterns .entry))) ⌝ }
 {

@@ -3,7 +3,7 @@ use mathlib.Core.Path.{_≡_, refl}
 use Prim.Native.Nat.{_+_, _*_, _≤_}
 use mathlib.Core.Bool.{Bool, true, false}
 use borrow.Author.Tests.{le-leb, leb-true}
-use Rattle.walk.proofs.Walk.{and-both}
+use Rattle.lists.proofs.Walk.{and-both}
 use Rattle.numeric.specs.Real.{inRange}
 use Rattle.mileage.specs.Mileage.{soundMileage}
 use Rattle.mileage.specs.declared.mileage.Mileage.{Mileage}

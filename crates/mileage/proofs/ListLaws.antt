@@ -9,19 +9,19 @@ use lib.Dec.{ltb}
 use lib.ListN.{length, length-append}
 use borrow.Author.Tests.{lt-ltb}
 use lib.Ieee.{Float}
-use Rattle.mileage.specs.Mileage.{isRefused, isUsable, isAside, moves, lengthOf, Placed, near, isStanding, isCounted, nextMoves, none, placed, sum, reportOf, mileageOf, grown}
+use Rattle.mileage.specs.Mileage.{isRefused, isUsable, isAside, moves, lengthOf, PlacedEpoch, nearPulse, isStanding, isCounted, nextMoves, noEpochs, inPlaces, sum, mileageReport, mileageOf, grown}
 use Rattle.mileage.specs.declared.mileage.Epoch.{Epoch}
 use Rattle.mileage.specs.declared.mileage.Mileage.{Mileage}
 
 -- ---- sums
 
-pub sum-append : (test : Placed → Bool) (f : Epoch → ℕ) (ps qs : List Placed) → sum test f (ps ++ qs) ≡ sum test f ps + sum test f qs
+pub sum-append : (test : PlacedEpoch → Bool) (f : Epoch → ℕ) (ps qs : List PlacedEpoch) → sum test f (ps ++ qs) ≡ sum test f ps + sum test f qs
 unfolding sum
 sum-append test f [] qs = omega arith
 sum-append test f (p ∷ ps) qs = omega (arith, sum-append test f ps qs)
 
 -- what passes one of two tests that exclude each other
-pub sum-parted : (first test : Placed → Bool) (f : Epoch → ℕ) (ps : List Placed) → sum test f ps ≡ sum (λ p. not (first p) && test p) f ps + sum (λ p. first p && test p) f ps
+pub sum-parted : (first test : PlacedEpoch → Bool) (f : Epoch → ℕ) (ps : List PlacedEpoch) → sum test f ps ≡ sum (λ p. not (first p) && test p) f ps + sum (λ p. first p && test p) f ps
 unfolding sum
 sum-parted first test f [] = refl
 sum-parted first test f (p ∷ ps) = omega (arith, part (first p) (cond (test p) (f (p .epoch)) 0), sum-parted first test f ps)
@@ -32,10 +32,10 @@ sum-parted first test f (p ∷ ps) = omega (arith, part (first p) (cond (test p)
 
 -- ---- a list that is not empty: all its epochs but the last keep their places when one more comes
 
-abbrev at : Bool → Epoch → Bool → Bool → Placed
+abbrev at : Bool → Epoch → Bool → Bool → PlacedEpoch
 at before e after last = record { before = before; epoch = e; after = after; last = last }
 
-front : Bool → Epoch → List Epoch → List Placed
+front : Bool → Epoch → List Epoch → List PlacedEpoch
 front b x [] = []
 front b x (y ∷ es) = at b x (moves y) false ∷ front (moves x) y es
 
@@ -48,19 +48,19 @@ earlier : Bool → Epoch → List Epoch → Bool
 earlier b x [] = b
 earlier b x (y ∷ es) = earlier (moves x) y es
 
-placed-ends : (b : Bool) (x : Epoch) (es : List Epoch) → placed b (x ∷ es) ≡ front b x es ++ (at (earlier b x es) (final x es) false true ∷ [])
-unfolding placed nextMoves none front final earlier
+placed-ends : (b : Bool) (x : Epoch) (es : List Epoch) → inPlaces b (x ∷ es) ≡ front b x es ++ (at (earlier b x es) (final x es) false true ∷ [])
+unfolding inPlaces nextMoves noEpochs front final earlier
 placed-ends b x [] = refl
-placed-ends b x (y ∷ es) = ap (λ (ps : List Placed). at b x (moves y) false ∷ ps) (placed-ends (moves x) y es)
+placed-ends b x (y ∷ es) = ap (λ (ps : List PlacedEpoch). at b x (moves y) false ∷ ps) (placed-ends (moves x) y es)
 
 placed-more : (b : Bool) (x : Epoch) (es : List Epoch) (e : Epoch)
-    → placed b (x ∷ (es ++ (e ∷ []))) ≡ front b x es ++ (at (earlier b x es) (final x es) (moves e) false ∷ at (moves (final x es)) e false true ∷ [])
-unfolding placed nextMoves none front final earlier
+    → inPlaces b (x ∷ (es ++ (e ∷ []))) ≡ front b x es ++ (at (earlier b x es) (final x es) (moves e) false ∷ at (moves (final x es)) e false true ∷ [])
+unfolding inPlaces nextMoves noEpochs front final earlier
 placed-more b x [] e = refl
-placed-more b x (y ∷ es) e = ap (λ (ps : List Placed). at b x (moves y) false ∷ ps) (placed-more (moves x) y es e)
+placed-more b x (y ∷ es) e = ap (λ (ps : List PlacedEpoch). at b x (moves y) false ∷ ps) (placed-more (moves x) y es e)
 
 -- none of those before the last is the last
-front-none : (test : Placed → Bool) (f : Epoch → ℕ) (b : Bool) (x : Epoch) (es : List Epoch) → sum (λ p. p .last && test p) f (front b x es) ≡ 0
+front-none : (test : PlacedEpoch → Bool) (f : Epoch → ℕ) (b : Bool) (x : Epoch) (es : List Epoch) → sum (λ p. p .last && test p) f (front b x es) ≡ 0
 unfolding sum front
 front-none test f b x [] = refl
 front-none test f b x (y ∷ es) = omega (arith, front-none test f (moves x) y es)
@@ -101,12 +101,12 @@ moved-is false n h = rw h
 -- ---- each total of a list of at least one epoch
 
 module _ (limit : Float) (x : Epoch) (es : List Epoch) (e : Epoch) where
-  sum-before : (test : Placed → Bool) (f : Epoch → ℕ) → sum test f (placed false (x ∷ es)) ≡ sum test f (front false x es) + (cond (test (at (earlier false x es) (final x es) false true)) (f (final x es)) 0 + 0)
+  sum-before : (test : PlacedEpoch → Bool) (f : Epoch → ℕ) → sum test f (inPlaces false (x ∷ es)) ≡ sum test f (front false x es) + (cond (test (at (earlier false x es) (final x es) false true)) (f (final x es)) 0 + 0)
   unfolding sum
   sum-before test f = ap (sum test f) (placed-ends false x es) ∙ sum-append test f (front false x es) (at (earlier false x es) (final x es) false true ∷ [])
 
-  sum-after : (test : Placed → Bool) (f : Epoch → ℕ)
-      → sum test f (placed false (x ∷ (es ++ (e ∷ []))))
+  sum-after : (test : PlacedEpoch → Bool) (f : Epoch → ℕ)
+      → sum test f (inPlaces false (x ∷ (es ++ (e ∷ []))))
       ≡ sum test f (front false x es) + (cond (test (at (earlier false x es) (final x es) (moves e) false)) (f (final x es)) 0 + (cond (test (at (moves (final x es)) e false true)) (f e) 0 + 0))
   unfolding sum
   sum-after test f =
@@ -120,15 +120,15 @@ module _ (limit : Float) (x : Epoch) (es : List Epoch) (e : Epoch) where
   n = mileageOf limit (x ∷ (es ++ (e ∷ [])))
 
   refused-more : n .refused ≡ m .refused + cond (isRefused e) 1 0
-  unfolding m n mileageOf reportOf
+  unfolding m n mileageOf mileageReport
   refused-more = omega (arith, sum-before (λ p. isRefused (p .epoch)) (λ e. 1), sum-after (λ p. isRefused (p .epoch)) (λ e. 1))
 
   aside-more : n .aside ≡ m .aside + cond (isAside limit e) 1 0
-  unfolding m n mileageOf reportOf
+  unfolding m n mileageOf mileageReport
   aside-more = omega (arith, sum-before (λ p. isAside limit (p .epoch)) (λ e. 1), sum-after (λ p. isAside limit (p .epoch)) (λ e. 1))
 
   pulses-more : n .pulses ≡ m .pulses + e .pulses
-  unfolding m n mileageOf reportOf
+  unfolding m n mileageOf mileageReport
   pulses-more = omega (arith, sum-before (λ p. true) (λ e. e .pulses), sum-after (λ p. true) (λ e. e .pulses))
 
   moved-last : ltb 0 (m .moved) ≡ moves (final x es)
@@ -143,29 +143,29 @@ module _ (limit : Float) (x : Epoch) (es : List Epoch) (e : Epoch) where
 
   -- the last epoch's length where it stands so far
   waiting-is : m .waiting ≡ cond (isUsable limit (final x es) && not (earlier false x es || moves (final x es) || false)) (lengthOf (final x es)) 0
-  unfolding m mileageOf isStanding near
+  unfolding m mileageOf isStanding nearPulse
   waiting-is = omega (arith, sum-before (λ p. p .last && isStanding limit p) lengthOf, front-none (isStanding limit) lengthOf false x es)
 
   waiting-more : n .waiting ≡ cond (isUsable limit e && not (ltb 0 (m .moved) || moves e)) (lengthOf e) 0
-  unfolding n mileageOf isStanding near
+  unfolding n mileageOf isStanding nearPulse
   waiting-more =
       rw (moved-last, sym (or-false (moves (final x es) || moves e)))
       (omega (arith, sum-after (λ p. p .last && isStanding limit p) lengthOf, front-none (isStanding limit) lengthOf false x es))
 
   counted-more : n .counted ≡ m .counted + cond (moves e) (m .waiting) 0 + cond (isUsable limit e && (ltb 0 (m .moved) || moves e)) (lengthOf e) 0
-  unfolding m n mileageOf reportOf isCounted near
+  unfolding m n mileageOf mileageReport isCounted nearPulse
   counted-more =
       rw (moved-last, waiting-is, sym (or-false (moves (final x es) || moves e)))
       (omega (arith, sum-before (isCounted limit) lengthOf, sum-after (isCounted limit) lengthOf, counted-last (isUsable limit (final x es)) (earlier false x es || moves (final x es)) (moves e) (lengthOf (final x es))))
 
   covered-more : n .covered ≡ m .covered + cond (isUsable limit e && (ltb 0 (m .moved) || moves e)) (e .pulses) 0
-  unfolding m n mileageOf reportOf isCounted near moves
+  unfolding m n mileageOf mileageReport isCounted nearPulse moves
   covered-more =
       rw (moved-last, sym (or-false (moves (final x es) || moves e)))
       (omega (arith, sum-before (isCounted limit) (λ e. e .pulses), sum-after (isCounted limit) (λ e. e .pulses), covered-last (isUsable limit (final x es)) (earlier false x es) (moves e) (final x es .pulses)))
 
   standing-more : n .standing ≡ m .standing + cond (not (moves e)) (m .waiting) 0
-  unfolding m n mileageOf isStanding near
+  unfolding m n mileageOf isStanding nearPulse
   standing-more =
       rw waiting-is
       (omega (arith, sum-before (λ p. not (p .last) && isStanding limit p) lengthOf, sum-after (λ p. not (p .last) && isStanding limit p) lengthOf, standing-last (isUsable limit (final x es)) (earlier false x es || moves (final x es)) (moves e) (lengthOf (final x es))))
@@ -174,13 +174,13 @@ module _ (limit : Float) (x : Epoch) (es : List Epoch) (e : Epoch) where
   length-more = simp length-append (omega arith)
 
   more-than-one : n ≡ grown m (isRefused e) (isUsable limit e) (lengthOf e) (e .pulses)
-  unfolding m n mileageOf reportOf grown isAside moves
+  unfolding m n mileageOf mileageReport grown isAside moves
   more-than-one = rw (length-more, refused-more, aside-more, counted-more, covered-more, standing-more, pulses-more, moved-more, waiting-more)
 
 -- ---- the first epoch
 
 first : (limit : Float) (e : Epoch) → mileageOf limit (e ∷ []) ≡ grown (mileageOf limit []) (isRefused e) (isUsable limit e) (lengthOf e) (e .pulses)
-unfolding mileageOf reportOf placed nextMoves none sum isCounted isStanding near isAside moves grown
+unfolding mileageOf mileageReport inPlaces nextMoves noEpochs sum isCounted isStanding nearPulse isAside moves grown
 first limit e = simp (or-false, nought, add-zero, zero-add)
 
 -- one epoch more
@@ -190,6 +190,6 @@ more limit [] e = first limit e
 more limit (x ∷ es) e = more-than-one limit x es e
 
 -- the report counts what waits as standing
-pub reported-of : (limit : Float) (es : List Epoch) → reportOf limit es .standing ≡ mileageOf limit es .standing + mileageOf limit es .waiting
-unfolding mileageOf reportOf
-reported-of limit es = sum-parted (λ p. p .last) (isStanding limit) lengthOf (placed false es)
+pub reported-of : (limit : Float) (es : List Epoch) → mileageReport limit es .standing ≡ mileageOf limit es .standing + mileageOf limit es .waiting
+unfolding mileageOf mileageReport
+reported-of limit es = sum-parted (λ p. p .last) (isStanding limit) lengthOf (inPlaces false es)

@@ -1,3 +1,4 @@
 pub mod Rated
 pub mod Mileage
 pub mod Words
+pub mod Steps

@@ -5,13 +5,10 @@ use mathlib.Core.List.{List, [], _∷_}
 use lib.Dec.{leb, ltb, eqb}
 use lib.ListN.{length, take}
 use lib.Ieee.{Float}
-use Rattle.walk.specs.Walk.{collect}
+use Rattle.lists.specs.Walk.{collect}
 use Rattle.numeric.specs.Real.{inRange}
 use Rattle.numeric.specs.declared.refusal.Refusal.the-variants.{SettingOutOfRange, BadTrip, NoDistance}
-use Rattle.numeric.specs.Vec3.{norm}
-use Rattle.numeric.specs.declared.vec3.Vec3.{Vec3}
-use Rattle.trip.specs.Measure.{millimetresOf, measurable, wayOf}
-use Rattle.trip.specs.declared.measure.Way.{Way}
+use Rattle.trip.specs.Measure.{millimetresOf, measurable}
 use Rattle.mileage.specs.Rated.{rated}
 use Rattle.mileage.specs.declared.mileage.Epoch.{Epoch}
 use Rattle.mileage.specs.declared.mileage.Mileage.{Mileage}
@@ -50,53 +47,53 @@ lengthOf e = millimetresOf (e .displacement)
 -- ---- an epoch among its neighbours
 
 -- an epoch, whether the one before it and the one after it have a pulse, and whether it is the last
-pub record Placed : Type 0 where
+pub record PlacedEpoch : Type 0 where
   pub before : Bool
   pub epoch : Epoch
   pub after : Bool
   pub last : Bool
 
 -- it or a neighbour has a pulse
-unfoldable pub near : Placed → Bool
-near p = p .before || moves (p .epoch) || p .after
+unfoldable pub nearPulse : PlacedEpoch → Bool
+nearPulse p = p .before || moves (p .epoch) || p .after
 
-unfoldable pub isStanding : Float → Placed → Bool
-isStanding limit p = isUsable limit (p .epoch) && not (near p)
+unfoldable pub isStanding : Float → PlacedEpoch → Bool
+isStanding limit p = isUsable limit (p .epoch) && not (nearPulse p)
 
-unfoldable pub isCounted : Float → Placed → Bool
-isCounted limit p = isUsable limit (p .epoch) && near p
+unfoldable pub isCounted : Float → PlacedEpoch → Bool
+isCounted limit p = isUsable limit (p .epoch) && nearPulse p
 
 -- a missing neighbour counts as without a pulse
 unfoldable pub nextMoves : List Epoch → Bool
 nextMoves [] = false
 nextMoves (e ∷ es) = moves e
 
-unfoldable pub none : List Epoch → Bool
-none [] = true
-none (e ∷ es) = false
+unfoldable pub noEpochs : List Epoch → Bool
+noEpochs [] = true
+noEpochs (e ∷ es) = false
 
 -- each epoch of a list in its place, the first with whether an epoch before it has a pulse
-unfoldable pub placed : Bool → List Epoch → List Placed
-placed before [] = []
-placed before (e ∷ es) = record { before = before; epoch = e; after = nextMoves es; last = none es } ∷ placed (moves e) es
+unfoldable pub inPlaces : Bool → List Epoch → List PlacedEpoch
+inPlaces before [] = []
+inPlaces before (e ∷ es) = record { before = before; epoch = e; after = nextMoves es; last = noEpochs es } ∷ inPlaces (moves e) es
 
 -- ---- the totals of a list of epochs
 
 -- what the epochs that pass the test have of something, added
-unfoldable pub sum : (Placed → Bool) → (Epoch → ℕ) → List Placed → ℕ
+unfoldable pub sum : (PlacedEpoch → Bool) → (Epoch → ℕ) → List PlacedEpoch → ℕ
 sum test f [] = 0
 sum test f (p ∷ ps) = cond (test p) (f (p .epoch)) 0 + sum test f ps
 
-abbrev pub count : (Placed → Bool) → List Placed → ℕ
-count test ps = sum test (λ e. 1) ps
+abbrev pub countPlaced : (PlacedEpoch → Bool) → List PlacedEpoch → ℕ
+countPlaced test ps = sum test (λ e. 1) ps
 
-unfoldable pub reportOf : Float → List Epoch → Report
-reportOf limit es =
-    let ps = placed false es in
+unfoldable pub mileageReport : Float → List Epoch → Report
+mileageReport limit es =
+    let ps = inPlaces false es in
     record {
       epochs = length es;
-      refused = count (λ p. isRefused (p .epoch)) ps;
-      aside = count (λ p. isAside limit (p .epoch)) ps;
+      refused = countPlaced (λ p. isRefused (p .epoch)) ps;
+      aside = countPlaced (λ p. isAside limit (p .epoch)) ps;
       counted = sum (isCounted limit) lengthOf ps;
       covered = sum (isCounted limit) (λ e. e .pulses) ps;
       standing = sum (isStanding limit) lengthOf ps;
@@ -106,8 +103,8 @@ reportOf limit es =
 -- the mileage with this limit after these epochs: the last epoch, where it stands, is held apart, since a pulse in the next one makes it count
 unfoldable pub mileageOf : Float → List Epoch → Mileage
 mileageOf limit es =
-    let r = reportOf limit es in
-    let ps = placed false es in
+    let r = mileageReport limit es in
+    let ps = inPlaces false es in
     record {
       limit = limit;
       epochs = r .epochs;
@@ -117,7 +114,7 @@ mileageOf limit es =
       covered = r .covered;
       standing = sum (λ p. not (p .last) && isStanding limit p) lengthOf ps;
       pulses = r .pulses;
-      moved = count (λ p. p .last && moves (p .epoch)) ps;
+      moved = countPlaced (λ p. p .last && moves (p .epoch)) ps;
       waiting = sum (λ p. p .last && isStanding limit p) lengthOf ps;
     }
 
@@ -139,44 +136,40 @@ soundMileage m =
     && inRange (m .limit)
 
 -- a mileage just started; 3 for a limit that is not finite or above 1e9 in magnitude
-unfoldable pub started : Float → Step
-started limit = cond (inRange limit) (Goes (mileageOf limit [])) (Refused SettingOutOfRange)
+unfoldable pub mileageStarted : Float → Step
+mileageStarted limit = cond (inRange limit) (Goes (mileageOf limit [])) (Refused SettingOutOfRange)
 
 -- one epoch more: a pulse in it makes the last epoch's waiting millimetres count, and no pulse leaves them standing
 unfoldable pub grown : Mileage → Bool → Bool → ℕ → ℕ → Mileage
 grown m refused usable millimetres pulses =
     let move = ltb 0 pulses in
-    let near = ltb 0 (m .moved) || move in
+    let nearPulse = ltb 0 (m .moved) || move in
     record {
       limit = m .limit;
       epochs = m .epochs + 1;
       refused = m .refused + cond refused 1 0;
       aside = m .aside + cond (not refused && not usable) 1 0;
-      counted = m .counted + cond move (m .waiting) 0 + cond (usable && near) millimetres 0;
-      covered = m .covered + cond (usable && near) pulses 0;
+      counted = m .counted + cond move (m .waiting) 0 + cond (usable && nearPulse) millimetres 0;
+      covered = m .covered + cond (usable && nearPulse) pulses 0;
       standing = m .standing + cond (not move) (m .waiting) 0;
       pulses = m .pulses + pulses;
       moved = cond move 1 0;
-      waiting = cond (usable && not near) millimetres 0;
+      waiting = cond (usable && not nearPulse) millimetres 0;
     }
 
 -- a refused displacement is not looked at; an accepted one has to be finite and not longer than 1,000 m
 unfoldable pub isTaken : Epoch → Bool
 isTaken e = isRefused e || measurable (e .displacement)
 
--- what an addition needs of its length
-unfoldable pub wayFor : ℕ → Vec3 → Way
-wayFor refused d = cond (eqb refused 0) (wayOf (norm d)) (record { within = true; millimetres = 0 })
-
 -- one epoch more; 16 for a mileage that is not sound, a full one, and an epoch that is not taken
-unfoldable pub added : Mileage → Epoch → Step
-added m e =
+unfoldable pub mileageAdded : Mileage → Epoch → Step
+mileageAdded m e =
     cond (soundMileage m && ltb (m .epochs) 65535 && isTaken e)
     (Goes (grown m (isRefused e) (isUsable (m .limit) e) (lengthOf e) (e .pulses)))
     (Refused BadTrip)
 
-unfoldable pub reported : Mileage → Reported
-reported m =
+unfoldable pub mileageReported : Mileage → Reported
+mileageReported m =
     cond (soundMileage m)
     (Totals (record {
       epochs = m .epochs;
@@ -190,23 +183,23 @@ reported m =
     (Unreported BadTrip)
 
 -- 16 for a distance above 2 ^ 63 - 1
-unfoldable pub held : ℕ → Distance
-held d = cond (ltb d (2 ^ 63)) (Millimetres d) (Unmeasured BadTrip)
+unfoldable pub distanceHeld : ℕ → Distance
+distanceHeld d = cond (ltb d (2 ^ 63)) (Millimetres d) (Unmeasured BadTrip)
 
 -- 17, after 16, where no pulse was counted
-unfoldable pub distance : Mileage → Distance
-distance m =
+unfoldable pub mileageDistance : Mileage → Distance
+mileageDistance m =
     cond (not (soundMileage m)) (Unmeasured BadTrip)
     (cond (eqb (m .covered) 0) (Unmeasured NoDistance)
-    (held (scaled (m .counted) (m .pulses) (m .covered))))
+    (distanceHeld (scaled (m .counted) (m .pulses) (m .covered))))
 
 -- fuel per kilometre: millilitres times 1,000,000 by the distance, rounded down; 17 also where the distance is 0
 unfoldable pub fuelOver : ℕ → Distance → Fuel
 fuelOver millilitres (Unmeasured r) = Unfuelled r
 fuelOver millilitres (Millimetres d) = cond (eqb d 0) (Unfuelled NoDistance) (PerKilometre (millilitres * 1000000 / d))
 
-unfoldable pub fuelled : Mileage → ℕ → Fuel
-fuelled m millilitres = fuelOver millilitres (distance m)
+unfoldable pub mileageFuelled : Mileage → ℕ → Fuel
+mileageFuelled m millilitres = fuelOver millilitres (mileageDistance m)
 
 -- ---- calls one after the other
 
@@ -220,8 +213,4 @@ taking es = take 65535 (takens es)
 -- the distance of a list of epochs: 17 where no pulse was counted
 unfoldable pub distanceOf : Float → List Epoch → Distance
 distanceOf limit es =
-    let r = reportOf limit es in cond (eqb (r .covered) 0) (Unmeasured NoDistance) (held (scaled (r .counted) (r .pulses) (r .covered)))
-
--- pulses per epoch are 16-bit
-unfoldable pub narrow : Epoch → Bool
-narrow e = leb (e .pulses) 65535
+    let r = mileageReport limit es in cond (eqb (r .covered) 0) (Unmeasured NoDistance) (distanceHeld (scaled (r .counted) (r .pulses) (r .covered)))

@@ -6,11 +6,11 @@ use mathlib.Core.List.{List, [], _∷_}
 use lib.ListN.{getD}
 use lib.Ieee.{Float, nan}
 use Rattle.exact.specs.Float.{bits}
-use Rattle.walk.specs.Walk.{fold}
+use Rattle.lists.specs.Walk.{fold}
 use Rattle.numeric.specs.Order.{patternOf}
 use Rattle.numeric.specs.Refusal.{numberOf}
 use Rattle.numeric.specs.Vec3.{vectorAt}
-use Rattle.mileage.specs.Mileage.{started, added, reported, distance, fuelled}
+use Rattle.mileage.specs.Mileage.{mileageStarted, mileageAdded, mileageReported, mileageDistance, mileageFuelled}
 use Rattle.mileage.specs.declared.mileage.Epoch.{Epoch}
 use Rattle.mileage.specs.declared.mileage.Mileage.{Mileage}
 use Rattle.mileage.specs.declared.mileage.Step.{Step}
@@ -39,45 +39,45 @@ mileageFrom w =
       waiting = getD w 9 0;
     }
 
-abbrev pub wordsOf : Mileage → List ℕ
-wordsOf m =
+abbrev pub mileageWords : Mileage → List ℕ
+mileageWords m =
     patternOf (m .limit) ∷ m .epochs ∷ m .refused ∷ m .aside ∷ m .counted ∷ m .covered ∷ m .standing ∷ m .pulses ∷ m .moved ∷ m .waiting ∷ []
 
-abbrev pub epochOf : ℕ → List Float → List Float → ℕ → Epoch
-epochOf number delta quality pulses =
+abbrev pub lentEpoch : ℕ → List Float → List Float → ℕ → Epoch
+lentEpoch number delta quality pulses =
     record { refused = number; displacement = vectorAt delta 0; chi = getD quality 0 nan; pdop = getD quality 1 nan; pulses = pulses }
 
 -- ---- the calls on the mileage that words hold
 
-abbrev pub addedWords : List ℕ → Epoch → Step
-addedWords w e = added (mileageFrom w) e
+abbrev pub mileageAddedWords : List ℕ → Epoch → Step
+mileageAddedWords w e = mileageAdded (mileageFrom w) e
 
-abbrev pub reportedWords : List ℕ → Reported
-reportedWords w = reported (mileageFrom w)
+abbrev pub mileageReportedWords : List ℕ → Reported
+mileageReportedWords w = mileageReported (mileageFrom w)
 
 abbrev pub distanceWords : List ℕ → Distance
-distanceWords w = distance (mileageFrom w)
+distanceWords w = mileageDistance (mileageFrom w)
 
-abbrev pub fuelledWords : List ℕ → ℕ → Fuel
-fuelledWords w millilitres = fuelled (mileageFrom w) millilitres
+abbrev pub mileageFuelledWords : List ℕ → ℕ → Fuel
+mileageFuelledWords w millilitres = mileageFuelled (mileageFrom w) millilitres
 
 -- ---- the number, and what the lent words hold afterwards: a refusal changes nothing
 
-abbrev pub stepNumber : Step → ℕ
-stepNumber (Step.Refused r) = numberOf r
-stepNumber (Step.Goes m) = 0
+abbrev pub mileageNumber : Step → ℕ
+mileageNumber (Step.Refused r) = numberOf r
+mileageNumber (Step.Goes m) = 0
 
-abbrev pub wordsAfter : Step → List ℕ → List ℕ
-wordsAfter (Step.Refused r) before = before
-wordsAfter (Step.Goes m) before = wordsOf m
+abbrev pub mileageAfter : Step → List ℕ → List ℕ
+mileageAfter (Step.Refused r) before = before
+mileageAfter (Step.Goes m) before = mileageWords m
 
-abbrev pub reportNumber : Reported → ℕ
-reportNumber (Reported.Refused r) = numberOf r
-reportNumber (Reported.Totals p) = 0
+abbrev pub mileageReportNumber : Reported → ℕ
+mileageReportNumber (Reported.Refused r) = numberOf r
+mileageReportNumber (Reported.Totals p) = 0
 
-abbrev pub reportAfter : Reported → List ℕ → List ℕ
-reportAfter (Reported.Refused r) before = before
-reportAfter (Reported.Totals p) before = p .epochs ∷ p .refused ∷ p .aside ∷ p .counted ∷ p .covered ∷ p .standing ∷ p .pulses ∷ []
+abbrev pub mileageReportAfter : Reported → List ℕ → List ℕ
+mileageReportAfter (Reported.Refused r) before = before
+mileageReportAfter (Reported.Totals p) before = p .epochs ∷ p .refused ∷ p .aside ∷ p .counted ∷ p .covered ∷ p .standing ∷ p .pulses ∷ []
 
 abbrev pub distanceNumber : Distance → ℕ
 distanceNumber (Distance.Refused r) = numberOf r
@@ -87,20 +87,20 @@ abbrev pub distanceAfter : Distance → ℕ → ℕ
 distanceAfter (Distance.Refused r) before = before
 distanceAfter (Distance.Millimetres d) before = d
 
-abbrev pub fuelNumber : Fuel → ℕ
-fuelNumber (Fuel.Refused r) = numberOf r
-fuelNumber (Fuel.PerKilometre m) = 0
+abbrev pub mileageFuelNumber : Fuel → ℕ
+mileageFuelNumber (Fuel.Refused r) = numberOf r
+mileageFuelNumber (Fuel.PerKilometre m) = 0
 
-abbrev pub fuelAfter : Fuel → ℕ → ℕ
-fuelAfter (Fuel.Refused r) before = before
-fuelAfter (Fuel.PerKilometre m) before = m
+abbrev pub mileageFuelAfter : Fuel → ℕ → ℕ
+mileageFuelAfter (Fuel.Refused r) before = before
+mileageFuelAfter (Fuel.PerKilometre m) before = m
 
 -- ---- calls one after the other
 
 -- the words that an addition leaves
-unfoldable pub wordsNext : List ℕ → Epoch → List ℕ
-wordsNext w e = wordsAfter (addedWords w e) w
+unfoldable pub mileageNext : List ℕ → Epoch → List ℕ
+mileageNext w e = mileageAfter (mileageAddedWords w e) w
 
 -- the words that a start in lent words w and then these additions leave
 unfoldable pub called : Float → List ℕ → List Epoch → List ℕ
-called limit w es = fold wordsNext (wordsAfter (started limit) w) es
+called limit w es = fold mileageNext (mileageAfter (mileageStarted limit) w) es

@@ -1,13 +1,13 @@
 // A mileage over at most 65,535 epochs: all pulses, and the millimetres and pulses of the epochs that count.
 ghost use mathlib.Core.Path.{_≡_};
-ghost use mathlib.Core.Bool.{true, cond};
+ghost use mathlib.Core.Bool.{true, false, cond};
 ghost use Prim.Native.Nat.{_≤_, _<_};
 ghost use Rattle.mileage.specs.Mileage as spec;
+ghost use Rattle.mileage.specs.Steps.{wayFor};
 use crate::rated::is_rated;
 use numeric::real::in_range;
 use numeric::refusal::Refusal;
 use numeric::vec3::Vec3;
-use trip::measure::Way;
 use trip::measure::way_of_square;
 
 // One epoch: the number that refused its displacement (0: none), the displacement in metres, its quality, and its odometer pulses.
@@ -76,7 +76,7 @@ pub(crate) fn when(test: bool, n: u64) -> u64
 // Multiplies by pulses and divides by covered in 64 bits. Refuses a result above 2 ^ 63 - 1.
 pub(crate) fn scaled(counted: u64, pulses: u64, covered: u64) -> Distance
     requires { ⌜ (0 < covered) × (covered ≤ pulses) × (pulses ≤ 4294836225) ⌝ }
-    ensures { λ r. ⌜ r ≡ spec.held (spec.scaled counted pulses covered) ⌝ }
+    ensures { λ r. ⌜ r ≡ spec.distanceHeld (spec.scaled counted pulses covered) ⌝ }
 {
     let whole = counted / covered;
     let rest = counted % covered * pulses / covered;
@@ -86,24 +86,21 @@ pub(crate) fn scaled(counted: u64, pulses: u64, covered: u64) -> Distance
     Distance::Millimetres(whole * pulses + rest)
 }
 
-// The way of an accepted displacement. A refused one is not measured.
-pub(crate) fn way_for(refused: u8, displacement: Vec3) -> Way
-    ensures { λ r. ⌜ r ≡ spec.wayFor refused displacement ⌝ }
+// Returns the way of an accepted displacement. A refused one is not measured.
+pub(crate) fn way_for(refused: u8, displacement: Vec3) -> u64
+    ensures { λ r. ⌜ r ≡ wayFor refused displacement ⌝ }
 {
     if refused == 0 {
         let d = displacement;
         return way_of_square(d.x * d.x + d.y * d.y + d.z * d.z);
     }
-    Way {
-        within: true,
-        millimetres: 0,
-    }
+    0
 }
 
 impl Mileage {
     // Starts a mileage with this limit.
     pub fn start(limit: f64) -> Step
-        ensures { λ r. ⌜ r ≡ spec.started limit ⌝ }
+        ensures { λ r. ⌜ r ≡ spec.mileageStarted limit ⌝ }
     {
         if in_range(limit) {
             return Step::Goes(Mileage {
@@ -175,23 +172,45 @@ impl Mileage {
         }
     }
 
-    // Adds an epoch whose displacement is of this way.
-    pub(crate) fn add_way(self, way: Way, e: Epoch) -> Step
-        requires { ⌜ way ≡ spec.wayFor (e .refused) (e .displacement) ⌝ }
-        ensures { λ r. ⌜ r ≡ spec.added self e ⌝ }
+    // Returns the mileage after an epoch of so many millimetres and pulses that counts, as most do.
+    pub(crate) fn driven(self, millimetres: u64, more: u64) -> Mileage
+        requires { ⌜ (spec.soundMileage self ≡ true) × (self .epochs < 65535) × (millimetres ≤ 1000000) × (0 < more) × (more ≤ 65535) ⌝ }
+        ensures { λ r. ⌜ r ≡ spec.grown self false true millimetres more ⌝ }
     {
-        if !(self.is_sound() & (self.epochs < 65535) & way.within) {
+        Mileage {
+            limit: self.limit,
+            epochs: self.epochs + 1,
+            refused: self.refused,
+            aside: self.aside,
+            counted: self.counted + self.waiting + millimetres,
+            covered: self.covered + more,
+            standing: self.standing,
+            pulses: self.pulses + more,
+            moved: 1,
+            waiting: 0,
+        }
+    }
+
+    // Adds an epoch whose displacement is of this way. The usual case has a branch of its own.
+    pub(crate) fn add_way(self, way: u64, e: Epoch) -> Step
+        requires { ⌜ way ≡ wayFor (e .refused) (e .displacement) ⌝ }
+        ensures { λ r. ⌜ r ≡ spec.mileageAdded self e ⌝ }
+    {
+        if !(self.is_sound() & (self.epochs < 65535) & (way <= 1000000)) {
             return Step::Refused(Refusal::BadTrip);
         }
         let refused = e.refused != 0;
         let usable = !refused & is_rated(self.limit, e.chi, e.pdop);
         let pulses = e.pulses as u64;
-        Step::Goes(self.grown(refused, usable, way.millimetres, pulses))
+        if usable & (0 < pulses) {
+            return Step::Goes(self.driven(way, pulses));
+        }
+        Step::Goes(self.grown(refused, usable, way, pulses))
     }
 
     // Adds an epoch.
     pub fn add(self, e: Epoch) -> Step
-        ensures { λ r. ⌜ r ≡ spec.added self e ⌝ }
+        ensures { λ r. ⌜ r ≡ spec.mileageAdded self e ⌝ }
     {
         let way = way_for(e.refused, e.displacement);
         self.add_way(way, e)
@@ -199,7 +218,7 @@ impl Mileage {
 
     // Reports the totals. The last epoch's millimetres count as standing where no pulse came so far.
     pub fn report(self) -> Reported
-        ensures { λ r. ⌜ r ≡ spec.reported self ⌝ }
+        ensures { λ r. ⌜ r ≡ spec.mileageReported self ⌝ }
     {
         if !self.is_sound() {
             return Reported::Refused(Refusal::BadTrip);
@@ -217,7 +236,7 @@ impl Mileage {
 
     // The distance in millimetres: those of counted epochs times all pulses by the pulses of counted epochs.
     pub fn distance(self) -> Distance
-        ensures { λ r. ⌜ r ≡ spec.distance self ⌝ }
+        ensures { λ r. ⌜ r ≡ spec.mileageDistance self ⌝ }
     {
         if !self.is_sound() {
             return Distance::Refused(Refusal::BadTrip);
@@ -230,7 +249,7 @@ impl Mileage {
 
     // The millilitres for a kilometre of the distance.
     pub fn fuel(self, millilitres: u32) -> Fuel
-        ensures { λ r. ⌜ r ≡ spec.fuelled self millilitres ⌝ }
+        ensures { λ r. ⌜ r ≡ spec.mileageFuelled self millilitres ⌝ }
     {
         let far = self.distance();
         match far {

@@ -1,7 +1,7 @@
 // A mileage that the caller holds as ten words: the limit's bits, epochs, refused, set aside, counted millimetres, counted pulses, standing millimetres, all
 // pulses, whether the last epoch had a pulse, and the last epoch's millimetres where it stands so far.
 ghost use mathlib.Core.Path.{_≡_};
-ghost use Rattle.mileage.specs.Mileage.{started};
+ghost use Rattle.mileage.specs.Mileage.{mileageStarted};
 ghost use Rattle.mileage.specs.Words as spec;
 use crate::mileage::Distance;
 use crate::mileage::Epoch;
@@ -36,7 +36,7 @@ pub fn held(w: [u64; 10]) -> Mileage
 
 // The ten words of a mileage.
 pub fn words(m: Mileage) -> [u64; 10]
-    ensures { λ r. ⌜ r ≡ spec.wordsOf m ⌝ }
+    ensures { λ r. ⌜ r ≡ spec.mileageWords m ⌝ }
 {
     [
         pattern(m.limit),
@@ -54,7 +54,7 @@ pub fn words(m: Mileage) -> [u64; 10]
 
 // Starts a mileage in the lent words and returns 0. On refusal, returns 3 and changes nothing.
 pub fn start_in(limit: f64, mileage: &mut [u64; 10]) -> u8
-    ensures { λ r. ⌜ (let s = started limit in (r ≡ spec.stepNumber s) × (now (mileage .exit) ≡ spec.wordsAfter s (now (mileage .entry)))) ⌝ }
+    ensures { λ r. ⌜ (let s = mileageStarted limit in (r ≡ spec.mileageNumber s) × (now (mileage .exit) ≡ spec.mileageAfter s (now (mileage .entry)))) ⌝ }
 {
     let answer = Mileage::start(limit);
     match answer {
@@ -74,8 +74,8 @@ pub fn add_in(
     quality: &[f64; 2],
     pulses: u16,
 ) -> u8
-    ensures { λ r. ⌜ (let s = spec.addedWords (now (mileage .entry)) (spec.epochOf «refused_by» (now (delta .entry)) (now (quality .entry)) pulses) in
-        (r ≡ spec.stepNumber s) × (now (mileage .exit) ≡ spec.wordsAfter s (now (mileage .entry)))) ⌝ }
+    ensures { λ r. ⌜ (let s = spec.mileageAddedWords (now (mileage .entry)) (spec.lentEpoch «refused_by» (now (delta .entry)) (now (quality .entry)) pulses) in
+        (r ≡ spec.mileageNumber s) × (now (mileage .exit) ≡ spec.mileageAfter s (now (mileage .entry)))) ⌝ }
 {
     let displacement = Vec3 {
         x: delta[0],
@@ -104,8 +104,8 @@ pub fn add_in(
 
 // Writes the report of the mileage in the lent words to `report` and returns 0. On refusal, returns 16 and changes nothing.
 pub fn report_in(mileage: &[u64; 10], report: &mut [u64; 7]) -> u8
-    ensures { λ r. ⌜ (let q = spec.reportedWords (now (mileage .entry)) in
-        (r ≡ spec.reportNumber q) × (now (report .exit) ≡ spec.reportAfter q (now (report .entry)))) ⌝ }
+    ensures { λ r. ⌜ (let q = spec.mileageReportedWords (now (mileage .entry)) in
+        (r ≡ spec.mileageReportNumber q) × (now (report .exit) ≡ spec.mileageReportAfter q (now (report .entry)))) ⌝ }
 {
     let w = *mileage;
     let answer = held(w).report();
@@ -144,8 +144,8 @@ pub fn distance_in(mileage: &[u64; 10], millimetres: &mut u64) -> u8
 
 // Writes the millilitres for a kilometre to the lent number and returns 0. On refusal, returns 16 or 17 and changes nothing.
 pub fn fuel_in(mileage: &[u64; 10], millilitres: u32, per_km: &mut u64) -> u8
-    ensures { λ r. ⌜ (let f = spec.fuelledWords (now (mileage .entry)) millilitres in
-        (r ≡ spec.fuelNumber f) × (now («per_km» .exit) ≡ spec.fuelAfter f (now («per_km» .entry)))) ⌝ }
+    ensures { λ r. ⌜ (let f = spec.mileageFuelledWords (now (mileage .entry)) millilitres in
+        (r ≡ spec.mileageFuelNumber f) × (now («per_km» .exit) ≡ spec.mileageFuelAfter f (now («per_km» .entry)))) ⌝ }
 {
     let w = *mileage;
     let answer = held(w).fuel(millilitres);

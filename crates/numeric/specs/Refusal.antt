@@ -1,4 +1,4 @@
--- docs/SCOPE.md, "Why a call turns back": the number of each refusal. Definitions only.
+-- The number of each refusal (docs/REFUSALS.md). Definitions only.
 use Prim.Native.Nat.{ℕ}
 use Rattle.numeric.specs.declared.refusal.Refusal.{Refusal}
 use Rattle.numeric.specs.declared.refusal.Refusal.the-variants.{BrokenForm, TooMany, SettingOutOfRange, RecordOutOfRange, BadInterval, BadTrack, TooFewPairs, TooFewRows, TooManySlots, FitFailed, TableFull, NoCorrection, BadTime, QualityNotFinite, OnReceiver, BadTrip, NoDistance, BadDropTime, NotTurned, NotCertified, BrokenRecords}
@@ -38,7 +38,7 @@ numberOf OnReceiver = 15
 -- a displacement of a trip is not finite or longer than 1,000 m, a full trip has one more epoch, or a trip's numbers are out of bounds: a rate of 0,
 -- more than 65,535 epochs, or more than 1,000,000 mm or 65,535 pulses times its epochs
 numberOf BadTrip = 16
--- the fuel figure is wanted at zero carrier distance
+-- fuel per kilometre is asked for at zero carrier distance
 numberOf NoDistance = 17
 -- the time to drop before is not finite
 numberOf BadDropTime = 18
@@ -46,5 +46,5 @@ numberOf BadDropTime = 18
 numberOf NotTurned = 19
 -- GPS or Galileo is absent among the kept pairs of a city displacement
 numberOf NotCertified = 20
--- a slice of carrier records to be read has a length that is no multiple of 59
+-- the length of the carrier records to be read is not a multiple of 59
 numberOf BrokenRecords = 21

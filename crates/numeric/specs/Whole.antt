@@ -3,7 +3,7 @@ use Prim.Native.Nat.{ℕ, _*_, _/_}
 use lib.Ieee.{Float}
 use Rattle.exact.specs.Value.{scale, magnitude}
 
--- k times the exact value of x, rounded down, for an x that is not below 0: the value is `magnitude x` units, of which the number 1 has `scale`
+-- k times the exact value of x, rounded down, for an x that is not below 0: the value is `magnitude x` units, and 1 is `scale` units
 unfoldable pub wholeTimes : ℕ → Float → ℕ
 wholeTimes k x = k * magnitude x / scale
 

@@ -1,4 +1,4 @@
-// Why a call turns back (docs/SCOPE.md): each number under its one name.
+// Names each refusal number (docs/REFUSALS.md).
 ghost use mathlib.Core.Path.{_≡_};
 ghost use Rattle.numeric.specs.Refusal.{numberOf};
 

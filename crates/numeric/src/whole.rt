@@ -6,7 +6,7 @@ ghost use lib.Ieee.{le, lt};
 ghost use Rattle.exact.specs.Float.{+0, whole};
 ghost use Rattle.numeric.specs.Whole.{wholeTimes};
 
-// The whole part of k * x, with no rounding on the way. A float above 0 is m * 2 ^ (e - 1075), with m of 53 binary digits, so that one below 2 ^ 53 is only
+// Returns the whole part of k * x, without rounding. A float above 0 is m * 2 ^ (e - 1075), with m of 53 binary digits, so that one below 2 ^ 53 is only
 // shifted down. An e below 1012 leaves nothing of the 64 digits of k * m.
 pub fn whole_times(k: u64, x: f64) -> u64
     requires { ⌜ (k ≤ 2 ^ 11) × (le +0 x ≡ true) × (lt x (whole (2 ^ 53)) ≡ true) ⌝ }

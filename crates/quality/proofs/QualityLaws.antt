@@ -11,7 +11,7 @@ use lib.ListN.{getD, length, set, length-set, getD-replicate}
 use lib.Seq.{getD-set-same, getD-set-other}
 use lib.Ieee.{Float, nan, ofInt, ofBits}
 use lib.Ieee.Scale.{finite}
-use Rattle.walk.proofs.Walk.{places-length}
+use Rattle.lists.proofs.Walk.{places-length}
 use Rattle.exact.specs.Float.{_⊕_, _⊗_, _⊘_, +0, 1·0, bits, whole}
 use Rattle.cholesky.specs.Factor.{at, zeros, solutionOf, factorOf, Unused, UnusedPlaces, Factored, Lower, Refused as NoFactor}
 use Rattle.cholesky.specs.Answer.{rowsAfter}
@@ -20,20 +20,21 @@ use Rattle.numeric.specs.Real.{square}
 use Rattle.numeric.specs.declared.refusal.Refusal.{Refusal}
 use Rattle.numeric.specs.declared.refusal.Refusal.the-variants.{FitFailed, QualityNotFinite}
 use Rattle.root.specs.Root.{rootOf}
-use Rattle.normal.specs.Nine.{nine}
-use Rattle.normal.specs.Equations.{wide, total, triangleOf}
-use Rattle.normal.specs.Columns.{Columns, rowIn, rowsIn}
-use Rattle.normal.specs.declared.row.Row.{Row}
-use Rattle.normal.proofs.NineLaws.{nine-is}
-use Rattle.normal.proofs.Sums.{sumTo, sumTo-zero, sumTo-next, sum-places}
-use Rattle.normal.specs.Formed.{unused, triangleAdded}
-use Rattle.normal.proofs.AddedLaws.{triangle-zero, triangle-more}
-use Rattle.normal.proofs.FormedLaws.{sums, sums-zero, sums-next, sums-triangle, triangle-unused}
-use Rattle.estimator.specs.Rules.{ruled}
-use Rattle.quality.specs.Quality.{freedomOf, chiOf, unweightedMatrix, pdopOf, dilutionOf, dilutionFound, figureRules, qualityOf}
+use Rattle.normal_equations.specs.Nine.{nine}
+use Rattle.normal_equations.specs.Equations.{wide, total, triangleOf}
+use Rattle.normal_equations.specs.Steps.{RoundColumns, rowIn, rowsIn, unused, triangleAdded}
+use Rattle.normal_equations.specs.declared.row.Row.{Row}
+use Rattle.normal_equations.proofs.NineLaws.{nine-is}
+use Rattle.normal_equations.proofs.Sums.{sumTo, sumTo-zero, sumTo-next, sum-places}
+use Rattle.normal_equations.proofs.AddedLaws.{triangle-zero, triangle-more}
+use Rattle.normal_equations.proofs.FormedLaws.{sums, sums-zero, sums-next, sums-triangle, triangle-unused}
+use Rattle.estimate_rounds.specs.Rules.{ruled}
+use Rattle.quality.specs.Quality.{freedomOf, chiOf, unweightedMatrix, pdopOf, dilutionOf, figureRules, qualityOf}
+use Rattle.quality.specs.Steps.{dilutionFound, dilutionNumber, dilutionFloats, Diluted, qualityNumber, qualityFloats, Qualified}
 use Rattle.quality.specs.declared.figures.Figures.{Figures}
 use Rattle.quality.specs.declared.figures.Dilution.{Dilution}
 use Rattle.quality.specs.declared.figures.Dilution.the-variants as Dilution
+use Rattle.quality.specs.declared.figures.Quality.{Quality}
 use Rattle.quality.specs.declared.figures.Quality.the-variants.{Refused, Rated}
 
 -- ---- the degrees of freedom
@@ -68,7 +69,7 @@ pub squared-next : (sigma : List Float) (residual : List ℕ) (k : ℕ) (t q : F
 unfolding squared
 squared-next sigma residual k t q h e = ap₂ _⊕_ h e ∙ sym (sumTo-next _ k)
 
-pub chi-rows : (c : Columns) (n : ℕ) {k : ℕ} {t f r : Float} → k ≡ length (c .residual) → t ≡ squared (c .sigma) (c .residual) k → f ≡ freedomOf (length (c .residual)) n → r ≡ rootOf (t ⊘ f)
+pub chi-rows : (c : RoundColumns) (n : ℕ) {k : ℕ} {t f r : Float} → k ≡ length (c .residual) → t ≡ squared (c .sigma) (c .residual) k → f ≡ freedomOf (length (c .residual)) n → r ≡ rootOf (t ⊘ f)
     → r ≡ chiOf n (rowsIn c)
 unfolding chiOf squared
 chi-rows c n k-is t-is f-is r-is =
@@ -80,16 +81,16 @@ chi-rows c n k-is t-is f-is r-is =
 -- ---- the unweighted matrix
 
 -- the sums of its cells over the first k rows, and what one row more adds, by the wide row e that the code has of it
-abbrev pub plain : Columns → ℕ → ℕ → ℕ → Float
+abbrev pub plain : RoundColumns → ℕ → ℕ → ℕ → Float
 plain c = sums (λ r p q. at (wide r) p ⊗ at (wide r) q) (rowIn c)
 
-pub plain-start : (c : Columns) (n : ℕ) (a : List (List Float)) → a ≡ unused n → a ≡ triangleOf n (plain c 0)
+pub plain-start : (c : RoundColumns) (n : ℕ) (a : List (List Float)) → a ≡ unused n → a ≡ triangleOf n (plain c 0)
 plain-start c n a h = h ∙ triangle-zero n (plain c 0) (sums-zero (λ r p q. at (wide r) p ⊗ at (wide r) q) (rowIn c))
 
-pub plain-next : (c : Columns) (n k : ℕ) (e : List Float) (a : List (List Float)) → e ≡ wide (rowIn c k) → a ≡ triangleOf n (plain c k) → triangleAdded n e e a ≡ triangleOf n (plain c (k + 1))
+pub plain-next : (c : RoundColumns) (n k : ℕ) (e : List Float) (a : List (List Float)) → e ≡ wide (rowIn c k) → a ≡ triangleOf n (plain c k) → triangleAdded n e e a ≡ triangleOf n (plain c (k + 1))
 plain-next c n k e a e-is h = triangle-more n (plain c k) (plain c (k + 1)) e e a (λ p q pb qb. sums-next (λ r p q. at (wide r) p ⊗ at (wide r) q) (rowIn c) k p q _ _ refl (rw e-is)) h
 
-pub plain-end : (c : Columns) (n k : ℕ) (a : List (List Float)) → k ≡ length (c .residual) → a ≡ triangleOf n (plain c k) → a ≡ unweightedMatrix n (rowsIn c)
+pub plain-end : (c : RoundColumns) (n k : ℕ) (a : List (List Float)) → k ≡ length (c .residual) → a ≡ triangleOf n (plain c k) → a ≡ unweightedMatrix n (rowsIn c)
 unfolding unweightedMatrix
 plain-end c n k a e h = h ∙ ap (λ (z : ℕ). triangleOf n (plain c z)) e ∙ sums-triangle (λ r p q. at (wide r) p ⊗ at (wide r) q) (rowIn c) (length (c .residual)) n
 
@@ -122,6 +123,13 @@ pub column-unused : (n i : ℕ) → i < n → UnusedPlaces n (set zeros i 1·0)
 column-unused n i h = record { zero-at = λ k nk kb. getD-set-other zeros i k 1·0 nan (λ q. omega arith) ∙ getD-replicate 9 k +0 nan kb }
 
 -- ---- the answers
+
+-- number and values follow the answer
+pub diluted : {n : ℕ} {rows : List Row} {r : Dilution} → r ≡ dilutionFound n rows → Diluted n rows r
+diluted e = record { answer = e; number-is = ap dilutionNumber e; floats-are = ap dilutionFloats e }
+
+pub qualified : {n : ℕ} {rows : List Row} {r : Quality} → r ≡ qualityOf n rows → Qualified n rows r
+qualified e = record { answer = e; number-is = ap qualityNumber e; floats-are = ap qualityFloats e }
 
 -- an accepted factor is there whatever the lent rows held
 pub same-rows : (v : Factored) (y z : List (List Float)) → true ≡ factor.accepted v → rowsAfter v y ≡ rowsAfter v z

@@ -9,9 +9,9 @@ use Rattle.exact.specs.Float.{+0, 1·0, whole, decimal}
 use Rattle.root.specs.Root.{rootOf}
 use Rattle.numeric.specs.Real.{square}
 use Rattle.cholesky.specs.Factor.{zeros, withForward, forwardTo, withBack, backTo, solutionOf}
-use Rattle.normal.specs.Nine.{from, nine}
-use Rattle.normal.specs.Equations.{wide, total, triangleOf}
-use Rattle.normal.specs.declared.row.Row.{Row}
+use Rattle.normal_equations.specs.Nine.{from, nine}
+use Rattle.normal_equations.specs.Equations.{wide, total, triangleOf}
+use Rattle.normal_equations.specs.declared.row.Row.{Row}
 use Rattle.quality.specs.Quality.{freedomOf, chiOf, unweightedMatrix, pdopOf}
 
 -- rows above the unknowns, and at least 1

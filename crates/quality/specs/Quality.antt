@@ -1,4 +1,4 @@
--- What a fit says of itself, with n unknowns (wls.rs): chi and the dilution of precision of its rows. A fix and a rated displacement share these. Definitions only.
+-- The quality of a fit with n unknowns (wls.rs): chi and the dilution of precision of its rows. A fix and a rated displacement share them. Definitions only.
 use Prim.Native.Nat.{ℕ, _-_, max}
 use mathlib.Core.Bool.{not, cond, _&&_}
 use mathlib.Core.List.{List, [], _∷_}
@@ -12,14 +12,11 @@ use Rattle.cholesky.specs.Factor.{at, factorOf, solutionOf}
 use Rattle.cholesky.specs.Answer.{rowsAfter}
 use Rattle.cholesky.specs.Answer as factor
 use Rattle.numeric.specs.Real.{square}
-use Rattle.numeric.specs.Refusal.{numberOf}
 use Rattle.numeric.specs.declared.refusal.Refusal.the-variants.{FitFailed, QualityNotFinite}
-use Rattle.normal.specs.Nine.{nine}
-use Rattle.normal.specs.Equations.{wide, total, triangleOf}
-use Rattle.normal.specs.declared.row.Row.{Row}
-use Rattle.estimator.specs.Rules.{Rule, rule, ruled}
-use Rattle.quality.specs.declared.figures.Dilution.{Dilution}
-use Rattle.quality.specs.declared.figures.Dilution.the-variants as Dilution
+use Rattle.normal_equations.specs.Nine.{nine}
+use Rattle.normal_equations.specs.Equations.{wide, total, triangleOf}
+use Rattle.normal_equations.specs.declared.row.Row.{Row}
+use Rattle.estimate_rounds.specs.Rules.{Rule, rule, ruled}
 use Rattle.quality.specs.declared.figures.Quality.{Quality}
 use Rattle.quality.specs.declared.figures.Quality.the-variants.{Refused, Rated}
 
@@ -50,10 +47,6 @@ dilutionOf n rows = pdopOf (rowsAfter (factorOf (unweightedMatrix n rows)) [])
 abbrev pub pivotRule : ℕ → List Row → Rule
 pivotRule n rows = rule FitFailed (not (factor.accepted (factorOf (unweightedMatrix n rows))))
 
--- the dilution, or why it is refused
-unfoldable pub dilutionFound : ℕ → List Row → Dilution
-dilutionFound n rows = ruled Dilution.Refused (pivotRule n rows ∷ []) (Dilution.Of (dilutionOf n rows))
-
 -- 10, and then 14: chi or pdop is not finite
 unfoldable pub figureRules : ℕ → List Row → List Rule
 figureRules n rows = pivotRule n rows ∷ rule QualityNotFinite (not (finite (chiOf n rows) && finite (dilutionOf n rows))) ∷ []
@@ -61,13 +54,3 @@ figureRules n rows = pivotRule n rows ∷ rule QualityNotFinite (not (finite (ch
 -- the two figures of the rows, or why they are refused
 unfoldable pub qualityOf : ℕ → List Row → Quality
 qualityOf n rows = ruled Refused (figureRules n rows) (Rated (record { chi = chiOf n rows; pdop = dilutionOf n rows }))
-
--- the number of a refusal, and 0 where there are figures
-abbrev pub qualityNumber : Quality → ℕ
-qualityNumber (Refused r) = numberOf r
-qualityNumber (Rated f) = 0
-
--- chi, pdop
-abbrev pub qualityFloats : Quality → List Float
-qualityFloats (Refused r) = []
-qualityFloats (Rated f) = f .chi ∷ f .pdop ∷ []

@@ -5,14 +5,15 @@ ghost use lib.Ieee.{Float};
 ghost use Prim.Native.Nat.{ℕ, _≤_};
 ghost use lib.ListN.{length};
 ghost use Rattle.cholesky.specs.Factor.{Unused};
-ghost use Rattle.normal.specs.Columns.{columns, rowsIn};
+ghost use Rattle.normal_equations.specs.Steps.{columns, rowsIn};
 ghost use Rattle.quality.specs.Quality as spec;
+ghost use Rattle.quality.specs.Steps.{Diluted, Qualified};
 use cholesky::factor::factor_used;
 use cholesky::factor::solve_used;
-use normal::equations::add_triangle;
-use normal::equations::row_at;
-use normal::equations::unused;
-use normal::row::wide;
+use normal_equations::equations::add_triangle;
+use normal_equations::equations::row_at;
+use normal_equations::equations::unused;
+use normal_equations::row::wide;
 use numeric::order::float;
 use numeric::real::is_finite;
 use numeric::real::square;
@@ -25,13 +26,13 @@ pub struct Figures {
     pub pdop: f64,
 }
 
-// The dilution of precision, or why it is refused.
+// The dilution of precision, or the refusal.
 pub enum Dilution {
     Refused(Refusal),
     Of(f64),
 }
 
-// Both figures, or why they are refused.
+// Both figures, or the refusal.
 pub enum Quality {
     Refused(Refusal),
     Rated(Figures),
@@ -65,7 +66,7 @@ pub fn chi_of(sigma: &[f64; 64], residual: &[u64], n: usize) -> f64
     sqrt(t / freedom_of(count, n))
 }
 
-// Makes a the normal equations of the rows without weights, by their lower triangle.
+// Writes to a the normal equations of the rows without weights, by their lower triangle.
 pub fn unweighted_matrix(
     x: &[f64; 64],
     y: &[f64; 64],
@@ -90,7 +91,7 @@ pub fn unweighted_matrix(
     }
 }
 
-// Returns the root of the sum of the inverse's first three diagonal places, by the factor l of n unknowns.
+// Returns the root of the sum of the inverse's first three diagonal elements, given the factor l of n unknowns.
 pub fn pdop_of(n: usize, l: &[[f64; 9]; 9]) -> f64
     requires { ⌜ (3 ≤ n) × (n ≤ 9) × Unused n (now l) ⌝ }
     ensures { λ r. ⌜ r ≡ spec.pdopOf (now (l .entry)) ⌝ }
@@ -119,7 +120,7 @@ pub fn dilution_of(
 ) -> Dilution
     requires { ⌜ (length (now residual) ≤ 64) × (3 ≤ n) × (n ≤ 9) ⌝ }
     ensures { λ r. ⌜ (let rows = columns (now (x .entry)) (now (y .entry)) (now (z .entry)) (now (clock .entry)) (now (sigma .entry)) (now (residual .entry)) in
-        r ≡ spec.dilutionFound n (rowsIn rows)) ⌝ }
+        Diluted n (rowsIn rows) r) ⌝ }
 {
     let mut a = [[0.0; 9]; 9];
     unweighted_matrix(x, y, z, clock, sigma, residual, n, &mut a);
@@ -143,7 +144,7 @@ pub fn quality_of(
 ) -> Quality
     requires { ⌜ (length (now residual) ≤ 64) × (3 ≤ n) × (n ≤ 9) ⌝ }
     ensures { λ r. ⌜ (let rows = columns (now (x .entry)) (now (y .entry)) (now (z .entry)) (now (clock .entry)) (now (sigma .entry)) (now (residual .entry)) in
-        r ≡ spec.qualityOf n (rowsIn rows)) ⌝ }
+        Qualified n (rowsIn rows) r) ⌝ }
 {
     let chi = chi_of(sigma, residual, n);
     let dilution = dilution_of(x, y, z, clock, sigma, residual, n);

@@ -10,12 +10,13 @@ use lib.Seq.{getD-set-same, getD-set-other}
 use lib.IntN.{ℤ}
 use lib.Ieee.{Float}
 use borrow.Author.Tests.{eqb-true, eqb-false, lt-ltb, le-ltb}
-use Rattle.walk.proofs.Walk.{places-length, places-at, places-all, first-yes, first-no, first-end}
+use Rattle.lists.proofs.Walk.{places-length, places-at, places-all, first-yes, first-no, first-end}
 use Rattle.signal.proofs.SignalLaws.{same-digits}
 use Rattle.numeric.specs.declared.vec3.Vec3.{Vec3}
 use Rattle.records.specs.Record.{usable, same}
 use Rattle.records.specs.Signals.{carrierWith, carrierIn, carriersIn}
-use Rattle.records.specs.Pair.{pairOf, firstPair, Finds}
+use Rattle.records.specs.Pair.{pairOf, firstPair}
+use Rattle.records.specs.Steps.{Finds}
 use Rattle.records.specs.declared.record.Carrier.{Carrier}
 use Rattle.records.proofs.RecordLaws.{blank}
 

@@ -7,12 +7,13 @@ use lib.ListN.{length, getD, take}
 use lib.Seq.{length-take-le}
 use lib.IntN.{ℤ, pos}
 use lib.Ieee.{Float}
-use Rattle.walk.specs.Walk.{places}
-use Rattle.walk.proofs.Walk.{places-all, places-take, places-ext}
+use Rattle.lists.specs.Walk.{places}
+use Rattle.lists.proofs.Walk.{places-all, places-take, places-ext}
 use Rattle.signal.proofs.SignalLaws.{constellation-is, svid-is, band-is, signal-small}
-use Rattle.records.specs.Record.{counted}
+use Rattle.records.specs.Record.{countedCarriers}
 use Rattle.records.specs.Carriers.{carrierColumns, carrierAt, epochOf}
-use Rattle.records.specs.Signals.{carrierWith, carrierIn, epochIn, Fit, Signalled, Laid}
+use Rattle.records.specs.Signals.{carrierWith, carrierIn, epochIn, SignalsFit}
+use Rattle.records.specs.Steps.{Signalled, Laid}
 use Rattle.records.specs.declared.record.Carrier.{Carrier}
 use Rattle.records.specs.declared.record.Epoch.{Epoch}
 use Rattle.records.proofs.RecordLaws.{blank}
@@ -28,7 +29,7 @@ module _ (ss : List ℕ) (ts : List ℤ) (fs : List Float) (n : ℕ) (long : len
   cut-count = length-take-le n ss (omega (arith, long))
 
   -- the first n signals fit
-  pub cut-fits : n ≤ length ts → 6 * n ≤ length fs → ((i : ℕ) → i < n → getD ss i 0 < 2 ^ 56) → Fit (take n ss) ts fs
+  pub cut-fits : n ≤ length ts → 6 * n ≤ length fs → ((i : ℕ) → i < n → getD ss i 0 < 2 ^ 56) → SignalsFit (take n ss) ts fs
   cut-fits t f small =
       record {
         few = rw cut-count few;
@@ -46,7 +47,7 @@ module _ (ss : List ℕ) (ts : List ℤ) (fs : List Float) (n : ℕ) (long : len
 
 -- the columns of an epoch: its signals with its states and floats are the epoch
 module _ (cs vs bs : List ℕ) (ts : List ℤ) (fs : List Float) (n : ℕ) (ss : List ℕ) (h : Signalled cs vs bs n ss) (few : n ≤ 64) (vl : (i : ℕ) → getD vs i 0 < 2 ^ 16) (bl : (i : ℕ) → getD bs i 0 < 2 ^ 32) where
-  pub signalled-fits : n ≤ length ts → 6 * n ≤ length fs → ((i : ℕ) → getD cs i 0 < 2 ^ 8) → Fit (take n ss) ts fs
+  pub signalled-fits : n ≤ length ts → 6 * n ≤ length fs → ((i : ℕ) → getD cs i 0 < 2 ^ 8) → SignalsFit (take n ss) ts fs
   signalled-fits t f cl = cut-fits ss ts fs n (h .long) few t f (λ i l. rw (h .all i l) (signal-small (getD cs i 0) (getD vs i 0) (getD bs i 0) (vl i) (bl i) (cl i)))
 
   carrier-at-is : (i : ℕ) → i < n → carrierIn ss ts fs i ≡ carrierAt (carrierColumns cs vs bs ts fs) i
@@ -58,14 +59,14 @@ module _ (cs vs bs : List ℕ) (ts : List ℤ) (fs : List Float) (n : ℕ) (ss :
 
 -- an epoch by value
 module _ (e : Epoch) (ss : List ℕ) (ts : List ℤ) (fs : List Float) (h : Laid (e .carriers) (e .count) ss ts fs) (few : e .count ≤ 64) (long : length (e .carriers) ≡ 64) where
-  pub laid-fits : Fit (take (e .count) ss) ts fs
+  pub laid-fits : SignalsFit (take (e .count) ss) ts fs
   laid-fits = cut-fits ss ts fs (e .count) (h .signals-long) few (omega (arith, h .states-long)) (omega (arith, h .floats-long)) (h .small)
 
   pub laid-count : length (take (e .count) ss) ≡ e .count
   laid-count = cut-count ss ts fs (e .count) (h .signals-long) few
 
-  pub laid-counted : counted (epochIn (take (e .count) ss) ts fs) ≡ counted e
+  pub laid-counted : countedCarriers (epochIn (take (e .count) ss) ts fs) ≡ countedCarriers e
   laid-counted =
-      ap counted (cut-is ss ts fs (e .count) (h .signals-long) few (λ k. getD (e .carriers) k blank) (λ k l. h .all k l blank))
+      ap countedCarriers (cut-is ss ts fs (e .count) (h .signals-long) few (λ k. getD (e .carriers) k blank) (λ k l. h .all k l blank))
       ∙ places-all (λ k. getD (e .carriers) k blank) (e .count)
       ∙ places-take (e .carriers) blank (e .count) (omega (arith, few, long))

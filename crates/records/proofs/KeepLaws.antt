@@ -9,7 +9,7 @@ use native.Mathlib.Numerals.{add-one}
 use native.Mathlib.Omega.{arith}
 use lib.ListN.{length, take, set, getD, length-set}
 use lib.Seq.{take-suc, take-suc-set, getD-set-same, getD-set-other}
-use Rattle.walk.specs.Walk.{every, collect}
+use Rattle.lists.specs.Walk.{every, collect}
 use Rattle.records.specs.Record.{keep}
 
 module _ {A : Type 0} (test : A → Bool) where

@@ -4,12 +4,13 @@ use mathlib.Core.List.{List, []}
 use mathlib.Core.Bool.{Bool, true, false, cond, _&&_}
 use Prim.Native.Nat.{ℕ}
 use native.Mathlib.Omega.{arith}
-use Rattle.walk.specs.Walk.{collect}
-use Rattle.walk.proofs.Walk.{and-both}
+use Rattle.lists.specs.Walk.{collect}
+use Rattle.lists.proofs.Walk.{and-both}
 use lib.Ieee.{Float, nan, le}
 use Rattle.numeric.specs.declared.vec3.Vec3.{Vec3}
 use Rattle.records.specs.Record.{usable}
-use Rattle.records.specs.City.{certified, certifiedOf, lookedAt, looked}
+use Rattle.records.specs.City.{certified, certifiedOf, looked}
+use Rattle.records.specs.Steps.{lookedAt}
 use Rattle.records.specs.Pair.{firstPair, pairAt, pairsOf}
 use Rattle.records.specs.declared.record.Carrier.{Carrier}
 use Rattle.records.specs.declared.pair.Pair.{Pair}

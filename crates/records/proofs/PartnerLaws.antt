@@ -11,8 +11,8 @@ use borrow.Author.Tests.{lt-ltb, le-ltb}
 use Rattle.numeric.specs.declared.vec3.Vec3.{Vec3}
 use Rattle.records.specs.Record.{usable}
 use Rattle.records.specs.Signals.{carrierWith, carrierIn, carriersIn}
-use Rattle.records.specs.City.{lookedAt}
-use Rattle.records.specs.Pair.{pairOf, firstPair, Finds}
+use Rattle.records.specs.Steps.{lookedAt, Finds}
+use Rattle.records.specs.Pair.{pairOf, firstPair}
 use Rattle.records.specs.declared.record.Carrier.{Carrier}
 use Rattle.records.specs.declared.pair.Profile.{Profile}
 use Rattle.records.proofs.PairLaws.{givenBy, pair-tried}

@@ -12,7 +12,8 @@ use lib.Ieee.{Float, nan}
 use borrow.Author.Tests.{eqb-true, eqb-false}
 use Rattle.signal.specs.Signal.{signal}
 use Rattle.signal.proofs.SignalLaws.{constellation-is, svid-is, band-is, signal-small}
-use Rattle.records.specs.Signals.{carrierWith, carrierIn, Put, Laid}
+use Rattle.records.specs.Signals.{carrierWith, carrierIn}
+use Rattle.records.specs.Steps.{Put, Laid}
 use Rattle.records.specs.declared.record.Carrier.{Carrier}
 
 -- six floats of a carrier, stored one after the other from place a on

@@ -7,8 +7,8 @@ use native.Mathlib.Omega.{arith}
 use lib.ListN.{length, take, set, getD, length-map, length-take}
 use lib.Ieee.{Float}
 use Rattle.exact.specs.Float.{bits}
-use Rattle.walk.specs.Walk.{collect}
-use Rattle.walk.proofs.Walk.{Collecting, Collected, collecting-start, collecting-none, collecting-one, collecting-end}
+use Rattle.lists.specs.Walk.{collect}
+use Rattle.lists.proofs.Walk.{Collecting, Collected, collecting-start, collecting-none, collecting-one, collecting-end}
 use Rattle.median.specs.Sorted.{medianOf}
 use Rattle.median.specs.Centre.{centreOf}
 use Rattle.median.proofs.MedianSigns.{median-few}

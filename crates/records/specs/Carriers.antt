@@ -6,7 +6,7 @@ use lib.Dec.{leb}
 use lib.ListN.{getD, length}
 use lib.IntN.{ℤ, pos}
 use lib.Ieee.{Float, nan}
-use Rattle.walk.specs.Walk.{places}
+use Rattle.lists.specs.Walk.{places}
 use Rattle.numeric.specs.Vec3.{vectorAt}
 use Rattle.records.specs.declared.record.Carrier.{Carrier}
 use Rattle.records.specs.declared.record.Epoch.{Epoch}

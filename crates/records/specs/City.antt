@@ -3,7 +3,7 @@ use Prim.Native.Nat.{ℕ}
 use mathlib.Core.Bool.{Bool, true, false, _&&_, _||_}
 use mathlib.Core.List.{List}
 use lib.Dec.{eqb}
-use Rattle.walk.specs.Walk.{collect}
+use Rattle.lists.specs.Walk.{collect}
 use Rattle.records.specs.Record.{keep}
 use Rattle.records.specs.declared.record.Carrier.{Carrier}
 use Rattle.records.specs.declared.pair.Profile.{Profile}
@@ -21,11 +21,6 @@ certifiedOf band cs = collect (keep (certified band)) cs
 abbrev pub isCity : Profile → Bool
 isCity General = false
 isCity (City band) = true
-
--- whether the profile has the carrier looked at
-abbrev pub lookedAt : Profile → Carrier → Bool
-lookedAt General c = true
-lookedAt (City band) c = certified band c
 
 -- the carriers that a displacement looks at: all, or in the city profile those
 abbrev pub looked : Profile → List Carrier → List Carrier

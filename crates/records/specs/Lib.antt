@@ -6,3 +6,4 @@ pub mod Mask
 pub mod Kept
 pub mod Carriers
 pub mod Signals
+pub mod Steps

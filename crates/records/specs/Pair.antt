@@ -2,17 +2,12 @@
 use mathlib.Core.Path.{_≡_}
 use mathlib.Core.Bool.{Bool, not, cond, _&&_}
 use mathlib.Core.List.{List, [], _∷_}
-use Prim.Native.Nat.{ℕ}
-use lib.Dec.{ltb}
-use lib.ListN.{length}
-use lib.IntN.{ℤ}
 use lib.Ieee.{Float, le}
 use Rattle.exact.specs.Float.{_⊕_, _⊖_, _⊗_, bits}
-use Rattle.walk.specs.Walk.{every, first, collect, Holds}
+use Rattle.lists.specs.Walk.{every, first, collect, Holds}
 use Rattle.numeric.specs.Sight.{sightOf, onReceiver}
 use Rattle.numeric.specs.declared.vec3.Vec3.{Vec3}
 use Rattle.records.specs.Record.{usable, same}
-use Rattle.records.specs.Signals.{carrierWith, carrierIn, carriersIn}
 use Rattle.records.specs.declared.record.Carrier.{Carrier}
 use Rattle.records.specs.declared.pair.Pair.{Pair}
 use Rattle.records.specs.declared.pair.Pairs.{Pairs}
@@ -53,12 +48,6 @@ pairsOf receiver mask dt previous current = collect (pairAt receiver mask dt pre
 -- 15 lets a pair pass: neither of its ranges is zero or not finite
 unfoldable pub seen : Pair → Bool
 seen q = not (onReceiver (q .range)) && not (onReceiver (q .«previous_range»))
-
--- r is where the first previous carrier stands that is usable and of the signal g, or past the last
-pub record Finds (g : ℕ) (ss : List ℕ) (ts : List ℤ) (fs : List Float) (r : ℕ) : Type 0 where
-  pub found :
-      (receiver : Vec3) (dt : Float) (state : ℤ) (gs : List Float) (i : ℕ) →
-      firstPair receiver dt (carriersIn ss ts fs) (carrierWith g state gs i) ≡ cond (ltb r (length ss)) (pairOf receiver dt (carrierWith g state gs i) (carrierIn ss ts fs r) ∷ []) []
 
 -- what the code has of the pairs ps: they are the first of its array, and whether 15 lets each pass
 pub record Paired (r : Pairs) (ps : List Pair) : Type 0 where

@@ -1,4 +1,4 @@
--- Which records a call takes, and which carriers a displacement can use (docs/SCOPE.md, "Why a call turns back", 4, and "Displacement"). Definitions only.
+-- Which records a call takes (docs/REFUSALS.md, 4) and which carriers a displacement can use (docs/SCOPE.md, "Displacement"). Definitions only.
 use Prim.Native.Nat.{ℕ, suc, _-_, _/_, _%_, _^_}
 use mathlib.Core.Bool.{Bool, not, cond, _&&_, _||_}
 use mathlib.Core.List.{List, [], _∷_}
@@ -16,8 +16,8 @@ use Rattle.records.specs.declared.record.Observation.{Observation}
 use Rattle.records.specs.declared.record.Observations.{Observations}
 
 -- the counted records of an epoch
-abbrev pub counted : Epoch → List Carrier
-counted e = take (e .count) (e .carriers)
+abbrev pub countedCarriers : Epoch → List Carrier
+countedCarriers e = take (e .count) (e .carriers)
 
 abbrev pub countedObservations : Observations → List Observation
 countedObservations o = take (o .count) (o .observation)

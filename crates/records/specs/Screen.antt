@@ -4,7 +4,7 @@ use mathlib.Core.Bool.{Bool}
 use mathlib.Core.List.{List, map}
 use lib.Ieee.{Float, lt}
 use Rattle.exact.specs.Float.{_⊖_}
-use Rattle.walk.specs.Walk.{collect}
+use Rattle.lists.specs.Walk.{collect}
 use Rattle.numeric.specs.Order.{patternOf}
 use Rattle.numeric.specs.Real.{abs}
 use Rattle.median.specs.Centre.{centreOf}

@@ -1,13 +1,12 @@
 -- The carriers of an epoch as signals, states and floats, place by place. Definitions only.
-use mathlib.Core.Path.{_≡_}
 use Prim.Native.Nat.{ℕ, _+_, _*_, _^_, _<_, _≤_}
 use mathlib.Core.List.{List}
 use lib.ListN.{getD, length}
 use lib.IntN.{ℤ, pos}
 use lib.Ieee.{Float, nan}
-use Rattle.walk.specs.Walk.{places}
+use Rattle.lists.specs.Walk.{places}
 use Rattle.numeric.specs.Vec3.{vectorAt}
-use Rattle.signal.specs.Signal.{signal, constellationIn, svidIn, bandIn}
+use Rattle.signal.specs.Signal.{constellationIn, svidIn, bandIn}
 use Rattle.records.specs.declared.record.Carrier.{Carrier}
 use Rattle.records.specs.declared.record.Epoch.{Epoch}
 
@@ -36,31 +35,8 @@ abbrev pub epochIn : List ℕ → List ℤ → List Float → Epoch
 epochIn ss ts fs = record { count = length ss; carriers = carriersIn ss ts fs }
 
 -- there are at most 64 signals, each of them one, and for each a state and six floats
-pub record Fit (ss : List ℕ) (ts : List ℤ) (fs : List Float) : Type 0 where
+pub record SignalsFit (ss : List ℕ) (ts : List ℤ) (fs : List Float) : Type 0 where
   pub few : length ss ≤ 64
   pub states : length ss ≤ length ts
   pub floats : 6 * length ss ≤ length fs
   pub signals : (i : ℕ) → i < length ss → getD ss i 0 < 2 ^ 56
-
--- the first n of 64 signals are those of the columns
-pub record Signalled (cs vs bs : List ℕ) (n : ℕ) (ss : List ℕ) : Type 0 where
-  pub long : length ss ≡ 64
-  pub all : (i : ℕ) → i < n → getD ss i 0 ≡ signal (getD cs i 0) (getD vs i 0) (getD bs i 0)
-
--- place i holds the carrier c, and those before it hold what they held
-pub record Put (c : Carrier) (i : ℕ) (ss : List ℕ) (ts : List ℤ) (fs : List Float) (ss' : List ℕ) (ts' : List ℤ) (fs' : List Float) : Type 0 where
-  pub signals-long : length ss' ≡ length ss
-  pub states-long : length ts' ≡ length ts
-  pub floats-long : length fs' ≡ length fs
-  pub signal-small : getD ss' i 0 < 2 ^ 56
-  pub here : carrierIn ss' ts' fs' i ≡ c
-  pub signals-below : (k : ℕ) → k < i → getD ss' k 0 ≡ getD ss k 0
-  pub below : (k : ℕ) → k < i → carrierIn ss' ts' fs' k ≡ carrierIn ss ts fs k
-
--- 64 signals and states and their floats, of which the first n are those of xs
-pub record Laid (xs : List Carrier) (n : ℕ) (ss : List ℕ) (ts : List ℤ) (fs : List Float) : Type 0 where
-  pub signals-long : length ss ≡ 64
-  pub states-long : length ts ≡ 64
-  pub floats-long : length fs ≡ 384
-  pub small : (i : ℕ) → i < n → getD ss i 0 < 2 ^ 56
-  pub all : (i : ℕ) → i < n → (d : Carrier) → carrierIn ss ts fs i ≡ getD xs i d

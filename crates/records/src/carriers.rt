@@ -2,9 +2,10 @@
 ghost use mathlib.Core.Path.{_≡_};
 ghost use Prim.Native.Nat.{_+_, _*_, _^_, _<_, _≤_};
 ghost use lib.ListN.{getD, length};
-ghost use Rattle.walk.specs.Walk.{every};
+ghost use Rattle.lists.specs.Walk.{every};
 ghost use Rattle.records.specs.Record.{soundCarrier};
 ghost use Rattle.records.specs.Signals as spec;
+ghost use Rattle.records.specs.Steps.{Signalled, Put, Laid};
 use crate::record::Carrier;
 use crate::record::Epoch;
 use crate::record::is_sound;
@@ -23,7 +24,7 @@ pub fn signals_into(
     signals: &mut [u64; 64],
 )
     requires { ⌜ (n ≤ 64) × (n ≤ length (now constellation)) × (n ≤ length (now svid)) × (n ≤ length (now band)) × (length (now signals) ≡ 64) ⌝ }
-    ensures { λ _. ⌜ spec.Signalled (now (constellation .entry)) (now (svid .entry)) (now (band .entry)) n (now (signals .exit)) ⌝ }
+    ensures { λ _. ⌜ Signalled (now (constellation .entry)) (now (svid .entry)) (now (band .entry)) n (now (signals .exit)) ⌝ }
 {
     let mut i: usize = 0;
     while i < n {
@@ -58,7 +59,7 @@ pub(crate) fn carrier_in(signals: &[u64], states: &[i32], floats: &[f64], i: usi
 
 // Whether rule 4 lets each of the carriers pass.
 pub fn sound_in(signals: &[u64], states: &[i32], floats: &[f64]) -> bool
-    requires { ⌜ spec.Fit (now signals) (now states) (now floats) ⌝ }
+    requires { ⌜ spec.SignalsFit (now signals) (now states) (now floats) ⌝ }
     ensures { λ r. ⌜ r ≡ every soundCarrier (spec.carriersIn (now (signals .entry)) (now (states .entry)) (now (floats .entry))) ⌝ }
 {
     let n = signals.len();
@@ -82,7 +83,7 @@ pub fn put_carrier(
     floats: &mut [f64; 384],
 )
     requires { ⌜ (i < 64) × (length (now signals) ≡ 64) × (length (now states) ≡ 64) × (length (now floats) ≡ 384) ⌝ }
-    ensures { λ _. ⌜ spec.Put c i (now (signals .entry)) (now (states .entry)) (now (floats .entry))
+    ensures { λ _. ⌜ Put c i (now (signals .entry)) (now (states .entry)) (now (floats .entry))
         (now (signals .exit)) (now (states .exit)) (now (floats .exit)) ⌝ }
 {
     let v = c.satellite;
@@ -106,7 +107,7 @@ pub fn epoch_into(
     floats: &mut [f64; 384],
 )
     requires { ⌜ (e .count ≤ 64) × (length (now signals) ≡ 64) × (length (now states) ≡ 64) × (length (now floats) ≡ 384) ⌝ }
-    ensures { λ _. ⌜ spec.Laid (e .carriers) (e .count) (now (signals .exit)) (now (states .exit)) (now (floats .exit)) ⌝ }
+    ensures { λ _. ⌜ Laid (e .carriers) (e .count) (now (signals .exit)) (now (states .exit)) (now (floats .exit)) ⌝ }
 {
     let n = e.count;
     let mut i: usize = 0;

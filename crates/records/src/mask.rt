@@ -1,7 +1,7 @@
 // The observations at or above the mask, and their clocks.
 ghost use mathlib.Core.Path.{_≡_};
 ghost use Prim.Native.Nat.{_≤_};
-ghost use Rattle.walk.specs.Walk.{Holds};
+ghost use Rattle.lists.specs.Walk.{Holds};
 ghost use Rattle.clocks.specs.Clocks.{clocksOf};
 ghost use Rattle.records.specs.Record.{countedObservations};
 ghost use Rattle.records.specs.Mask as spec;

@@ -6,8 +6,9 @@ ghost use lib.Dec.{eqb};
 ghost use lib.ListN.{getD, length};
 ghost use lib.Ieee.{le};
 ghost use Rattle.records.specs.Record.{usable};
-ghost use Rattle.records.specs.Signals.{carrierIn, carriersIn, Fit};
-ghost use Rattle.records.specs.City.{lookedAt, looked};
+ghost use Rattle.records.specs.Signals.{carrierIn, carriersIn, SignalsFit};
+ghost use Rattle.records.specs.City.{looked};
+ghost use Rattle.records.specs.Steps.{lookedAt, Finds};
 ghost use Rattle.records.specs.Pair as spec;
 use crate::carriers::carrier_in;
 use crate::record::Carrier;
@@ -29,7 +30,7 @@ pub struct Pair {
 }
 
 // The first `count` of the pairs count, and `seen` is whether rule 15 lets each of them pass: where a caller asks that of the array, the compiler copies it.
-// It stands behind the array, as one before it is a copy more too.
+// It comes after the array; before the array it would cost a copy.
 pub struct Pairs {
     pub count: usize,
     pub pair: [Pair; 64],
@@ -80,7 +81,7 @@ pub fn is_looked_at(c: Carrier, profile: Profile) -> bool
     }
 }
 
-// Whether the current carrier c is looked at: usable, at or above the mask, and of the profile.
+// Checks whether the current carrier c is considered: usable, at or above the mask, and of the profile.
 pub fn is_wanted(c: Carrier, mask: f64, profile: Profile) -> bool
     ensures { λ r. ⌜ r ≡ ((usable c && le mask (c .elevation)) && lookedAt profile c) ⌝ }
 {
@@ -102,8 +103,8 @@ fn is_partner(signal: u64, signals: &[u64], states: &[i32], floats: &[f64], j: u
 
 // Where the first of them stands, or past the last.
 fn partner_in(signal: u64, signals: &[u64], states: &[i32], floats: &[f64]) -> usize
-    requires { ⌜ Fit (now signals) (now states) (now floats) ⌝ }
-    ensures { λ r. ⌜ spec.Finds signal (now (signals .entry)) (now (states .entry)) (now (floats .entry)) r ⌝ }
+    requires { ⌜ SignalsFit (now signals) (now states) (now floats) ⌝ }
+    ensures { λ r. ⌜ Finds signal (now (signals .entry)) (now (states .entry)) (now (floats .entry)) r ⌝ }
 {
     let n = signals.len();
     let mut j: usize = 0;
@@ -160,8 +161,8 @@ pub fn pairs_in(
     dt: f64,
     profile: Profile,
 ) -> Pairs
-    requires { ⌜ Fit (now «previous_signals») (now «previous_states») (now «previous_floats») ⌝ }
-    requires { ⌜ Fit (now «current_signals») (now «current_states») (now «current_floats») ⌝ }
+    requires { ⌜ SignalsFit (now «previous_signals») (now «previous_states») (now «previous_floats») ⌝ }
+    requires { ⌜ SignalsFit (now «current_signals») (now «current_states») (now «current_floats») ⌝ }
     ensures { λ r. ⌜ spec.Paired r (spec.pairsOf receiver mask dt
         (carriersIn (now («previous_signals» .entry)) (now («previous_states» .entry)) (now («previous_floats» .entry)))
         (looked profile (carriersIn (now («current_signals» .entry)) (now («current_states» .entry)) (now («current_floats» .entry))))) ⌝ }

@@ -10,14 +10,14 @@ use lib.Ieee.Bits.{is-true}
 use lib.Ieee.Scale.{finite}
 use Rattle.exact.specs.Float.{_⊕_, _⊗_, +0, bits}
 use Rattle.exact.proofs.Ops.{add-finite, mul-finite}
-use Rattle.walk.specs.Walk.{every}
+use Rattle.lists.specs.Walk.{every}
 use Rattle.cholesky.specs.Factor.{at, Factored, Refused, Lower, factorOf}
 use Rattle.median.specs.Centre.{centreAndScaleOf}
-use Rattle.normal.specs.Weight.{weight}
-use Rattle.normal.specs.Equations.{wide, total, sideOf, matrixOf, rightOf}
+use Rattle.normal_equations.specs.Weight.{weight}
+use Rattle.normal_equations.specs.Equations.{wide, total, sideOf, matrixOf, rightOf}
 use Rattle.robust.specs.Round.{Round, Solved, made, solved, roundBy, roundOf, FiniteResiduals}
-use Rattle.normal.specs.declared.row.Row.{Row}
-use Rattle.normal.proofs.NineLaws.{nine-at}
+use Rattle.normal_equations.specs.declared.row.Row.{Row}
+use Rattle.normal_equations.proofs.NineLaws.{nine-at}
 use Rattle.robust.proofs.RoundSound.{round-sound, round-rows}
 
 -- where a sum is finite so is each of its terms, and what each term tells

@@ -12,14 +12,13 @@ use lib.Ieee.Bits.{ofBits-fits}
 use lib.Ieee.Scale.{finite}
 use Rattle.exact.specs.Float.{_⊕_, +0, 1·0}
 use Rattle.cholesky.specs.Factor.{at, Factored, Refused, Lower, factorOf}
-use Rattle.cholesky.specs.Sound.{Held}
-use Rattle.cholesky.proofs.SoundSystem.{sound}
+use Rattle.cholesky.proofs.SoundSystem.{Held, sound}
 use Rattle.median.specs.Centre.{centreAndScaleOf}
-use Rattle.normal.specs.Weight.{weight}
-use Rattle.normal.specs.Equations.{total, cellOf, sideOf, triangleOf, matrixOf, rightOf}
+use Rattle.normal_equations.specs.Weight.{weight}
+use Rattle.normal_equations.specs.Equations.{total, cellOf, sideOf, triangleOf, matrixOf, rightOf}
 use Rattle.robust.specs.Round.{Round, Solved, made, solved, roundBy, roundOf, SoundRound}
-use Rattle.normal.specs.declared.row.Row.{Row}
-use Rattle.normal.proofs.NineLaws.{nine-at, nine-length, cell-at}
+use Rattle.normal_equations.specs.declared.row.Row.{Row}
+use Rattle.normal_equations.proofs.NineLaws.{nine-at, nine-length, cell-at}
 
 -- ---- what a round forms are sums, or 0 or 1: each is a binary64
 zero-fits : T (fits binary64 +0)

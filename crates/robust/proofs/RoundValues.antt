@@ -10,18 +10,18 @@ use Rattle.root.specs.Root.{rootOf}
 use Rattle.numeric.specs.Real.{abs, max}
 use Rattle.exact.specs.Pattern.{sign}
 use Rattle.numeric.specs.Order.{totalOrder, patternOf}
-use Rattle.cholesky.specs.Factor.{zeros, isPivot, withElement, below, pivotOf, rowOf, next, factorTo, factorOf, withForward, forwardTo, withBack, backTo, solutionOf}
+use Rattle.cholesky.specs.Factor.{zeros, isPivot, withElement, below, pivotOf, rowOf, nextRow, factorTo, factorOf, withForward, forwardTo, withBack, backTo, solutionOf}
 use Rattle.numeric.specs.declared.refusal.Refusal.the-variants.{TooMany, RecordOutOfRange}
 use Rattle.median.specs.Sorted.{insertBy, sortedBy, medianOf}
 use Rattle.median.specs.Centre.{centreOf, deviationOf, scaleOf, centreAndScaleOf}
-use Rattle.walk.specs.Walk.{every}
-use Rattle.normal.specs.Nine.{from, nine}
-use Rattle.normal.specs.Weight.{damping, weight}
-use Rattle.normal.specs.Equations.{wide, total, cellOf, sideOf, triangleOf, matrixOf, rightOf}
+use Rattle.lists.specs.Walk.{every}
+use Rattle.normal_equations.specs.Nine.{from, nine}
+use Rattle.normal_equations.specs.Weight.{damping, weight}
+use Rattle.normal_equations.specs.Equations.{wide, total, cellOf, sideOf, triangleOf, matrixOf, rightOf}
 use Rattle.robust.specs.Round.{roundBy, roundOf}
-use Rattle.robust.specs.Step.{indexed, firstOf, refused, stepOf}
-use Rattle.normal.specs.declared.row.Row.{Row}
-use Rattle.normal.specs.declared.row.Rows.{Rows}
+use Rattle.robust.specs.Step.{indexed, paddedStep, refused, stepOf}
+use Rattle.normal_equations.specs.declared.row.Row.{Row}
+use Rattle.normal_equations.specs.declared.row.Rows.{Rows}
 use Rattle.robust.specs.declared.round.Stepping.the-variants.{Done}
 
 -- ---- the round called by itself
@@ -50,5 +50,5 @@ abbrev seen : ℕ → Row
 seen residual = record { unit = record { x = 1·0; y = +0; z = +0 }; clock = 3; residual = residual; sigma = 1·0 }
 
 pub one-unknown : stepOf (record { count = 2; row = seen 0x4000_0000_0000_0000 ∷ seen 0x4010_0000_0000_0000 ∷ [] }) 1 1·0 zeros ≡ record { answer = Done; dx = bits 0x4007_FFFF_FFFF_FFFF ∷ replicate 8 +0 }
-unfolding stepOf every indexed roundOf roundBy weight damping centreAndScaleOf centreOf medianOf scaleOf deviationOf sortedBy insertBy totalOrder sign patternOf abs eq le max isNan lt matrixOf triangleOf nine from cellOf total wide rightOf sideOf factorOf factorTo next rowOf below withElement pivotOf lessProducts isPivot rootOf solutionOf backTo withBack forwardTo withForward firstOf add sub mul div ofInt ofBits toBits
+unfolding stepOf every indexed roundOf roundBy weight damping centreAndScaleOf centreOf medianOf scaleOf deviationOf sortedBy insertBy totalOrder sign patternOf abs eq le max isNan lt matrixOf triangleOf nine from cellOf total wide rightOf sideOf factorOf factorTo nextRow rowOf below withElement pivotOf lessProducts isPivot rootOf solutionOf backTo withBack forwardTo withForward paddedStep add sub mul div ofInt ofBits toBits
 one-unknown = refl

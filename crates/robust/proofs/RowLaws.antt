@@ -12,8 +12,8 @@ use lib.Seq.{getD-set-same, getD-set-other}
 use lib.Ieee.{Float, nan, div, ofInt, ofBits}
 use Rattle.exact.specs.Float.{+0, bits, whole, decimal}
 use Rattle.cholesky.specs.Factor.{at}
-use Rattle.robust.specs.Step.{firstOf}
-use Rattle.normal.proofs.NineLaws.{nine-is}
+use Rattle.robust.specs.Step.{paddedStep}
+use Rattle.normal_equations.proofs.NineLaws.{nine-is}
 
 pub three : bits 0x4008_0000_0000_0000 ≡ whole 3
 unfolding ofInt ofBits
@@ -40,8 +40,8 @@ cutting-next n step i x h ib m = record { long = length-set x i +0 ∙ m .long; 
     go p l u (yes e) = rw e (getD-set-same x i +0 nan (omega (arith, m .long)))
     go p l u (no e) = getD-set-other x i p +0 nan e ∙ m .cut p l (omega arith)
 
-pub cutting-end : (n : ℕ) (step : List Float) (i : ℕ) (x : List Float) → 9 ≤ i → Cutting n step i x → x ≡ firstOf n step
-unfolding firstOf
+pub cutting-end : (n : ℕ) (step : List Float) (i : ℕ) (x : List Float) → 9 ≤ i → Cutting n step i x → x ≡ paddedStep n step
+unfolding paddedStep
 cutting-end n step i x h m = nine-is (λ i. cond (ltb i n) (at step i) +0) nan x (m .long) (λ p pb. go p pb (decLt p n))
   where
     go : (p : ℕ) → p < 9 → Dec (p < n) → at x p ≡ cond (ltb p n) (at step p) +0

@@ -9,10 +9,10 @@ use Rattle.numeric.specs.declared.refusal.Refusal.the-variants.{FitFailed}
 use Rattle.cholesky.specs.Factor.{Factored, Refused, Lower, factorOf, solutionOf}
 use Rattle.cholesky.specs.Answer.{rowsAfter}
 use Rattle.cholesky.specs.Answer as factor
-use Rattle.normal.specs.Formed.{Formed}
-use Rattle.normal.specs.declared.row.Row.{Row}
+use Rattle.normal_equations.specs.Steps.{Formed}
+use Rattle.normal_equations.specs.declared.row.Row.{Row}
 use Rattle.robust.specs.Round.{solved, roundBy}
-use Rattle.robust.specs.Solving.{Solving}
+use Rattle.robust.specs.Steps.{Solving}
 use Rattle.robust.specs.declared.round.Stepping.the-variants as Stepping
 
 module _ (w : Row → Float) (rows : List Row) (n : ℕ) (a : List (List Float)) (b x : List Float) (ok : Bool) (f : Formed w rows n a b) (ok-is : ok ≡ factor.accepted (factorOf a)) where

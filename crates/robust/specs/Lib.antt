@@ -1,4 +1,4 @@
 pub mod Round
 pub mod Step
-pub mod Solving
+pub mod Steps
 pub mod Sigma

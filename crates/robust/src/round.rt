@@ -1,29 +1,38 @@
 // One round of the robust least squares.
 ghost use mathlib.Core.Path.{_≡_};
-ghost use mathlib.Core.Bool.{true};
-ghost use mathlib.Core.List.{map};
 ghost use Prim.Native.Nat.{_≤_, _<_};
-ghost use lib.ListN.{take, length};
-ghost use Rattle.walk.specs.Walk.{every};
+ghost use lib.ListN.{length};
 ghost use Rattle.robust.specs.Round as spec;
-ghost use Rattle.robust.specs.Solving.{Solving};
-ghost use Rattle.normal.specs.Columns.{columns, rowsIn};
-ghost use Rattle.robust.specs.Step.{counted, indexed, firstOf, stepOf};
+ghost use Rattle.robust.specs.Steps.{Solving};
+ghost use Rattle.normal_equations.specs.Steps.{columns, rowsIn};
+ghost use Rattle.robust.specs.Step.{paddedStep, steppingNumber, stepOf, StepPromised};
 use cholesky::factor::factor_used;
 use cholesky::factor::solve_used;
 use median::centre::Centre;
 use median::centre::centre_scale;
-use normal::equations::normal;
-use normal::row::Rows;
+use normal_equations::equations::normal;
+use normal_equations::row::Rows;
 use numeric::refusal::Refusal;
 
-// What a round answers; the step itself stands in the lent dx.
+// The answer of a round; the step itself is written to the lent dx.
 pub enum Stepping {
     Refused(Refusal),
     Done,
 }
 
-// How many unknowns a system is factored by: those that are used, and one where none is.
+impl Stepping {
+    // Returns the number of the answer: 0, or the refusal's.
+    pub fn number(self) -> u8
+        ensures { λ r. ⌜ r ≡ steppingNumber self ⌝ }
+    {
+        match self {
+            Stepping::Refused(r) => r.number(),
+            Stepping::Done => 0,
+        }
+    }
+}
+
+// Returns how many unknowns are factored: those that are used, and one where none is.
 fn used_of(n: usize) -> usize
     requires { ⌜ n ≤ 9 ⌝ }
     ensures { λ r. ⌜ (0 < r) × (r ≤ 9) × (n ≤ r) ⌝ }
@@ -34,7 +43,7 @@ fn used_of(n: usize) -> usize
     n
 }
 
-// The round of the columns' rows: its step in dx, or dx as it was where it is refused.
+// Runs one round over the rows of the columns. Returns `Done` and writes the step to dx; on refusal, leaves dx unchanged.
 pub fn round_step(
     x: &[f64; 64],
     y: &[f64; 64],
@@ -47,7 +56,8 @@ pub fn round_step(
     dx: &mut [f64; 9],
 ) -> Stepping
     requires { ⌜ (length (now residual) ≤ 64) × (n ≤ 9) ⌝ }
-    ensures { λ r. ⌜ Solving (spec.roundOf (rowsIn (columns (now (x .entry)) (now (y .entry)) (now (z .entry)) (now (clock .entry)) (now (sigma .entry)) (now (residual .entry)))) n huber) r (now (dx .entry)) (now (dx .exit)) ⌝ }
+    ensures { λ r. ⌜ (let rows = columns (now (x .entry)) (now (y .entry)) (now (z .entry)) (now (clock .entry)) (now (sigma .entry)) (now (residual .entry)) in
+        Solving (spec.roundOf (rowsIn rows) n huber) r (now (dx .entry)) (now (dx .exit))) ⌝ }
 {
     let Centre::Of(c) = centre_scale(residual) else {
         return Stepping::Refused(Refusal::TooMany);
@@ -66,10 +76,10 @@ pub fn round_step(
     }
 }
 
-// The first n elements of the step, and zeros beyond them.
+// Returns the first n elements of the step, and zeros beyond them.
 fn first_of(n: usize, step: [f64; 9]) -> [f64; 9]
     requires { ⌜ n ≤ 9 ⌝ }
-    ensures { λ r. ⌜ r ≡ firstOf n step ⌝ }
+    ensures { λ r. ⌜ r ≡ paddedStep n step ⌝ }
 {
     let mut x = step;
     for i in n..9 {
@@ -78,14 +88,14 @@ fn first_of(n: usize, step: [f64; 9]) -> [f64; 9]
     x
 }
 
-// One round called by itself: the step of the rows in dx, zeros beyond the unknowns. Refused by 2, 4 and 10, which leave dx as it was.
-pub fn step(rows: Rows, unknowns: usize, huber: f64, dx: &mut [f64; 9]) -> Stepping
-    ensures { λ r. ⌜ (r ≡ stepOf rows unknowns huber (now (dx .entry)) .answer) × (now (dx .exit) ≡ stepOf rows unknowns huber (now (dx .entry)) .dx) ⌝ }
+// Runs one round by itself. Returns `Done` and writes the step to dx, zeros beyond the unknowns; refused by 2, 4 or 10, leaves dx unchanged.
+pub fn step(rows: Rows, n: usize, huber: f64, dx: &mut [f64; 9]) -> Stepping
+    ensures { λ r. ⌜ StepPromised (stepOf rows n huber (now (dx .entry))) r (now (dx .exit)) ⌝ }
 {
     if rows.count > 64 {
         return Stepping::Refused(Refusal::TooMany);
     }
-    if unknowns > 9 {
+    if n > 9 {
         return Stepping::Refused(Refusal::RecordOutOfRange);
     }
     let count = rows.count;
@@ -108,20 +118,21 @@ pub fn step(rows: Rows, unknowns: usize, huber: f64, dx: &mut [f64; 9]) -> Stepp
         residual[k] = r.residual;
     }
     let mut t = [0.0; 9];
-    if let Stepping::Refused(r) = round_step(
+    let made = round_step(
         &x,
         &y,
         &z,
         &clock,
         &sigma,
         &residual[..count],
-        unknowns,
+        n,
         huber,
         &mut t,
-    ) {
+    );
+    if let Stepping::Refused(r) = made {
         return Stepping::Refused(r);
     }
-    let s = first_of(unknowns, t);
+    let s = first_of(n, t);
     *dx = s;
     Stepping::Done
 }

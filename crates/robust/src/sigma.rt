@@ -5,7 +5,7 @@ use numeric::real::elevation_sine;
 use numeric::real::max;
 use numeric::real::radians;
 
-// a + b / sin(elevation), the elevation in degrees, at least 3.
+// Returns a + b / sin(elevation), with the elevation in degrees, at least 3.
 pub fn elevation_sigma(elevation: f64, a: f64, b: f64) -> f64
     ensures { λ r. ⌜ r ≡ elevationSigma elevation a b ⌝ }
 {

@@ -8,7 +8,7 @@ use lib.Pow.{pow-add, pow-pos, pow-mono}
 use lib.Count.{leadingZeros, leading-top}
 use lib.Ieee.{Float, binary64, odd, ofBits}
 use lib.Ieee.Exact.{HasValue, odd-sign}
-use Rattle.root.specs.Digits.{IsParts}
+use Rattle.root.specs.Steps.{IsParts}
 use Rattle.root.proofs.Reading.{read-normal, subnormal-value}
 
 normal-same : (m e : ℕ) → 0 < e → m * 2 ^ (e - 1) * 2 ^ 52 ≡ m * 2 ^ (e + 51)

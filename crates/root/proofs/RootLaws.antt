@@ -15,7 +15,8 @@ use lib.Dec.{T, leb, leb→le, nleb→lt}
 use native.Mathlib.Decide.{decLe, decLt}
 use lib.Pow.{pow-add, pow-pos, pow-mono, shl-lt}
 use Rattle.root.specs.Root.{NearestWhole, IsPositiveRoot, rootOf}
-use Rattle.root.specs.Digits.{IsParts, isqrt, nearestRoot, rootParts, rootUnits}
+use Rattle.root.specs.Digits.{isqrt, nearestRoot, rootParts, rootUnits}
+use Rattle.root.specs.Steps.{IsParts}
 use Rattle.root.proofs.Squares.{double, square-next, up-square, nearest-same, nearest-next}
 
 -- ---- the whole part of a root

@@ -13,7 +13,7 @@ use lib.Ieee.Fits.{down-pos}
 use lib.Ieee.Exact.{HasValue}
 use lib.Ieee.Bits.{ofBits-toBits}
 use Rattle.root.specs.Root.{NearestWhole, IsPositiveRoot, IsRoot, rootOf}
-use Rattle.root.specs.Digits.{IsParts}
+use Rattle.root.specs.Steps.{IsParts}
 use Rattle.root.proofs.Reading.{rescale, value-unique, read-nan, read-signed}
 use Rattle.root.proofs.RootLaws.{nearest-unique, rootOf-positive, r-scaled}
 use Rattle.root.proofs.Parts.{normal-parts, leading}

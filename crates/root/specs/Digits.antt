@@ -1,10 +1,8 @@
 -- The digits of a root, one after the other, and what the proofs of `sqrt` say of the parts of a float. Root.antt says what a root is. Definitions only.
-use mathlib.Core.Path.{_≡_}
-use Prim.Native.Nat.{ℕ, zero, suc, _+_, _-_, _*_, _/_, _%_, _^_, _≤_, _<_}
+use Prim.Native.Nat.{ℕ, zero, suc, _+_, _-_, _*_, _/_, _%_, _^_}
 use mathlib.Core.Bool.{false, cond}
 use lib.Dec.{leb}
 use lib.Ieee.{Float, size, odd}
-use lib.Ieee.Exact.{HasValue}
 
 -- the whole part of √n for an n below 4 ^ b, digit by digit
 unfoldable pub isqrt : ℕ → ℕ → ℕ
@@ -26,12 +24,3 @@ rootParts m y =
 unfoldable pub rootUnits : ℕ → Float
 unfolding rootParts size
 rootUnits a = let y = size a - 1 in rootParts (a * 2 ^ 52 / 2 ^ y) y
-
--- x is a / 2 ^ 1074, and that is m * 2 ^ y / 2 ^ 1126 with an m of 53 digits
-pub record IsParts (x : Float) (m y : ℕ) : Type 0 where
-  pub a : ℕ
-  pub is : HasValue x false a (2 ^ 1074)
-  pub same : a * 2 ^ 52 ≡ m * 2 ^ y
-  pub from : 2 ^ 52 ≤ m
-  pub below : m < 2 ^ 53
-  pub small : y < 2098

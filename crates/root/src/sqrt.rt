@@ -6,7 +6,7 @@ ghost use lib.Ieee as Ieee;
 ghost use lib.Ieee.{binary64};
 ghost use lib.Ieee.Exact.{HasValue};
 ghost use Rattle.root.specs.Root.{NearestWhole, rootOf};
-ghost use Rattle.root.specs.Digits.{IsParts};
+ghost use Rattle.root.specs.Steps.{IsParts};
 use root_table::place_of;
 use std::num::wrapping_add_u64;
 use std::num::wrapping_sub_u64;

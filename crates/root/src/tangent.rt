@@ -3,7 +3,7 @@ ghost use mathlib.Core.Path.{_≡_};
 ghost use Prim.Native.Nat.{_<_};
 ghost use lib.Ieee.{binary64, ofBits};
 ghost use Rattle.root.specs.Root.{rootOf};
-ghost use Rattle.root.specs.Tangent.{touch};
+ghost use Rattle.root.specs.Steps.{touch};
 use crate::sqrt::is_root;
 use crate::sqrt::sqrt;
 use root_table::wide_place_of;

@@ -8,22 +8,22 @@ use native.Mathlib.Omega.{arith}
 use lib.Dec.{ltb}
 use borrow.Author.Tests.{ltb-false, le-ltb, not-false}
 use lib.ListN.{length, length-take}
-use Rattle.walk.specs.Walk.{every}
-use Rattle.walk.proofs.Walk.{or-no, and-both}
+use Rattle.lists.specs.Walk.{every}
+use Rattle.lists.proofs.Walk.{or-no, and-both}
 use Rattle.clocks.specs.Clocks.{has}
 use Rattle.numeric.specs.declared.refusal.Refusal.{Refusal}
 use Rattle.numeric.specs.declared.refusal.Refusal.the-variants.{NotCertified}
 use Rattle.numeric.specs.declared.vec3.Vec3.{Vec3}
-use Rattle.records.specs.Record.{counted, soundCarrier, placeable}
+use Rattle.records.specs.Record.{countedCarriers, soundCarrier, placeable}
 use Rattle.records.specs.City.{certifiedOf}
 use Rattle.records.specs.Pair.{pairsOf}
 use Rattle.records.specs.Screen.{keptOf, constellations}
 use Rattle.records.specs.declared.record.Epoch.{Epoch}
 use Rattle.records.specs.declared.pair.Pair.{Pair}
-use Rattle.estimator.specs.Rules.{Rule, ruled}
-use Rattle.estimator.specs.Rounds.{concluded}
-use Rattle.estimator.specs.declared.rules.Check.the-variants.{Refused as Stops, Passed}
-use Rattle.estimator.proofs.RulesLaws.{checked, ruled-append, passed-by, head-passed, refused-by}
+use Rattle.estimate_rounds.specs.Rules.{Rule, ruled}
+use Rattle.estimate_rounds.specs.Rounds.{concluded}
+use Rattle.estimate_rounds.specs.declared.rules.Check.the-variants.{Refused as Stops, Passed}
+use Rattle.estimate_rounds.proofs.RulesLaws.{checked, ruled-append, passed-by, head-passed, refused-by}
 use Rattle.tdcp.specs.Valid.{dtOf, settingsPass, epochRules, intervalRules}
 use Rattle.tdcp.specs.Front.{sightRules, countRules, cityRules, pairRules}
 use Rattle.tdcp.specs.Displacement.{Input, fitBy, pairs, deltaAt, endRules, movedBy, displacementOf}
@@ -46,7 +46,7 @@ behind f (r ∷ rs) {a} {b} {c} h = go (r .applies) (behind f rs h)
     go false h = h
 
 module _ (settings : Settings) (ps : List Pair) where
-  abbrev kept : List Pair
+  abbrev pub kept : List Pair
   kept = keptOf (settings .screen) ps
 
   abbrev fitted : Displacement
@@ -74,14 +74,14 @@ module _ (settings : Settings) (ps : List Pair) where
       go (inr e) = inr (parts true ∙ e ∙ sym (parts false))
 
 -- what 2 to 4 let pass, they let pass with carriers taken out
-few-left : (band : ℕ) (e : Epoch) → ltb 64 (e .count) ≡ false → ltb 64 (length (certifiedOf band (counted e))) ≡ false
-few-left band e h = le-ltb 64 (length (certifiedOf band (counted e))) (omega (arith, ltb-false 64 (e .count) h, left-few band (counted e), length-take (e .count) (e .carriers)))
+few-left : (band : ℕ) (e : Epoch) → ltb 64 (e .count) ≡ false → ltb 64 (length (certifiedOf band (countedCarriers e))) ≡ false
+few-left band e h = le-ltb 64 (length (certifiedOf band (countedCarriers e))) (omega (arith, ltb-false 64 (e .count) h, left-few band (countedCarriers e), length-take (e .count) (e .carriers)))
 
-sound-left : (band : ℕ) (e : Epoch) → every soundCarrier (counted e) ≡ true → every soundCarrier (counted (certifiedEpoch band e)) ≡ true
-sound-left band e h = ap (every soundCarrier) (counted-left band e) ∙ left-every soundCarrier band (counted e) h
+sound-left : (band : ℕ) (e : Epoch) → every soundCarrier (countedCarriers e) ≡ true → every soundCarrier (countedCarriers (certifiedEpoch band e)) ≡ true
+sound-left band e h = ap (every soundCarrier) (counted-left band e) ∙ left-every soundCarrier band (countedCarriers e) h
 
 passed-parts : (p c : Epoch) (r : Vec3) (s : Settings) → Passed ≡ checked (epochRules p c r s)
-    → ((ltb 64 (p .count) || ltb 64 (c .count)) ≡ false) × (not (settingsPass s) ≡ false) × (not (every soundCarrier (counted p) && every soundCarrier (counted c) && placeable r) ≡ false)
+    → ((ltb 64 (p .count) || ltb 64 (c .count)) ≡ false) × (not (settingsPass s) ≡ false) × (not (every soundCarrier (countedCarriers p) && every soundCarrier (countedCarriers c) && placeable r) ≡ false)
 unfolding epochRules
 passed-parts p c r s e =
     let a = head-passed _ _ e in
@@ -92,18 +92,18 @@ module _ (band : ℕ) (i : Input) (e : Passed ≡ checked (epochRules (i .previo
   abbrev rules : List Rule
   rules = epochRules (i .previous) (i .current) (i .receiver) (i .settings)
 
-  abbrev rules-left : List Rule
+  abbrev pub rules-left : List Rule
   rules-left = epochRules (certifiedEpoch band (i .previous)) (certifiedEpoch band (i .current)) (i .receiver) (i .settings)
 
-  left-passed : Passed ≡ checked rules-left
+  pub left-passed : Passed ≡ checked rules-left
   unfolding epochRules ruled
   left-passed =
       let h = passed-parts (i .previous) (i .current) (i .receiver) (i .settings) e in
       let few = or-no (ltb 64 (i .previous .count)) (ltb 64 (i .current .count)) (h .0) in
       let set : settingsPass (i .settings) ≡ true = not-false (settingsPass (i .settings)) (h .1) in
-      let all = not-false (every soundCarrier (counted (i .previous)) && every soundCarrier (counted (i .current)) && placeable (i .receiver)) (h .2) in
-      let outer = and-both (every soundCarrier (counted (i .previous)) && every soundCarrier (counted (i .current))) (placeable (i .receiver)) all in
-      let inner = and-both (every soundCarrier (counted (i .previous))) (every soundCarrier (counted (i .current))) (outer .0) in
+      let all = not-false (every soundCarrier (countedCarriers (i .previous)) && every soundCarrier (countedCarriers (i .current)) && placeable (i .receiver)) (h .2) in
+      let outer = and-both (every soundCarrier (countedCarriers (i .previous)) && every soundCarrier (countedCarriers (i .current))) (placeable (i .receiver)) all in
+      let inner = and-both (every soundCarrier (countedCarriers (i .previous))) (every soundCarrier (countedCarriers (i .current))) (outer .0) in
       rw (few-left band (i .previous) (few .0), few-left band (i .current) (few .1), set, sound-left band (i .previous) (inner .0), sound-left band (i .current) (inner .1), outer .1)
 
   -- the pairs are those of what is left

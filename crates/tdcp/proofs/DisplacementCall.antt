@@ -8,25 +8,27 @@ use lib.Dec.{ltb}
 use lib.ListN.{length, take}
 use lib.Seq.{length-take-le}
 use lib.Ieee.{Float}
-use Rattle.walk.proofs.Walk.{places-length}
+use Rattle.lists.proofs.Walk.{places-length}
 use Rattle.numeric.specs.declared.refusal.Refusal.{Refusal}
 use Rattle.numeric.specs.declared.refusal.Refusal.the-variants.{TooMany, NotCertified}
-use Rattle.walk.specs.Walk.{every}
+use Rattle.lists.specs.Walk.{every}
 use Rattle.time.specs.declared.time.Seconds.{Seconds}
 use Rattle.time.specs.declared.time.Seconds.the-variants.{Refused as NoSeconds, Since}
-use Rattle.records.specs.Record.{counted, soundCarrier, placeable}
+use Rattle.records.specs.Record.{countedCarriers, soundCarrier, placeable}
 use Rattle.records.specs.City.{isCity, looked}
 use Rattle.records.specs.Pair.{pairsOf, Paired}
 use Rattle.clocks.specs.Clocks.{has, clocksOf}
 use Rattle.records.specs.Screen.{keptOf, constellations}
-use Rattle.records.specs.Kept.{pairIn, pairsIn, Kept}
-use Rattle.estimator.specs.Rules.{Rule, rule, ruled}
-use Rattle.tdcp.specs.Valid.{dtOf, epochRules, givenRules, fewRules}
+use Rattle.records.specs.Kept.{Kept}
+use Rattle.records.specs.Steps.{pairIn, pairsIn}
+use Rattle.estimate_rounds.specs.Rules.{Rule, rule, ruled}
+use Rattle.tdcp.specs.Valid.{dtOf, epochRules, fewRules}
 use Rattle.tdcp.specs.Front.{sightRules, countRules, cityRules, pairRules}
-use Rattle.estimator.specs.Rounds.{End, Stopped, Reached, Fit, concluded, Ended, stateAfter}
-use Rattle.tdcp.specs.Displacement.{Input, fitOver, fitBy, fitOf, pairs, deltaAt, endRules, concludedAt, movedBy, displacementOf}
-use Rattle.tdcp.specs.Rated.{qualityAt, quality}
-use Rattle.tdcp.specs.Rows.{movedOver, answerBy, qualityOver, qualityBy, answerOf}
+use Rattle.estimate_rounds.specs.Rounds.{End, Stopped, Reached, Fit, concluded, stateAfter}
+use Rattle.estimate_rounds.specs.Steps.{Ended}
+use Rattle.tdcp.specs.Displacement.{Input, fitOver, fitBy, callFit, pairs, deltaAt, endRules, movedBy, displacementOf}
+use Rattle.tdcp.specs.Rated.{qualityAt, quality, answeredBy, answeredOf}
+use Rattle.tdcp.specs.Steps.{movedOver, qualityOver, qualityBy, givenRules, concludedAt}
 use Rattle.tdcp.specs.declared.displacement.Rated.the-variants as Rated
 use Rattle.tdcp.proofs.RatedLaws.{refused-as, quality-rows}
 use Rattle.cholesky.specs.Factor.{zeros}
@@ -36,9 +38,9 @@ use Rattle.records.specs.declared.pair.Pairs.{Pairs}
 use Rattle.tdcp.specs.declared.displacement.Settings.{Settings}
 use Rattle.tdcp.specs.declared.displacement.Displacement.{Displacement}
 use Rattle.tdcp.specs.declared.displacement.Displacement.the-variants.{Refused, Moved}
-use Rattle.estimator.specs.declared.rules.Check.{Check}
-use Rattle.estimator.specs.declared.rules.Check.the-variants.{Refused as Stops, Passed}
-use Rattle.estimator.proofs.RulesLaws.{checked, ruled-append, ruled-map, append-first, refused-by, passed-by}
+use Rattle.estimate_rounds.specs.declared.rules.Check.{Check}
+use Rattle.estimate_rounds.specs.declared.rules.Check.the-variants.{Refused as Stops, Passed}
+use Rattle.estimate_rounds.proofs.RulesLaws.{checked, ruled-append, ruled-map, append-first, refused-by, passed-by}
 use Rattle.tdcp.proofs.DisplacementLaws.{fit-same, rows-same}
 use Rattle.tdcp.proofs.FrontLaws.{counts-passed, kept-few}
 use Rattle.tdcp.proofs.FilterLaws.{looked-alone}
@@ -145,24 +147,24 @@ since-is (r ∷ rs) {dt} {x} e = go (r .applies) e (since-is rs)
 
 -- the code's pairs are those of the call
 pub paired : (i : Input) {all : Pairs} {dt : Float} → dt ≡ dtOf (i .since)
-    → Paired all (pairsOf (i .receiver) (i .settings .mask) dt (counted (i .previous)) (looked (i .profile) (counted (i .current)))) → take (all .count) (all .pair) ≡ pairs i
+    → Paired all (pairsOf (i .receiver) (i .settings .mask) dt (countedCarriers (i .previous)) (looked (i .profile) (countedCarriers (i .current)))) → take (all .count) (all .pair) ≡ pairs i
 paired i {dt = dt} e h =
-    let p = counted (i .previous) in
-    let c = counted (i .current) in
+    let p = countedCarriers (i .previous) in
+    let c = countedCarriers (i .current) in
     h .held .all
     ∙ looked-alone (i .profile) (i .receiver) (i .settings .mask) dt p c
     ∙ ap (λ (x : Float). pairsOf (i .receiver) (i .settings .mask) x (looked (i .profile) p) (looked (i .profile) c)) e
 
 -- and so is their answer
 pub answered-pairs : (i : Input) (wanted : Bool) {ps : List Pair} → ps ≡ pairs i → movedBy (isCity (i .profile)) (i .settings) (pairs i) ≡ displacementOf i
-    → answerBy wanted (qualityBy (i .settings) ps) (movedBy (isCity (i .profile)) (i .settings) ps) ≡ answerOf wanted i
-unfolding answerOf quality fitOf
+    → answeredBy wanted (qualityBy (i .settings) ps) (movedBy (isCity (i .profile)) (i .settings) ps) ≡ answeredOf wanted i
+unfolding answeredOf quality callFit
 answered-pairs i wanted e m =
-    ap (λ (ps : List Pair). answerBy wanted (qualityBy (i .settings) ps) (movedBy (isCity (i .profile)) (i .settings) ps)) e
-    ∙ ap (answerBy wanted (qualityBy (i .settings) (pairs i))) m
+    ap (λ (ps : List Pair). answeredBy wanted (qualityBy (i .settings) ps) (movedBy (isCity (i .profile)) (i .settings) ps)) e
+    ∙ ap (answeredBy wanted (qualityBy (i .settings) (pairs i))) m
 
-pub answered-refused : (i : Input) (wanted : Bool) {r : Refusal} → Refused r ≡ displacementOf i → Rated.Refused r ≡ answerOf wanted i
-unfolding answerOf
+pub answered-refused : (i : Input) (wanted : Bool) {r : Refusal} → Refused r ≡ displacementOf i → Rated.Refused r ≡ answeredOf wanted i
+unfolding answeredOf
 answered-refused i wanted e = refused-as wanted (quality i) e
 
 module _ (i : Input) where
@@ -172,7 +174,7 @@ module _ (i : Input) where
 
   -- where 2 does not apply the rules are those on what is given
   module _ (few : ltb 64 (i .previous .count) ≡ false) (few′ : ltb 64 (i .current .count) ≡ false) {sound : Bool}
-      (is : sound ≡ (every soundCarrier (counted (i .previous)) && every soundCarrier (counted (i .current)) && placeable (i .receiver))) where
+      (is : sound ≡ (every soundCarrier (countedCarriers (i .previous)) && every soundCarrier (countedCarriers (i .current)) && placeable (i .receiver))) where
     abbrev rules : List Rule
     rules = givenRules (i .settings) sound (i .since)
 

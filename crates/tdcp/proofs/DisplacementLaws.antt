@@ -6,24 +6,25 @@ use mathlib.Core.List.{List, map}
 use lib.ListN.{length, getD, take}
 use lib.Seq.{take-all, getD-take, length-take-le}
 use lib.Ieee.{Float, nan}
-use Rattle.walk.proofs.Walk.{places-map, places-take, places-ext}
-use Rattle.walk.specs.Walk.{places}
+use Rattle.lists.proofs.Walk.{places-map, places-take, places-ext}
+use Rattle.lists.specs.Walk.{places}
 use Rattle.robust.specs.Round.{roundOf}
-use Rattle.normal.specs.Columns.{Columns, columns, rowsIn}
-use Rattle.normal.specs.Columns as round
-use Rattle.normal.proofs.ColumnLaws.{filled-at}
-use Rattle.robust.specs.Solving.{Solving}
-use Rattle.normal.specs.declared.row.Row.{Row}
+use Rattle.normal_equations.specs.Steps.{RoundColumns, columns, rowsIn}
+use Rattle.normal_equations.specs.Steps as round
+use Rattle.normal_equations.proofs.ColumnLaws.{filled-at}
+use Rattle.robust.specs.Steps.{Solving}
+use Rattle.normal_equations.specs.declared.row.Row.{Row}
 use Rattle.robust.specs.declared.round.Stepping.{Stepping}
 use Rattle.clocks.specs.declared.clocks.Clocks.{Clocks}
 use Rattle.records.specs.declared.pair.Pair.{Pair}
 use Rattle.tdcp.specs.declared.displacement.Settings.{Settings}
 use Rattle.cholesky.specs.Factor.{zeros}
-use Rattle.estimator.specs.Rounds.{fitFrom}
-use Rattle.records.specs.Kept.{pairIn, pairsIn, Kept}
-use Rattle.tdcp.specs.Displacement.{sigmaOf, rowWith, rowAt, roundAt, limit, fitOver}
-use Rattle.tdcp.specs.Rows.{ClocksAt, SigmasAt, ResidualsAt}
-use Rattle.estimator.proofs.RoundsLaws.{Left, left-start}
+use Rattle.estimate_rounds.specs.Rounds.{fitFrom}
+use Rattle.records.specs.Kept.{Kept}
+use Rattle.records.specs.Steps.{pairIn, pairsIn}
+use Rattle.tdcp.specs.Displacement.{pairSigma, rowWith, rowAt, roundAt, stopLimit, fitOver}
+use Rattle.tdcp.specs.Steps.{ClocksAt, SigmasAt, ResidualsAt}
+use Rattle.estimate_rounds.proofs.RoundsLaws.{Left, left-start}
 
 -- what the logic has for a pair past the end
 abbrev pub blank : Pair
@@ -31,11 +32,11 @@ blank = record { unit = record { x = nan; y = nan; z = nan }; constellation = 0;
 
 module _ (settings : Settings) (k : Clocks) (ps : List Pair) where
   abbrev pub Going : ℕ → List Float → Type 0
-  Going i x = Left (roundAt settings k ps) (3 + k .count) limit (settings .rounds) (fitOver settings k ps) i x
+  Going i x = Left (roundAt settings k ps) (3 + k .count) stopLimit (settings .rounds) (fitOver settings k ps) i x
 
   pub going : Going 0 zeros
   unfolding fitOver
-  going = left-start (roundAt settings k ps) (3 + k .count) limit (settings .rounds) (fitOver settings k ps) zeros refl
+  going = left-start (roundAt settings k ps) (3 + k .count) stopLimit (settings .rounds) (fitOver settings k ps) zeros refl
 
   pub solving : (x : List Float) (rows : List Row) (n : ℕ) (answer : Stepping) (a b : List Float) → rows ≡ map (rowAt settings k x) ps → n ≡ 3 + k .count → Solving (roundOf rows n (settings .huber)) answer a b → Solving (roundAt settings k ps x) answer a b
   unfolding roundAt
@@ -47,11 +48,11 @@ module _ (settings : Settings) (k : Clocks) (x y z : List Float) (constellation 
   abbrev pair : ℕ → Pair
   pair = pairIn x y z constellation elevation observed
 
-  abbrev all : Columns
+  abbrev all : RoundColumns
   all = columns x y z clock sigma (take (length observed) residual)
 
   row-is : (i : ℕ) → i < length observed → round.rowIn all i ≡ rowAt settings k s (pair i)
-  unfolding rowWith sigmaOf
+  unfolding rowWith pairSigma
   row-is i h =
       let c = clocks .clocks i h in
       let g = weighed .sigmas i h in
@@ -72,7 +73,7 @@ module _ (settings : Settings) (k : Clocks) {ps : List Pair} {n : ℕ} {x y z : 
   whole = take-all n ps (omega (arith, h .count))
 
   same : (s : List Float) (i : ℕ) → i < n → rowAt settings k s (given i) ≡ rowAt settings k s (getD ps i blank)
-  unfolding rowWith sigmaOf
+  unfolding rowWith pairSigma
   same s i b =
       let fits : n ≤ length ps = omega (arith, h .count) in
       let ex = filled-at (λ (p : Pair). p .unit .x) ps x n i blank nan fits b (h .xs ∙ ap (map (λ (p : Pair). p .unit .x)) (sym whole)) in
@@ -91,4 +92,4 @@ module _ (settings : Settings) (k : Clocks) {ps : List Pair} {n : ℕ} {x y z : 
 
   pub fit-same : fitOver settings k (pairsIn x y z constellation elevation (take n observed)) ≡ fitOver settings k ps
   unfolding fitOver roundAt
-  fit-same = ap (λ (r : List Float → List Row). fitFrom (λ s. roundOf (r s) (3 + k .count) (settings .huber)) (3 + k .count) limit (settings .rounds) (zeros)) (fun-ext rows-same)
+  fit-same = ap (λ (r : List Float → List Row). fitFrom (λ s. roundOf (r s) (3 + k .count) (settings .huber)) (3 + k .count) stopLimit (settings .rounds) (zeros)) (fun-ext rows-same)

@@ -1,5 +1,5 @@
 -- What an accepted displacement has, DEMAND 3 over all of its rounds among it. Assumes nothing.
-use mathlib.Core.Path.{_≡_, refl, sym, _∙_, subst}
+use mathlib.Core.Path.{_≡_, refl, sym, ap, _∙_, subst}
 use mathlib.Core.Bool.{Bool, true}
 use Prim.Native.Nat.{ℕ, _+_, _-_, _<_}
 use native.Mathlib.Omega.{arith}
@@ -8,7 +8,7 @@ use lib.Dec.{T}
 use lib.ListN.{length}
 use lib.Ieee.{Float}
 use lib.Ieee.Scale.{finite}
-use Rattle.walk.specs.Walk.{every}
+use Rattle.lists.specs.Walk.{every}
 use Rattle.cholesky.specs.Factor.{at, zeros}
 use Rattle.numeric.specs.declared.refusal.Refusal.{Refusal}
 use Rattle.robust.specs.Round.{Round, Solved, SoundRound, FiniteResiduals}
@@ -22,14 +22,15 @@ use Rattle.records.specs.Screen.{keptOf, constellations}
 use Rattle.clocks.specs.declared.clocks.Clocks.{Clocks}
 use Rattle.records.specs.declared.pair.Pair.{Pair}
 use Rattle.tdcp.specs.declared.displacement.Settings.{Settings}
-use Rattle.estimator.specs.Rounds.{concluded, Each}
-use Rattle.tdcp.specs.Displacement.{Input, rowAt, roundAt, limit, fitOver, fitBy, pairs, kept, fitOf, roundsOf, deltaAt, endRules, movedBy, displacementOf, displacementFloats, Accepted, Promised}
+use Rattle.estimate_rounds.specs.Rounds.{concluded}
+use Rattle.median.specs.Sorted.{Each}
+use Rattle.tdcp.specs.Displacement.{Input, rowAt, roundAt, stopLimit, fitOver, fitBy, pairs, keptPairs, callFit, roundsOf, deltaAt, endRules, movedBy, displacementOf, displacementNumber, displacementFloats, displacementCounts, Accepted, Promised}
 use Rattle.tdcp.specs.declared.displacement.Delta.{Delta}
 use Rattle.tdcp.specs.declared.displacement.Displacement.{Displacement}
 use Rattle.tdcp.specs.declared.displacement.Displacement.the-variants.{Refused, Moved}
-use Rattle.estimator.specs.declared.rules.Check.the-variants.{Passed}
-use Rattle.estimator.proofs.RulesLaws.{checked, passed-of, passed-by, head-passed}
-use Rattle.estimator.proofs.RoundsSound.{rounds-each, Finished, finished, Placed, placed, three-finite}
+use Rattle.estimate_rounds.specs.declared.rules.Check.the-variants.{Passed}
+use Rattle.estimate_rounds.proofs.RulesLaws.{checked, passed-of, passed-by, head-passed}
+use Rattle.estimate_rounds.proofs.RoundsSound.{rounds-each, Finished, finished, Placed, placed, three-finite}
 use Rattle.tdcp.proofs.FrontLaws.{kept-few, pairs-enough}
 
 pub never : (d : Delta) (r : Refusal) → Refused r ≡ Moved d → ⊥
@@ -76,11 +77,11 @@ module _ (city : Bool) (settings : Settings) (ps : List Pair) (d : Delta) (e : m
     moved-each =
         let kept = keptOf (settings .screen) ps in
         let k = clocksOf (constellations kept) in
-        rounds-each P (roundAt settings k kept) (3 + k .count) limit (omega arith) (one k kept) (settings .rounds) zeros (ended .x) (ended .end-is) (place .first)
+        rounds-each P (roundAt settings k kept) (3 + k .count) stopLimit (omega arith) (one k kept) (settings .rounds) zeros (ended .x) (ended .end-is) (place .first)
 
 -- all that a displacement has which its pairs and its rounds let pass, in the city profile or not
 pub by-accepted : (city : Bool) (i : Input) (d : Delta) → movedBy city (i .settings) (pairs i) ≡ Moved d → Accepted i d
-unfolding roundsOf fitOf
+unfolding roundsOf callFit
 by-accepted city i d m =
     let s = i .settings in
     let ps = pairs i in
@@ -92,7 +93,7 @@ by-accepted city i d m =
       y-finite = subst (λ (z : Delta). T (finite (z .delta .y))) is (p .second);
       z-finite = subst (λ (z : Delta). T (finite (z .delta .z))) is (p .third);
       pairs-counted = subst (λ (z : Delta). z .used + z .screened ≡ length (pairs i)) is (omega (arith, kept-few (i .settings .screen) (pairs i)));
-      redundant = subst (λ (z : Delta). 3 + clocksOf (constellations (kept i)) .count < z .used) is (omega (arith, many .redundant));
+      redundant = subst (λ (z : Delta). 3 + clocksOf (constellations (keptPairs i)) .count < z .used) is (omega (arith, many .redundant));
       sound-rounds = moved-each city s ps d m SoundRound (one-sound s);
       finite-residuals = moved-each city s ps d m FiniteResiduals (one-finite s);
     }
@@ -115,4 +116,11 @@ given-finite i (Moved d) h = let a = h d refl in three-finite (d .delta .x) (d .
 pub promised : (i : Input) (r : Displacement) → r ≡ displacementOf i → Promised i r
 promised i r e =
     let accepted : (d : Delta) → r ≡ Moved d → Accepted i d = λ d q. displacement-accepted i d (sym e ∙ q) in
-    record { answer = e; given-finite = given-finite i r accepted; accepted = accepted }
+    record {
+      answer = e;
+      number-is = ap displacementNumber e;
+      floats-are = ap displacementFloats e;
+      counts-are = ap displacementCounts e;
+      given-finite = given-finite i r accepted;
+      accepted = accepted;
+    }

@@ -1,12 +1,12 @@
 -- Misreading 3, masking previous carriers: two previous epochs that differ only in elevations which 4 lets pass give one displacement. Assumes nothing.
-use mathlib.Core.Path.{_≡_, refl, sym, ap, ap₂, _∙_, fun-ext}
-use mathlib.Core.Bool.{Bool, cond, _&&_}
+use mathlib.Core.Path.{_≡_, refl, sym, ap, _∙_, fun-ext}
+use mathlib.Core.Bool.{cond, _&&_}
 use mathlib.Core.List.{List, [], _∷_, map}
 use lib.Ieee.{Float, le}
 use Rattle.exact.specs.Float.{+0}
-use Rattle.walk.specs.Walk.{every, first, collect}
+use Rattle.lists.specs.Walk.{every, first, collect}
 use Rattle.numeric.specs.declared.vec3.Vec3.{Vec3}
-use Rattle.records.specs.Record.{counted, soundCarrier, usable, same}
+use Rattle.records.specs.Record.{countedCarriers, soundCarrier, usable, same}
 use Rattle.records.specs.Pair.{pairOf, firstPair, pairAt, pairsOf}
 use Rattle.records.specs.declared.record.Carrier.{Carrier}
 use Rattle.records.specs.declared.record.Epoch.{Epoch}
@@ -38,11 +38,11 @@ pairs-level : (receiver : Vec3) (mask dt : Float) (ps cs : List Carrier) → pai
 unfolding pairsOf pairAt
 pairs-level receiver mask dt ps cs = ap (λ (f : Carrier → List Pair). collect (λ c. cond (usable c && le mask (c .elevation)) (f c) []) cs) (fun-ext (λ c. pair-level receiver dt c ps))
 
-pub elevations-aside : (p q current : Epoch) (dt : Float) (receiver : Vec3) (settings : Settings) → p .count ≡ q .count → map level (counted p) ≡ map level (counted q)
-    → every soundCarrier (counted p) ≡ every soundCarrier (counted q) → displacementOf (general p current dt receiver settings) ≡ displacementOf (general q current dt receiver settings)
+pub elevations-aside : (p q current : Epoch) (dt : Float) (receiver : Vec3) (settings : Settings) → p .count ≡ q .count → map level (countedCarriers p) ≡ map level (countedCarriers q)
+    → every soundCarrier (countedCarriers p) ≡ every soundCarrier (countedCarriers q) → displacementOf (general p current dt receiver settings) ≡ displacementOf (general q current dt receiver settings)
 unfolding displacementOf epochRules
 elevations-aside p q current dt receiver settings n e s =
-    let one : pairsOf receiver (settings .mask) dt (counted p) (counted current) ≡ pairsOf receiver (settings .mask) dt (counted q) (counted current) =
-    sym (pairs-level receiver (settings .mask) dt (counted p) (counted current)) ∙ ap (λ (ps : List Carrier). pairsOf receiver (settings .mask) dt ps (counted current)) e
-    ∙ pairs-level receiver (settings .mask) dt (counted q) (counted current) in
+    let one : pairsOf receiver (settings .mask) dt (countedCarriers p) (countedCarriers current) ≡ pairsOf receiver (settings .mask) dt (countedCarriers q) (countedCarriers current) =
+    sym (pairs-level receiver (settings .mask) dt (countedCarriers p) (countedCarriers current)) ∙ ap (λ (ps : List Carrier). pairsOf receiver (settings .mask) dt ps (countedCarriers current)) e
+    ∙ pairs-level receiver (settings .mask) dt (countedCarriers q) (countedCarriers current) in
     rw (s, one, n)

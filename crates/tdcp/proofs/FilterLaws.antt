@@ -9,10 +9,10 @@ use borrow.Author.Tests.{eqb-true}
 use lib.ListN.{length}
 use lib.Seq.{take-all}
 use lib.Ieee.{Float, le}
-use Rattle.walk.specs.Walk.{every, first, collect}
-use Rattle.walk.proofs.Walk.{and-both}
+use Rattle.lists.specs.Walk.{every, first, collect}
+use Rattle.lists.proofs.Walk.{and-both}
 use Rattle.numeric.specs.declared.vec3.Vec3.{Vec3}
-use Rattle.records.specs.Record.{keep, counted, usable, same}
+use Rattle.records.specs.Record.{keep, countedCarriers, usable, same}
 use Rattle.records.specs.City.{certified, certifiedOf, looked}
 use Rattle.records.specs.Pair.{pairOf, firstPair, pairAt, pairsOf}
 use Rattle.records.specs.declared.record.Carrier.{Carrier}
@@ -24,8 +24,8 @@ use Rattle.records.specs.declared.pair.Profile.the-variants.{General, City}
 use Rattle.tdcp.specs.City.{certifiedEpoch}
 
 -- the counted carriers of what is left
-pub counted-left : (band : ℕ) (e : Epoch) → counted (certifiedEpoch band e) ≡ certifiedOf band (counted e)
-counted-left band e = take-all (length (certifiedOf band (counted e))) (certifiedOf band (counted e)) (omega arith)
+pub counted-left : (band : ℕ) (e : Epoch) → countedCarriers (certifiedEpoch band e) ≡ certifiedOf band (countedCarriers e)
+counted-left band e = take-all (length (certifiedOf band (countedCarriers e))) (certifiedOf band (countedCarriers e)) (omega arith)
 
 -- no more than were counted
 pub left-few : (band : ℕ) (cs : List Carrier) → length (certifiedOf band cs) ≤ length cs

@@ -10,9 +10,9 @@ use lib.Seq.{drop-cons}
 use borrow.Author.Tests.{ltb-false}
 use Rattle.numeric.specs.declared.refusal.Refusal.{Refusal}
 use Rattle.numeric.specs.declared.refusal.Refusal.the-variants.{TooFewPairs, NotCertified}
-use Rattle.estimator.specs.Rules.{Rule, rule, ruled, rowRules}
+use Rattle.estimate_rounds.specs.Rules.{Rule, rule, ruled, rowRules}
 use Rattle.tdcp.specs.Valid.{fewRules}
-use Rattle.estimator.specs.declared.rules.Check.the-variants.{Refused as Stops, Passed}
+use Rattle.estimate_rounds.specs.declared.rules.Check.the-variants.{Refused as Stops, Passed}
 use lib.ListN.{length, getD, drop, drop-of-length-le}
 use lib.Ieee.{Float}
 use Rattle.clocks.specs.Clocks.{has, clocksOf}
@@ -21,7 +21,7 @@ use Rattle.tdcp.specs.Front.{sightRules, countRules, pairRules}
 use Rattle.records.specs.declared.pair.Pair.{Pair}
 use Rattle.tdcp.specs.declared.displacement.Settings.{Settings}
 use Rattle.records.proofs.KeepLaws.{keep-few}
-use Rattle.estimator.proofs.RulesLaws.{checked, ruled-append, refused-by, passed-by, head-passed, append-passed, append-first, Enough, rows-passed}
+use Rattle.estimate_rounds.proofs.RulesLaws.{checked, ruled-append, refused-by, passed-by, head-passed, append-passed, append-first, Enough, rows-passed}
 
 pub counts-passed : (pairs kept slots : ℕ) → Passed ≡ checked (fewRules pairs kept slots) → (6 ≤ pairs) × Enough kept slots
 unfolding fewRules rowRules

@@ -7,7 +7,7 @@ use lib.IntN.{ℤ, pos, negsuc}
 use lib.Ieee.{Float, nan, inf, neg, ofInt, ofBits, toBits, add, sub, mul, div, le, lt, eq, isNan}
 use lib.ListN.{length, replicate}
 use Rattle.exact.specs.Float.{+0, 1·0, whole, decimal}
-use Rattle.walk.specs.Walk.{every, first, collect, fold}
+use Rattle.lists.specs.Walk.{every, first, collect, fold}
 use Rattle.numeric.specs.Real.{abs, inRange}
 use Rattle.exact.specs.Pattern.{sign, exponent, digits}
 use Rattle.numeric.specs.Order.{isNanPattern, isQuiet, payload, payloadOrder, unordered, totalOrder, patternOf}
@@ -16,20 +16,20 @@ use Rattle.numeric.specs.declared.vec3.Vec3.{Vec3}
 use Rattle.numeric.specs.declared.refusal.Refusal.the-variants.{TooMany, SettingOutOfRange, RecordOutOfRange, BadInterval, TooFewPairs, TooFewRows, TooManySlots, OnReceiver}
 use Rattle.median.specs.Sorted.{insertBy, sortedBy, medianOf}
 use Rattle.median.specs.Centre.{centreOf}
-use Rattle.estimator.specs.Rules.{ruled, rowRules}
+use Rattle.estimate_rounds.specs.Rules.{ruled, rowRules}
 use Rattle.records.specs.Record.{placeable, isElevation, soundCarrier, unsigned, bitSet, usable, same}
 use Rattle.clocks.specs.Clocks.{none, given, slot, has, appearing, slotFrom, clocksIn, clocksOf}
 use Rattle.records.specs.Pair.{pairOf, firstPair, pairAt, pairsOf}
 use Rattle.records.specs.Screen.{centre, within, keptOf}
 use Rattle.tdcp.specs.Valid.{settingsPass, badInterval, epochRules, intervalRules, fewRules}
 use Rattle.tdcp.specs.Front.{sightRules, countRules}
-use Rattle.tdcp.specs.Displacement.{general, pairs, kept}
+use Rattle.tdcp.specs.Displacement.{general, pairs, keptPairs}
 use Rattle.records.specs.declared.record.Carrier.{Carrier}
 use Rattle.records.specs.declared.record.Epoch.{Epoch}
 use Rattle.records.specs.declared.pair.Pair.{Pair}
 use Rattle.tdcp.specs.declared.displacement.Settings.{Settings}
-use Rattle.estimator.specs.declared.rules.Check.{Check}
-use Rattle.estimator.specs.declared.rules.Check.the-variants.{Refused, Passed}
+use Rattle.estimate_rounds.specs.declared.rules.Check.{Check}
+use Rattle.estimate_rounds.specs.declared.rules.Check.the-variants.{Refused, Passed}
 
 -- ---- m6 and m9
 
@@ -90,7 +90,7 @@ pub record Edges : Type 0 where
   pub six-slots : said (whole 10) 1·0 (twice (0 ∷ 1 ∷ 2 ∷ 3 ∷ 4 ∷ 5 ∷ [])) (twice (0 ∷ 1 ∷ 2 ∷ 3 ∷ 4 ∷ 5 ∷ [])) ≡ Passed
   pub seven-slots : said (whole 10) 1·0 (twice (0 ∷ 1 ∷ 2 ∷ 3 ∷ 4 ∷ 5 ∷ 6 ∷ [])) (twice (0 ∷ 1 ∷ 2 ∷ 3 ∷ 4 ∷ 5 ∷ 6 ∷ [])) ≡ Refused TooManySlots
   -- a detector that equals the screen is dropped
-  pub at-the-screen : length (kept (general (epoch (used 1 9 ∷ six)) (epoch (carrier 1 9 (decimal 75 1) (pos 1) ∷ six)) 1·0 origin (set (whole 10)))) ≡ 6
+  pub at-the-screen : length (keptPairs (general (epoch (used 1 9 ∷ six)) (epoch (carrier 1 9 (decimal 75 1) (pos 1) ∷ six)) 1·0 origin (set (whole 10)))) ≡ 6
   pub adr-not-finite : said (whole 10) 1·0 six (carrier 1 9 (inf false) (pos 1) ∷ six) ≡ Passed
   pub adr-too-large : said (whole 10) 1·0 six (carrier 1 9 (whole 1000000001) (pos 0) ∷ six) ≡ Refused RecordOutOfRange
   pub interval-of-0 : said (whole 10) +0 six six ≡ Refused BadInterval

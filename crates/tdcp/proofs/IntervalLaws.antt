@@ -8,18 +8,19 @@ use lib.Ieee.{Float}
 use Rattle.numeric.specs.declared.vec3.Vec3.{Vec3}
 use Rattle.numeric.specs.declared.refusal.Refusal.{Refusal}
 use Rattle.numeric.specs.declared.refusal.Refusal.the-variants.{BadTime, BadInterval}
-use Rattle.time.specs.Time.{isDated, secondsAfter, secondsSince}
+use Rattle.time.specs.Time.{isDated, secondsBetween, secondsSince}
 use Rattle.time.specs.declared.time.GpsTime.{GpsTime}
 use Rattle.time.specs.declared.time.Seconds.{Seconds}
 use Rattle.time.specs.declared.time.Seconds.the-variants.{Refused as NoSeconds, Since}
 use Rattle.records.specs.declared.record.Epoch.{Epoch}
 use Rattle.records.specs.declared.pair.Profile.{Profile}
-use Rattle.estimator.specs.Rules.{rule, ruled}
-use Rattle.tdcp.specs.Valid.{settingsPass, dtOf, isTimed, badInterval, intervalRules, givenRules}
+use Rattle.estimate_rounds.specs.Rules.{rule, ruled}
+use Rattle.tdcp.specs.Valid.{settingsPass, dtOf, isTimed, badInterval, intervalRules}
 use Rattle.tdcp.specs.Displacement.{input, displacementOf}
 use Rattle.tdcp.specs.declared.displacement.Settings.{Settings}
 use Rattle.tdcp.specs.declared.displacement.Interval.{Interval}
 use Rattle.tdcp.specs.declared.displacement.Interval.the-variants as Interval
+use Rattle.tdcp.specs.Steps.{givenRules}
 
 -- ---- 13, and then 5
 
@@ -30,7 +31,7 @@ pub since-times : (s t : GpsTime) → secondsSince t s ≡ sinceOf (Interval.Bet
 unfolding secondsSince ruled
 since-times s t = go (isDated t && isDated s)
   where
-    go : (b : Bool) → cond b (Since (secondsAfter t s)) (NoSeconds BadTime) ≡ cond (not b) (NoSeconds BadTime) (Since (secondsAfter t s))
+    go : (b : Bool) → cond b (Since (secondsBetween t s)) (NoSeconds BadTime) ≡ cond (not b) (NoSeconds BadTime) (Since (secondsBetween t s))
     go true = refl
     go false = refl
 
@@ -82,6 +83,6 @@ module _ (settings : Settings) {sound : Bool} (since : Interval) (set : settings
 -- ---- THE LAW: with two times that 13 does not turn away the answer is that of a caller who has the seconds between them as dt
 
 pub at-dt : (previous current : Epoch) (s t : GpsTime) (receiver : Vec3) (settings : Settings) (profile : Profile) → (isDated t && isDated s) ≡ true
-    → displacementOf (input previous current (Interval.Between s t) receiver settings profile) ≡ displacementOf (input previous current (Interval.Seconds (secondsAfter t s)) receiver settings profile)
+    → displacementOf (input previous current (Interval.Between s t) receiver settings profile) ≡ displacementOf (input previous current (Interval.Seconds (secondsBetween t s)) receiver settings profile)
 unfolding displacementOf intervalRules
 at-dt previous current s t receiver settings profile e = rw e

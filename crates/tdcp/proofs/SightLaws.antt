@@ -5,7 +5,7 @@ use mathlib.Core.List.{List, [], _∷_, _++_}
 use Prim.Native.Nat.{_-_}
 use lib.ListN.{length}
 use lib.Ieee.{Float}
-use Rattle.walk.specs.Walk.{every, collect}
+use Rattle.lists.specs.Walk.{every, collect}
 use Rattle.numeric.specs.Sight.{sightOf, onReceiver, geometry}
 use Rattle.numeric.specs.declared.vec3.Vec3.{Vec3}
 use Rattle.numeric.specs.declared.refusal.Refusal.{Refusal}
@@ -16,11 +16,11 @@ use Rattle.records.specs.Pair.{pairOf, seen}
 use Rattle.records.specs.Screen.{keptOf}
 use Rattle.records.specs.declared.record.Carrier.{Carrier}
 use Rattle.records.specs.declared.pair.Pair.{Pair}
-use Rattle.estimator.specs.Rules.{Rule, rule, ruled}
+use Rattle.estimate_rounds.specs.Rules.{Rule, rule, ruled}
 use Rattle.records.specs.City.{isCity}
-use Rattle.estimator.specs.Rounds.{concluded}
-use Rattle.estimator.specs.declared.rules.Check.the-variants.{Refused as Stops, Passed}
-use Rattle.estimator.proofs.RulesLaws.{checked, ruled-append}
+use Rattle.estimate_rounds.specs.Rounds.{concluded}
+use Rattle.estimate_rounds.specs.declared.rules.Check.the-variants.{Refused as Stops, Passed}
+use Rattle.estimate_rounds.proofs.RulesLaws.{checked, ruled-append}
 use Rattle.tdcp.specs.Valid.{epochRules, intervalRules}
 use Rattle.tdcp.specs.Front.{rangeRules, sightRules, countRules, cityRules, pairRules}
 use Rattle.tdcp.specs.Displacement.{Input, fitBy, pairs, deltaAt, endRules, movedBy, displacementOf}

@@ -8,18 +8,18 @@ use lib.Dec.{T}
 use lib.Ieee.{Float}
 use lib.Ieee.Scale.{finite}
 use Rattle.exact.specs.Float.{_⊕_, _⊖_, _⊗_, decimal}
-use Rattle.walk.specs.Walk.{every}
+use Rattle.lists.specs.Walk.{every}
 use Rattle.cholesky.specs.Factor.{at, zeros}
 use Rattle.numeric.specs.Order.{patternOf}
 use Rattle.numeric.specs.Refusal.{numberOf}
 use Rattle.numeric.specs.declared.vec3.Vec3.{Vec3}
 use Rattle.numeric.specs.declared.refusal.Refusal.the-variants.{FitFailed}
-use Rattle.robust.specs.Round.{Round, Outcome, roundOf, SoundRound, FiniteResiduals}
+use Rattle.robust.specs.Round.{Round, RoundOutcome, roundOf, SoundRound, FiniteResiduals}
 use Rattle.robust.specs.Sigma.{elevationSigma}
-use Rattle.normal.specs.declared.row.Row.{Row}
+use Rattle.normal_equations.specs.declared.row.Row.{Row}
 use Rattle.clocks.specs.Clocks.{slot, clocksOf}
-use Rattle.estimator.specs.Rules.{Rule, rule, ruled}
-use Rattle.records.specs.Record.{counted}
+use Rattle.estimate_rounds.specs.Rules.{Rule, rule, ruled}
+use Rattle.records.specs.Record.{countedCarriers}
 use Rattle.records.specs.City.{looked, isCity}
 use Rattle.records.specs.Pair.{pairsOf}
 use Rattle.records.specs.Screen.{keptOf, constellations}
@@ -33,12 +33,13 @@ use Rattle.records.specs.declared.pair.Profile.the-variants.{General}
 use Rattle.tdcp.specs.declared.displacement.Settings.{Settings}
 use Rattle.tdcp.specs.declared.displacement.Interval.{Interval}
 use Rattle.tdcp.specs.declared.displacement.Interval.the-variants as Interval
-use Rattle.estimator.specs.Rounds.{Fit, fitFrom, vector, finiteAt, concluded, Each}
+use Rattle.estimate_rounds.specs.Rounds.{Fit, fitFrom, vector, finiteAt, concluded}
+use Rattle.median.specs.Sorted.{Each}
 use Rattle.tdcp.specs.declared.displacement.Delta.{Delta}
 use Rattle.tdcp.specs.declared.displacement.Displacement.{Displacement}
 use Rattle.tdcp.specs.declared.displacement.Displacement.the-variants.{Refused, Moved}
 
--- what is handed over: two epochs, how far apart they lie, the receiver, the settings, and which carriers are looked at
+-- the arguments of a call: two epochs, the interval between them, the receiver, the settings, and the profile, which chooses the carriers
 pub record Input : Type 0 where
   pub previous : Epoch
   pub current : Epoch
@@ -56,8 +57,8 @@ general previous current dt receiver settings = input previous current (Interval
 
 -- ---- the rounds
 
-unfoldable pub sigmaOf : Settings → Pair → Float
-sigmaOf settings p = elevationSigma (p .elevation) (settings .«sigma_a») (settings .«sigma_b»)
+unfoldable pub pairSigma : Settings → Pair → Float
+pairSigma settings p = elevationSigma (p .elevation) (settings .«sigma_a») (settings .«sigma_b»)
 
 -- the row of a pair with this sigma at the state x: what was observed, less what x says
 unfoldable pub rowWith : Float → Clocks → List Float → Pair → Row
@@ -72,19 +73,19 @@ rowWith sigma k x p =
     }
 
 abbrev pub rowAt : Settings → Clocks → List Float → Pair → Row
-rowAt settings k x p = rowWith (sigmaOf settings p) k x p
+rowAt settings k x p = rowWith (pairSigma settings p) k x p
 
 -- the round at the state x over the pairs ps, with the clocks k
-unfoldable pub roundAt : Settings → Clocks → List Pair → List Float → Outcome
+unfoldable pub roundAt : Settings → Clocks → List Pair → List Float → RoundOutcome
 roundAt settings k ps x = roundOf (map (rowAt settings k x) ps) (3 + k .count) (settings .huber)
 
 -- stop below 1e-5 m
-abbrev pub limit : Float
-limit = decimal 1 5
+abbrev pub stopLimit : Float
+stopLimit = decimal 1 5
 
 -- the fit over the pairs ps, with the clocks k: the first round begins at zero
 unfoldable pub fitOver : Settings → Clocks → List Pair → Fit
-fitOver settings k ps = fitFrom (roundAt settings k ps) (3 + k .count) limit (settings .rounds) zeros
+fitOver settings k ps = fitFrom (roundAt settings k ps) (3 + k .count) stopLimit (settings .rounds) zeros
 
 -- the fit over those that the screen keeps of the pairs ps
 unfoldable pub fitBy : Settings → List Pair → Fit
@@ -96,18 +97,18 @@ fitBy settings ps =
 
 -- the pairs before screening: of all counted carriers, or in the city profile of those that it certifies
 abbrev pub pairs : Input → List Pair
-pairs i = pairsOf (i .receiver) (i .settings .mask) (dtOf (i .since)) (looked (i .profile) (counted (i .previous))) (looked (i .profile) (counted (i .current)))
+pairs i = pairsOf (i .receiver) (i .settings .mask) (dtOf (i .since)) (looked (i .profile) (countedCarriers (i .previous))) (looked (i .profile) (countedCarriers (i .current)))
 
 -- and after it
-abbrev pub kept : Input → List Pair
-kept i = keptOf (i .settings .screen) (pairs i)
+abbrev pub keptPairs : Input → List Pair
+keptPairs i = keptOf (i .settings .screen) (pairs i)
 
 -- the fit of a call, and its rounds
-unfoldable pub fitOf : Input → Fit
-fitOf i = fitBy (i .settings) (pairs i)
+unfoldable pub callFit : Input → Fit
+callFit i = fitBy (i .settings) (pairs i)
 
 unfoldable pub roundsOf : Input → List Round
-roundsOf i = fitOf i .rounds
+roundsOf i = callFit i .rounds
 
 -- ---- the answer
 
@@ -118,18 +119,14 @@ deltaAt used screened x = record { delta = vector x; used = used; screened = scr
 unfoldable pub endRules : List Float → List Rule
 endRules x = rule FitFailed (not (finiteAt x)) ∷ []
 
--- the answer at the state x that the rounds reach
-abbrev pub concludedAt : ℕ → ℕ → List Float → Displacement
-concludedAt used screened x = ruled Refused (endRules x) (Moved (deltaAt used screened x))
-
--- What every displacement shares, from its pairs on: 15, 7 to 9 and in the city profile 20, the rounds over those that the screen keeps, and 10. The screened are
--- the pairs less those kept.
+-- The displacement of carrier pairs: 15, 7 to 9 and in the city profile 20, the rounds over those that the screen keeps, and 10. The screened are the pairs less
+-- those kept.
 unfoldable pub movedBy : Bool → Settings → List Pair → Displacement
 movedBy city settings ps =
     let used = length (keptOf (settings .screen) ps) in
     ruled Refused (pairRules city settings ps) (concluded Refused endRules (λ x. Moved (deltaAt used (length ps - used) x)) (fitBy settings ps .end))
 
--- 2 to 4 on what is handed over, 13 and 5 on its interval, and then what its pairs come to
+-- 2 to 4 of the epochs, the receiver and the settings, 13 and 5 of the interval, and then the displacement of the pairs
 unfoldable pub displacementOf : Input → Displacement
 displacementOf i =
     ruled Refused (epochRules (i .previous) (i .current) (i .receiver) (i .settings) ++ intervalRules (i .since))
@@ -159,12 +156,15 @@ pub record Accepted (i : Input) (d : Delta) : Type 0 where
   pub y-finite : T (finite (d .delta .y))
   pub z-finite : T (finite (d .delta .z))
   pub pairs-counted : d .used + d .screened ≡ length (pairs i)
-  pub redundant : 3 + clocksOf (constellations (kept i)) .count < d .used
+  pub redundant : 3 + clocksOf (constellations (keptPairs i)) .count < d .used
   pub sound-rounds : Each SoundRound (roundsOf i)
   pub finite-residuals : Each FiniteResiduals (roundsOf i)
 
--- the answer is the definition's, for every input whatever, and what it gives out is finite
+-- The answer is the definition's for every input, and so are its number, floats and counts. What it returns is finite.
 pub record Promised (i : Input) (r : Displacement) : Type 0 where
   pub answer : r ≡ displacementOf i
+  pub number-is : displacementNumber r ≡ displacementNumber (displacementOf i)
+  pub floats-are : displacementFloats r ≡ displacementFloats (displacementOf i)
+  pub counts-are : displacementCounts r ≡ displacementCounts (displacementOf i)
   pub given-finite : every finite (displacementFloats r) ≡ true
   pub accepted : (d : Delta) → r ≡ Moved d → Accepted i d

@@ -1,11 +1,11 @@
--- What comes before the rounds: the rows, and the rules on them in the order of docs/SCOPE.md, "Why a call turns back". Definitions only.
+-- What comes before the rounds: the rows, and the rules on them in the order of docs/REFUSALS.md. Definitions only.
 use mathlib.Core.Bool.{Bool, not, _&&_}
 use mathlib.Core.List.{List, [], _∷_, _++_}
 use lib.ListN.{length}
-use Rattle.walk.specs.Walk.{collect}
+use Rattle.lists.specs.Walk.{collect}
 use Rattle.numeric.specs.Sight.{onReceiver}
 use Rattle.numeric.specs.declared.refusal.Refusal.the-variants.{OnReceiver, NotCertified}
-use Rattle.estimator.specs.Rules.{Rule, rule}
+use Rattle.estimate_rounds.specs.Rules.{Rule, rule}
 use Rattle.clocks.specs.Clocks.{has, clocksOf}
 use Rattle.records.specs.Screen.{keptOf, constellations}
 use Rattle.tdcp.specs.Valid.{fewRules}

@@ -2,5 +2,5 @@ pub mod Valid
 pub mod Front
 pub mod Displacement
 pub mod Rated
-pub mod Rows
 pub mod City
+pub mod Steps

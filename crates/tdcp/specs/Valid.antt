@@ -1,4 +1,4 @@
--- The rules of a displacement, in the numbers and order of docs/SCOPE.md, "Why a call turns back". Definitions only.
+-- The rules of a displacement, in the numbers and order of docs/REFUSALS.md. Definitions only.
 use Prim.Native.Nat.{ℕ}
 use mathlib.Core.Bool.{Bool, true, not, _&&_, _||_}
 use mathlib.Core.List.{List, [], _∷_}
@@ -6,13 +6,13 @@ use lib.Dec.{ltb}
 use lib.Ieee.{Float, lt}
 use lib.Ieee.Scale.{finite}
 use Rattle.exact.specs.Float.{+0, whole}
-use Rattle.walk.specs.Walk.{every}
+use Rattle.lists.specs.Walk.{every}
 use Rattle.numeric.specs.Real.{inRange}
 use Rattle.numeric.specs.declared.vec3.Vec3.{Vec3}
 use Rattle.numeric.specs.declared.refusal.Refusal.the-variants.{TooMany, SettingOutOfRange, RecordOutOfRange, BadTime, BadInterval, TooFewPairs}
-use Rattle.time.specs.Time.{isDated, secondsAfter}
-use Rattle.estimator.specs.Rules.{Rule, rule, rowRules}
-use Rattle.records.specs.Record.{counted, placeable, soundCarrier}
+use Rattle.time.specs.Time.{isDated, secondsBetween}
+use Rattle.estimate_rounds.specs.Rules.{Rule, rule, rowRules}
+use Rattle.records.specs.Record.{countedCarriers, placeable, soundCarrier}
 use Rattle.records.specs.declared.record.Epoch.{Epoch}
 use Rattle.tdcp.specs.declared.displacement.Settings.{Settings}
 use Rattle.tdcp.specs.declared.displacement.Interval.{Interval}
@@ -29,13 +29,13 @@ unfoldable pub epochRules : Epoch → Epoch → Vec3 → Settings → List Rule
 epochRules previous current receiver settings =
     rule TooMany (ltb 64 (previous .count) || ltb 64 (current .count))
     ∷ rule SettingOutOfRange (not (settingsPass settings))
-    ∷ rule RecordOutOfRange (not (every soundCarrier (counted previous) && every soundCarrier (counted current) && placeable receiver))
+    ∷ rule RecordOutOfRange (not (every soundCarrier (countedCarriers previous) && every soundCarrier (countedCarriers current) && placeable receiver))
     ∷ []
 
 -- the seconds of an interval: so many, or those from the previous time to the current one
 abbrev pub dtOf : Interval → Float
 dtOf (Interval.Seconds dt) = dt
-dtOf (Interval.Between previous current) = secondsAfter current previous
+dtOf (Interval.Between previous current) = secondsBetween current previous
 
 -- 13: one of two times is past the last
 abbrev pub isTimed : Interval → Bool
@@ -49,10 +49,6 @@ badInterval dt = not (finite dt) || not (lt +0 dt) || lt (whole 604800) dt
 -- 13 and 5, of the interval
 unfoldable pub intervalRules : Interval → List Rule
 intervalRules since = rule BadTime (not (isTimed since)) ∷ rule BadInterval (badInterval (dtOf since)) ∷ []
-
--- 3 to 5 with 13, where `sound` is whether 4 lets every record and the receiver pass
-unfoldable pub givenRules : Settings → Bool → Interval → List Rule
-givenRules settings sound since = rule SettingOutOfRange (not (settingsPass settings)) ∷ rule RecordOutOfRange (not sound) ∷ intervalRules since
 
 -- 7 to 9, of how many pairs there are before screening, how many are kept, and how many clock slots those have
 unfoldable pub fewRules : ℕ → ℕ → ℕ → List Rule

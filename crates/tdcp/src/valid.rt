@@ -1,23 +1,24 @@
-// The rules on what is handed over for a displacement, and on its pairs.
+// The rules of a displacement: on its settings, records and interval, and on its pairs.
 ghost use mathlib.Core.Path.{_≡_};
 ghost use mathlib.Core.Bool.{true, not, _&&_};
 ghost use mathlib.Core.List.{[], _∷_, _++_};
 ghost use Rattle.numeric.specs.declared.refusal.Refusal.the-variants.{BadTime, NotCertified};
 ghost use Rattle.clocks.specs.Clocks.{has};
 ghost use Rattle.records.specs.City.{isCity};
-ghost use Rattle.estimator.specs.Rules.{rule, ruled};
+ghost use Rattle.estimate_rounds.specs.Rules.{rule, ruled};
+ghost use Rattle.tdcp.specs.Steps as code;
 ghost use Rattle.tdcp.specs.Valid as spec;
 use crate::displacement::Interval;
 use crate::displacement::Settings;
-use estimator::rules::Check;
-use estimator::rules::check_rows;
+use estimate_rounds::rules::Check;
+use estimate_rounds::rules::check_rows;
 use numeric::real::in_range;
 use numeric::real::is_finite;
 use numeric::refusal::Refusal;
 use records::pair::Profile;
 use time::time::Seconds;
 
-// Rule 3 of a displacement.
+// Checks rule 3 of a displacement.
 pub fn settings_pass(s: Settings) -> bool
     ensures { λ r. ⌜ r ≡ spec.settingsPass s ⌝ }
 {
@@ -29,14 +30,14 @@ pub fn settings_pass(s: Settings) -> bool
         & !(50 < s.rounds)
 }
 
-// Rule 5.
+// Checks rule 5.
 pub(crate) fn is_bad_interval(dt: f64) -> bool
     ensures { λ r. ⌜ r ≡ spec.badInterval dt ⌝ }
 {
     !is_finite(dt) | !(0.0 < dt) | (604800.0 < dt)
 }
 
-// The seconds of an interval, or 13.
+// Returns the seconds of an interval, or 13.
 fn apart(since: Interval) -> Seconds
     ensures { λ r. ⌜ r ≡ ruled Seconds.Refused (rule BadTime (not (spec.isTimed since)) ∷ []) (Seconds.Since (spec.dtOf since)) ⌝ }
 {
@@ -46,9 +47,9 @@ fn apart(since: Interval) -> Seconds
     }
 }
 
-// Rules 3, 4, 13 and 5 of a displacement: the seconds of its interval where none applies. `sound` is whether 4 lets every record and the receiver pass.
+// Checks rules 3, 4, 13 and 5 of a displacement and returns the seconds of its interval. `sound` says whether every record and the receiver pass rule 4.
 pub(crate) fn seconds_of(settings: Settings, sound: bool, since: Interval) -> Seconds
-    ensures { λ r. ⌜ r ≡ ruled Seconds.Refused (spec.givenRules settings sound since) (Seconds.Since (spec.dtOf since)) ⌝ }
+    ensures { λ r. ⌜ r ≡ ruled Seconds.Refused (code.givenRules settings sound since) (Seconds.Since (spec.dtOf since)) ⌝ }
 {
     if !settings_pass(settings) {
         return Seconds::Refused(Refusal::SettingOutOfRange);
@@ -68,7 +69,7 @@ pub(crate) fn seconds_of(settings: Settings, sound: bool, since: Interval) -> Se
     }
 }
 
-// Whether, in the city profile, GPS (1) or Galileo (6) is absent among these constellations.
+// Checks whether, in the city profile, GPS (1) or Galileo (6) is absent among these constellations.
 pub(crate) fn is_uncertified(profile: Profile, constellation: &[u8]) -> bool
     ensures { λ r. ⌜ r ≡ (isCity profile && not (has (now (constellation .entry)) 1 && has (now (constellation .entry)) 6)) ⌝ }
 {
@@ -88,7 +89,7 @@ pub(crate) fn is_uncertified(profile: Profile, constellation: &[u8]) -> bool
     !(gps & galileo)
 }
 
-// Rules 7 to 9 of a displacement, and 20 where it applies.
+// Checks rules 7 to 9 of a displacement, then 20.
 pub(crate) fn check_pairs(pairs: usize, kept: usize, slots: usize, uncertified: bool) -> Check
     ensures { λ r. ⌜ r ≡ ruled Check.Refused (spec.fewRules pairs kept slots ++ (rule NotCertified uncertified ∷ [])) Check.Passed ⌝ }
 {

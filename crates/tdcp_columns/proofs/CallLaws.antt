@@ -5,12 +5,12 @@ use mathlib.Core.List.{List}
 use Prim.Native.Nat.{ℕ}
 use Rattle.numeric.specs.declared.vec3.Vec3.{Vec3}
 use Rattle.numeric.specs.declared.refusal.Refusal.the-variants.{TooMany, BadTime}
-use Rattle.time.specs.Time.{isDated, secondsAfter}
+use Rattle.time.specs.Time.{isDated, secondsBetween}
 use Rattle.time.specs.declared.time.GpsTime.{GpsTime}
 use Rattle.records.specs.Carriers.{CarrierColumns, epochOf}
 use Rattle.records.specs.declared.pair.Profile.{Profile}
-use Rattle.estimator.specs.Rules.{Rule, ruled}
-use Rattle.estimator.proofs.RulesLaws.{ruled-append}
+use Rattle.estimate_rounds.specs.Rules.{Rule, ruled}
+use Rattle.estimate_rounds.proofs.RulesLaws.{ruled-append}
 use Rattle.tdcp.specs.Valid.{epochRules, intervalRules}
 use Rattle.tdcp.specs.Displacement.{displacementOf}
 use Rattle.tdcp.specs.declared.displacement.Settings.{Settings}
@@ -19,7 +19,7 @@ use Rattle.tdcp.specs.declared.displacement.Interval.the-variants as Interval
 use Rattle.tdcp.specs.declared.displacement.Displacement.{Displacement}
 use Rattle.tdcp.specs.declared.displacement.Displacement.the-variants.{Refused}
 use Rattle.tdcp.proofs.IntervalLaws.{at-dt}
-use Rattle.tdcp_columns.specs.Displacement.{Lent, lent, inputOf, isFit, columnsDisplaced, deltaAfter, countsAfter, Leaves, DisplacementAnswers}
+use Rattle.tdcp_columns.specs.Displacement.{Lent, lent, lentInput, isFit, columnsDisplaced, deltaAfter, countsAfter, DisplacementAnswers}
 use Rattle.tdcp.specs.Displacement.{displacementNumber}
 
 -- the same number, and the same bits in the lent results
@@ -43,7 +43,7 @@ module _ (previous : CarrierColumns) (m : ℕ) (current : CarrierColumns) (n : �
   between = lent previous m current n (Interval.Between s t) receiver settings profile
 
   abbrev pub apart : Lent
-  apart = lent previous m current n (Interval.Seconds (secondsAfter t s)) receiver settings profile
+  apart = lent previous m current n (Interval.Seconds (secondsBetween t s)) receiver settings profile
 
   same-displacement : (isDated t && isDated s) ≡ true → columnsDisplaced between ≡ columnsDisplaced apart
   unfolding columnsDisplaced
@@ -57,7 +57,7 @@ module _ (previous : CarrierColumns) (m : ℕ) (current : CarrierColumns) (n : �
   abbrev rules : List Rule
   rules = epochRules (epochOf previous m) (epochOf current n) receiver settings
 
-  thirteen : (isDated t && isDated s) ≡ false → displacementOf (inputOf between) ≡ ruled Refused rules (Refused BadTime)
+  thirteen : (isDated t && isDated s) ≡ false → displacementOf (lentInput between) ≡ ruled Refused rules (Refused BadTime)
   unfolding displacementOf intervalRules ruled
   thirteen e = ruled-append Refused _ rules _ ∙ rw e
 

@@ -9,16 +9,16 @@ use lib.Seq.{length-take-le}
 use lib.IntN.{ℤ}
 use lib.Ieee.{Float}
 use borrow.Author.Tests.{leb-true}
-use Rattle.walk.proofs.Walk.{and-both}
+use Rattle.lists.proofs.Walk.{and-both}
 use Rattle.numeric.specs.declared.refusal.Refusal.the-variants.{TooMany}
 use Rattle.records.specs.Carriers.{CarrierColumns, carrierColumns, epochOf, epochFits}
-use Rattle.records.specs.Signals.{epochIn, Fit}
+use Rattle.records.specs.Signals.{epochIn, SignalsFit}
 use Rattle.records.proofs.EpochLaws.{signalled-fits, signalled-is}
-use Rattle.tdcp.specs.Rows.{answerOf}
+use Rattle.tdcp.specs.Rated.{answeredOf}
 use Rattle.tdcp.specs.declared.displacement.Rated.{Rated}
 use Rattle.tdcp.specs.declared.displacement.Rated.the-variants.{Refused}
-use Rattle.tdcp_columns.specs.Displacement.{Lent, inputOf, FitInto}
-use Rattle.tdcp_columns.specs.Rated.{columnsAnswered}
+use Rattle.tdcp_columns.specs.Displacement.{Lent, lentInput}
+use Rattle.tdcp_columns.specs.Steps.{FitInto, columnsAnswered}
 
 -- what the test of lengths tells
 pub record CarrierRoom (c : CarrierColumns) (n : ℕ) : Type 0 where
@@ -58,7 +58,7 @@ module _ (cs vs bs : List ℕ) (ts : List ℤ) (fs : List Float) (n : ℕ) {r : 
   into-count = length-take-le n ss into-long
 
   module _ (vl : (i : ℕ) → getD vs i 0 < 2 ^ 16) (bl : (i : ℕ) → getD bs i 0 < 2 ^ 32) where
-    pub into-fits : ((i : ℕ) → getD cs i 0 < 2 ^ 8) → Fit (take n ss) ts fs
+    pub into-fits : ((i : ℕ) → getD cs i 0 < 2 ^ 8) → SignalsFit (take n ss) ts fs
     into-fits cl = signalled-fits cs vs bs ts fs n ss (h .signalled t) (room .few) vl bl (room .state) (room .floats) cl
 
     pub into-is : epochIn (take n ss) ts fs ≡ epochOf (carrierColumns cs vs bs ts fs) n
@@ -74,6 +74,6 @@ module _ (wanted : Bool) (l : Lent) {a : Bool} (is : a ≡ epochFits (l .previou
     unfolding columnsAnswered
     not-second e = rw (← is, ← is′, t, e)
 
-    pub both-fit : {d : Rated} → b ≡ true → d ≡ answerOf wanted (inputOf l) → d ≡ columnsAnswered wanted l
+    pub both-fit : {d : Rated} → b ≡ true → d ≡ answeredOf wanted (lentInput l) → d ≡ columnsAnswered wanted l
     unfolding columnsAnswered
     both-fit u q = q ∙ rw (← is, ← is′, t, u)

@@ -9,24 +9,24 @@ use Rattle.numeric.specs.declared.refusal.Refusal.{Refusal}
 use Rattle.numeric.specs.declared.refusal.Refusal.the-variants.{TooMany, FitFailed, QualityNotFinite}
 use Rattle.cholesky.specs.Factor.{zeros, factorOf}
 use Rattle.cholesky.specs.Answer.{accepted}
-use Rattle.normal.specs.declared.row.Row.{Row}
+use Rattle.normal_equations.specs.declared.row.Row.{Row}
 use Rattle.clocks.specs.Clocks.{clocksOf}
 use Rattle.records.specs.Screen.{constellations}
-use Rattle.estimator.specs.Rules.{ruled}
-use Rattle.estimator.specs.Rounds.{stateAfter}
+use Rattle.estimate_rounds.specs.Rules.{ruled}
+use Rattle.estimate_rounds.specs.Rounds.{stateAfter}
 use Rattle.quality.specs.Quality.{chiOf, unweightedMatrix, dilutionOf, figureRules, qualityOf}
-use Rattle.tdcp.specs.Displacement.{rowAt, kept, fitOf, displacementOf}
+use Rattle.tdcp.specs.Displacement.{rowAt, keptPairs, callFit, displacementOf}
 use Rattle.tdcp.specs.declared.displacement.Delta.{Delta}
-use Rattle.tdcp.specs.Rated.{qualityAt, quality, rate, ratedBy, ratedOf, RatedAccepted}
-use Rattle.tdcp.specs.Rows.{plainOf, answerOf}
+use Rattle.tdcp.specs.Rated.{qualityAt, quality, rate, ratedWith, ratedOf, RatedAccepted, plainOf, answeredOf}
 use Rattle.tdcp.specs.declared.displacement.Displacement.{Displacement}
 use Rattle.tdcp.specs.declared.displacement.Displacement.the-variants as Displacement
 use Rattle.tdcp.specs.declared.displacement.RatedDelta.{RatedDelta}
 use Rattle.tdcp.specs.declared.displacement.Rated.{Rated}
 use Rattle.tdcp.specs.declared.displacement.Rated.the-variants.{Refused, Moved}
 use Rattle.tdcp.proofs.RatedLaws.{plain-is, rated-is as answer-is, rated-accepted}
-use Rattle.tdcp_columns.specs.Displacement.{Lent, inputOf, isFit, columnsDisplaced}
-use Rattle.tdcp_columns.specs.Rated.{columnsRated, columnsAnswered, RatedLeaves, RatedAnswers}
+use Rattle.tdcp_columns.specs.Displacement.{Lent, lentInput, isFit, columnsDisplaced}
+use Rattle.tdcp_columns.specs.Rated.{columnsRated, RatedLeaves, RatedAnswers}
+use Rattle.tdcp_columns.specs.Steps.{columnsAnswered}
 
 module _ (l : Lent) where
   -- without its figures the answer is the displacement of the columns
@@ -34,22 +34,22 @@ module _ (l : Lent) where
   unfolding columnsAnswered columnsDisplaced
   plain-columns {a} = go (isFit l)
     where
-      go : (b : Bool) → a ≡ cond b (answerOf false (inputOf l)) (Refused TooMany) → plainOf a ≡ cond b (displacementOf (inputOf l)) (Displacement.Refused TooMany)
-      go true e = plain-is (inputOf l) e
+      go : (b : Bool) → a ≡ cond b (answeredOf false (lentInput l)) (Refused TooMany) → plainOf a ≡ cond b (displacementOf (lentInput l)) (Displacement.Refused TooMany)
+      go true e = plain-is (lentInput l) e
       go false e = ap plainOf e
 
   -- with them it is the rated one
   rated-columns : columnsAnswered true l ≡ columnsRated l
   unfolding columnsAnswered columnsRated
-  rated-columns = rw (answer-is (inputOf l))
+  rated-columns = rw (answer-is (lentInput l))
 
   -- a rated displacement that was accepted is that of columns that fit
-  pub columns-rated : (d : RatedDelta) → columnsRated l ≡ Moved d → RatedAccepted (inputOf l) d
+  pub columns-rated : (d : RatedDelta) → columnsRated l ≡ Moved d → RatedAccepted (lentInput l) d
   unfolding columnsRated
   columns-rated d = go (isFit l)
     where
-      go : (b : Bool) → cond b (ratedOf (inputOf l)) (Refused TooMany) ≡ Moved d → RatedAccepted (inputOf l) d
-      go true e = rated-accepted (inputOf l) d e
+      go : (b : Bool) → cond b (ratedOf (lentInput l)) (Refused TooMany) ≡ Moved d → RatedAccepted (lentInput l) d
+      go true e = rated-accepted (lentInput l) d e
       go false e = absurd (let z : _≡_ {A = ℕ} 0 1 = cc in omega arith)
 
   -- what is left in lent memory of the answer q that was given
@@ -66,16 +66,16 @@ module _ (l : Lent) where
   unfolding columnsDisplaced columnsRated ratedOf
   refused-alike r = go (isFit l)
     where
-      go : (b : Bool) → cond b (displacementOf (inputOf l)) (Displacement.Refused TooMany) ≡ Displacement.Refused r → cond b (ratedBy (quality (inputOf l)) (displacementOf (inputOf l))) (Refused TooMany) ≡ Refused r
-      go true e = ap (ratedBy (quality (inputOf l))) e
+      go : (b : Bool) → cond b (displacementOf (lentInput l)) (Displacement.Refused TooMany) ≡ Displacement.Refused r → cond b (ratedWith (quality (lentInput l)) (displacementOf (lentInput l))) (Refused TooMany) ≡ Refused r
+      go true e = ap (ratedWith (quality (lentInput l))) e
       go false e = let h : TooMany ≡ r = cc in ap (λ (z : Refusal). Refused z) h
 
   -- the unknowns, and the rows of the kept pairs at the displacement that the rounds reach, with the final clocks
   abbrev pub unknowns : ℕ
-  unknowns = 3 + clocksOf (constellations (kept (inputOf l))) .count
+  unknowns = 3 + clocksOf (constellations (keptPairs (lentInput l))) .count
 
   abbrev pub rows : List Row
-  rows = let i = inputOf l in map (rowAt (i .settings) (clocksOf (constellations (kept i))) (stateAfter (fitOf i .end) zeros)) (kept i)
+  rows = let i = lentInput l in map (rowAt (i .settings) (clocksOf (constellations (keptPairs i))) (stateAfter (callFit i .end) zeros)) (keptPairs i)
 
   -- where it is accepted, the rated one is
   module _ (d : Delta) (e : columnsDisplaced l ≡ Displacement.Moved d) where
@@ -83,9 +83,9 @@ module _ (l : Lent) where
     unfolding columnsDisplaced columnsRated ratedOf quality qualityAt
     rated-is = go (isFit l) e
       where
-        go : (b : Bool) → cond b (displacementOf (inputOf l)) (Displacement.Refused TooMany) ≡ Displacement.Moved d
-            → cond b (ratedBy (qualityOf unknowns rows) (displacementOf (inputOf l))) (Refused TooMany) ≡ rate d (qualityOf unknowns rows)
-        go true h = ap (ratedBy (qualityOf unknowns rows)) h
+        go : (b : Bool) → cond b (displacementOf (lentInput l)) (Displacement.Refused TooMany) ≡ Displacement.Moved d
+            → cond b (ratedWith (qualityOf unknowns rows) (displacementOf (lentInput l))) (Refused TooMany) ≡ rate d (qualityOf unknowns rows)
+        go true h = ap (ratedWith (qualityOf unknowns rows)) h
         go false h = absurd (let z : _≡_ {A = ℕ} 0 1 = cc in omega arith)
 
     -- 10 where a pivot of the unweighted matrix is refused,

@@ -1,18 +1,15 @@
 -- Displacements of a caller's columns: the answer, its number, and what the lent results hold afterwards. Definitions only.
 use Prim.Native.Nat.{ℕ}
 use mathlib.Core.Path.{_≡_}
-use mathlib.Core.Bool.{Bool, true, cond, _&&_}
+use mathlib.Core.Bool.{Bool, cond, _&&_}
 use mathlib.Core.List.{List, map}
 use lib.ListN.{getD}
 use lib.Ieee.{Float, nan}
-use lib.Ieee.Scale.{finite}
 use Rattle.exact.specs.Float.{+0}
-use Rattle.walk.specs.Walk.{every}
 use Rattle.numeric.specs.Order.{patternOf}
 use Rattle.numeric.specs.declared.refusal.Refusal.the-variants.{TooMany}
 use Rattle.numeric.specs.declared.vec3.Vec3.{Vec3}
 use Rattle.records.specs.Carriers.{CarrierColumns, epochOf, epochFits}
-use Rattle.records.specs.Signals.{Signalled}
 use Rattle.records.specs.declared.pair.Profile.{Profile}
 use Rattle.tdcp.specs.Displacement.{Input, input, displacementOf, displacementNumber, displacementFloats, displacementCounts, Accepted}
 use Rattle.tdcp.specs.declared.displacement.Settings.{Settings}
@@ -50,30 +47,19 @@ lent p m c n since receiver settings profile =
     record { previous = p; previous-count = m; current = c; current-count = n; since = since; receiver = receiver; settings = settings; profile = profile }
 
 -- the two epochs, and the same
-abbrev pub inputOf : Lent → Input
-inputOf l = input (epochOf (l .previous) (l .previous-count)) (epochOf (l .current) (l .current-count)) (l .since) (l .receiver) (l .settings) (l .profile)
+abbrev pub lentInput : Lent → Input
+lentInput l = input (epochOf (l .previous) (l .previous-count)) (epochOf (l .current) (l .current-count)) (l .since) (l .receiver) (l .settings) (l .profile)
 
 abbrev pub isFit : Lent → Bool
 isFit l = epochFits (l .previous) (l .previous-count) && epochFits (l .current) (l .current-count)
 
--- whether n carriers of the columns fit, and then their signals
-pub record FitInto (c : CarrierColumns) (n : ℕ) (r : Bool) (signals : List ℕ) : Type 0 where
-  pub fits : r ≡ epochFits c n
-  pub signalled : r ≡ true → Signalled (c .constellation) (c .svid) (c .band) n signals
-
 -- their displacement. 2: one epoch has more than 64 carriers, or one of its columns is too short.
 unfoldable pub columnsDisplaced : Lent → Displacement
-columnsDisplaced l = cond (isFit l) (displacementOf (inputOf l)) (Refused TooMany)
-
--- the answer is the definition's, what it gives out is finite, and an accepted one has what every accepted displacement has, demand 3 of every round included
-pub record ColumnsPromised (l : Lent) (r : Displacement) : Type 0 where
-  pub answer : r ≡ columnsDisplaced l
-  pub given-finite : every finite (displacementFloats r) ≡ true
-  pub accepted : (d : Delta) → r ≡ Moved d → Accepted (inputOf l) d
+columnsDisplaced l = cond (isFit l) (displacementOf (lentInput l)) (Refused TooMany)
 
 -- ---- the answer in lent memory
 
--- the patterns of the displacement in metres, and how many pairs were used and screened out; a refusal leaves both as they were, to the last bit
+-- the patterns of the displacement in metres, and how many pairs were used and screened out; a refusal changes no bit of either
 abbrev pub deltaAfter : Displacement → List ℕ → List ℕ
 deltaAfter (Refused r) before = before
 deltaAfter (Moved d) before = map patternOf (displacementFloats (Moved d))
@@ -92,4 +78,4 @@ pub record Leaves (d : Displacement) (number : ℕ) (delta₀ delta : List ℕ) 
 -- round included.
 pub record DisplacementAnswers (l : Lent) (number : ℕ) (delta₀ delta : List ℕ) (counts₀ counts : List ℕ) : Type 0 where
   pub leaves : Leaves (columnsDisplaced l) number delta₀ delta counts₀ counts
-  pub accepted : (d : Delta) → columnsDisplaced l ≡ Moved d → Accepted (inputOf l) d
+  pub accepted : (d : Delta) → columnsDisplaced l ≡ Moved d → Accepted (lentInput l) d

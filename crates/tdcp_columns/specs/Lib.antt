@@ -1,2 +1,3 @@
 pub mod Displacement
 pub mod Rated
+pub mod Steps

@@ -1,22 +1,21 @@
 -- Rated displacements of a caller's columns: the answer, its number, and what the lent results hold afterwards. Definitions only.
 use Prim.Native.Nat.{ℕ}
 use mathlib.Core.Path.{_≡_}
-use mathlib.Core.Bool.{Bool, cond}
+use mathlib.Core.Bool.{cond}
 use mathlib.Core.List.{List, map}
 use Rattle.numeric.specs.Order.{patternOf}
 use Rattle.numeric.specs.declared.refusal.Refusal.the-variants.{TooMany}
 use Rattle.tdcp.specs.Rated.{ratedOf, ratedNumber, ratedFloats, ratedFigures, ratedCounts, RatedAccepted}
-use Rattle.tdcp.specs.Rows.{answerOf}
 use Rattle.tdcp.specs.declared.displacement.RatedDelta.{RatedDelta}
 use Rattle.tdcp.specs.declared.displacement.Rated.{Rated}
 use Rattle.tdcp.specs.declared.displacement.Rated.the-variants.{Refused, Moved}
-use Rattle.tdcp_columns.specs.Displacement.{Lent, inputOf, isFit}
+use Rattle.tdcp_columns.specs.Displacement.{Lent, lentInput, isFit}
 
 -- their rated displacement. 2: one epoch has more than 64 carriers, or one of its columns is too short.
 unfoldable pub columnsRated : Lent → Rated
-columnsRated l = cond (isFit l) (ratedOf (inputOf l)) (Refused TooMany)
+columnsRated l = cond (isFit l) (ratedOf (lentInput l)) (Refused TooMany)
 
--- the patterns of the displacement in metres, those of chi and pdop, and how many pairs were used and screened out; a refusal leaves all of them as they were, to the last bit
+-- the patterns of the displacement in metres, those of chi and pdop, and how many pairs were used and screened out; a refusal changes no bit of them
 abbrev pub deltaAfter : Rated → List ℕ → List ℕ
 deltaAfter (Refused r) before = before
 deltaAfter (Moved d) before = map patternOf (ratedFloats (Moved d))
@@ -40,8 +39,4 @@ pub record RatedLeaves (a : Rated) (number : ℕ) (delta₀ delta quality₀ qua
 -- every round included, and two finite figures.
 pub record RatedAnswers (l : Lent) (number : ℕ) (delta₀ delta quality₀ quality counts₀ counts : List ℕ) : Type 0 where
   pub leaves : RatedLeaves (columnsRated l) number delta₀ delta quality₀ quality counts₀ counts
-  pub accepted : (d : RatedDelta) → columnsRated l ≡ Moved d → RatedAccepted (inputOf l) d
-
--- ---- the code's answer, with its figures where they are wanted
-unfoldable pub columnsAnswered : Bool → Lent → Rated
-columnsAnswered wanted l = cond (isFit l) (answerOf wanted (inputOf l)) (Refused TooMany)
+  pub accepted : (d : RatedDelta) → columnsRated l ≡ Moved d → RatedAccepted (lentInput l) d

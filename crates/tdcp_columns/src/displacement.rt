@@ -1,10 +1,10 @@
-// Displacements of two epochs' columns: 2 where they do not fit, and else what their signals, states and floats answer.
+// Displacements of two epochs' columns: refused by 2 where they do not fit, otherwise that of their signals, states and floats.
 ghost use mathlib.Core.Path.{_≡_};
 ghost use lib.ListN.{length};
 ghost use Rattle.records.specs.Carriers.{carrierColumns, epochFits};
 ghost use Rattle.numeric.specs.Vec3.{vectorAt};
 ghost use Rattle.tdcp_columns.specs.Displacement as spec;
-ghost use Rattle.tdcp_columns.specs.Rated.{columnsAnswered};
+ghost use Rattle.tdcp_columns.specs.Steps.{FitInto, ColumnsPromised, columnsAnswered};
 use crate::settings::displacement_settings;
 use numeric::refusal::Refusal;
 use numeric::vec3::vector;
@@ -16,7 +16,7 @@ use tdcp::displacement::Rated;
 use tdcp::displacement::answered;
 use tdcp::displacement::plain;
 
-// Whether there are at most 64 carriers and no column is shorter than they need.
+// Checks that there are at most 64 carriers and that the columns hold them.
 fn epoch_fits(
     constellation: &[u8],
     svid: &[u16],
@@ -38,7 +38,7 @@ fn epoch_fits(
         & (6 * n <= floats.len())
 }
 
-// Whether the epoch fits, and then its signals in signals.
+// Checks that the epoch fits, and writes its signals.
 fn fit_into(
     constellation: &[u8],
     svid: &[u16],
@@ -49,7 +49,7 @@ fn fit_into(
     signals: &mut [u64; 64],
 ) -> bool
     requires { ⌜ length (now signals) ≡ 64 ⌝ }
-    ensures { λ r. ⌜ spec.FitInto (carrierColumns (now (constellation .entry)) (now (svid .entry)) (now (band .entry))
+    ensures { λ r. ⌜ FitInto (carrierColumns (now (constellation .entry)) (now (svid .entry)) (now (band .entry))
         (now (state .entry)) (now (floats .entry))) n r (now (signals .exit)) ⌝ }
 {
     if !epoch_fits(constellation, svid, band, state, floats, n) {
@@ -59,7 +59,7 @@ fn fit_into(
     true
 }
 
-// Returns the answer of two epochs, of which the states and the floats are read where they lie, with the figures of its fit where these are wanted.
+// Returns the displacement between two epochs, with the figures of its fit on request. States and floats are read in place.
 pub fn columns_answered(
     previous_constellation: &[u8],
     previous_svid: &[u16],
@@ -152,7 +152,7 @@ pub fn columns_displaced(
         (now («previous_state» .entry)) (now («previous_floats» .entry)) in
         let current = carrierColumns (now («current_constellation» .entry)) (now («current_svid» .entry)) (now («current_band» .entry))
         (now («current_state» .entry)) (now («current_floats» .entry)) in
-        spec.ColumnsPromised (spec.lent previous «previous_count» current «current_count» since
+        ColumnsPromised (spec.lent previous «previous_count» current «current_count» since
         (vectorAt (now (receiver .entry)) 0) (spec.displacementSettings (now (settings .entry)) rounds) profile) r) ⌝ }
 {
     let answer = columns_answered(

@@ -1,4 +1,4 @@
-// The answer of a displacement in lent memory. What a caller lends as doubles is taken as their patterns, so that a refusal is promised to leave every bit.
+// The answer of a displacement in lent memory. Doubles are lent as their patterns, so that a refusal is promised to change no bit.
 ghost use mathlib.Core.Path.{_≡_};
 ghost use Rattle.tdcp_columns.specs.Displacement as spec;
 ghost use Rattle.tdcp_columns.specs.Rated as rated;
@@ -6,7 +6,7 @@ use numeric::order::pattern;
 use tdcp::displacement::Displacement;
 use tdcp::displacement::Rated;
 
-// 0, the displacement in metres in delta and how many pairs were used and screened out in counts; or the refusal's number, which leaves both as they were.
+// Returns 0 and writes the displacement in metres to `delta` and how many pairs were used and screened out to `counts`. On refusal, returns its number and changes nothing.
 pub fn answer_into(answer: Displacement, delta: &mut [u64; 3], counts: &mut [usize; 2]) -> u8
     ensures { λ r. ⌜ spec.Leaves answer r (now (delta .entry)) (now (delta .exit)) (now (counts .entry)) (now (counts .exit)) ⌝ }
 {

@@ -1,11 +1,11 @@
-// The settings of a displacement as a caller hands them over.
+// A caller's settings of a displacement.
 ghost use mathlib.Core.Path.{_≡_};
 ghost use Prim.Native.Nat.{min};
 ghost use Rattle.tdcp_columns.specs.Displacement as spec;
-use estimator::rounds::rounds_of;
+use estimate_rounds::rounds::rounds_of;
 use tdcp::displacement::Settings;
 
-// The settings of five floats and the rounds.
+// Returns the settings of five floats and the rounds.
 pub fn displacement_settings(s: &[f64; 5], rounds: usize) -> Settings
     ensures { λ r. ⌜ r ≡ spec.displacementSettings (now (s .entry)) (min rounds 51) ⌝ }
 {

@@ -29,7 +29,7 @@ nanosPerSecond = whole 1000000000
 abbrev pub inWeek : Float → Bool
 inWeek tow = le +0 tow && lt tow (whole 604800)
 
--- a week and a time of week that 13 does not turn away
+-- a week and a time of week that pass rule 13
 abbrev pub isTime : ℕ → Float → Bool
 isTime week tow = leb week 15000 && inWeek tow
 
@@ -47,23 +47,23 @@ timeOf week tow = cond (isTime week tow) (At (record { nanos = week * nanosPerWe
 
 -- ---- differences
 
--- A time handed in that 13 does not turn away: it is not past the start of week 15,001, up to which a time of week 15,000 may be rounded. None is before week 0.
+-- A time that passes rule 13: it is not past the start of week 15,001, up to which a time of week 15,000 may be rounded. No time is before week 0.
 abbrev pub isDated : GpsTime → Bool
 isDated t = leb (t .nanos) (15001 * nanosPerWeek)
 
 -- from the earlier time to the later, in nanoseconds, and in seconds: the whole number of nanoseconds as a double, rounded once, by 1e9
-abbrev pub nanosAfter : GpsTime → GpsTime → ℤ
-nanosAfter later earlier = pos (later .nanos) -ℤ pos (earlier .nanos)
+abbrev pub nanosBetween : GpsTime → GpsTime → ℤ
+nanosBetween later earlier = pos (later .nanos) -ℤ pos (earlier .nanos)
 
-unfoldable pub secondsAfter : GpsTime → GpsTime → Float
-secondsAfter later earlier = ofInt binary64 (nanosAfter later earlier) ⊘ nanosPerSecond
+unfoldable pub secondsBetween : GpsTime → GpsTime → Float
+secondsBetween later earlier = ofInt binary64 (nanosBetween later earlier) ⊘ nanosPerSecond
 
 -- the answers of the two calls
 unfoldable pub nanosSince : GpsTime → GpsTime → Nanos
-nanosSince later earlier = cond (isDated later && isDated earlier) (NanosSince (nanosAfter later earlier)) (NoNanos BadTime)
+nanosSince later earlier = cond (isDated later && isDated earlier) (NanosSince (nanosBetween later earlier)) (NoNanos BadTime)
 
 unfoldable pub secondsSince : GpsTime → GpsTime → Seconds
-secondsSince later earlier = cond (isDated later && isDated earlier) (SecondsSince (secondsAfter later earlier)) (NoSeconds BadTime)
+secondsSince later earlier = cond (isDated later && isDated earlier) (SecondsSince (secondsBetween later earlier)) (NoSeconds BadTime)
 
 -- ---- the answers in numbers: 0, or the number of the refusal
 

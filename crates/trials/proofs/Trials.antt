@@ -8,19 +8,19 @@ use lib.Ieee.{Float, add, sub, mul, div, lt, le, eq, isNan, ofInt, ofBits, toBit
 use Rattle.exact.specs.Float.{+0, bits}
 use Rattle.exact.specs.Products.{lessProducts}
 use Rattle.root.specs.Root.{rootOf}
-use Rattle.cholesky.specs.Factor.{cell, isPivot, withElement, below, pivotOf, rowOf, Refused, next, factorTo, factorOf}
+use Rattle.cholesky.specs.Factor.{cell, isPivot, withElement, below, pivotOf, rowOf, Refused, nextRow, factorTo, factorOf}
 use Rattle.exact.specs.Pattern.{sign}
 use Rattle.numeric.specs.Order.{totalOrder, patternOf}
 use Rattle.numeric.specs.Real.{abs, inRange}
-use Rattle.walk.specs.Walk.{every, collect, fold}
+use Rattle.lists.specs.Walk.{every, collect, fold}
 use Rattle.median.specs.Sorted.{insertBy, sortedBy, medianOf}
 use Rattle.median.specs.Centre.{centreOf, deviationOf, centreAndScaleOf, centreScaleOf}
 use Rattle.clocks.specs.Clocks.{given}
 use Rattle.records.specs.Record.{unsigned, bitSet, usable}
-use Rattle.table.specs.Table.{timeBefore}
-use Rattle.directory.specs.Directory.{entryRows, readingRows, ascends, tiles, timely, timelyFrom, blockTimes, inReach, soundDirectory, block, flat}
-use Rattle.query.specs.Query.{near, firstOf, lastOf, through, nearOr, spanned, ruled, answerIn, answerAt, guarded, queryIn}
-use Rattle.smooth.proofs.Trials.{one-point, not-held}
+use Rattle.corrections_table.specs.Table.{timeBefore}
+use Rattle.corrections_directory.specs.Directory.{entryRows, readingRows, ascends, tiles, timely, timelyFrom, blockTimes, inReach, soundDirectory, block, flat}
+use Rattle.corrections_query.specs.Query.{near, firstOf, lastOf, through, nearOr, spanned, correctionRule, answerIn, answerAt, guarded, queryIn}
+use Rattle.track_smooth.proofs.Trials.{one-point, not-held}
 use Rattle.cholesky.proofs.FactorLaws.{factorTo-zero, factorTo-next, refused-more}
 use Rattle.trials.specs.Marked.{All, marked, m1, m2, m3, m4, m5, m6, m7, m8, m9, m10, m11}
 
@@ -49,7 +49,7 @@ unfolding fold given
 slots-five = refl
 
 pub identity-factors : m7
-unfolding factorOf factorTo next isPivot pivotOf rowOf below withElement lessProducts rootOf sub mul div lt ofBits
+unfolding factorOf factorTo nextRow isPivot pivotOf rowOf below withElement lessProducts rootOf sub mul div lt ofBits
 identity-factors = refl
 
 -- no zero is a pivot, and what is refused once stays refused
@@ -77,11 +77,11 @@ unfolding usable bitSet unsigned
 states c h = rw h
 
 pub half-way : m10
-unfolding queryIn guarded answerAt answerIn flat block collect ruled nearOr spanned through near firstOf lastOf inRange abs soundDirectory inReach ascends tiles timely timelyFrom blockTimes entryRows readingRows timeBefore totalOrder sign patternOf every lt le eq add sub mul div ofBits ofInt toBits isNan
+unfolding queryIn guarded answerAt answerIn flat block collect correctionRule nearOr spanned through near firstOf lastOf inRange abs soundDirectory inReach ascends tiles timely timelyFrom blockTimes entryRows readingRows timeBefore totalOrder sign patternOf every lt le eq add sub mul div ofBits ofInt toBits isNan
 half-way = refl
 
 pub gap-too-long : m11
-unfolding queryIn guarded answerAt answerIn flat block collect ruled nearOr spanned through near firstOf lastOf inRange abs soundDirectory inReach ascends tiles timely timelyFrom blockTimes entryRows readingRows timeBefore totalOrder sign patternOf every lt le eq add sub mul div ofBits ofInt toBits isNan
+unfolding queryIn guarded answerAt answerIn flat block collect correctionRule nearOr spanned through near firstOf lastOf inRange abs soundDirectory inReach ascends tiles timely timelyFrom blockTimes entryRows readingRows timeBefore totalOrder sign patternOf every lt le eq add sub mul div ofBits ofInt toBits isNan
 gap-too-long = refl
 
 -- THE FACT over the list

@@ -16,15 +16,15 @@ use Rattle.numeric.specs.declared.refusal.Refusal.the-variants.{NoCorrection}
 use Rattle.median.specs.Sorted.{medianOf}
 use Rattle.median.specs.Centre.{centreOf, deviationsOf, centreScaleOf}
 use Rattle.median.specs.declared.centre.Centre.the-variants.{Of}
-use Rattle.walk.specs.Walk.{fold}
+use Rattle.lists.specs.Walk.{fold}
 use Rattle.clocks.specs.Clocks.{none, slot, given}
 use Rattle.records.specs.Record.{usable}
 use Rattle.records.specs.declared.record.Carrier.{Carrier}
-use Rattle.directory.specs.Directory.{Directory, lentBlocks, directoryIn}
-use Rattle.query.specs.Query.{queryIn}
-use Rattle.query.specs.declared.query.Correction.the-variants as Correction
-use Rattle.query.specs.declared.query.Correction.the-variants.{Metres}
-use Rattle.smooth.specs.Trials.{m12, m13}
+use Rattle.corrections_directory.specs.Directory.{Directory, lentBlocks, directoryIn}
+use Rattle.corrections_query.specs.Query.{queryIn}
+use Rattle.corrections_query.specs.declared.query.Correction.the-variants as Correction
+use Rattle.corrections_query.specs.declared.query.Correction.the-variants.{Metres}
+use Rattle.track_smooth.specs.Trials.{m12, m13}
 
 -- all of a list's statements
 abbrev pub All : List (Type 0) → Type 0
@@ -100,6 +100,6 @@ m10 = queryIn 1 2 2 twoSamples (whole 90) 1 5 1 (whole 15) ≡ Metres (whole 2)
 abbrev pub m11 : Type 0
 m11 = queryIn 1 2 2 twoSamples (whole 5) 1 5 1 (whole 15) ≡ Correction.Refused NoCorrection
 
--- m12 and m13, those of a track, stand beside its definition
+-- m12 and m13 are trials of a track, defined in its crate
 abbrev pub marked : List (Type 0)
 marked = m1 ∷ m2 ∷ m3 ∷ m4 ∷ m5 ∷ m6 ∷ m7 ∷ m8 ∷ m9 ∷ m10 ∷ m11 ∷ m12 ∷ m13 ∷ []

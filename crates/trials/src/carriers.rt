@@ -2,7 +2,7 @@
 ghost use mathlib.Core.Path.{_≡_};
 ghost use mathlib.Core.Bool.{true};
 ghost use Rattle.tdcp.specs.Displacement.{displacementOf};
-ghost use Rattle.trials.specs.Carriers.{sixIn, usedOf};
+ghost use Rattle.trials.specs.Steps.{sixIn, usedOf};
 use numeric::vec3::Vec3;
 use records::record::Carrier;
 use records::record::Epoch;

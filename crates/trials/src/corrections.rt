@@ -2,10 +2,11 @@
 ghost use mathlib.Core.Path.{_≡_};
 ghost use mathlib.Core.Bool.{true};
 ghost use Rattle.exact.specs.Float.{whole};
-ghost use Rattle.query.specs.Query.{queryIn};
+ghost use Rattle.corrections_query.specs.Query.{queryIn};
 ghost use Rattle.trials.specs.Marked.{twoSamples};
-use query::query::Correction;
-use query::query::query;
+use corrections_query::query::Correction;
+use corrections_query::query::query;
+use signal::signal::signal_of;
 
 // The correction at 15 s of samples (10 s, 1 m), (20 s, 3 m).
 fn half_way(gap: f64) -> Correction
@@ -18,7 +19,8 @@ fn half_way(gap: f64) -> Correction
     let dn = [2usize; 2];
     let ts = [10.0, 20.0];
     let xs = [1.0, 3.0];
-    query(&dc, &dv, &db, &df, &dn, 1, &ts, &xs, 2, gap, 1, 5, 1, 15.0)
+    let signal = signal_of(1, 5, 1);
+    query(&dc, &dv, &db, &df, &dn, 1, &ts, &xs, 2, gap, signal, 15.0)
 }
 
 // Gap limit 90: 2 m.

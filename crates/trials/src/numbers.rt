@@ -45,7 +45,7 @@ fn identity() -> [[f64; 9]; 9]
     ]
 }
 
-// Whether a cell of the two matrices has unlike patterns: never where they are the same.
+// Checks whether the patterns of some cell differ between the two matrices. Equal matrices never differ.
 fn differ(a: [[f64; 9]; 9], b: [[f64; 9]; 9]) -> bool
     ensures { λ r. ⌜ (a ≡ b → r ≡ false) ⌝ }
 {
@@ -60,7 +60,7 @@ fn differ(a: [[f64; 9]; 9], b: [[f64; 9]; 9]) -> bool
     found
 }
 
-// The identity factors to itself.
+// Checks that the identity factors to itself.
 pub fn identity_factors() -> bool
     ensures { λ r. ⌜ r ≡ true ⌝ }
 {
@@ -73,7 +73,7 @@ pub fn identity_factors() -> bool
     }
 }
 
-// A zero first pivot is refused by 10, and the lent rows are left.
+// Checks that a zero first pivot is refused by 10 and that the lent rows are unchanged.
 pub fn zero_pivot_refused() -> bool
     ensures { λ r. ⌜ r ≡ true ⌝ }
 {

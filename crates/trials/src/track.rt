@@ -1,8 +1,8 @@
 // The marked trials of a track.
 ghost use mathlib.Core.Path.{_≡_};
 ghost use mathlib.Core.Bool.{true};
-use smooth::Settings;
-use smooth::smooth;
+use track_smooth::Settings;
+use track_smooth::smooth;
 
 // A one-epoch track with one anchor of sigma 1 at (5, 6, 7) is that point, by its patterns.
 pub fn one_point() -> bool

@@ -9,12 +9,12 @@ use lib.Dec.{leb, ltb, eqb, lit≤}
 use lib.ListN.{length, getD}
 use lib.Ieee.{Float}
 use borrow.Author.Tests.{le-ltb, le-leb, lt-leb, ltb-true, ltb-false}
-use Rattle.walk.specs.Walk.{collect, fold, every}
+use Rattle.lists.specs.Walk.{collect, fold, every}
 use Rattle.numeric.specs.Vec3.{vectorAt}
 use Rattle.numeric.specs.declared.vec3.Vec3.{Vec3}
 use Rattle.numeric.specs.declared.refusal.Refusal.the-variants.{BadTrip, NoDistance}
 use Rattle.trip.specs.Measure.{millimetresOf, measurable}
-use Rattle.trip.specs.Trip.{Leg, carrierOf, pulsesOf, odometer, greatest, firstWith, greatestOf, reachedOf, tripOf, soundTrip, started, counted, added, reported, fuelled, kept, after, measurables, counting, narrow}
+use Rattle.trip.specs.Trip.{Leg, carrierMillimetres, pulsesOf, odometer, greatest, firstWith, greatestOf, reachedOf, tripOf, soundTrip, started, epochCounted, added, reported, fuelled, tripLeft, withLeg, measurables, counting, narrow}
 use Rattle.trip.specs.Words.{Addition, tooWide, tripFrom, heldOf, wordsOf, addedHeld, addedWords, reportedHeld, reportedWords, fuelledHeld, fuelledWords, stepNumber, wordsAfter, reportNumber, reportAfter, fuelNumber, fuelAfter, soundWords, legOf, wordsNext, wordsAfterCalls, countedLegs}
 use Rattle.trip.specs.declared.trip.Trip.{Trip}
 use Rattle.trip.specs.declared.trip.Step.{Step}
@@ -94,58 +94,58 @@ pub words-held : (t : Trip) → WordsHeld t → heldOf (wordsOf t) ≡ Goes t
 unfolding heldOf tooWide
 words-held t h = rw (le-ltb 65535 (t .rate) (h .rate), le-ltb 4294967295 (t .epochs) (omega (arith, h .epochs)))
 
-counted-held : (t : Trip) (millimetres pulses : ℕ) → WordsHeld t → t .epochs < 65535 → WordsHeld (counted t millimetres pulses)
-unfolding counted
+counted-held : (t : Trip) (millimetres pulses : ℕ) → WordsHeld t → t .epochs < 65535 → WordsHeld (epochCounted t millimetres pulses)
+unfolding epochCounted
 counted-held t millimetres pulses h l = record { rate = h .rate; epochs = omega arith }
 
-after-held : (t : Trip) (l : Leg) → WordsHeld t → WordsHeld (after t l)
-unfolding after added kept
+after-held : (t : Trip) (l : Leg) → WordsHeld t → WordsHeld (withLeg t l)
+unfolding withLeg added tripLeft
 after-held t l h = go (soundTrip t && ltb (t .epochs) 65535 && measurable (l .displacement)) (accepted t (l .displacement))
   where
-    go : (b : Bool) → (b ≡ true → Accepted t (l .displacement)) → WordsHeld (kept t (cond b (Goes (counted t (millimetresOf (l .displacement)) (l .pulses))) (Refused BadTrip)))
+    go : (b : Bool) → (b ≡ true → Accepted t (l .displacement)) → WordsHeld (tripLeft t (cond b (Goes (epochCounted t (millimetresOf (l .displacement)) (l .pulses))) (Refused BadTrip)))
     go false f = h
     go true f = counted-held t (millimetresOf (l .displacement)) (l .pulses) h (f refl .room)
 
-kept-words : (t : Trip) (s : Step) → wordsAfter s (wordsOf t) ≡ wordsOf (kept t s)
-unfolding kept
+kept-words : (t : Trip) (s : Step) → wordsAfter s (wordsOf t) ≡ wordsOf (tripLeft t s)
+unfolding tripLeft
 kept-words t (Refused r) = refl
 kept-words t (Goes u) = refl
 
-next-words : (t : Trip) (a : Addition) → WordsHeld t → wordsNext (wordsOf t) a ≡ wordsOf (after t (legOf a))
-unfolding wordsNext addedHeld after legOf
+next-words : (t : Trip) (a : Addition) → WordsHeld t → wordsNext (wordsOf t) a ≡ wordsOf (withLeg t (legOf a))
+unfolding wordsNext addedHeld withLeg legOf
 next-words t a h = rw (words-held t h) (kept-words t (added t (vectorAt (a .delta) 0) (a .pulses)))
 
-all-words : (calls : List Addition) (t : Trip) → WordsHeld t → fold wordsNext (wordsOf t) calls ≡ wordsOf (fold after t (map legOf calls))
+all-words : (calls : List Addition) (t : Trip) → WordsHeld t → fold wordsNext (wordsOf t) calls ≡ wordsOf (fold withLeg t (map legOf calls))
 unfolding fold
 all-words [] t h = refl
-all-words (a ∷ calls) t h = rw (next-words t a h) (all-words calls (after t (legOf a)) (after-held t (legOf a) h))
+all-words (a ∷ calls) t h = rw (next-words t a h) (all-words calls (withLeg t (legOf a)) (after-held t (legOf a) h))
 
-fold-held : (legs : List Leg) (t : Trip) → WordsHeld t → WordsHeld (fold after t legs)
+pub fold-held : (legs : List Leg) (t : Trip) → WordsHeld t → WordsHeld (fold withLeg t legs)
 unfolding fold
 fold-held [] t h = h
-fold-held (l ∷ legs) t h = fold-held legs (after t l) (after-held t l h)
+fold-held (l ∷ legs) t h = fold-held legs (withLeg t l) (after-held t l h)
 
 -- What the calls on six words answer after these epochs. The words, the report and the fuel are those of the list.
 pub record Answers (rate : ℕ) (legs : List Leg) (words : List ℕ) : Type 0 where
-  pub words-are : words ≡ rate ∷ length legs ∷ carrierOf legs ∷ pulsesOf legs ∷ greatestOf rate legs ∷ reachedOf rate legs ∷ []
+  pub words-are : words ≡ rate ∷ length legs ∷ carrierMillimetres legs ∷ pulsesOf legs ∷ greatestOf rate legs ∷ reachedOf rate legs ∷ []
   pub report-number : reportNumber (reportedWords words) ≡ 0
   pub report-is : (before : List ℕ)
-      → reportAfter (reportedWords words) before ≡ carrierOf legs ∷ odometer rate (pulsesOf legs) ∷ greatestOf rate legs ∷ reachedOf rate legs ∷ []
-  pub fuel-number : (millilitres : ℕ) → fuelNumber (fuelledWords words millilitres) ≡ cond (eqb (carrierOf legs) 0) 17 0
+      → reportAfter (reportedWords words) before ≡ carrierMillimetres legs ∷ odometer rate (pulsesOf legs) ∷ greatestOf rate legs ∷ reachedOf rate legs ∷ []
+  pub fuel-number : (millilitres : ℕ) → fuelNumber (fuelledWords words millilitres) ≡ cond (eqb (carrierMillimetres legs) 0) 17 0
   pub fuel-is : (millilitres before : ℕ)
-      → fuelAfter (fuelledWords words millilitres) before ≡ cond (eqb (carrierOf legs) 0) before (millilitres * 1000000 / carrierOf legs)
+      → fuelAfter (fuelledWords words millilitres) before ≡ cond (eqb (carrierMillimetres legs) 0) before (millilitres * 1000000 / carrierMillimetres legs)
 
 -- a sound trip that is a list's and that words can hold answers from them
 module _ (rate : ℕ) (legs : List Leg) (h : WordsHeld (tripOf rate legs)) (s : soundTrip (tripOf rate legs) ≡ true) where
-  list-answers : Answers rate legs (wordsOf (tripOf rate legs))
+  pub list-answers : Answers rate legs (wordsOf (tripOf rate legs))
   unfolding reportedHeld fuelledHeld reported fuelled tripOf
   list-answers =
       record {
         words-are = refl;
         report-number = rw (words-held (tripOf rate legs) h, s);
         report-is = λ before. rw (words-held (tripOf rate legs) h, s);
-        fuel-number = λ millilitres. rw (words-held (tripOf rate legs) h, s) (number (eqb (carrierOf legs) 0) (millilitres * 1000000 / carrierOf legs));
-        fuel-is = λ millilitres before. rw (words-held (tripOf rate legs) h, s) (per (eqb (carrierOf legs) 0) before (millilitres * 1000000 / carrierOf legs));
+        fuel-number = λ millilitres. rw (words-held (tripOf rate legs) h, s) (number (eqb (carrierMillimetres legs) 0) (millilitres * 1000000 / carrierMillimetres legs));
+        fuel-is = λ millilitres before. rw (words-held (tripOf rate legs) h, s) (per (eqb (carrierMillimetres legs) 0) before (millilitres * 1000000 / carrierMillimetres legs));
       }
     where
       number : (b : Bool) (m : ℕ) → fuelNumber (cond b (Unfuelled NoDistance) (PerKilometre m)) ≡ cond b 17 0
@@ -159,7 +159,7 @@ module _ (rate : ℕ) (legs : List Leg) (h : WordsHeld (tripOf rate legs)) (s : 
 -- For every rate from 1 to 65,535, whatever the words held before, and every list of additions with 16-bit pulses, refused ones included: the calls answer from
 -- the list of the epochs that count.
 module _ (rate : ℕ) (some : 0 < rate) (fits : rate ≤ 65535) (before : List ℕ) where
-  start-held : WordsHeld (tripOf rate [])
+  pub start-held : WordsHeld (tripOf rate [])
   unfolding tripOf
   start-held = record { rate = fits; epochs = lit≤ tt }
 
@@ -170,12 +170,12 @@ module _ (rate : ℕ) (some : 0 < rate) (fits : rate ≤ 65535) (before : List �
   unfolding wordsAfterCalls countedLegs
   calls-law calls n =
       let legs = map legOf calls in
-      let e : fold after (tripOf rate []) legs ≡ tripOf rate (counting legs) = trip-law rate legs some n in
+      let e : fold withLeg (tripOf rate []) legs ≡ tripOf rate (counting legs) = trip-law rate legs some n in
       let h : WordsHeld (tripOf rate (counting legs)) = subst WordsHeld e (fold-held legs (tripOf rate []) start-held) in
       let s : soundTrip (tripOf rate (counting legs)) ≡ true = subst (λ (t : Trip). soundTrip t ≡ true) e (fold-sound legs (tripOf rate []) (start-sound rate some) n) in
       rw (start-goes rate some, all-words calls (tripOf rate []) start-held, e) (list-answers rate (counting legs) h s)
 
   -- just after the start the report is all zeros
   pub start-report : (lent : List ℕ) → reportAfter (reportedWords (wordsAfterCalls rate before [])) lent ≡ 0 ∷ 0 ∷ 0 ∷ 0 ∷ []
-  unfolding countedLegs counting measurables collect every carrierOf pulsesOf odometer greatestOf reachedOf greatest firstWith
+  unfolding countedLegs counting measurables collect every carrierMillimetres pulsesOf odometer greatestOf reachedOf greatest firstWith
   start-report lent = calls-law [] refl .report-is lent ∙ ap (λ (n : ℕ). 0 ∷ n ∷ 0 ∷ 0 ∷ []) (zero-div rate)

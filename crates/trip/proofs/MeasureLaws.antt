@@ -4,10 +4,10 @@ use Prim.Native.Nat.{ℕ, zero, suc, _*_, _/_, _^_, _≤_, _<_}
 use native.Mathlib.Nat.{le-refl, zero-mul, zero-div, mul-le-mul-right, div-le-of-le-mul}
 use native.Mathlib.Omega.{arith}
 use mathlib.Core.Bool.{Bool, true, false, true≢false, false≢true, and-false, cond, _&&_, _||_}
-use lib.Dec.{T, eqb, lit≤}
+use lib.Dec.{T, leb, eqb, lit≤}
 use lib.Pow.{pow-pos}
 use lib.IntN.{ℤ, pos}
-use borrow.Author.Tests.{eq-eqb, eqb-true}
+use borrow.Author.Tests.{eq-eqb, eqb-true, le-leb}
 use lib.Ieee.{Float, nan, inf, fin, up, down, binary64, lt, le, mul, ofBits, ofInt}
 use lib.Ieee.Exact.{HasValue}
 use lib.Ieee.Fits.{down-pos, add-fits}
@@ -16,14 +16,15 @@ use Rattle.exact.specs.Float.{_⊕_, _⊗_, whole, +0}
 use Rattle.exact.specs.Value.{scale, magnitude, value}
 use Rattle.root.specs.Root.{IsRoot, rootOf}
 use Rattle.root.proofs.Theorems.{rootOf-root}
-use Rattle.walk.proofs.Walk.{and-both}
+use Rattle.lists.proofs.Walk.{and-both}
 use Rattle.numeric.specs.Vec3.{norm}
 use Rattle.numeric.specs.Whole.{wholeTimes}
 use Rattle.numeric.specs.declared.vec3.Vec3.{Vec3}
 use Rattle.numeric.proofs.RealLaws.{sum-finite-left, sum-finite-right}
 use Rattle.numeric.proofs.Growing.{at-most, le-below, from-zero}
 use Rattle.numeric.proofs.WholeLaws.{Greatest, whole-greatest}
-use Rattle.trip.specs.Measure.{millimetres, millimetresOf, measurable, wayOf}
+use Rattle.trip.specs.Measure.{millimetres, millimetresOf, measurable}
+use Rattle.trip.specs.Steps.{wayOf}
 
 -- ---- a root is not below 0
 
@@ -142,14 +143,14 @@ length-from-zero d h =
     let x = squares ⊕ d .z ⊗ d .z in
     root-from-zero x (rootOf x) (whole 1000) (rootOf-root x (add-fits binary64 squares (d .z ⊗ d .z))) h
 
--- what an addition adds of a length is at most 1,000,000 millimetres
-pub way-few : (d : Vec3) → wayOf (norm d) .millimetres ≤ 1000000
+-- the way of a length tells whether it is at most 1,000 m
+pub way-within-is : (d : Vec3) → leb (wayOf (norm d)) 1000000 ≡ le (norm d) (whole 1000)
 unfolding wayOf
-way-few d = go (le (norm d) (whole 1000)) refl
+way-within-is d = go (le (norm d) (whole 1000)) refl
   where
-    go : (w : Bool) → le (norm d) (whole 1000) ≡ w → cond w (millimetres (norm d)) 0 ≤ 1000000
-    go true e = few (norm d) (length-from-zero d e) e
-    go false e = lit≤ tt
+    go : (w : Bool) → le (norm d) (whole 1000) ≡ w → leb (cond w (millimetres (norm d)) 1000001) 1000000 ≡ w
+    go true e = le-leb _ _ (few (norm d) (length-from-zero d e) e)
+    go false e = refl
 
 pub measured : (d : Vec3) → measurable d ≡ true → Measured d
 unfolding measurable millimetresOf

@@ -11,14 +11,14 @@ use lib.ListN.{length}
 use borrow.Author.Tests.{leb-true}
 use lib.Ieee.Scale.{finite}
 use Rattle.exact.specs.Value.{scale, magnitude}
-use Rattle.walk.specs.Walk.{fold, every}
-use Rattle.walk.proofs.Walk.{and-both}
+use Rattle.lists.specs.Walk.{fold, every}
+use Rattle.lists.proofs.Walk.{and-both}
 use Rattle.numeric.specs.Vec3.{norm}
 use Rattle.numeric.specs.Whole.{wholeTimes}
 use Rattle.numeric.specs.declared.refusal.Refusal.the-variants.{BadTrip}
 use Rattle.numeric.proofs.WholeLaws.{Greatest, whole-greatest}
 use Rattle.trip.specs.Measure.{millimetresOf, measurable}
-use Rattle.trip.specs.Trip.{Leg, carrierOf, pulsesOf, odometer, apart, greatest, greatestOf, reportOf, tripOf, soundTrip, counted, added, kept, after, counting, narrow}
+use Rattle.trip.specs.Trip.{Leg, carrierMillimetres, pulsesOf, odometer, apart, greatest, greatestOf, reportOf, tripOf, soundTrip, epochCounted, added, tripLeft, withLeg, counting, narrow}
 use Rattle.trip.specs.declared.trip.Trip.{Trip}
 use Rattle.trip.specs.declared.trip.Step.the-variants.{Refused, Goes}
 use Rattle.trip.specs.declared.trip.Report.{Report}
@@ -29,7 +29,7 @@ use Rattle.trip.proofs.TripLaws.{after-refused, start-sound, trip-law}
 -- ---- the carrier total
 
 -- for every list of calls, from the start: the millimetres of the epochs that count, added
-pub carrier-law : (rate : ℕ) (legs : List Leg) → 0 < rate → every narrow legs ≡ true → fold after (tripOf rate []) legs .carrier ≡ carrierOf (counting legs)
+pub carrier-law : (rate : ℕ) (legs : List Leg) → 0 < rate → every narrow legs ≡ true → fold withLeg (tripOf rate []) legs .carrier ≡ carrierMillimetres (counting legs)
 unfolding tripOf
 carrier-law rate legs h n = ap (λ (t : Trip). t .carrier) (trip-law rate legs h n)
 
@@ -52,8 +52,8 @@ one-more a b s m n p q h i j k e =
     let y : (p + 1) * s ≡ p * s + 1 * s = add-mul p 1 s in
     (omega arith, rw e (omega arith))
 
-pub carrier-near : (legs : List Leg) → Near (carrierOf legs) (length legs) (exactOf legs)
-unfolding carrierOf millimetresOf
+pub carrier-near : (legs : List Leg) → Near (carrierMillimetres legs) (length legs) (exactOf legs)
+unfolding carrierMillimetres millimetresOf
 carrier-near [] = record { not-above = omega arith; near = omega arith }
 carrier-near (l ∷ legs) =
     let g : Greatest (wholeTimes 1000 (norm (l .displacement))) 1000 (norm (l .displacement)) = whole-greatest 1000 (norm (l .displacement)) in
@@ -72,7 +72,7 @@ module _ (t : Trip) (l : Leg) (h : (finite (l .displacement .x) && finite (l .di
   unfolding added
   not-finite-refused = rw fails
 
-  pub not-finite-left : after t l ≡ t
+  pub not-finite-left : withLeg t l ≡ t
   not-finite-left = after-refused t l fails
 
 -- ---- nothing overflows: 64 bits hold every total and difference
@@ -93,8 +93,8 @@ odometer-small : (rate pulses : ℕ) → pulses ≤ 4294836225 → odometer rate
 unfolding odometer
 odometer-small rate pulses h = le-trans (div-le-self (pulses * 1000000) rate) (omega arith)
 
-counted-small : (t : Trip) (millimetres pulses : ℕ) → Small t → t .epochs < 65535 → millimetres ≤ 1000000 → pulses ≤ 65535 → Small (counted t millimetres pulses)
-unfolding counted
+counted-small : (t : Trip) (millimetres pulses : ℕ) → Small t → t .epochs < 65535 → millimetres ≤ 1000000 → pulses ≤ 65535 → Small (epochCounted t millimetres pulses)
+unfolding epochCounted
 counted-small t millimetres pulses s l h k =
     let b = bounds t (s .is-sound) in
     let d = apart (t .carrier + millimetres) (odometer (t .rate) (t .pulses + pulses)) in
@@ -105,19 +105,19 @@ counted-small t millimetres pulses s l h k =
     go true m = m
     go false m = s .greatest
 
-after-small : (t : Trip) (l : Leg) → Small t → narrow l ≡ true → Small (after t l)
-unfolding after added kept narrow
+after-small : (t : Trip) (l : Leg) → Small t → narrow l ≡ true → Small (withLeg t l)
+unfolding withLeg added tripLeft narrow
 after-small t l s n = go (soundTrip t && ltb (t .epochs) 65535 && measurable (l .displacement)) (accepted t (l .displacement))
   where
-    go : (b : Bool) → (b ≡ true → Accepted t (l .displacement)) → Small (kept t (cond b (Goes (counted t (millimetresOf (l .displacement)) (l .pulses))) (Refused BadTrip)))
+    go : (b : Bool) → (b ≡ true → Accepted t (l .displacement)) → Small (tripLeft t (cond b (Goes (epochCounted t (millimetresOf (l .displacement)) (l .pulses))) (Refused BadTrip)))
     go false f = s
     go true f =
         let a = f refl in counted-small t (millimetresOf (l .displacement)) (l .pulses) s (a .room) (measured (l .displacement) (a .is-measurable) .short) (leb-true (l .pulses) 65535 n)
 
-fold-small : (legs : List Leg) (t : Trip) → Small t → every narrow legs ≡ true → Small (fold after t legs)
+fold-small : (legs : List Leg) (t : Trip) → Small t → every narrow legs ≡ true → Small (fold withLeg t legs)
 unfolding fold every
 fold-small [] t s n = s
-fold-small (l ∷ legs) t s n = let m = and-both (narrow l) (every narrow legs) n in fold-small legs (after t l) (after-small t l s (m .0)) (m .1)
+fold-small (l ∷ legs) t s n = let m = and-both (narrow l) (every narrow legs) n in fold-small legs (withLeg t l) (after-small t l s (m .0)) (m .1)
 
 -- the report of a trip, for every list of calls from the start
 pub record Bounded (r : Report) : Type 0 where

@@ -6,27 +6,27 @@ use Prim.Native.Nat.{ℕ, zero, suc, _+_, _-_, _≤_, _<_, max}
 use native.Mathlib.Nat.{le-refl, le-step}
 use native.Mathlib.Numerals.{add-one}
 use native.Mathlib.Omega.{arith}
-use lib.Dec.{ltb, eqb, lit≤}
+use lib.Dec.{leb, ltb, eqb, lit≤}
 use lib.ListN.{length, take, length-append}
 use lib.Seq.{take-append-le, take-all, take-nil}
 use borrow.Author.Tests.{lt-ltb, eq-eqb, ne-eqb, ltb-true, ltb-false}
 use lib.Ieee.{le}
 use Rattle.exact.specs.Float.{whole}
-use Rattle.walk.specs.Walk.{collect, fold, every}
-use Rattle.walk.proofs.Walk.{and-both}
+use Rattle.lists.specs.Walk.{collect, fold, every}
+use Rattle.lists.proofs.Walk.{and-both}
 use Rattle.numeric.specs.Vec3.{norm}
 use Rattle.numeric.specs.declared.vec3.Vec3.{Vec3}
 use Rattle.numeric.specs.declared.refusal.Refusal.the-variants.{BadTrip}
-use Rattle.trip.specs.Measure.{millimetresOf, measurable, wayOf}
-use Rattle.trip.specs.declared.measure.Way.{Way}
-use Rattle.trip.specs.Trip.{Leg, carrierOf, pulsesOf, odometer, apart, differenceAfter, greatest, firstWith, greatestOf, reachedOf, reportOf, tripOf, soundTrip, started, counted, added, reported, Adds, Reports, kept, after, measurables, counting, narrow}
+use Rattle.trip.specs.Measure.{millimetresOf, measurable}
+use Rattle.trip.specs.Steps.{wayOf}
+use Rattle.trip.specs.Trip.{Leg, carrierMillimetres, pulsesOf, odometer, apart, differenceAfter, greatest, firstWith, greatestOf, reachedOf, reportOf, tripOf, soundTrip, started, epochCounted, added, reported, Adds, Reports, tripLeft, withLeg, measurables, counting, narrow}
 use Rattle.trip.specs.declared.trip.Trip.{Trip}
 use Rattle.trip.specs.declared.trip.Report.{Report}
 use Rattle.trip.specs.declared.trip.Step.{Step}
 use Rattle.trip.specs.declared.trip.Step.the-variants.{Refused, Goes}
 use Rattle.trip.specs.declared.trip.Reported.{Reported}
 use Rattle.trip.specs.declared.trip.Reported.the-variants.{Refused as Unreported, Totals}
-use Rattle.trip.proofs.MeasureLaws.{by-length}
+use Rattle.trip.proofs.MeasureLaws.{by-length, way-within-is}
 use Rattle.trip.proofs.BoundsLaws.{bounded, after-sound}
 
 -- ---- the greatest of some numbers, and the first that reaches it
@@ -109,8 +109,8 @@ first-next f (suc n) = rw (past-first n) (go (ltb (greatest f (suc n)) (f (suc (
 
 -- ---- a list of epochs, and one more at its end
 
-carrier-more : (legs : List Leg) (l : Leg) → carrierOf (legs ++ (l ∷ [])) ≡ carrierOf legs + millimetresOf (l .displacement)
-unfolding carrierOf
+carrier-more : (legs : List Leg) (l : Leg) → carrierMillimetres (legs ++ (l ∷ [])) ≡ carrierMillimetres legs + millimetresOf (l .displacement)
+unfolding carrierMillimetres
 carrier-more [] l = omega arith
 carrier-more (k ∷ legs) l = omega (arith, carrier-more legs l)
 
@@ -132,7 +132,7 @@ module _ (rate : ℕ) (legs : List Leg) (l : Leg) where
   unfolding differenceAfter
   difference-old k h = rw (take-append-le k legs (l ∷ []) h)
 
-  difference-new : differenceAfter rate longer (suc (length legs)) ≡ apart (carrierOf legs + millimetresOf (l .displacement)) (odometer rate (pulsesOf legs + l .pulses))
+  difference-new : differenceAfter rate longer (suc (length legs)) ≡ apart (carrierMillimetres legs + millimetresOf (l .displacement)) (odometer rate (pulsesOf legs + l .pulses))
   unfolding differenceAfter
   difference-new = rw (take-all (suc (length legs)) longer (rw (length-more legs l) (le-refl (suc (length legs)))), carrier-more legs l, pulses-more legs l)
 
@@ -144,16 +144,16 @@ module _ (rate : ℕ) (legs : List Leg) (l : Leg) where
   unfolding reachedOf
   first-old = first-same (differenceAfter rate longer) (differenceAfter rate legs) (greatestOf rate legs) (length legs) difference-old
 
-  greatest-more : greatestOf rate longer ≡ counted (tripOf rate legs) (millimetresOf (l .displacement)) (l .pulses) .greatest
-  unfolding counted tripOf
+  greatest-more : greatestOf rate longer ≡ epochCounted (tripOf rate legs) (millimetresOf (l .displacement)) (l .pulses) .greatest
+  unfolding epochCounted tripOf
   greatest-more = unfold greatestOf in ap (greatest (differenceAfter rate longer)) (length-more legs l) ∙ greatest-next (differenceAfter rate longer) (length legs) ∙ rw (difference-new, greatest-old)
 
-  reached-more : reachedOf rate longer ≡ counted (tripOf rate legs) (millimetresOf (l .displacement)) (l .pulses) .reached
-  unfolding counted tripOf
+  reached-more : reachedOf rate longer ≡ epochCounted (tripOf rate legs) (millimetresOf (l .displacement)) (l .pulses) .reached
+  unfolding epochCounted tripOf
   reached-more = unfold reachedOf greatestOf in rw (length-more legs l) (first-next (differenceAfter rate longer) (length legs) ∙ rw (difference-new, greatest-old, first-old, add-one))
 
-  pub more : tripOf rate longer ≡ counted (tripOf rate legs) (millimetresOf (l .displacement)) (l .pulses)
-  unfolding counted tripOf
+  pub more : tripOf rate longer ≡ epochCounted (tripOf rate legs) (millimetresOf (l .displacement)) (l .pulses)
+  unfolding epochCounted tripOf
   more = rw (length-more legs l, carrier-more legs l, pulses-more legs l, greatest-more, reached-more, add-one)
 
 -- ---- the promises of the calls, where the trip handed in is that of a list
@@ -162,8 +162,8 @@ list-epochs : (t : Trip) (legs : List Leg) → t ≡ tripOf (t .rate) legs → t
 unfolding tripOf
 list-epochs t legs h = ap (λ (u : Trip). u .epochs) h
 
-list-counted : (t : Trip) (l : Leg) (legs : List Leg) → t ≡ tripOf (t .rate) legs → counted t (millimetresOf (l .displacement)) (l .pulses) ≡ tripOf (t .rate) (legs ++ (l ∷ []))
-list-counted t l legs h = ap (λ (u : Trip). counted u (millimetresOf (l .displacement)) (l .pulses)) h ∙ sym (more (t .rate) legs l)
+list-counted : (t : Trip) (l : Leg) (legs : List Leg) → t ≡ tripOf (t .rate) legs → epochCounted t (millimetresOf (l .displacement)) (l .pulses) ≡ tripOf (t .rate) (legs ++ (l ∷ []))
+list-counted t l legs h = ap (λ (u : Trip). epochCounted u (millimetresOf (l .displacement)) (l .pulses)) h ∙ sym (more (t .rate) legs l)
 
 list-added : (t : Trip) (l : Leg) (legs : List Leg) → t ≡ tripOf (t .rate) legs
     → added t (l .displacement) (l .pulses) ≡ cond (soundTrip t && ltb (length legs) 65535 && measurable (l .displacement)) (Goes (tripOf (t .rate) (legs ++ (l ∷ [])))) (Refused BadTrip)
@@ -175,17 +175,16 @@ pub adds : (t : Trip) (l : Leg) {r : Step} → r ≡ added t (l .displacement) (
 adds t l e = record { is = e; of-list = λ legs h. e ∙ list-added t l legs h }
 
 -- the same from the way of the displacement, which alone decides
-module _ (t : Trip) (d : Vec3) (pulses : ℕ) {way : Way} (e : way ≡ wayOf (norm d)) where
-  within-is : way .within ≡ measurable d
-  unfolding wayOf
-  within-is = rw (by-length d, e)
+module _ (t : Trip) (d : Vec3) (pulses : ℕ) {way : ℕ} (e : way ≡ wayOf (norm d)) where
+  within-is : leb way 1000000 ≡ measurable d
+  within-is = rw (by-length d, e) (way-within-is d)
 
   -- more than 1,000 m
-  pub way-refused : way .within ≡ false → Refused BadTrip ≡ added t d pulses
+  pub way-refused : leb way 1000000 ≡ false → Refused BadTrip ≡ added t d pulses
   unfolding added
   way-refused h = rw (sym within-is ∙ h, and-false (soundTrip t && ltb (t .epochs) 65535))
 
-  module _ {s : Bool} (s-is : s ≡ soundTrip t) (w : way .within ≡ true) where
+  module _ {s : Bool} (s-is : s ≡ soundTrip t) (w : leb way 1000000 ≡ true) where
     test-is : (s && ltb (t .epochs) 65535) ≡ (soundTrip t && ltb (t .epochs) 65535 && measurable d)
     test-is = rw (sym within-is ∙ w, s-is) (sym (and-true (soundTrip t && ltb (t .epochs) 65535)))
 
@@ -194,10 +193,10 @@ module _ (t : Trip) (d : Vec3) (pulses : ℕ) {way : Way} (e : way ≡ wayOf (no
     unfolding added
     trip-refused h = rw (sym test-is ∙ h)
 
-    pub way-added : (s && ltb (t .epochs) 65535) ≡ true → Goes (counted t (way .millimetres) pulses) ≡ added t d pulses
+    pub way-added : (s && ltb (t .epochs) 65535) ≡ true → Goes (epochCounted t way pulses) ≡ added t d pulses
     unfolding added millimetresOf wayOf
     way-added h =
-        let n : le (norm d) (whole 1000) ≡ true = sym (ap (λ (z : Way). z .within) e) ∙ w in
+        let n : le (norm d) (whole 1000) ≡ true = sym (way-within-is d) ∙ ap (λ (z : ℕ). leb z 1000000) (sym e) ∙ w in
         rw (sym test-is ∙ h, e, n)
 
 abbrev totals : Trip → ℕ → Report
@@ -217,13 +216,13 @@ reports t e = record { is = e; of-list = λ legs h. e ∙ list-reported t legs h
 -- ---- one call
 
 module _ (t : Trip) (l : Leg) where
-  after-accepted : (soundTrip t && ltb (t .epochs) 65535 && measurable (l .displacement)) ≡ true → after t l ≡ counted t (millimetresOf (l .displacement)) (l .pulses)
-  unfolding after added kept
+  after-accepted : (soundTrip t && ltb (t .epochs) 65535 && measurable (l .displacement)) ≡ true → withLeg t l ≡ epochCounted t (millimetresOf (l .displacement)) (l .pulses)
+  unfolding withLeg added tripLeft
   after-accepted h = rw h
 
   -- a refused addition leaves the trip unchanged
-  pub after-refused : (soundTrip t && ltb (t .epochs) 65535 && measurable (l .displacement)) ≡ false → after t l ≡ t
-  unfolding after added kept
+  pub after-refused : (soundTrip t && ltb (t .epochs) 65535 && measurable (l .displacement)) ≡ false → withLeg t l ≡ t
+  unfolding withLeg added tripLeft
   after-refused h = rw h
 
 -- ---- all of them
@@ -231,14 +230,14 @@ module _ (t : Trip) (l : Leg) where
 module _ (rate : ℕ) where
   -- the trip after these calls, from that of the list done
   Reaches : List Leg → List Leg → Type 0
-  Reaches legs done = fold after (tripOf rate done) legs ≡ tripOf rate (done ++ take (65535 - length done) (measurables legs))
+  Reaches legs done = fold withLeg (tripOf rate done) legs ≡ tripOf rate (done ++ take (65535 - length done) (measurables legs))
 
   turn : (l : Leg) (legs done : List Leg) → soundTrip (tripOf rate done) ≡ true → narrow l ≡ true → ((d : List Leg) → soundTrip (tripOf rate d) ≡ true → Reaches legs d) → Reaches (l ∷ legs) done
   unfolding Reaches fold measurables collect tripOf
   turn l legs done s n rest = go (measurable (l .displacement)) refl (ltb (length done) 65535) refl
     where
       go : (b : Bool) → measurable (l .displacement) ≡ b → (c : Bool) → ltb (length done) 65535 ≡ c
-          → fold after (after (tripOf rate done) l) legs ≡ tripOf rate (done ++ take (65535 - length done) (cond b (l ∷ []) [] ++ measurables legs))
+          → fold withLeg (withLeg (tripOf rate done) l) legs ≡ tripOf rate (done ++ take (65535 - length done) (cond b (l ∷ []) [] ++ measurables legs))
       go false e c f = rw (after-refused (tripOf rate done) l (rw e (and-false (soundTrip (tripOf rate done) && ltb (length done) 65535)))) (rest done s)
       go true e false f =
           let full : 65535 ≤ length done = ltb-false (length done) 65535 f in
@@ -246,7 +245,7 @@ module _ (rate : ℕ) where
           rw (after-refused (tripOf rate done) l (rw (f, and-false (soundTrip (tripOf rate done))))) (rest done s ∙ rw z)
       go true e true f =
           let room : length done < 65535 = ltb-true (length done) 65535 f in
-          let a : after (tripOf rate done) l ≡ tripOf rate (done ++ (l ∷ [])) = after-accepted (tripOf rate done) l (rw (s, f, e)) ∙ sym (more rate done l) in
+          let a : withLeg (tripOf rate done) l ≡ tripOf rate (done ++ (l ∷ [])) = after-accepted (tripOf rate done) l (rw (s, f, e)) ∙ sym (more rate done l) in
           let z : 65535 - length done ≡ suc (65535 - length (done ++ (l ∷ []))) = rw (length-more done l) (omega arith) in
           rw a (rest (done ++ (l ∷ [])) (subst (λ (t : Trip). soundTrip t ≡ true) a (after-sound (tripOf rate done) l s n)) ∙ rw (z, append-assoc))
 
@@ -256,7 +255,7 @@ module _ (rate : ℕ) where
   from (l ∷ legs) done s n = let m = and-both (narrow l) (every narrow legs) n in turn l legs done s (m .0) (λ d h. from legs d h (m .1))
 
   pub start-sound : 0 < rate → soundTrip (tripOf rate []) ≡ true
-  unfolding tripOf carrierOf pulsesOf
+  unfolding tripOf carrierMillimetres pulsesOf
   start-sound h = bounded _ (record { rated = h; few = lit≤ tt; carrier = lit≤ tt; pulses = lit≤ tt })
 
   pub start-goes : 0 < rate → started rate ≡ Goes (tripOf rate [])
@@ -264,15 +263,15 @@ module _ (rate : ℕ) where
   start-goes h = rw (lt-ltb 0 rate h)
 
   -- For every list of calls, from the start: the trip that they leave is that of the epochs that count.
-  pub trip-law : (legs : List Leg) → 0 < rate → every narrow legs ≡ true → fold after (tripOf rate []) legs ≡ tripOf rate (counting legs)
+  pub trip-law : (legs : List Leg) → 0 < rate → every narrow legs ≡ true → fold withLeg (tripOf rate []) legs ≡ tripOf rate (counting legs)
   unfolding Reaches counting
   trip-law legs h n = from legs [] (start-sound h) n
 
 -- a trip that is sound stays so
-pub fold-sound : (legs : List Leg) (t : Trip) → soundTrip t ≡ true → every narrow legs ≡ true → soundTrip (fold after t legs) ≡ true
+pub fold-sound : (legs : List Leg) (t : Trip) → soundTrip t ≡ true → every narrow legs ≡ true → soundTrip (fold withLeg t legs) ≡ true
 unfolding fold every
 fold-sound [] t s n = s
-fold-sound (l ∷ legs) t s n = let m = and-both (narrow l) (every narrow legs) n in fold-sound legs (after t l) (after-sound t l s (m .0)) (m .1)
+fold-sound (l ∷ legs) t s n = let m = and-both (narrow l) (every narrow legs) n in fold-sound legs (withLeg t l) (after-sound t l s (m .0)) (m .1)
 
 -- the report of a sound trip that is a list's is the list's
 reported-list : (rate : ℕ) (legs : List Leg) → soundTrip (tripOf rate legs) ≡ true → reported (tripOf rate legs) ≡ Totals (reportOf rate legs)
@@ -280,7 +279,7 @@ unfolding reported reportOf tripOf
 reported-list rate legs h = rw h
 
 -- and so is the report of that trip
-pub report-law : (rate : ℕ) (legs : List Leg) → 0 < rate → every narrow legs ≡ true → reported (fold after (tripOf rate []) legs) ≡ Totals (reportOf rate (counting legs))
+pub report-law : (rate : ℕ) (legs : List Leg) → 0 < rate → every narrow legs ≡ true → reported (fold withLeg (tripOf rate []) legs) ≡ Totals (reportOf rate (counting legs))
 report-law rate legs h n =
     let e = trip-law rate legs h n in
     ap reported e ∙ reported-list rate (counting legs) (subst (λ (t : Trip). soundTrip t ≡ true) e (fold-sound legs (tripOf rate []) (start-sound rate h) n))

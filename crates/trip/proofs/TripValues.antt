@@ -6,12 +6,12 @@ use lib.Ieee.{nan, lt, le, eq, add, mul, div, ofBits, ofInt}
 use Rattle.exact.specs.Float.{bits, whole, decimal}
 use Rattle.exact.specs.Value.{scale, magnitude}
 use Rattle.root.specs.Root.{rootOf}
-use Rattle.walk.specs.Walk.{fold}
+use Rattle.lists.specs.Walk.{fold}
 use Rattle.numeric.specs.Vec3.{norm}
 use Rattle.numeric.specs.Whole.{wholeTimes}
 use Rattle.numeric.specs.declared.refusal.Refusal.the-variants.{BadTrip, NoDistance}
 use Rattle.trip.specs.Measure.{millimetres, millimetresOf, measurable}
-use Rattle.trip.specs.Trip.{Leg, carrierOf, pulsesOf, odometer, apart, differenceAfter, greatest, firstWith, greatestOf, reachedOf, reportOf, tripOf, soundTrip, started, counted, added, fuelled, kept, after}
+use Rattle.trip.specs.Trip.{Leg, carrierMillimetres, pulsesOf, odometer, apart, differenceAfter, greatest, firstWith, greatestOf, reachedOf, reportOf, tripOf, soundTrip, started, epochCounted, added, fuelled, tripLeft, withLeg}
 use Rattle.trip.specs.declared.trip.Trip.{Trip}
 use Rattle.trip.specs.declared.trip.Report.{Report}
 use Rattle.trip.specs.declared.trip.Step.the-variants.{Refused}
@@ -53,27 +53,27 @@ report c o g k = record { carrier = c; odometer = o; greatest = g; reached = k }
 
 -- a trip just started reports zeros throughout
 pub none : reportOf 1000 [] ≡ report 0 0 0 0
-unfolding reportOf greatestOf reachedOf differenceAfter greatest firstWith carrierOf pulsesOf odometer
+unfolding reportOf greatestOf reachedOf differenceAfter greatest firstWith carrierMillimetres pulsesOf odometer
 none = refl
 
 -- a difference of 0 is reached by the first epoch
 pub level : reportOf 1000 (leg 3 4 0 5 ∷ []) ≡ report 5000 5000 0 1
-unfolding reportOf greatestOf reachedOf differenceAfter greatest firstWith carrierOf pulsesOf odometer apart millimetresOf wholeTimes magnitude scale norm rootOf add mul ofInt
+unfolding reportOf greatestOf reachedOf differenceAfter greatest firstWith carrierMillimetres pulsesOf odometer apart millimetresOf wholeTimes magnitude scale norm rootOf add mul ofInt
 level = refl
 
 -- 2,000 mm are reached by the second epoch and again by the fourth
 pub all : reportOf 1000 four ≡ report 10000 8000 2000 2
-unfolding reportOf greatestOf reachedOf differenceAfter greatest firstWith carrierOf pulsesOf odometer apart millimetresOf wholeTimes magnitude scale norm rootOf add mul ofInt
+unfolding reportOf greatestOf reachedOf differenceAfter greatest firstWith carrierMillimetres pulsesOf odometer apart millimetresOf wholeTimes magnitude scale norm rootOf add mul ofInt
 all = refl
 
 -- the calls, one after the other
-pub called : fold after (tripOf 1000 []) four ≡ tripOf 1000 four
-unfolding fold after kept added soundTrip counted measurable tripOf greatestOf reachedOf differenceAfter greatest firstWith carrierOf pulsesOf odometer apart millimetresOf wholeTimes magnitude scale norm rootOf le lt eq add mul ofInt
+pub called : fold withLeg (tripOf 1000 []) four ≡ tripOf 1000 four
+unfolding fold withLeg tripLeft added soundTrip epochCounted measurable tripOf greatestOf reachedOf differenceAfter greatest firstWith carrierMillimetres pulsesOf odometer apart millimetresOf wholeTimes magnitude scale norm rootOf le lt eq add mul ofInt
 called = refl
 
 -- 850 ml over these 10 m
 pub fuel : fuelled (tripOf 1000 four) 850 ≡ PerKilometre 85000
-unfolding fuelled soundTrip tripOf greatestOf reachedOf differenceAfter greatest firstWith carrierOf pulsesOf odometer apart millimetresOf wholeTimes magnitude scale norm rootOf add mul ofInt
+unfolding fuelled soundTrip tripOf greatestOf reachedOf differenceAfter greatest firstWith carrierMillimetres pulsesOf odometer apart millimetresOf wholeTimes magnitude scale norm rootOf add mul ofInt
 fuel = refl
 
 -- ---- refusals
@@ -84,20 +84,20 @@ no-rate = refl
 
 -- 17 comes after 16
 pub no-distance : fuelled (tripOf 1000 []) 850 ≡ Unfuelled NoDistance
-unfolding fuelled soundTrip tripOf carrierOf pulsesOf
+unfolding fuelled soundTrip tripOf carrierMillimetres pulsesOf
 no-distance = refl
 
 pub no-rate-first : fuelled (tripOf 0 []) 850 ≡ Unfuelled BadTrip
-unfolding fuelled soundTrip tripOf carrierOf pulsesOf
+unfolding fuelled soundTrip tripOf carrierMillimetres pulsesOf
 no-rate-first = refl
 
 -- 1,000 m and a bit is too long, and a NaN is not finite
 pub too-long : added (tripOf 1000 []) (record { x = bits 0x408F_4000_0000_0001; y = whole 0; z = whole 0 }) 7 ≡ Refused BadTrip
-unfolding added soundTrip measurable tripOf carrierOf pulsesOf norm rootOf le lt eq add mul ofInt ofBits
+unfolding added soundTrip measurable tripOf carrierMillimetres pulsesOf norm rootOf le lt eq add mul ofInt ofBits
 too-long = refl
 
 pub no-number : added (tripOf 1000 []) (record { x = whole 1; y = nan; z = whole 0 }) 7 ≡ Refused BadTrip
-unfolding added soundTrip measurable tripOf carrierOf pulsesOf norm rootOf le lt eq add mul ofInt
+unfolding added soundTrip measurable tripOf carrierMillimetres pulsesOf norm rootOf le lt eq add mul ofInt
 no-number = refl
 
 -- a full trip, and one with more millimetres than its epochs allow

@@ -22,10 +22,11 @@ use Rattle.root.proofs.Parts.{normal-parts}
 use Rattle.root.proofs.Reading.{read-normal, lt-number}
 use Rattle.root.proofs.Squares.{square-next}
 use Rattle.root.proofs.RootLaws.{wide, Result, result, isqrt-floor, nearestRoot-is}
-use Rattle.walk.proofs.Walk.{and-both}
+use Rattle.lists.proofs.Walk.{and-both}
 use Rattle.numeric.specs.Whole.{wholeTimes}
 use Rattle.numeric.proofs.OrderMagnitude.{unsigned, infinity, lt-bits, isNan-bits}
-use Rattle.trip.specs.Measure.{millimetres, wayOf}
+use Rattle.trip.specs.Measure.{millimetres}
+use Rattle.trip.specs.Steps.{wayOf}
 
 -- ---- whole numbers
 
@@ -126,13 +127,13 @@ module _ (v a : ℕ) (l : a * 2 ^ 1058 ≤ v) (h : v ≤ (a + 1) * 2 ^ 1058) (fe
       let u : m * up e * 2 ^ 1074 / down e ≡ v = ap (λ (z : ℕ). z / down e) (k .1) ∙ mul-div-cancel v (down-pos e) in
       ap (λ (z : ℕ). 1000 * z / 2 ^ 1074) u ∙ quotient v a (2 ^ 1058) (2 ^ 1074) unit-scale (pow-pos 1058) l h g
 
-  is-way : (r : Float) → HasValue r false v (2 ^ 1074) → a * 1000 % 65536 < 64536 → record { within = true; millimetres = a * 1000 / 65536 } ≡ wayOf r
+  is-way : (r : Float) → HasValue r false v (2 ^ 1074) → a * 1000 % 65536 < 64536 → a * 1000 / 65536 ≡ wayOf r
   unfolding wayOf
   is-way r k g = rw (is-within r k, is-millimetres r k g)
 
--- ---- the root of the float whose bits are b, from 2 ^ -20 up and below 2 ^ 20
+-- ---- the root of the float whose bits are b, from 2 ^ -20 up and below 1,000,000
 
-module _ (b : ℕ) (from : 0x3EB0_0000_0000_0000 ≤ b) (below : b < 0x4130_0000_0000_0000) where
+module _ (b : ℕ) (from : 0x3EB0_0000_0000_0000 ≤ b) (below : b < 0x412E_8480_0000_0000) where
   digits : ℕ
   digits = b % 2 ^ 52 + 2 ^ 52
 
@@ -188,10 +189,32 @@ module _ (b : ℕ) (from : 0x3EB0_0000_0000_0000 ≤ b) (below : b < 0x4130_0000
   unfolding place top exponent
   units-is = let e : place + top ≡ 1058 = omega arith in sym (pow-add 2 place top) ∙ ap (λ (z : ℕ). 2 ^ z) e
 
+  -- a root of so many units is below 1,000
+  few : (a : ℕ) → a * a * 2 ^ shift ≤ digits → a < 65536000
+  unfolding shift digits
+  few a h = go (decLt a 65536000)
+    where
+      shifted : Dec (b / 2 ^ 52 < 1042) → a * a * 2 ^ (1043 - b / 2 ^ 52) ≤ b % 2 ^ 52 + 2 ^ 52 → a * a < 65536000 * 65536000
+      shifted (yes l) h =
+          let e : 1043 - b / 2 ^ 52 ≡ 2 + (1041 - b / 2 ^ 52) = omega arith in
+          let k : 2 ^ 2 ≤ 2 ^ (1043 - b / 2 ^ 52) = rw (e, pow-add 2 2 (1041 - b / 2 ^ 52)) (omega (arith, pow-pos (1041 - b / 2 ^ 52))) in
+          omega (arith, le-trans (mul-le-mul-left (a * a) k) h)
+      shifted (no l) h =
+          let e : 1043 - b / 2 ^ 52 ≡ 1 = omega arith in
+          let k : a * a * 2 ^ 1 ≤ b % 2 ^ 52 + 2 ^ 52 = subst (λ (z : ℕ). a * a * 2 ^ z ≤ b % 2 ^ 52 + 2 ^ 52) e h in
+          omega (arith, k)
+
+      go : Dec (a < 65536000) → a < 65536000
+      go (yes l) = l
+      go (no f) =
+          let l : 65536000 ≤ a = omega arith in
+          let m : 65536000 * 65536000 ≤ a * a = mul-le-mul l l in
+          absurd (omega (arith, m, shifted (decLt (b / 2 ^ 52) 1042) h))
+
   seen : (a : ℕ) → a * a ≤ (b % 2 ^ 52 + 2 ^ 52) / 2 ^ (1043 - b / 2 ^ 52) → (b % 2 ^ 52 + 2 ^ 52) / 2 ^ (1043 - b / 2 ^ 52) ≤ a * a + 2 * a
-      → a < 65536000 → a * 1000 % 65536 < 64536 → record { within = true; millimetres = a * 1000 / 65536 } ≡ wayOf (rootOf (bits b))
+      → a * 1000 % 65536 < 64536 → a * 1000 / 65536 ≡ wayOf (rootOf (bits b))
   unfolding digits shift radicand wide-by
-  seen a l h few g =
+  seen a l h g =
       let e : digits * wide-by ≡ radicand = sym (mul-assoc digits (1 + exponent % 2) (2 ^ 52)) in
       let p : 0 < wide-by = omega arith in
       let low : a * 2 ^ place ≤ nearest =
@@ -199,18 +222,17 @@ module _ (b : ℕ) (from : 0x3EB0_0000_0000_0000 ≤ b) (below : b < 0x4130_0000
       let high : nearest ≤ (a + 1) * 2 ^ place =
       root-upto (a + 1) radicand nearest (2 ^ place) is-nearest (lt-of-le-of-lt (le-of-eq (sym e)) (square-below digits wide-by shift place (a + 1) scale-is p (digits-below digits shift a h))) in
       let at : (z : ℕ) → z * 2 ^ place * 2 ^ top ≡ z * 2 ^ 1058 = λ z. mul-assoc z (2 ^ place) (2 ^ top) ∙ ap (λ (u : ℕ). z * u) units-is in
-      is-way (nearest * 2 ^ top) a (le-trans (le-of-eq (sym (at a))) (mul-le-mul-right (2 ^ top) low)) (le-trans (mul-le-mul-right (2 ^ top) high) (le-of-eq (at (a + 1)))) few (rootOf (bits b)) root-value g
+      is-way (nearest * 2 ^ top) a (le-trans (le-of-eq (sym (at a))) (mul-le-mul-right (2 ^ top) low)) (le-trans (mul-le-mul-right (2 ^ top) high) (le-of-eq (at (a + 1)))) (few a (digits-from digits shift a l)) (rootOf (bits b)) root-value g
 
   -- as the code tests it
   pub tested : (a : ℕ)
-      → (let n = (b % 2 ^ 52 + 2 ^ 52) / 2 ^ (1043 - b / 2 ^ 52) in (leb (a * a) n && leb n (a * a + 2 * a) && ltb a 65536000 && ltb (a * 1000 % 65536) 64536) ≡ true)
-      → record { within = true; millimetres = a * 1000 / 65536 } ≡ wayOf (rootOf (bits b))
+      → (let n = (b % 2 ^ 52 + 2 ^ 52) / 2 ^ (1043 - b / 2 ^ 52) in (leb (a * a) n && leb n (a * a + 2 * a) && ltb (a * 1000 % 65536) 64536) ≡ true)
+      → a * 1000 / 65536 ≡ wayOf (rootOf (bits b))
   tested a e =
       let n = (b % 2 ^ 52 + 2 ^ 52) / 2 ^ (1043 - b / 2 ^ 52) in
-      let p = and-both (leb (a * a) n && leb n (a * a + 2 * a) && ltb a 65536000) (ltb (a * 1000 % 65536) 64536) e in
-      let q = and-both (leb (a * a) n && leb n (a * a + 2 * a)) (ltb a 65536000) (p .0) in
-      let r = and-both (leb (a * a) n) (leb n (a * a + 2 * a)) (q .0) in
-      seen a (leb-true _ _ (r .0)) (leb-true _ _ (r .1)) (ltb-true _ _ (q .1)) (ltb-true _ _ (p .1))
+      let p = and-both (leb (a * a) n && leb n (a * a + 2 * a)) (ltb (a * 1000 % 65536) 64536) e in
+      let r = and-both (leb (a * a) n) (leb n (a * a + 2 * a)) (p .0) in
+      seen a (leb-true _ _ (r .0)) (leb-true _ _ (r .1)) (ltb-true _ _ (p .1))
 
 -- ---- which floats those are
 
@@ -222,25 +244,25 @@ bare b lo hi false e p q =
     let j : unsigned b < hi = ltb-true (unsigned b) hi q in
     (omega arith, omega arith)
 
-pub pattern-in : (x : Float) → T (fits binary64 x) → lt (bits 0x3EB0_0000_0000_0000) x ≡ true → lt x (bits 0x4130_0000_0000_0000) ≡ true
-    → (0x3EB0_0000_0000_0000 ≤ toBits binary64 x) × (toBits binary64 x < 0x4130_0000_0000_0000)
+pub pattern-in : (x : Float) → T (fits binary64 x) → lt (bits 0x3EB0_0000_0000_0000) x ≡ true → lt x (bits 0x412E_8480_0000_0000) ≡ true
+    → (0x3EB0_0000_0000_0000 ≤ toBits binary64 x) × (toBits binary64 x < 0x412E_8480_0000_0000)
 unfolding sign
 pattern-in x f p q =
     let b = toBits binary64 x in
     let is : bits b ≡ x = ofBits-toBits binary64 x f in
-    let n : T (not (isNan (bits b))) = subst (λ (z : Float). T (not (isNan z))) (sym is) (lt-number x (bits 0x4130_0000_0000_0000) q) in
+    let n : T (not (isNan (bits b))) = subst (λ (z : Float). T (not (isNan z))) (sym is) (lt-number x (bits 0x412E_8480_0000_0000) q) in
     let u : unsigned b ≤ infinity = ltb-false infinity (unsigned b) (sym (isNan-bits b) ∙ is-false (isNan (bits b)) n) in
-    bare b 0x3EB0_0000_0000_0000 0x4130_0000_0000_0000 (leb (2 ^ 63) b) refl
+    bare b 0x3EB0_0000_0000_0000 0x412E_8480_0000_0000 (leb (2 ^ 63) b) refl
     (sym (lt-bits 0x3EB0_0000_0000_0000 b (lit≤ tt) u) ∙ ap (λ (z : Float). lt (bits 0x3EB0_0000_0000_0000) z) is ∙ p)
-    (sym (lt-bits b 0x4130_0000_0000_0000 u (lit≤ tt)) ∙ ap (λ (z : Float). lt z (bits 0x4130_0000_0000_0000)) is ∙ q)
+    (sym (lt-bits b 0x412E_8480_0000_0000 u (lit≤ tt)) ∙ ap (λ (z : Float). lt z (bits 0x412E_8480_0000_0000)) is ∙ q)
 
 -- ---- the way of a length
 
 module _ (r : Float) where
-  pub way-within : le r (whole 1000) ≡ true → record { within = true; millimetres = millimetres r } ≡ wayOf r
+  pub way-within : le r (whole 1000) ≡ true → millimetres r ≡ wayOf r
   unfolding wayOf
   way-within h = rw h
 
-  pub way-beyond : le r (whole 1000) ≡ false → record { within = false; millimetres = 0 } ≡ wayOf r
+  pub way-beyond : le r (whole 1000) ≡ false → 1000001 ≡ wayOf r
   unfolding wayOf
   way-beyond h = rw h

@@ -5,7 +5,7 @@ use mathlib.Core.List.{List}
 use Prim.Native.Nat.{ℕ, _≤_}
 use lib.ListN.{getD}
 use borrow.Author.Tests.{ltb-false}
-use Rattle.walk.proofs.Walk.{or-no}
+use Rattle.lists.proofs.Walk.{or-no}
 use Rattle.numeric.specs.Refusal.{numberOf}
 use Rattle.numeric.specs.declared.refusal.Refusal.{Refusal}
 use Rattle.numeric.specs.declared.vec3.Vec3.{Vec3}

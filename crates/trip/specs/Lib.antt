@@ -1,3 +1,4 @@
 pub mod Measure
 pub mod Trip
 pub mod Words
+pub mod Steps

@@ -1,13 +1,12 @@
 -- How far a displacement of a trip goes (docs/SCOPE.md, "Trip"). Definitions only.
 use Prim.Native.Nat.{ℕ}
-use mathlib.Core.Bool.{Bool, cond, _&&_}
+use mathlib.Core.Bool.{Bool, _&&_}
 use lib.Ieee.{Float, le}
 use lib.Ieee.Scale.{finite}
 use Rattle.exact.specs.Float.{whole}
 use Rattle.numeric.specs.Vec3.{norm}
 use Rattle.numeric.specs.Whole.{wholeTimes}
 use Rattle.numeric.specs.declared.vec3.Vec3.{Vec3}
-use Rattle.trip.specs.declared.measure.Way.{Way}
 
 -- the length's exact value times 1,000, rounded down to whole millimetres
 abbrev pub millimetres : Float → ℕ
@@ -20,7 +19,3 @@ millimetresOf d = millimetres (norm d)
 -- a displacement that is finite and not longer than 1,000 m
 unfoldable pub measurable : Vec3 → Bool
 measurable d = finite (d .x) && finite (d .y) && finite (d .z) && le (norm d) (whole 1000)
-
--- what an addition needs of a length: whether it is at most 1,000 m, and if so its whole millimetres
-unfoldable pub wayOf : Float → Way
-wayOf length = let w = le length (whole 1000) in record { within = w; millimetres = cond w (millimetres length) 0 }

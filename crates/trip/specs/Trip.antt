@@ -5,7 +5,7 @@ use mathlib.Core.Bool.{Bool, cond, not, _&&_, _||_}
 use mathlib.Core.List.{List, [], _∷_, _++_}
 use lib.Dec.{leb, ltb, eqb}
 use lib.ListN.{length, take}
-use Rattle.walk.specs.Walk.{collect}
+use Rattle.lists.specs.Walk.{collect}
 use Rattle.numeric.specs.declared.vec3.Vec3.{Vec3}
 use Rattle.numeric.specs.declared.refusal.Refusal.the-variants.{BadTrip, NoDistance}
 use Rattle.trip.specs.Measure.{millimetresOf, measurable}
@@ -26,9 +26,9 @@ pub record Leg : Type 0 where
   pub pulses : ℕ
 
 -- each displacement's whole millimetres, added
-unfoldable pub carrierOf : List Leg → ℕ
-carrierOf [] = 0
-carrierOf (l ∷ legs) = millimetresOf (l .displacement) + carrierOf legs
+unfoldable pub carrierMillimetres : List Leg → ℕ
+carrierMillimetres [] = 0
+carrierMillimetres (l ∷ legs) = millimetresOf (l .displacement) + carrierMillimetres legs
 
 -- the running pulse count
 unfoldable pub pulsesOf : List Leg → ℕ
@@ -45,7 +45,7 @@ apart a b = cond (ltb a b) (b - a) (a - b)
 
 -- that between the two totals after epoch k, counted from 1
 unfoldable pub differenceAfter : ℕ → List Leg → ℕ → ℕ
-differenceAfter rate legs k = let past = take k legs in apart (carrierOf past) (odometer rate (pulsesOf past))
+differenceAfter rate legs k = let past = take k legs in apart (carrierMillimetres past) (odometer rate (pulsesOf past))
 
 -- the greatest of f 1, .., f n, and 0 where n is 0
 unfoldable pub greatest : (ℕ → ℕ) → ℕ → ℕ
@@ -68,12 +68,12 @@ reachedOf rate legs = firstWith (differenceAfter rate legs) (greatestOf rate leg
 -- both totals, the greatest difference and its epoch: zeros throughout for a trip just started
 unfoldable pub reportOf : ℕ → List Leg → Report
 reportOf rate legs =
-    record { carrier = carrierOf legs; odometer = odometer rate (pulsesOf legs); greatest = greatestOf rate legs; reached = reachedOf rate legs }
+    record { carrier = carrierMillimetres legs; odometer = odometer rate (pulsesOf legs); greatest = greatestOf rate legs; reached = reachedOf rate legs }
 
 -- the trip with this pulse rate after these epochs
 unfoldable pub tripOf : ℕ → List Leg → Trip
 tripOf rate legs =
-    record { rate = rate; epochs = length legs; carrier = carrierOf legs; pulses = pulsesOf legs; greatest = greatestOf rate legs; reached = reachedOf rate legs }
+    record { rate = rate; epochs = length legs; carrier = carrierMillimetres legs; pulses = pulsesOf legs; greatest = greatestOf rate legs; reached = reachedOf rate legs }
 
 -- ---- the calls
 
@@ -86,8 +86,8 @@ unfoldable pub started : ℕ → Step
 started rate = cond (ltb 0 rate) (Goes (tripOf rate [])) (Refused BadTrip)
 
 -- one epoch of so many millimetres and pulses more: the first is the first to reach its difference, a later one where it is above all before it
-unfoldable pub counted : Trip → ℕ → ℕ → Trip
-counted t millimetres pulses =
+unfoldable pub epochCounted : Trip → ℕ → ℕ → Trip
+epochCounted t millimetres pulses =
     let carrier = t .carrier + millimetres in
     let count = t .pulses + pulses in
     let difference = apart carrier (odometer (t .rate) count) in
@@ -103,7 +103,7 @@ counted t millimetres pulses =
 
 -- one epoch more; 16 for a trip that is not sound, a full one, and a displacement not finite or longer than 1,000 m
 unfoldable pub added : Trip → Vec3 → ℕ → Step
-added t d pulses = cond (soundTrip t && ltb (t .epochs) 65535 && measurable d) (Goes (counted t (millimetresOf d) pulses)) (Refused BadTrip)
+added t d pulses = cond (soundTrip t && ltb (t .epochs) 65535 && measurable d) (Goes (epochCounted t (millimetresOf d) pulses)) (Refused BadTrip)
 
 unfoldable pub reported : Trip → Reported
 reported t =
@@ -120,7 +120,7 @@ fuelled t millilitres =
 
 -- ---- what the calls promise: the definition by the trip handed in and, wherever that is the trip of a list of epochs, the definition by the list
 
--- an accepted epoch stands at the end of the list
+-- an accepted epoch comes at the end of the list
 pub record Adds (t : Trip) (l : Leg) (r : Step) : Type 0 where
   pub is : r ≡ added t (l .displacement) (l .pulses)
   pub of-list : (legs : List Leg) → t ≡ tripOf (t .rate) legs
@@ -133,12 +133,12 @@ pub record Reports (t : Trip) (r : Reported) : Type 0 where
 -- ---- calls one after the other
 
 -- the trip that a call leaves: a refusal leaves it unchanged
-unfoldable pub kept : Trip → Step → Trip
-kept t (Refused r) = t
-kept t (Goes u) = u
+unfoldable pub tripLeft : Trip → Step → Trip
+tripLeft t (Refused r) = t
+tripLeft t (Goes u) = u
 
-unfoldable pub after : Trip → Leg → Trip
-after t l = kept t (added t (l .displacement) (l .pulses))
+unfoldable pub withLeg : Trip → Leg → Trip
+withLeg t l = tripLeft t (added t (l .displacement) (l .pulses))
 
 -- the epochs that count among those handed over: the first 65,535 whose displacement is finite and not longer than 1,000 m
 unfoldable pub measurables : List Leg → List Leg

@@ -6,7 +6,7 @@ use mathlib.Core.List.{List, [], _∷_, map}
 use lib.Dec.{leb, ltb}
 use lib.ListN.{getD}
 use lib.Ieee.{Float}
-use Rattle.walk.specs.Walk.{fold}
+use Rattle.lists.specs.Walk.{fold}
 use Rattle.numeric.specs.Refusal.{numberOf}
 use Rattle.numeric.specs.declared.refusal.Refusal.the-variants.{BadTrip}
 use Rattle.numeric.specs.Vec3.{vectorAt}
@@ -59,7 +59,7 @@ fuelledHeld (Step.Goes t) millilitres = fuelled t millilitres
 abbrev pub fuelledWords : List ℕ → ℕ → Fuel
 fuelledWords w millilitres = fuelledHeld (heldOf w) millilitres
 
--- ---- the number, and what the lent words hold afterwards: a refusal leaves them as they were
+-- ---- the number, and what the lent words hold afterwards: a refusal leaves them unchanged
 
 abbrev pub stepNumber : Step → ℕ
 stepNumber (Step.Refused r) = numberOf r

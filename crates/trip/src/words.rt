@@ -1,12 +1,10 @@
 // A trip that the caller holds as six words: pulses per kilometre, epochs, carrier millimetres, pulses, greatest difference, its epoch.
 ghost use mathlib.Core.Path.{_≡_};
-ghost use Prim.Native.Nat.{_≤_};
 ghost use Rattle.numeric.specs.Vec3.{norm};
 ghost use Rattle.numeric.specs.declared.vec3.Vec3.{Vec3};
-ghost use Rattle.trip.specs.Measure.{wayOf};
+ghost use Rattle.trip.specs.Steps.{wayOf};
 ghost use Rattle.trip.specs.Trip.{started};
 ghost use Rattle.trip.specs.Words as spec;
-use crate::measure::Way;
 use crate::measure::way_of;
 use crate::trip::Fuel;
 use crate::trip::Reported;
@@ -15,7 +13,7 @@ use crate::trip::Trip;
 use numeric::refusal::Refusal;
 use numeric::vec3::Vec3;
 
-// The trip that the words hold.
+// Returns the trip that the words hold, or 16.
 pub fn held(w: [u64; 6]) -> Step
     ensures { λ r. ⌜ r ≡ spec.heldOf w ⌝ }
 {
@@ -34,7 +32,7 @@ pub fn held(w: [u64; 6]) -> Step
     })
 }
 
-// The six words of a trip.
+// Returns the six words of a trip.
 pub fn words(t: Trip) -> [u64; 6]
     ensures { λ r. ⌜ r ≡ spec.wordsOf t ⌝ }
 {
@@ -48,9 +46,8 @@ pub fn words(t: Trip) -> [u64; 6]
     ]
 }
 
-// One epoch more for the trip that the words hold, of a displacement of this way.
-pub(crate) fn add_held(w: [u64; 6], way: Way, pulses: u16) -> Step
-    requires { ⌜ way .millimetres ≤ 1000000 ⌝ }
+// Adds an epoch whose displacement is of this way to the trip that the words hold.
+pub(crate) fn add_held(w: [u64; 6], way: u64, pulses: u16) -> Step
     ensures { λ r. ⌜ ((d : Vec3) → way ≡ wayOf (norm d) → r ≡ spec.addedHeld (spec.heldOf w) d pulses) ⌝ }
 {
     let before = held(w);
@@ -60,7 +57,7 @@ pub(crate) fn add_held(w: [u64; 6], way: Way, pulses: u16) -> Step
     }
 }
 
-// Its report.
+// Reports the trip that the words hold.
 pub(crate) fn report_held(w: [u64; 6]) -> Reported
     ensures { λ r. ⌜ r ≡ spec.reportedWords w ⌝ }
 {
@@ -71,7 +68,7 @@ pub(crate) fn report_held(w: [u64; 6]) -> Reported
     }
 }
 
-// Its fuel for a kilometre.
+// Returns its fuel for a kilometre.
 pub(crate) fn fuel_held(w: [u64; 6], millilitres: u32) -> Fuel
     ensures { λ r. ⌜ r ≡ spec.fuelledWords w millilitres ⌝ }
 {
@@ -82,7 +79,7 @@ pub(crate) fn fuel_held(w: [u64; 6], millilitres: u32) -> Fuel
     }
 }
 
-// A trip just started in the lent words and 0, or 16, which leaves them as they were.
+// Starts a trip in the lent words and returns 0. On refusal, returns 16 and changes nothing.
 pub fn start_in(per_km: u16, trip: &mut [u64; 6]) -> u8
     ensures { λ r. ⌜ (let s = started «per_km» in (r ≡ spec.stepNumber s) × (now (trip .exit) ≡ spec.wordsAfter s (now (trip .entry)))) ⌝ }
 {
@@ -96,7 +93,7 @@ pub fn start_in(per_km: u16, trip: &mut [u64; 6]) -> u8
     }
 }
 
-// One epoch more in the lent words and 0, or 16, which leaves them as they were.
+// Adds an epoch to the trip in the lent words and returns 0. On refusal, returns 16 and changes nothing.
 pub fn add_in(trip: &mut [u64; 6], delta: &[f64; 3], pulses: u16) -> u8
     ensures { λ r. ⌜ (let s = spec.addedWords (now (trip .entry)) (now (delta .entry)) pulses in
         (r ≡ spec.stepNumber s) × (now (trip .exit) ≡ spec.wordsAfter s (now (trip .entry)))) ⌝ }
@@ -119,7 +116,7 @@ pub fn add_in(trip: &mut [u64; 6], delta: &[f64; 3], pulses: u16) -> u8
     }
 }
 
-// Carrier millimetres, odometer millimetres, the greatest difference and its epoch in the lent report and 0, or 16, which leaves it as it was.
+// Writes carrier millimetres, odometer millimetres, the greatest difference and its epoch to `report` and returns 0. On refusal, returns 16 and changes nothing.
 pub fn report_in(trip: &[u64; 6], report: &mut [u64; 4]) -> u8
     ensures { λ r. ⌜ (let q = spec.reportedWords (now (trip .entry)) in
         (r ≡ spec.reportNumber q) × (now (report .exit) ≡ spec.reportAfter q (now (report .entry)))) ⌝ }
@@ -135,7 +132,7 @@ pub fn report_in(trip: &[u64; 6], report: &mut [u64; 4]) -> u8
     }
 }
 
-// The millilitres for a kilometre in the lent number and 0, or 16 or 17, which leave it as it was.
+// Writes the millilitres for a kilometre to the lent number and returns 0. On refusal, returns 16 or 17 and changes nothing.
 pub fn fuel_in(trip: &[u64; 6], millilitres: u32, per_km: &mut u64) -> u8
     ensures { λ r. ⌜ (let f = spec.fuelledWords (now (trip .entry)) millilitres in
         (r ≡ spec.fuelNumber f) × (now («per_km» .exit) ≡ spec.fuelAfter f (now («per_km» .entry)))) ⌝ }

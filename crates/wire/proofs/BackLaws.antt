@@ -12,11 +12,11 @@ use lib.Seq.{take-at}
 use lib.IntN.{pos}
 use mir.Syntax.{w32}
 use mir.Val.{SFits}
-use Rattle.walk.specs.Walk.{collect, places}
-use Rattle.walk.proofs.Walk.{places-length}
+use Rattle.lists.specs.Walk.{collect, places}
+use Rattle.lists.proofs.Walk.{places-length}
 use Rattle.wire.specs.Number.{Bytes}
-use Rattle.wire.specs.Record.{Fitting, AllFitting, none, more, epochBytes, recordAt, countIn, recordsOf}
-use Rattle.wire.specs.Columns.{RecordColumns, columnsFit, columnsWith, floatsOf, columnRecord, columnRecords, over}
+use Rattle.wire.specs.Record.{FitsRecord, AllFitting, none, more, epochBytes, recordAt, countIn, recordsOf}
+use Rattle.wire.specs.Columns.{RecordColumns, columnsFit, columnsWith, recordFloats, columnRecord, columnRecords, over}
 use Rattle.wire.specs.Lent.{readNumber, ReadAnswers, writeNumber, WriteAnswers}
 use Rattle.wire.specs.declared.record.CarrierRecord.{CarrierRecord}
 use Rattle.wire.proofs.RecordLaws.{collect-length, epoch-length, count-written}
@@ -32,11 +32,11 @@ pub record Widths (c : RecordColumns) : Type 0 where
   pub state : (i : ℕ) → SFits w32 (getD (c .state) i (pos 0))
   pub floats : (i : ℕ) → getD (c .floats) i 0 < 2 ^ 64
 
-all-more : {rs : List CarrierRecord} {r : CarrierRecord} → AllFitting rs → Fitting r → AllFitting (rs ++ (r ∷ []))
+all-more : {rs : List CarrierRecord} {r : CarrierRecord} → AllFitting rs → FitsRecord r → AllFitting (rs ++ (r ∷ []))
 all-more none f = more f none
 all-more (more g h) f = more g (all-more h f)
 
-record-fits : (c : RecordColumns) → Widths c → (i : ℕ) → Fitting (columnRecord c i)
+record-fits : (c : RecordColumns) → Widths c → (i : ℕ) → FitsRecord (columnRecord c i)
 unfolding columnRecord
 record-fits c w i =
     record {
@@ -104,7 +104,7 @@ module _ {s : List ℕ} {c₀ c : RecordColumns} {count₀ count : ℕ} (read : 
   unfolding columnsFit
   fits =
       let few : count ≤ 64 = omega (arith, columns-room c₀ (countIn s) (had-room read) .few, read .count-is) in
-      let six : 6 * count ≤ length (over (collect floatsOf rs) (c₀ .floats)) = omega (arith, over-long (collect floatsOf rs) (c₀ .floats), collect-length floatsOf 6 (λ r. refl) rs, as-many) in
+      let six : 6 * count ≤ length (over (collect recordFloats rs) (c₀ .floats)) = omega (arith, over-long (collect recordFloats rs) (c₀ .floats), collect-length recordFloats 6 (λ r. refl) rs, as-many) in
       rw (le-leb count 64 few, le-leb count _ (column (λ (r : CarrierRecord). r .constellation) (c₀ .constellation)), le-leb count _ (column (λ (r : CarrierRecord). r .svid) (c₀ .svid)), le-leb count _ (column (λ (r : CarrierRecord). r .band) (c₀ .band)), le-leb count _ (column (λ (r : CarrierRecord). r .state) (c₀ .state)), le-leb (6 * count) _ six)
 
   pub writes : number ≡ 0

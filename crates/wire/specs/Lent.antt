@@ -11,9 +11,9 @@ use Rattle.wire.specs.Record.{countIn, isWhole, recordsOf, epochBytes}
 use Rattle.wire.specs.Columns.{RecordColumns, columnsFit, columnsWith, columnRecords, over}
 
 -- what is lent afterwards: 0 leaves what was made, and a refusal what was there before
-abbrev pub given : {A : Type 0} → ℕ → A → A → A
-given zero made before = made
-given (suc n) made before = before
+abbrev pub lentAfter : {A : Type 0} → ℕ → A → A → A
+lentAfter zero made before = made
+lentAfter (suc n) made before = before
 
 -- ---- reading
 
@@ -23,8 +23,8 @@ readNumber s c = cond (isWhole s) (cond (columnsFit c (countIn s)) 0 (numberOf T
 
 pub record ReadAnswers (s : List ℕ) (number : ℕ) (c₀ c : RecordColumns) (count₀ count : ℕ) : Type 0 where
   pub number-is : number ≡ readNumber s c₀
-  pub columns-are : c ≡ given number (columnsWith (recordsOf s) c₀) c₀
-  pub count-is : count ≡ given number (countIn s) count₀
+  pub columns-are : c ≡ lentAfter number (columnsWith (recordsOf s) c₀) c₀
+  pub count-is : count ≡ lentAfter number (countIn s) count₀
 
 -- ---- writing
 
@@ -34,4 +34,4 @@ writeNumber c n out = cond (columnsFit c n && leb (59 * n) (length out)) 0 (numb
 
 pub record WriteAnswers (c : RecordColumns) (n number : ℕ) (out₀ out : List ℕ) : Type 0 where
   pub number-is : number ≡ writeNumber c n out₀
-  pub bytes-are : out ≡ given number (over (epochBytes (columnRecords c n)) out₀) out₀
+  pub bytes-are : out ≡ lentAfter number (over (epochBytes (columnRecords c n)) out₀) out₀

@@ -1,4 +1,4 @@
-// Carrier records in columns that a caller lends.
+// Carrier records in a caller's columns.
 ghost use mathlib.Core.Path.{_≡_};
 ghost use mathlib.Core.Bool.{true};
 ghost use Prim.Native.Nat.{_+_, _*_, _≤_, _<_};
@@ -6,12 +6,14 @@ ghost use lib.ListN.{length};
 ghost use Rattle.wire.specs.Record.{recordsIn, epochBytes};
 ghost use Rattle.wire.specs.Columns as spec;
 ghost use Rattle.wire.specs.Lent.{ReadAnswers, WriteAnswers};
+use crate::number::number_at;
+use crate::number::signed;
 use crate::record::CarrierRecord;
+use crate::record::pattern_in;
 use crate::record::put_record;
-use crate::record::record_of;
 use numeric::refusal::Refusal;
 
-// Whether there are at most 64 records and no column is shorter than they need.
+// Checks that there are at most 64 records and that the columns hold them.
 fn columns_fit(
     constellation: &[u8],
     svid: &[u16],
@@ -20,7 +22,8 @@ fn columns_fit(
     floats: &[u64],
     n: usize,
 ) -> bool
-    ensures { λ r. ⌜ r ≡ spec.columnsFit (spec.recordColumns (now (constellation .entry)) (now (svid .entry)) (now (band .entry)) (now (state .entry)) (now (floats .entry))) n ⌝ }
+    ensures { λ r. ⌜ r ≡ spec.columnsFit (spec.recordColumns (now (constellation .entry)) (now (svid .entry)) (now (band .entry))
+        (now (state .entry)) (now (floats .entry))) n ⌝ }
 {
     if n > 64 {
         return false;
@@ -32,7 +35,7 @@ fn columns_fit(
         & (6 * n <= floats.len())
 }
 
-// Writes the first n records of s into the columns.
+// Writes the first n records of s into the columns, field by field: a record as a struct goes through memory, where loads wait for its stores.
 fn fill(
     s: &[u8],
     n: usize,
@@ -44,29 +47,42 @@ fn fill(
 )
     requires { ⌜ spec.columnsFit (spec.recordColumns (now constellation) (now svid) (now band) (now state) (now floats)) n ≡ true ⌝ }
     requires { ⌜ 59 * n ≤ length (now s) ⌝ }
-    ensures { λ _. ⌜ spec.recordColumns (now (constellation .exit)) (now (svid .exit)) (now (band .exit)) (now (state .exit)) (now (floats .exit)) ≡ spec.columnsWith (recordsIn (now (s .entry)) n) (spec.recordColumns (now (constellation .entry)) (now (svid .entry)) (now (band .entry)) (now (state .entry)) (now (floats .entry))) ⌝ }
+    ensures { λ _. ⌜ (let before = spec.recordColumns (now (constellation .entry)) (now (svid .entry)) (now (band .entry))
+        (now (state .entry)) (now (floats .entry)) in
+        let after = spec.recordColumns (now (constellation .exit)) (now (svid .exit)) (now (band .exit))
+        (now (state .exit)) (now (floats .exit)) in
+        after ≡ spec.columnsWith (recordsIn (now (s .entry)) n) before) ⌝ }
 {
     let mut i: usize = 0;
     while i < n {
-        let r = record_of(s, 59 * i);
-        let bits = r.state;
+        let from = 59 * i;
         let at = 6 * i;
-        constellation[i] = r.constellation;
-        svid[i] = r.svid;
-        band[i] = r.band;
+        let first = number_at(s, from, 1);
+        let second = number_at(s, from + 1, 2);
+        let third = number_at(s, from + 3, 4);
+        let adr = pattern_in(s, from + 7);
+        let bits = signed(number_at(s, from + 15, 4));
+        let x = pattern_in(s, from + 19);
+        let y = pattern_in(s, from + 27);
+        let z = pattern_in(s, from + 35);
+        let elevation = pattern_in(s, from + 43);
+        let rate = pattern_in(s, from + 51);
+        constellation[i] = first as u8;
+        svid[i] = second as u16;
+        band[i] = third as u32;
         state[i] = bits;
-        floats[at] = r.adr;
-        floats[at + 1] = r.x;
-        floats[at + 2] = r.y;
-        floats[at + 3] = r.z;
-        floats[at + 4] = r.elevation;
-        floats[at + 5] = r.rate;
+        floats[at] = adr;
+        floats[at + 1] = x;
+        floats[at + 2] = y;
+        floats[at + 3] = z;
+        floats[at + 4] = elevation;
+        floats[at + 5] = rate;
         i += 1;
     }
 }
 
-// Reads the records of s into the columns and their count into count. 0; or 21 where s is no whole records, then 2 where there are more than 64
-// or a column is too short, which leave every lent place.
+// Returns 0 and writes the records of `s` to the columns and their number to `count`. On refusal, returns its number and changes nothing: 21 where the length of `s`
+// is not a multiple of 59, then 2 where there are more than 64 records or a column is too short.
 pub fn read_records(
     s: &[u8],
     constellation: &mut [u8],
@@ -93,7 +109,7 @@ pub fn read_records(
     0
 }
 
-// The record at place i of the columns.
+// Returns the record at place i of the columns.
 fn column_record(
     constellation: &[u8],
     svid: &[u16],
@@ -104,7 +120,8 @@ fn column_record(
 ) -> CarrierRecord
     requires { ⌜ (i < length (now constellation)) × (i < length (now svid)) × (i < length (now band)) × (i < length (now state)) ⌝ }
     requires { ⌜ 6 * i + 5 < length (now floats) ⌝ }
-    ensures { λ r. ⌜ r ≡ spec.columnRecord (spec.recordColumns (now (constellation .entry)) (now (svid .entry)) (now (band .entry)) (now (state .entry)) (now (floats .entry))) i ⌝ }
+    ensures { λ r. ⌜ r ≡ spec.columnRecord (spec.recordColumns (now (constellation .entry)) (now (svid .entry)) (now (band .entry))
+        (now (state .entry)) (now (floats .entry))) i ⌝ }
 {
     let at = 6 * i;
     let bits = state[i];
@@ -134,7 +151,9 @@ fn put_records(
 )
     requires { ⌜ spec.columnsFit (spec.recordColumns (now constellation) (now svid) (now band) (now state) (now floats)) n ≡ true ⌝ }
     requires { ⌜ 59 * n ≤ length (now out) ⌝ }
-    ensures { λ _. ⌜ now (out .exit) ≡ spec.over (epochBytes (spec.columnRecords (spec.recordColumns (now (constellation .entry)) (now (svid .entry)) (now (band .entry)) (now (state .entry)) (now (floats .entry))) n)) (now (out .entry)) ⌝ }
+    ensures { λ _. ⌜ (let columns = spec.recordColumns (now (constellation .entry)) (now (svid .entry)) (now (band .entry))
+        (now (state .entry)) (now (floats .entry)) in
+        now (out .exit) ≡ spec.over (epochBytes (spec.columnRecords columns n)) (now (out .entry))) ⌝ }
 {
     let mut i: usize = 0;
     while i < n {
@@ -144,7 +163,7 @@ fn put_records(
     }
 }
 
-// Writes the first n records of the columns into out. 0; or 2 where there are more than 64, a column is too short or out is, which leaves out as it was.
+// Returns 0 and writes the first n records of the columns to `out`. Returns 2 and changes nothing where there are more than 64, or a column or `out` is too short.
 pub fn write_records(
     constellation: &[u8],
     svid: &[u16],
@@ -154,7 +173,9 @@ pub fn write_records(
     n: usize,
     out: &mut [u8],
 ) -> u8
-    ensures { λ r. ⌜ WriteAnswers (spec.recordColumns (now (constellation .entry)) (now (svid .entry)) (now (band .entry)) (now (state .entry)) (now (floats .entry))) n r (now (out .entry)) (now (out .exit)) ⌝ }
+    ensures { λ r. ⌜ WriteAnswers (spec.recordColumns (now (constellation .entry)) (now (svid .entry)) (now (band .entry))
+        (now (state .entry)) (now (floats .entry)))
+        n r (now (out .entry)) (now (out .exit)) ⌝ }
 {
     if !columns_fit(constellation, svid, band, state, floats, n) {
         return Refusal::TooMany.number();

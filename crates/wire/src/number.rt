@@ -6,7 +6,7 @@ ghost use lib.Seq.{sets};
 ghost use Rattle.records.specs.Record.{unsigned};
 ghost use Rattle.wire.specs.Number as spec;
 
-// The number of the w bytes from place `at` on, worked out from its most significant byte, which stands last.
+// Returns the number of the w bytes from place `at` on, starting with the most significant byte, which is the last.
 pub(crate) fn number_at(s: &[u8], at: usize, w: usize) -> u64
     requires { ⌜ (w ≤ 8) × (at + w ≤ length (now s)) ⌝ }
     ensures { λ r. ⌜ (r ≡ spec.numberAt (now (s .entry)) at w) × (r < 256 ^ w) ⌝ }
@@ -35,7 +35,7 @@ pub(crate) fn put_number(out: &mut [u8], at: usize, w: usize, n: u64)
     }
 }
 
-// 32 bits as a signed number.
+// Returns 32 bits as a signed number.
 pub(crate) fn signed(n: u64) -> i32
     requires { ⌜ n < 2 ^ 32 ⌝ }
     ensures { λ r. ⌜ r ≡ spec.signed n ⌝ }
@@ -46,7 +46,7 @@ pub(crate) fn signed(n: u64) -> i32
     -1 - ((0xFFFF_FFFF - n) as i32)
 }
 
-// The 32 bits of a signed number.
+// Returns the 32 bits of a signed number.
 pub(crate) fn unsigned(z: i32) -> u64
     ensures { λ r. ⌜ r ≡ unsigned z ⌝ }
 {

@@ -10,7 +10,7 @@ use crate::number::put_number;
 use crate::number::signed;
 use crate::number::unsigned;
 
-// A carrier as the bytes have it: each float is its 64 bits.
+// A carrier record, with each float as its 64 bits.
 pub struct CarrierRecord {
     pub constellation: u8,
     pub svid: u16,
@@ -25,14 +25,14 @@ pub struct CarrierRecord {
 }
 
 // The 64 bits of a float, a NaN's sign and payload with them.
-fn pattern_in(s: &[u8], at: usize) -> u64
+pub(crate) fn pattern_in(s: &[u8], at: usize) -> u64
     requires { ⌜ at + 8 ≤ length (now s) ⌝ }
     ensures { λ r. ⌜ r ≡ numberAt (now (s .entry)) at 8 ⌝ }
 {
     number_at(s, at, 8)
 }
 
-// The record of the 59 bytes from place `at` on.
+// Returns the record of the 59 bytes from place `at` on.
 pub fn record_of(s: &[u8], at: usize) -> CarrierRecord
     requires { ⌜ at + 59 ≤ length (now s) ⌝ }
     ensures { λ r. ⌜ r ≡ spec.recordOf (drop at (now (s .entry))) ⌝ }

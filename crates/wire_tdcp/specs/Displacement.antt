@@ -13,7 +13,7 @@ use Rattle.numeric.specs.declared.vec3.Vec3.{Vec3}
 use Rattle.records.specs.Carriers.{CarrierColumns, carrierColumns}
 use Rattle.records.specs.declared.record.Carrier.{Carrier}
 use Rattle.records.specs.declared.record.Epoch.{Epoch}
-use Rattle.estimator.specs.Rules.{Rule, rule, ruled}
+use Rattle.estimate_rounds.specs.Rules.{Rule, rule, ruled}
 use Rattle.tdcp.specs.Displacement.{Input, general, displacementOf, displacementNumber, Accepted}
 use Rattle.tdcp.specs.declared.displacement.Settings.{Settings}
 use Rattle.tdcp.specs.declared.displacement.Delta.{Delta}
@@ -24,11 +24,11 @@ use Rattle.wire.specs.Record.{recordsIn, countIn, isWhole}
 use Rattle.wire.specs.Columns.{RecordColumns, over}
 use Rattle.wire.specs.declared.record.CarrierRecord.{CarrierRecord}
 
--- ---- what is handed over
+-- ---- the arguments of a call
 
 -- the carrier of a record: each pattern is the float whose bits it is
-unfoldable pub carrierOf : CarrierRecord → Carrier
-carrierOf r =
+unfoldable pub recordCarrier : CarrierRecord → Carrier
+recordCarrier r =
     record {
       constellation = r .constellation;
       svid = r .svid;
@@ -41,19 +41,19 @@ carrierOf r =
     }
 
 -- the carriers of the first n records
-abbrev pub carriersIn : List ℕ → ℕ → List Carrier
-carriersIn s n = map carrierOf (recordsIn s n)
+abbrev pub recordCarriers : List ℕ → ℕ → List Carrier
+recordCarriers s n = map recordCarrier (recordsIn s n)
 
 -- the epoch of all records
-abbrev pub epochIn : List ℕ → Epoch
-epochIn s = record { count = countIn s; carriers = carriersIn s (countIn s) }
+abbrev pub recordEpoch : List ℕ → Epoch
+recordEpoch s = record { count = countIn s; carriers = recordCarriers s (countIn s) }
 
 abbrev pub vectorOf : Float → Float → Float → Vec3
 vectorOf x y z = record { x = x; y = y; z = z }
 
 -- `agreement` is neither read nor checked
-abbrev pub settingsOf : Float → Float → Float → Float → Float → ℕ → Settings
-settingsOf screen a b huber mask rounds = record { screen = screen; «sigma_a» = a; «sigma_b» = b; huber = huber; mask = mask; rounds = rounds; agreement = +0 }
+abbrev pub lineSettings : Float → Float → Float → Float → Float → ℕ → Settings
+lineSettings screen a b huber mask rounds = record { screen = screen; «sigma_a» = a; «sigma_b» = b; huber = huber; mask = mask; rounds = rounds; agreement = +0 }
 
 -- two slices of records, and the numbers of line S
 pub record Handed : Type 0 where
@@ -67,8 +67,8 @@ abbrev pub handed : List ℕ → List ℕ → Float → Vec3 → Settings → Ha
 handed previous current dt receiver settings = record { previous = previous; current = current; dt = dt; receiver = receiver; settings = settings }
 
 -- the two epochs, and the same numbers
-abbrev pub inputOf : Handed → Input
-inputOf h = general (epochIn (h .previous)) (epochIn (h .current)) (h .dt) (h .receiver) (h .settings)
+abbrev pub recordInput : Handed → Input
+recordInput h = general (recordEpoch (h .previous)) (recordEpoch (h .current)) (h .dt) (h .receiver) (h .settings)
 
 -- ---- the answer
 
@@ -80,23 +80,23 @@ recordRules previous current result =
     ∷ []
 
 -- these, and only then what the displacement of the two epochs is
-unfoldable pub answerOf : Handed → List ℕ → Displacement
-answerOf h result = ruled Refused (recordRules (h .previous) (h .current) result) (displacementOf (inputOf h))
+unfoldable pub recordsDisplaced : Handed → List ℕ → Displacement
+recordsDisplaced h result = ruled Refused (recordRules (h .previous) (h .current) result) (displacementOf (recordInput h))
 
 -- used and screened, then the displacement in metres: 40 bytes
 abbrev pub deltaBytes : Delta → List ℕ
 deltaBytes d = fiveBytes (d .used) (d .screened) (patternOf (d .delta .x)) (patternOf (d .delta .y)) (patternOf (d .delta .z))
 
--- a refusal leaves the result as it was, and nothing past the fortieth byte is ever written
-abbrev pub resultAfter : Displacement → List ℕ → List ℕ
-resultAfter (Refused r) before = before
-resultAfter (Moved d) before = over (deltaBytes d) before
+-- a refusal leaves the result unchanged, and nothing past the fortieth byte is ever written
+abbrev pub bytesAfter : Displacement → List ℕ → List ℕ
+bytesAfter (Refused r) before = before
+bytesAfter (Moved d) before = over (deltaBytes d) before
 
 -- The number and the result afterwards are those of the answer. An accepted displacement has what `Accepted` says, demand 3 of every round included.
-pub record Answers (h : Handed) (number : ℕ) (result₀ result : List ℕ) : Type 0 where
-  pub number-is : number ≡ displacementNumber (answerOf h result₀)
-  pub result-is : result ≡ resultAfter (answerOf h result₀) result₀
-  pub accepted : (d : Delta) → answerOf h result₀ ≡ Moved d → Accepted (inputOf h) d
+pub record RecordAnswers (h : Handed) (number : ℕ) (result₀ result : List ℕ) : Type 0 where
+  pub number-is : number ≡ displacementNumber (recordsDisplaced h result₀)
+  pub result-is : result ≡ bytesAfter (recordsDisplaced h result₀) result₀
+  pub accepted : (d : Delta) → recordsDisplaced h result₀ ≡ Moved d → Accepted (recordInput h) d
 
 -- ---- beside the displacement of columns
 

@@ -1,8 +1,8 @@
-// The displacement between two epochs that are handed over as bytes.
+// The displacement between two epochs of byte records.
 ghost use mathlib.Core.Path.{_≡_};
 ghost use Prim.Native.Nat.{_*_, _≤_};
 ghost use lib.ListN.{length};
-ghost use Rattle.records.specs.Signals.{Laid};
+ghost use Rattle.records.specs.Steps.{Laid};
 ghost use Rattle.tdcp.specs.Displacement.{Promised};
 ghost use Rattle.wire.specs.Record.{countIn};
 ghost use Rattle.wire_tdcp.specs.Displacement as spec;
@@ -21,9 +21,9 @@ use wire::record::CarrierRecord;
 use wire::record::put_five;
 use wire::record::record_of;
 
-// The carrier of a record.
+// Returns the carrier of a record.
 fn carrier_of(r: CarrierRecord) -> Carrier
-    ensures { λ c. ⌜ c ≡ spec.carrierOf r ⌝ }
+    ensures { λ c. ⌜ c ≡ spec.recordCarrier r ⌝ }
 {
     let adr = float(r.adr);
     let x = float(r.x);
@@ -54,7 +54,7 @@ fn carriers_into(
     floats: &mut [f64; 384],
 )
     requires { ⌜ (n ≤ 64) × (59 * n ≤ length (now s)) × (length (now signals) ≡ 64) × (length (now states) ≡ 64) × (length (now floats) ≡ 384) ⌝ }
-    ensures { λ _. ⌜ Laid (spec.carriersIn (now (s .entry)) n) n (now (signals .exit)) (now (states .exit)) (now (floats .exit)) ⌝ }
+    ensures { λ _. ⌜ Laid (spec.recordCarriers (now (s .entry)) n) n (now (signals .exit)) (now (states .exit)) (now (floats .exit)) ⌝ }
 {
     let mut i: usize = 0;
     while i < n {
@@ -65,7 +65,7 @@ fn carriers_into(
     }
 }
 
-// The displacement of two slices of at most 64 records.
+// Returns the displacement between two slices of at most 64 records.
 fn displacement_of(
     previous: &[u8],
     current: &[u8],
@@ -74,7 +74,7 @@ fn displacement_of(
     settings: Settings,
 ) -> Displacement
     requires { ⌜ (countIn (now previous) ≤ 64) × (countIn (now current) ≤ 64) ⌝ }
-    ensures { λ r. ⌜ Promised (spec.inputOf (spec.handed (now (previous .entry)) (now (current .entry)) dt receiver settings)) r ⌝ }
+    ensures { λ r. ⌜ Promised (spec.recordInput (spec.handed (now (previous .entry)) (now (current .entry)) dt receiver settings)) r ⌝ }
 {
     let m = previous.len() / 59;
     let n = current.len() / 59;
@@ -112,8 +112,8 @@ fn displacement_of(
     )
 }
 
-// The displacement of two slices of carrier records: 0, and in the first 40 bytes of result how many pairs were used and screened out and the displacement in metres;
-// or the refusal's number, which leaves result as it was.
+// Returns 0 and writes how many pairs were used and screened out and the displacement in metres to the first 40 bytes of `result`. On refusal, returns its number and
+// changes nothing.
 pub fn displacement_records(
     previous: &[u8],
     current: &[u8],
@@ -122,7 +122,7 @@ pub fn displacement_records(
     settings: Settings,
     result: &mut [u8],
 ) -> u8
-    ensures { λ r. ⌜ spec.Answers (spec.handed (now (previous .entry)) (now (current .entry)) dt receiver settings)
+    ensures { λ r. ⌜ spec.RecordAnswers (spec.handed (now (previous .entry)) (now (current .entry)) dt receiver settings)
         r (now (result .entry)) (now (result .exit)) ⌝ }
 {
     if previous.len() % 59 != 0 {

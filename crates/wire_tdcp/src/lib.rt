@@ -1,2 +1,2 @@
-// The displacement between two epochs that are handed over as bytes.
+// The displacement between two epochs of byte records.
 pub mod displacement;

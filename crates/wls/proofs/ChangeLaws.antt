@@ -3,10 +3,9 @@ use mathlib.Core.Logic.{_⊎_, inl, inr}
 use mathlib.Core.Path.{_≡_, refl, sym, ap, _∙_, subst}
 use mathlib.Core.Bool.{Bool, true, false, not, cond, _&&_}
 use mathlib.Core.List.{List, [], _∷_, map, foldl}
-use Prim.Native.Nat.{ℕ, zero, suc, _+_}
+use Prim.Native.Nat.{ℕ, _+_}
 use native.Mathlib.Omega.{arith}
-use lib.Dec.{eqb}
-use lib.Dec.{T}
+use lib.Dec.{eqb, T}
 use lib.Ieee.{Float, nan, inf, fin, binary64}
 use lib.Ieee.Scale.{finite}
 use lib.Ieee.Bits.{is-true}
@@ -15,8 +14,8 @@ use borrow.Author.Tests.{eq-eqb}
 use Rattle.exact.specs.Float.{_⊕_, _⊖_, _⊘_, +0, bits}
 use Rattle.exact.proofs.Ops.{add-finite, sub-finite, mul-finite, div-finite}
 use Rattle.root.specs.Root.{rootOf}
-use Rattle.walk.specs.Walk.{every}
-use Rattle.cholesky.specs.Factor.{at, Factored, Refused as NoFactor, Lower, factorOf}
+use Rattle.lists.specs.Walk.{every}
+use Rattle.cholesky.specs.Factor.{at, factorOf}
 use Rattle.cholesky.specs.Answer as factor
 use Rattle.numeric.specs.Real.{square}
 use Rattle.numeric.specs.Refusal.{numberOf}
@@ -27,28 +26,26 @@ use Rattle.numeric.specs.declared.sight.Sighting.the-variants.{Refused as NotSe
 use Rattle.numeric.specs.declared.vec3.Vec3.{Vec3}
 use Rattle.numeric.specs.declared.refusal.Refusal.{Refusal}
 use Rattle.numeric.specs.declared.refusal.Refusal.the-variants.{FitFailed, QualityNotFinite, OnReceiver}
-use Rattle.robust.specs.Round.{Round, Outcome, Refused as NoRound, Solved, solved, roundBy, roundOf}
-use Rattle.median.specs.Centre.{centreAndScaleOf}
-use Rattle.normal.specs.Weight.{weight}
-use Rattle.normal.specs.Equations.{total, matrixOf, rightOf}
-use Rattle.normal.specs.declared.row.Row.{Row}
+use Rattle.normal_equations.specs.Equations.{total}
+use Rattle.normal_equations.specs.declared.row.Row.{Row}
 use Rattle.clocks.specs.Clocks.{slot}
 use Rattle.clocks.specs.declared.clocks.Clocks.{Clocks}
 use Rattle.records.specs.declared.record.Observation.{Observation}
-use Rattle.estimator.specs.Rules.{Rule, rule, ruled, rowRules}
-use Rattle.estimator.specs.Rounds.{End, Stopped, Reached, Fit, vector, moved, shortStep, ended, after, fitFrom, lastRows, finiteAt, concluded}
-use Rattle.estimator.specs.declared.rules.Check.the-variants.{Passed}
-use Rattle.estimator.proofs.RulesLaws.{checked, ruled-append, passed-by}
+use Rattle.estimate_rounds.specs.Rules.{Rule, rule, ruled, rowRules}
+use Rattle.estimate_rounds.specs.Rounds.{End, Stopped, Reached, vector, lastRows, finiteAt, concluded}
+use Rattle.estimate_rounds.specs.declared.rules.Check.the-variants.{Passed}
+use Rattle.estimate_rounds.proofs.RulesLaws.{checked, ruled-append, passed-by}
 use Rattle.wls.specs.Valid.{fixInputRules}
 use Rattle.wls.specs.Front.{fixRules}
-use Rattle.wls.specs.Fix.{Input, sightAt, sightRules, rowAt, roundAt, limit, start, fitOver, kept, clocks, fitOf, roundsOf, chiAt, residualAt, qualityRules, endRules, solutionAt, foundOver, fixOf}
+use Rattle.wls.specs.Fix.{Input, sightAt, sightRules, rowAt, start, fitOver, keptObservations, clocks, fitOf, roundsOf, chiAt, residualAt, qualityRules, endRules, solutionAt, foundOver, fixOf}
 use Rattle.quality.specs.Quality.{unweightedMatrix, dilutionOf, chiOf}
-use Rattle.wls.specs.Before.{bare, fitBefore, rulesBefore, answerBefore, foundBefore, fixFirst, fixBefore, seenAt, begins}
+use Rattle.wls.specs.Before.{fitBefore, rulesBefore, solutionBefore, foundBefore, fixFirst, fixBefore, seenAt}
 use Rattle.wls.specs.declared.fix.Settings.{Settings}
 use Rattle.wls.specs.declared.fix.Solution.{Solution}
 use Rattle.wls.specs.declared.fix.Fix.{Fix}
 use Rattle.wls.specs.declared.fix.Fix.the-variants.{Refused, At}
-use Rattle.wls.proofs.BeforeLaws.{sights-are, round-seen, round-not, fifteen-or-before}
+use Rattle.wls.proofs.StopLaws.{begins, unseen-stops, stops-unseen, stopped-by}
+use Rattle.wls.proofs.BeforeLaws.{sights-are, fifteen-or-before}
 use Rattle.wls.proofs.QualityBefore.{withChi, Became, Same, Anew, became}
 use Rattle.wls.proofs.FixSound.{ended as finished-at}
 
@@ -94,101 +91,11 @@ behind (q ∷ rs) a r h e = go (q .applies) refl (eqb (numberOf (q .refusal)) (n
         absurd (let z : _≡_ {A = ℕ} 0 1 = cc in omega arith)
     go false f false g h e ih = let t = ih h e in record { passes = rw f (t .passes); is = t .is }
 
--- ---- the rounds
-
+-- ---- at the state that the rounds reach: 10, 15 and 14 in turn
 module _ (settings : Settings) (k : Clocks) (os : List Observation) where
   abbrev n : ℕ
   n = 3 + k .count
 
-  abbrev from : ℕ → List Float → Fit
-  from count x = fitFrom (roundAt settings k os) n limit count x
-
-  -- a round by itself is refused by 10 alone
-  bare-refused : (x : List Float) (r : Refusal) → bare settings k os x ≡ NoRound r → r ≡ FitFailed
-  unfolding roundOf roundBy
-  bare-refused x r e =
-      let rows = map (rowAt settings k x) os in
-      let w = weight (centreAndScaleOf (map (λ (q : Row). q .residual) rows)) (settings .huber) in
-      go rows (matrixOf w rows n) (rightOf w rows n) (factorOf (matrixOf w rows n)) e
-    where
-      go : (rows : List Row) (a : List (List Float)) (b : List Float) (w : Factored) → solved rows a b w ≡ NoRound r → r ≡ FitFailed
-      go rows a b NoFactor e = cc
-      go rows a b (Lower l) e = absurd (let z : _≡_ {A = ℕ} 0 1 = cc in omega arith)
-
-  -- the rounds end by 15 exactly where one begins at a state with a range that is zero or not finite
-  abbrev allSeen : List Float → Fit → Bool
-  allSeen x f = every (seenAt os) (begins n x (f .rounds) (f .end))
-
-  pub unseen-stops : (count : ℕ) (x : List Float) → allSeen x (from count x) ≡ false → from count x .end ≡ Stopped OnReceiver
-  unfolding fitFrom begins every
-  unseen-stops zero x h = absurd (let z : _≡_ {A = ℕ} 0 1 = cc in omega arith)
-  unseen-stops (suc count) x h = go (seenAt os x) refl (unseen-stops count) h
-    where
-      short : (b : Bool) (r : Round) → ((y : List Float) → allSeen y (from count y) ≡ false → from count y .end ≡ Stopped OnReceiver)
-          → allSeen (moved n x (r .step)) (cond b (ended (moved n x (r .step))) (from count (moved n x (r .step)))) ≡ false
-          → cond b (ended (moved n x (r .step))) (from count (moved n x (r .step))) .end ≡ Stopped OnReceiver
-      short true r ih h = absurd (let z : _≡_ {A = ℕ} 0 1 = cc in omega arith)
-      short false r ih h = ih (moved n x (r .step)) h
-
-      on : (o : Outcome) → seenAt os x ≡ true → ((y : List Float) → allSeen y (from count y) ≡ false → from count y .end ≡ Stopped OnReceiver)
-          → allSeen x (after n limit x (from count) o) ≡ false → after n limit x (from count) o .end ≡ Stopped OnReceiver
-      on (NoRound r) e ih h = let t : (seenAt os x && true) ≡ false = h in absurd (let z : _≡_ {A = ℕ} 0 1 = subst (λ (b : Bool). _≡_ {A = ℕ} 0 (cond b 0 1)) t (rw e) in omega arith)
-      on (Solved r) e ih h = short (shortStep limit (r .step)) r ih (rw e at h)
-
-      go : (b : Bool) → seenAt os x ≡ b → ((y : List Float) → allSeen y (from count y) ≡ false → from count y .end ≡ Stopped OnReceiver)
-          → allSeen x (after n limit x (from count) (roundAt settings k os x)) ≡ false → after n limit x (from count) (roundAt settings k os x) .end ≡ Stopped OnReceiver
-      go true e ih h = subst (λ (o : Outcome). allSeen x (after n limit x (from count) o) ≡ false → after n limit x (from count) o .end ≡ Stopped OnReceiver) (sym (round-seen settings k os x e)) (on (bare settings k os x) e ih) h
-      go false e ih h = ap (λ (o : Outcome). after n limit x (from count) o .end) (round-not settings k os x e)
-
-  pub stops-unseen : (count : ℕ) (x : List Float) → from count x .end ≡ Stopped OnReceiver → allSeen x (from count x) ≡ false
-  unfolding fitFrom begins every
-  stops-unseen zero x h = absurd (let z : _≡_ {A = ℕ} 0 1 = cc in omega arith)
-  stops-unseen (suc count) x h = go (seenAt os x) refl (stops-unseen count) h
-    where
-      short : (b : Bool) (r : Round) → ((y : List Float) → from count y .end ≡ Stopped OnReceiver → allSeen y (from count y) ≡ false)
-          → cond b (ended (moved n x (r .step))) (from count (moved n x (r .step))) .end ≡ Stopped OnReceiver
-          → allSeen (moved n x (r .step)) (cond b (ended (moved n x (r .step))) (from count (moved n x (r .step)))) ≡ false
-      short true r ih h = absurd (let z : _≡_ {A = ℕ} 0 1 = cc in omega arith)
-      short false r ih h = ih (moved n x (r .step)) h
-
-      other : (r : Refusal) → r ≡ FitFailed → Stopped r ≡ Stopped OnReceiver → ⊥
-      other r f h = let e : r ≡ OnReceiver = cc in let z : _≡_ {A = ℕ} 10 15 = ap numberOf (sym f ∙ e) in omega arith
-
-      on : (o : Outcome) → bare settings k os x ≡ o → seenAt os x ≡ true → ((y : List Float) → from count y .end ≡ Stopped OnReceiver → allSeen y (from count y) ≡ false)
-          → after n limit x (from count) o .end ≡ Stopped OnReceiver → allSeen x (after n limit x (from count) o) ≡ false
-      on (NoRound r) f e ih h = absurd (other r (bare-refused x r f) h)
-      on (Solved r) f e ih h = rw e (short (shortStep limit (r .step)) r ih h)
-
-      go : (b : Bool) → seenAt os x ≡ b → ((y : List Float) → from count y .end ≡ Stopped OnReceiver → allSeen y (from count y) ≡ false)
-          → after n limit x (from count) (roundAt settings k os x) .end ≡ Stopped OnReceiver → allSeen x (after n limit x (from count) (roundAt settings k os x)) ≡ false
-      go true e ih h = subst (λ (o : Outcome). after n limit x (from count) o .end ≡ Stopped OnReceiver → allSeen x (after n limit x (from count) o) ≡ false) (sym (round-seen settings k os x e)) (on (bare settings k os x) refl e ih) h
-      go false e ih h = ap (λ (o : Outcome). allSeen x (after n limit x (from count) o)) (round-not settings k os x e) ∙ ap (λ (b : Bool). b && true) e
-
-  -- and no round is refused by another number than 10 and 15
-  stopped-by : (count : ℕ) (x : List Float) (r : Refusal) → from count x .end ≡ Stopped r → (r ≡ OnReceiver) ⊎ (r ≡ FitFailed)
-  unfolding fitFrom
-  stopped-by zero x r h = absurd (let z : _≡_ {A = ℕ} 0 1 = cc in omega arith)
-  stopped-by (suc count) x r h = go (seenAt os x) refl (λ y. stopped-by count y r) h
-    where
-      short : (b : Bool) (q : Round) → ((y : List Float) → from count y .end ≡ Stopped r → (r ≡ OnReceiver) ⊎ (r ≡ FitFailed))
-          → cond b (ended (moved n x (q .step))) (from count (moved n x (q .step))) .end ≡ Stopped r → (r ≡ OnReceiver) ⊎ (r ≡ FitFailed)
-      short true q ih h = absurd (let z : _≡_ {A = ℕ} 0 1 = cc in omega arith)
-      short false q ih h = ih (moved n x (q .step)) h
-
-      on : (o : Outcome) → bare settings k os x ≡ o → ((y : List Float) → from count y .end ≡ Stopped r → (r ≡ OnReceiver) ⊎ (r ≡ FitFailed))
-          → after n limit x (from count) o .end ≡ Stopped r → (r ≡ OnReceiver) ⊎ (r ≡ FitFailed)
-      on (NoRound q) f ih h = let e : q ≡ r = cc in inr (sym e ∙ bare-refused x q f)
-      on (Solved q) f ih h = short (shortStep limit (q .step)) q ih h
-
-      not-seen : after n limit x (from count) (NoRound OnReceiver) .end ≡ Stopped r → (r ≡ OnReceiver) ⊎ (r ≡ FitFailed)
-      not-seen h = let e : OnReceiver ≡ r = cc in inl (sym e)
-
-      go : (b : Bool) → seenAt os x ≡ b → ((y : List Float) → from count y .end ≡ Stopped r → (r ≡ OnReceiver) ⊎ (r ≡ FitFailed))
-          → after n limit x (from count) (roundAt settings k os x) .end ≡ Stopped r → (r ≡ OnReceiver) ⊎ (r ≡ FitFailed)
-      go true e ih h = on (bare settings k os x) refl ih (sym (ap (λ (o : Outcome). after n limit x (from count) o .end) (round-seen settings k os x e)) ∙ h)
-      go false e ih h = not-seen (sym (ap (λ (o : Outcome). after n limit x (from count) o .end) (round-not settings k os x e)) ∙ h)
-
-  -- ---- at the state that they reach: 10, 15 and 14 in turn
   end-is : (rows : List Row) (chi : Float) (x : List Float) (a : Fix) → ruled Refused (endRules n rows (sightRules os x) chi x) a
       ≡ cond (not (finiteAt x)) (Refused FitFailed) (cond (not (factor.accepted (factorOf (unweightedMatrix n rows)))) (Refused FitFailed)
       (cond (seenAt os x) (cond (not (finite chi && finite (dilutionOf n rows))) (Refused QualityNotFinite) a) (Refused OnReceiver)))
@@ -219,13 +126,13 @@ pub record Ends (i : Input) (x : List Float) : Type 0 where
 pub record Fourteen (i : Input) : Type 0 where
   pub x : List Float
   pub ends : Ends i x
-  pub seen : seenAt (kept i) x ≡ true
-  pub not-finite : (finite (chiAt (i .settings) (clocks i) (kept i) x) && finite (dilutionOf (unknowns i) (lastOf i))) ≡ false
+  pub seen : seenAt (keptObservations i) x ≡ true
+  pub not-finite : (finite (chiAt (i .settings) (clocks i) (keptObservations i) x) && finite (dilutionOf (unknowns i) (lastOf i))) ≡ false
 
 -- 15: 2 to 9 pass, and a round begins at a state with a row whose range is zero or not finite, or the rounds end in one that 10 lets pass
 pub data Fifteen (i : Input) : Type 0 where
-  InRound : Passed ≡ checked (rulesOf i) → every (seenAt (kept i)) (begins (unknowns i) (start (i .guess)) (roundsOf i) (fitOf i .end)) ≡ false → Fifteen i
-  AtEnd : (x : List Float) → Ends i x → seenAt (kept i) x ≡ false → Fifteen i
+  InRound : Passed ≡ checked (rulesOf i) → every (seenAt (keptObservations i)) (begins (unknowns i) (start (i .guess)) (roundsOf i) (fitOf i .end)) ≡ false → Fifteen i
+  AtEnd : (x : List Float) → Ends i x → seenAt (keptObservations i) x ≡ false → Fifteen i
 
 -- an accepted fix beside the first one
 pub record AsFirst (i : Input) (s : Solution) : Type 0 where
@@ -238,18 +145,18 @@ pub record AsFirst (i : Input) (s : Solution) : Type 0 where
   pub x : List Float
   pub reached : fitOf i .end ≡ Reached x
   pub at-position : s .position ≡ vector x
-  pub chi-is : s .chi ≡ chiAt (i .settings) (clocks i) (kept i) x
+  pub chi-is : s .chi ≡ chiAt (i .settings) (clocks i) (keptObservations i) x
 
 -- ---- 15, both ways
 
 abbrev found : Input → Fix
-found i = foundOver (i .settings) (clocks i) (kept i) (i .guess)
+found i = foundOver (i .settings) (clocks i) (keptObservations i) (i .guess)
 
 abbrev chi : Input → List Float → Float
-chi i x = chiAt (i .settings) (clocks i) (kept i) x
+chi i x = chiAt (i .settings) (clocks i) (keptObservations i) x
 
 abbrev rulesAt : Input → List Float → List Rule
-rulesAt i x = endRules (unknowns i) (lastOf i) (sightRules (kept i) x) (chi i x) x
+rulesAt i x = endRules (unknowns i) (lastOf i) (sightRules (keptObservations i) x) (chi i x) x
 
 abbrev answerAt : Input → List Float → Fix
 answerAt i x = At (solutionAt (unknowns i) (lastOf i) (chi i x) x)
@@ -289,21 +196,21 @@ told-fourteen true true true false s h = (refl, refl, refl, refl)
 
 -- the answer at the state x
 told-at : (i : Input) (x : List Float) → ruled Refused (rulesAt i x) (answerAt i x)
-    ≡ told (finiteAt x) (factor.accepted (factorOf (unweightedMatrix (unknowns i) (lastOf i)))) (seenAt (kept i) x) (finite (chi i x) && finite (dilutionOf (unknowns i) (lastOf i))) (answerAt i x)
-told-at i x = end-is (i .settings) (clocks i) (kept i) (lastOf i) (chi i x) x (answerAt i x)
+    ≡ told (finiteAt x) (factor.accepted (factorOf (unweightedMatrix (unknowns i) (lastOf i)))) (seenAt (keptObservations i) x) (finite (chi i x) && finite (dilutionOf (unknowns i) (lastOf i))) (answerAt i x)
+told-at i x = end-is (i .settings) (clocks i) (keptObservations i) (lastOf i) (chi i x) x (answerAt i x)
 
 -- the rounds of the call
-begun-unseen : (i : Input) → fitOf i .end ≡ Stopped OnReceiver → every (seenAt (kept i)) (begins (unknowns i) (start (i .guess)) (roundsOf i) (fitOf i .end)) ≡ false
+begun-unseen : (i : Input) → fitOf i .end ≡ Stopped OnReceiver → every (seenAt (keptObservations i)) (begins (unknowns i) (start (i .guess)) (roundsOf i) (fitOf i .end)) ≡ false
 unfolding roundsOf fitOf fitOver
-begun-unseen i h = stops-unseen (i .settings) (clocks i) (kept i) (i .settings .rounds) (start (i .guess)) h
+begun-unseen i h = stops-unseen (i .settings) (clocks i) (keptObservations i) (i .settings .rounds) (start (i .guess)) h
 
-unseen-begun : (i : Input) → every (seenAt (kept i)) (begins (unknowns i) (start (i .guess)) (roundsOf i) (fitOf i .end)) ≡ false → fitOf i .end ≡ Stopped OnReceiver
+unseen-begun : (i : Input) → every (seenAt (keptObservations i)) (begins (unknowns i) (start (i .guess)) (roundsOf i) (fitOf i .end)) ≡ false → fitOf i .end ≡ Stopped OnReceiver
 unfolding roundsOf fitOf fitOver
-unseen-begun i h = unseen-stops (i .settings) (clocks i) (kept i) (i .settings .rounds) (start (i .guess)) h
+unseen-begun i h = unseen-stops (i .settings) (clocks i) (keptObservations i) (i .settings .rounds) (start (i .guess)) h
 
 stopped-is : (i : Input) (r : Refusal) → fitOf i .end ≡ Stopped r → (r ≡ OnReceiver) ⊎ (r ≡ FitFailed)
 unfolding fitOf fitOver
-stopped-is i r h = stopped-by (i .settings) (clocks i) (kept i) (i .settings .rounds) (start (i .guess)) r h
+stopped-is i r h = stopped-by (i .settings) (clocks i) (keptObservations i) (i .settings .rounds) (start (i .guess)) r h
 
 -- A fix is 15 only where 2 to 9 pass, and a round begins with such a row or the rounds end with one in a state that 10 lets pass ..
 pub fifteen-only : (i : Input) → fixOf i ≡ Refused OnReceiver → Fifteen i
@@ -313,7 +220,7 @@ fifteen-only i e = let b = behind (rulesOf i) (found i) OnReceiver (others-fifte
     on : (v : End) → fitOf i .end ≡ v → Passed ≡ checked (rulesOf i) → concluded Refused (rulesAt i) (answerAt i) v ≡ Refused OnReceiver → Fifteen i
     on (Stopped r) q p h = let e : r ≡ OnReceiver = cc in InRound p (begun-unseen i (q ∙ ap Stopped e))
     on (Reached x) q p h =
-        let t = told-fifteen (finiteAt x) (factor.accepted (factorOf (unweightedMatrix (unknowns i) (lastOf i)))) (seenAt (kept i) x) (finite (chi i x) && finite (dilutionOf (unknowns i) (lastOf i))) (solutionAt (unknowns i) (lastOf i) (chi i x) x) (sym (told-at i x) ∙ h) in
+        let t = told-fifteen (finiteAt x) (factor.accepted (factorOf (unweightedMatrix (unknowns i) (lastOf i)))) (seenAt (keptObservations i) x) (finite (chi i x) && finite (dilutionOf (unknowns i) (lastOf i))) (solutionAt (unknowns i) (lastOf i) (chi i x) x) (sym (told-at i x) ∙ h) in
         AtEnd x (record { passes = p; reached = q; placed = t .0; factored = t .1 }) (t .2)
 
 -- .. and there it is.
@@ -336,7 +243,7 @@ fourteen-only i e = let b = behind (rulesOf i) (found i) QualityNotFinite (other
     on : (v : End) → fitOf i .end ≡ v → Passed ≡ checked (rulesOf i) → concluded Refused (rulesAt i) (answerAt i) v ≡ Refused QualityNotFinite → Fourteen i
     on (Stopped r) q p h = absurd (never r (stopped-is i r q) h)
     on (Reached x) q p h =
-        let t = told-fourteen (finiteAt x) (factor.accepted (factorOf (unweightedMatrix (unknowns i) (lastOf i)))) (seenAt (kept i) x) (finite (chi i x) && finite (dilutionOf (unknowns i) (lastOf i))) (solutionAt (unknowns i) (lastOf i) (chi i x) x) (sym (told-at i x) ∙ h) in
+        let t = told-fourteen (finiteAt x) (factor.accepted (factorOf (unweightedMatrix (unknowns i) (lastOf i)))) (seenAt (keptObservations i) x) (finite (chi i x) && finite (dilutionOf (unknowns i) (lastOf i))) (solutionAt (unknowns i) (lastOf i) (chi i x) x) (sym (told-at i x) ∙ h) in
         record { x = x; ends = record { passes = p; reached = q; placed = t .0; factored = t .1 }; seen = t .2; not-finite = t .3 }
 
 pub fourteen-always : (i : Input) → Fourteen i → fixOf i ≡ Refused QualityNotFinite
@@ -380,20 +287,20 @@ module _ (settings : Settings) (k : Clocks) (x : List Float) where
   chi-ranges os h = ranges-finite os +0 (div-finite _ _ (root-from _ h)) .1
 
 abbrev lastBefore : Input → List Row
-lastBefore i = lastRows [] (fitBefore (i .settings) (clocks i) (kept i) (i .guess) .rounds)
+lastBefore i = lastRows [] (fitBefore (i .settings) (clocks i) (keptObservations i) (i .guess) .rounds)
 
-pub range-fourteen : (i : Input) (x : List Float) → Passed ≡ checked (rulesOf i) → fitBefore (i .settings) (clocks i) (kept i) (i .guess) .end ≡ Reached x → finiteAt x ≡ true
-    → factor.accepted (factorOf (unweightedMatrix (unknowns i) (lastBefore i))) ≡ true → every (λ (o : Observation). finite (sightAt x o .range)) (kept i) ≡ false → fixBefore i ≡ Refused QualityNotFinite
+pub range-fourteen : (i : Input) (x : List Float) → Passed ≡ checked (rulesOf i) → fitBefore (i .settings) (clocks i) (keptObservations i) (i .guess) .end ≡ Reached x → finiteAt x ≡ true
+    → factor.accepted (factorOf (unweightedMatrix (unknowns i) (lastBefore i))) ≡ true → every (λ (o : Observation). finite (sightAt x o .range)) (keptObservations i) ≡ false → fixBefore i ≡ Refused QualityNotFinite
 unfolding ruled
 range-fourteen i x p e a b h =
-    passed-by Refused (foundBefore (i .settings) (clocks i) (kept i) (i .guess)) (rulesOf i) p
-    ∙ ap (concluded Refused (rulesBefore (i .settings) (clocks i) (kept i) (lastBefore i)) (answerBefore (i .settings) (clocks i) (kept i) (lastBefore i))) e
+    passed-by Refused (foundBefore (i .settings) (clocks i) (keptObservations i) (i .guess)) (rulesOf i) p
+    ∙ ap (concluded Refused (rulesBefore (i .settings) (clocks i) (keptObservations i) (lastBefore i)) (solutionBefore (i .settings) (clocks i) (keptObservations i) (lastBefore i))) e
     ∙ rw (a, b, infinite)
   where
     infinite : finite (chi i x) ≡ false
-    infinite = go (finite (chi i x)) (chi-ranges (i .settings) (clocks i) x (kept i))
+    infinite = go (finite (chi i x)) (chi-ranges (i .settings) (clocks i) x (keptObservations i))
       where
-        go : (c : Bool) → (T c → every (λ (o : Observation). finite (sightAt x o .range)) (kept i) ≡ true) → c ≡ false
+        go : (c : Bool) → (T c → every (λ (o : Observation). finite (sightAt x o .range)) (keptObservations i) ≡ true) → c ≡ false
         go true f = sym (f tt) ∙ h
         go false f = refl
 

@@ -2,29 +2,33 @@
 use mathlib.Core.Path.{_≡_, refl, sym, ap, _∙_, subst, subst₂}
 use Prim.Native.Nat.{ℕ, _+_, _≤_}
 use native.Mathlib.Omega.{arith}
-use mathlib.Core.List.{List, [], map}
+use mathlib.Core.List.{List, [], _∷_, map}
 use lib.ListN.{length, take}
+use lib.Seq.{length-take-le}
 use lib.Ieee.{Float, nan}
-use Rattle.robust.specs.Round.{Round, Outcome, Solved, roundOf}
-use Rattle.robust.specs.Solving.{Solving}
-use Rattle.normal.specs.Columns.{columns, rowsIn}
-use Rattle.normal.specs.declared.row.Row.{Row}
+use Rattle.robust.specs.Round.{Round, RoundOutcome, Solved, roundOf}
+use Rattle.robust.specs.Steps.{Solving}
+use Rattle.lists.proofs.Walk.{places-length}
+use Rattle.normal_equations.specs.Steps.{columns, rowIn, rowsIn}
+use Rattle.normal_equations.specs.declared.row.Row.{Row}
 use Rattle.robust.specs.declared.round.Stepping.{Stepping}
 use Rattle.numeric.specs.declared.refusal.Refusal.{Refusal}
 use Rattle.numeric.specs.declared.vec3.Vec3.{Vec3}
 use Rattle.robust.proofs.RoundSound.{round-rows}
-use Rattle.normal.proofs.ColumnLaws.{rows-are}
+use Rattle.normal_equations.proofs.ColumnLaws.{rows-are}
 use Rattle.clocks.specs.declared.clocks.Clocks.{Clocks}
 use Rattle.records.specs.declared.record.Observation.{Observation}
 use Rattle.wls.specs.declared.fix.Settings.{Settings}
-use Rattle.estimator.specs.Rounds.{Stopped, Fit, lastRows, concluded}
-use Rattle.wls.specs.Fix.{sigmaOf, sightRules, rowAt, roundAt, limit, start, fitAt, fitOver, endRules, solutionAt, chiAt, concludedAt, foundOver, RowsAt, EndedAt, Fitted}
+use Rattle.estimate_rounds.specs.Rounds.{End, Stopped, Fit, lastRows, concluded}
+use Rattle.estimate_rounds.specs.Steps.{checkNumber, checkOf}
+use Rattle.wls.specs.Fix.{sigmaOf, sightRules, rowAt, roundAt, fixStop, start, fitAt, fitOver, endRules, solutionAt, chiAt, foundOver}
+use Rattle.wls.specs.Steps.{concludedAt, RowsAt, EndedAt, endCounts, Fitted}
 use Rattle.wls.specs.declared.fix.Ending.the-variants.{Refused as NotEnded, Rows as EndedBy}
 use Rattle.wls.specs.declared.fix.Fix.{Fix}
 use Rattle.wls.specs.declared.fix.Fix.the-variants.{Refused, At}
-use Rattle.estimator.specs.declared.rules.Check.the-variants.{Passed}
-use Rattle.estimator.proofs.RulesLaws.{checked}
-use Rattle.estimator.proofs.RoundsLaws.{Left, LeftRows, left-start, rows-start}
+use Rattle.estimate_rounds.specs.declared.rules.Check.the-variants.{Passed}
+use Rattle.estimate_rounds.proofs.RulesLaws.{checked}
+use Rattle.estimate_rounds.proofs.RoundsLaws.{Left, LeftRows, left-start, rows-start}
 use Rattle.wls.proofs.SightLaws.{round-passed, round-solved}
 
 -- what the logic has for an observation past the end
@@ -37,21 +41,21 @@ module _ (settings : Settings) (k : Clocks) (os : List Observation) (x₀ : List
   fit = fitAt settings k os x₀
 
   abbrev pub Going : ℕ → List Float → Type 0
-  Going i x = Left (roundAt settings k os) (3 + k .count) limit (settings .rounds) fit i x
+  Going i x = Left (roundAt settings k os) (3 + k .count) fixStop (settings .rounds) fit i x
 
   abbrev pub GoingRows : ℕ → List Float → List Row → Type 0
-  GoingRows i x rows = LeftRows (roundAt settings k os) (3 + k .count) limit (settings .rounds) fit i x rows
+  GoingRows i x rows = LeftRows (roundAt settings k os) (3 + k .count) fixStop (settings .rounds) fit i x rows
 
   pub going : Going 0 x₀
-  going = left-start (roundAt settings k os) (3 + k .count) limit (settings .rounds) fit x₀ refl
+  going = left-start (roundAt settings k os) (3 + k .count) fixStop (settings .rounds) fit x₀ refl
 
   pub going-rows : GoingRows 0 x₀ []
-  going-rows = rows-start (roundAt settings k os) (3 + k .count) limit (settings .rounds) fit x₀ refl
+  going-rows = rows-start (roundAt settings k os) (3 + k .count) fixStop (settings .rounds) fit x₀ refl
 
 module _ (settings : Settings) (k : Clocks) (os : List Observation) (x : List Float) (rows : List Row) (rows-are : rows ≡ map (rowAt settings k x) os) where
   pub solving : Passed ≡ checked (sightRules os x) → (n : ℕ) (answer : Stepping) (a b : List Float) → n ≡ 3 + k .count → Solving (roundOf rows n (settings .huber)) answer a b → Solving (roundAt settings k os x) answer a b
   solving seen n answer a b h s =
-      subst (λ (o : Outcome). Solving o answer a b) (sym (round-passed settings k os x seen))
+      subst (λ (o : RoundOutcome). Solving o answer a b) (sym (round-passed settings k os x seen))
       (subst₂ (λ (r : List Row) (m : ℕ). Solving (roundOf r m (settings .huber)) answer a b) rows-are h s)
 
   -- the round's rows are those that the code made
@@ -70,13 +74,18 @@ module _ (f : Fit) (s x y z : List Float) (clock : List ℕ) (sigma : List Float
   pub fitted-refused : {r : Refusal} → Stopped r ≡ f .end → Fitted f (NotEnded r) s x y z clock sigma residual
   fitted-refused {r} h =
       record {
+        number-is = ap (λ (e : End). checkNumber (checkOf e)) h;
+        counts-are = ap (endCounts (lastRows [] (f .rounds))) h;
         refused = λ q e. let same : q ≡ r = cc in ap Stopped same ∙ h;
         ended = λ n e. absurd (let z : _≡_ {A = ℕ} 0 1 = cc in omega arith);
       }
 
   pub fitted-ended : {n : ℕ} → EndedAt f n s x y z clock sigma residual → Fitted f (EndedBy n) s x y z clock sigma residual
   fitted-ended {n} h =
+      let many = sym (length-take-le n residual (h .room)) ∙ sym (places-length (rowIn (columns x y z clock sigma (take n residual))) _) ∙ ap length (h .rows-are) in
       record {
+        number-is = ap (λ (e : End). checkNumber (checkOf e)) (h .state-is);
+        counts-are = ap (λ (m : ℕ). m ∷ []) many ∙ ap (endCounts (lastRows [] (f .rounds))) (h .state-is);
         refused = λ q e. absurd (let z : _≡_ {A = ℕ} 0 1 = cc in omega arith);
         ended = λ m e. let same : n ≡ m = cc in subst (λ (i : ℕ). EndedAt f i s x y z clock sigma residual) same h;
       }

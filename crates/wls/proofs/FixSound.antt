@@ -11,10 +11,10 @@ use lib.Ieee.Scale.{finite}
 use lib.Ieee.Bits.{is-true}
 use lib.Ieee.Fits.{and-l, and-r}
 use borrow.Author.Tests.{not-false}
-use Rattle.estimator.specs.Rules.{Rule}
-use Rattle.walk.specs.Walk.{every}
+use Rattle.estimate_rounds.specs.Rules.{Rule}
+use Rattle.lists.specs.Walk.{every}
 use Rattle.cholesky.specs.Factor.{at}
-use Rattle.normal.specs.declared.row.Row.{Row}
+use Rattle.normal_equations.specs.declared.row.Row.{Row}
 use Rattle.numeric.specs.declared.refusal.Refusal.{Refusal}
 use Rattle.robust.specs.Round.{Round, Solved, SoundRound, FiniteResiduals}
 use Rattle.robust.proofs.RoundSound.{round-sound, round-rows}
@@ -23,16 +23,17 @@ use Rattle.wls.specs.Front.{fixRules}
 use Rattle.clocks.specs.declared.clocks.Clocks.{Clocks}
 use Rattle.records.specs.declared.record.Observation.{Observation}
 use Rattle.wls.specs.declared.fix.Settings.{Settings}
-use Rattle.estimator.specs.Rounds.{lastRows, Each}
+use Rattle.estimate_rounds.specs.Rounds.{lastRows}
+use Rattle.median.specs.Sorted.{Each}
 use Rattle.quality.specs.Quality.{dilutionOf}
-use Rattle.wls.specs.Fix.{Input, rowAt, roundAt, limit, start, fitOver, kept, clocks, fitOf, roundsOf, sightRules, chiAt, qualityRules, endRules, solutionAt, foundOver, fixOf, positionOf, fixFloats, positionFloats, Accepted, Promised, PositionPromised}
+use Rattle.wls.specs.Fix.{Input, rowAt, roundAt, fixStop, start, fitOver, keptObservations, clocks, fitOf, roundsOf, sightRules, chiAt, qualityRules, endRules, solutionAt, foundOver, fixOf, positionOf, fixFloats, positionFloats, Accepted, Promised, PositionPromised, fixNumber, fixCounts, positionNumber}
 use Rattle.wls.specs.declared.fix.Solution.{Solution}
 use Rattle.wls.specs.declared.fix.Fix.{Fix}
 use Rattle.wls.specs.declared.fix.Fix.the-variants.{Refused, At}
 use Rattle.wls.specs.declared.fix.Position.{Position}
-use Rattle.estimator.proofs.RulesLaws.{passed-of, passed-by, head-passed, append-passed}
+use Rattle.estimate_rounds.proofs.RulesLaws.{passed-of, passed-by, head-passed, append-passed}
 use Rattle.wls.proofs.SightLaws.{round-solved}
-use Rattle.estimator.proofs.RoundsSound.{rounds-each, rows-long, Finished, finished, Placed, placed, three-finite}
+use Rattle.estimate_rounds.proofs.RoundsSound.{rounds-each, rows-long, Finished, finished, Placed, placed, three-finite}
 use Rattle.wls.proofs.FrontLaws.{fix-enough, fix-rounds}
 
 never : (s : Solution) (r : Refusal) → Refused r ≡ At s → ⊥
@@ -52,14 +53,14 @@ abbrev rows : Input → List Row
 rows i = lastRows [] (roundsOf i)
 
 abbrev fitted : Input → Fix
-fitted i = foundOver (i .settings) (clocks i) (kept i) (i .guess)
+fitted i = foundOver (i .settings) (clocks i) (keptObservations i) (i .guess)
 
 -- the rules at the state that its rounds reach, and the answer there
 abbrev rulesAt : Input → List Float → List Rule
-rulesAt i x = endRules (unknowns i) (rows i) (sightRules (kept i) x) (chiAt (i .settings) (clocks i) (kept i) x) x
+rulesAt i x = endRules (unknowns i) (rows i) (sightRules (keptObservations i) x) (chiAt (i .settings) (clocks i) (keptObservations i) x) x
 
 abbrev answerAt : Input → List Float → Fix
-answerAt i x = At (solutionAt (unknowns i) (rows i) (chiAt (i .settings) (clocks i) (kept i) x) x)
+answerAt i x = At (solutionAt (unknowns i) (rows i) (chiAt (i .settings) (clocks i) (keptObservations i) x) x)
 
 pub ended : (i : Input) (s : Solution) → fixOf i ≡ At s → Finished (rulesAt i) (answerAt i) (At s) (fitOf i .end)
 unfolding fixOf foundOver roundsOf fitOf
@@ -74,16 +75,16 @@ place i s e = placed (ended i s e .x) (head-passed _ _ (ended i s e .passed) .0)
 
 -- its figures are finite
 record Figured (i : Input) (x : List Float) : Type 0 where
-  chi : T (finite (chiAt (i .settings) (clocks i) (kept i) x))
+  chi : T (finite (chiAt (i .settings) (clocks i) (keptObservations i) x))
   pdop : T (finite (dilutionOf (unknowns i) (rows i)))
 
 figured : (i : Input) (s : Solution) (e : fixOf i ≡ At s) → Figured i (ended i s e .x)
 unfolding endRules qualityRules
 figured i s e =
     let x = ended i s e .x in
-    let c = finite (chiAt (i .settings) (clocks i) (kept i) x) in
+    let c = finite (chiAt (i .settings) (clocks i) (keptObservations i) x) in
     let d = finite (dilutionOf (unknowns i) (rows i)) in
-    let last = head-passed _ _ (append-passed (sightRules (kept i) x) _ (head-passed _ _ (head-passed _ _ (ended i s e .passed) .1) .1)) .0 in
+    let last = head-passed _ _ (append-passed (sightRules (keptObservations i) x) _ (head-passed _ _ (head-passed _ _ (ended i s e .passed) .1) .1)) .0 in
     let both : T (c && d) = subst T (sym (not-false (c && d) last)) tt in
     record { chi = and-l c d both; pdop = and-r c d both }
 
@@ -92,15 +93,15 @@ fix-each : (P : Round → Type 0) → ((settings : Settings) (k : Clocks) (os : 
     → (i : Input) (s : Solution) → fixOf i ≡ At s → Each P (roundsOf i)
 unfolding roundsOf fitOf fitOver
 fix-each P one i s e =
-    rounds-each P (roundAt (i .settings) (clocks i) (kept i)) (unknowns i) limit (omega arith) (one (i .settings) (clocks i) (kept i)) (i .settings .rounds) (start (i .guess)) (ended i s e .x) (ended i s e .end-is) (place i s e .first)
+    rounds-each P (roundAt (i .settings) (clocks i) (keptObservations i)) (unknowns i) fixStop (omega arith) (one (i .settings) (clocks i) (keptObservations i)) (i .settings .rounds) (start (i .guess)) (ended i s e .x) (ended i s e .end-is) (place i s e .first)
 
 one-long : (settings : Settings) (k : Clocks) (os : List Observation) (x : List Float) (r : Round) → roundAt settings k os x ≡ Solved r → length (r .rows) ≡ length os
 one-long settings k os x r e = ap length (round-rows (map (rowAt settings k x) os) (3 + k .count) (settings .huber) r (round-solved settings k os x r e)) ∙ length-map os (rowAt settings k x)
 
-used-rows : (i : Input) (s : Solution) → fixOf i ≡ At s → length (rows i) ≡ length (kept i)
+used-rows : (i : Input) (s : Solution) → fixOf i ≡ At s → length (rows i) ≡ length (keptObservations i)
 unfolding roundsOf fitOf fitOver fixOf
 used-rows i s e =
-    rows-long (roundAt (i .settings) (clocks i) (kept i)) (unknowns i) limit (length (kept i)) (one-long (i .settings) (clocks i) (kept i)) (i .settings .rounds)
+    rows-long (roundAt (i .settings) (clocks i) (keptObservations i)) (unknowns i) fixStop (length (keptObservations i)) (one-long (i .settings) (clocks i) (keptObservations i)) (i .settings .rounds)
     (fix-rounds Refused (fitted i) (i .observations) (i .guess) (i .settings) e (never s))
     (start (i .guess)) (ended i s e .x) (ended i s e .end-is)
 
@@ -112,7 +113,7 @@ fix-accepted i s e =
     let g = figured i s e in
     let is = solved (ended i s e .answer-is) in
     let many = fix-enough Refused (fitted i) (i .observations) (i .guess) (i .settings) e (never s) in
-    let used : s .used ≡ length (kept i) = ap (λ (z : Solution). z .used) (sym is) ∙ used-rows i s e in
+    let used : s .used ≡ length (keptObservations i) = ap (λ (z : Solution). z .used) (sym is) ∙ used-rows i s e in
     record {
       x-finite = subst (λ (z : Solution). T (finite (z .position .x))) is (p .first);
       y-finite = subst (λ (z : Solution). T (finite (z .position .y))) is (p .second);
@@ -145,12 +146,21 @@ position-finite i (At s) h = let a = h s refl in three-finite (s .position .x) (
 pub promised : (i : Input) (r : Fix) → r ≡ fixOf i → Promised i r
 promised i r e =
     let accepted : (s : Solution) → r ≡ At s → Accepted i s = λ s q. fix-accepted i s (sym e ∙ q) in
-    record { answer = e; given-finite = given-finite i r accepted; accepted = accepted }
+    record {
+      answer = e;
+      number-is = ap fixNumber e;
+      floats-are = ap fixFloats e;
+      counts-are = ap fixCounts e;
+      given-finite = given-finite i r accepted;
+      accepted = accepted;
+    }
 
 pub position-promised : (i : Input) (f : Fix) (r : Position) → Promised i f → r ≡ positionOf f → PositionPromised i r
 position-promised i f r p e =
     record {
       answer = e ∙ ap positionOf (p .answer);
+      number-is = ap positionNumber (e ∙ ap positionOf (p .answer));
+      floats-are = ap positionFloats (e ∙ ap positionOf (p .answer));
       given-finite = subst (λ (q : Position). every finite (positionFloats q) ≡ true) (sym e) (position-finite i f (p .accepted));
       accepted = λ s q. p .accepted s (p .answer ∙ q);
     }

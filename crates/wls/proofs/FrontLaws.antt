@@ -7,15 +7,15 @@ use native.Mathlib.Omega.{arith}
 use lib.Dec.{T, ltb, eqb}
 use borrow.Author.Tests.{ltb-false, not-false}
 use lib.Ieee.Fits.{and-r}
-use Rattle.walk.specs.Walk.{Holds}
+use Rattle.lists.specs.Walk.{Holds}
 use Rattle.numeric.specs.Real.{inRange}
 use Rattle.numeric.specs.declared.vec3.Vec3.{Vec3}
 use Rattle.numeric.specs.declared.refusal.Refusal.{Refusal}
-use Rattle.estimator.specs.Rules.{ruled, rowRules}
+use Rattle.estimate_rounds.specs.Rules.{ruled, rowRules}
 use Rattle.wls.specs.Valid.{fixSettingsPass, fixInputRules}
 use Rattle.records.specs.declared.record.Observations.{Observations}
 use Rattle.wls.specs.declared.fix.Settings.{Settings as FixSettings}
-use Rattle.estimator.specs.declared.rules.Check.the-variants.{Refused, Passed}
+use Rattle.estimate_rounds.specs.declared.rules.Check.the-variants.{Refused, Passed}
 use lib.ListN.{length}
 use Rattle.records.specs.Record.{countedObservations}
 use Rattle.clocks.specs.Clocks.{clocksOf}
@@ -23,7 +23,7 @@ use Rattle.records.specs.Mask.{constellations as observedConstellations}
 use Rattle.wls.specs.Front.{fixRows, fixRules}
 use Rattle.clocks.specs.declared.clocks.Clocks.{Clocks}
 use Rattle.records.specs.declared.record.Observation.{Observation}
-use Rattle.estimator.proofs.RulesLaws.{checked, ruled-append, refused-by, passed-by, passed-of, append-passed, append-first, head-passed, Enough, rows-passed}
+use Rattle.estimate_rounds.proofs.RulesLaws.{checked, ruled-append, refused-by, passed-by, passed-of, append-passed, append-first, head-passed, Enough, rows-passed}
 
 pub observations-fit : (observations : Observations) (guess : Vec3) (settings : FixSettings) → Passed ≡ checked (fixInputRules observations guess settings)
     → observations .count ≤ 64

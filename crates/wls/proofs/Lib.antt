@@ -9,4 +9,5 @@ pub mod FixCall
 pub mod CountedLaws
 pub mod BeforeLaws
 pub mod QualityBefore
+pub mod StopLaws
 pub mod ChangeLaws

@@ -10,19 +10,19 @@ use Rattle.cholesky.specs.Answer as factor
 use Rattle.numeric.specs.declared.vec3.Vec3.{Vec3}
 use Rattle.numeric.specs.declared.refusal.Refusal.{Refusal}
 use Rattle.numeric.specs.declared.refusal.Refusal.the-variants.{FitFailed, QualityNotFinite}
-use Rattle.normal.specs.declared.row.Row.{Row}
+use Rattle.normal_equations.specs.declared.row.Row.{Row}
 use Rattle.clocks.specs.declared.clocks.Clocks.{Clocks}
 use Rattle.records.specs.declared.record.Observation.{Observation}
-use Rattle.estimator.specs.Rules.{Rule, rule, ruled}
-use Rattle.estimator.specs.Rounds.{End, Stopped, Reached, lastRows, finiteAt, concluded}
+use Rattle.estimate_rounds.specs.Rules.{Rule, rule, ruled}
+use Rattle.estimate_rounds.specs.Rounds.{End, Stopped, Reached, lastRows, finiteAt, concluded}
 use Rattle.wls.specs.Front.{fixRules}
-use Rattle.wls.specs.Fix.{Input, kept, clocks, chiAt, solutionAt}
+use Rattle.wls.specs.Fix.{Input, keptObservations, clocks, chiAt, solutionAt}
 use Rattle.quality.specs.Quality.{unweightedMatrix, dilutionOf, chiOf}
 use Rattle.wls.specs.declared.fix.Settings.{Settings}
 use Rattle.wls.specs.declared.fix.Solution.{Solution}
 use Rattle.wls.specs.declared.fix.Fix.{Fix}
 use Rattle.wls.specs.declared.fix.Fix.the-variants.{Refused, At}
-use Rattle.wls.specs.Before.{fitBefore, tenRules, answerFirst, rulesBefore, answerBefore, fixFirst, fixBefore}
+use Rattle.wls.specs.Before.{fitBefore, tenRules, answerFirst, rulesBefore, solutionBefore, fixFirst, fixBefore}
 
 -- 14, of the figures
 abbrev pub figureRules : Float → Float → List Rule
@@ -41,13 +41,13 @@ module _ (settings : Settings) (k : Clocks) (os : List Observation) (guess : Vec
   abbrev n : ℕ
   n = 3 + k .count
 
-  end-became : (rows : List Row) (e : End) → Became (concluded Refused (tenRules n rows) (answerFirst n rows) e) (concluded Refused (rulesBefore settings k os rows) (answerBefore settings k os rows) e)
+  end-became : (rows : List Row) (e : End) → Became (concluded Refused (tenRules n rows) (answerFirst n rows) e) (concluded Refused (rulesBefore settings k os rows) (solutionBefore settings k os rows) e)
   unfolding ruled
   end-became rows (Stopped r) = Same r
   end-became rows (Reached x) = go (not (finiteAt x)) (not (factor.accepted (factorOf (unweightedMatrix n rows))))
     where
       go : (a b : Bool) → Became (cond a (Refused FitFailed) (cond b (Refused FitFailed) (answerFirst n rows x)))
-          (cond a (Refused FitFailed) (cond b (Refused FitFailed) (ruled Refused (figureRules (chiAt settings k os x) (dilutionOf n rows)) (answerBefore settings k os rows x))))
+          (cond a (Refused FitFailed) (cond b (Refused FitFailed) (ruled Refused (figureRules (chiAt settings k os x) (dilutionOf n rows)) (solutionBefore settings k os rows x))))
       go true b = Same FitFailed
       go false true = Same FitFailed
       go false false = Anew (solutionAt n rows (chiOf n rows) x) (chiAt settings k os x)
@@ -64,5 +64,5 @@ behind (r ∷ rs) {a} {b} h = go (r .applies) (behind rs h)
 
 pub became : (i : Input) → Became (fixFirst i) (fixBefore i)
 became i =
-    let f = fitBefore (i .settings) (clocks i) (kept i) (i .guess) in
-    behind (fixRules (i .observations) (i .guess) (i .settings)) (end-became (i .settings) (clocks i) (kept i) (i .guess) (lastRows [] (f .rounds)) (f .end))
+    let f = fitBefore (i .settings) (clocks i) (keptObservations i) (i .guess) in
+    behind (fixRules (i .observations) (i .guess) (i .settings)) (end-became (i .settings) (clocks i) (keptObservations i) (i .guess) (lastRows [] (f .rounds)) (f .end))

@@ -7,17 +7,17 @@ use lib.ListN.{getD, length, take, length-map}
 use lib.Seq.{length-take-le}
 use lib.Ieee.{Float, nan, binary64}
 use lib.Ieee.Fits.{sub-fits}
-use Rattle.walk.specs.Walk.{places}
-use Rattle.walk.proofs.Walk.{places-map, places-take}
+use Rattle.lists.specs.Walk.{places}
+use Rattle.lists.proofs.Walk.{places-map, places-take}
 use Rattle.exact.specs.Float.{_⊕_, _⊖_, _⊘_, +0}
 use Rattle.cholesky.specs.Factor.{at}
 use Rattle.numeric.specs.Real.{square}
 use Rattle.numeric.proofs.OrderLaws.{pattern-back}
 use Rattle.root.specs.Root.{rootOf}
-use Rattle.normal.specs.Equations.{total}
-use Rattle.normal.specs.declared.row.Row.{Row}
-use Rattle.normal.proofs.Sums.{sumTo, sumTo-zero, sumTo-next, sum-places}
-use Rattle.normal.proofs.ColumnLaws.{filled-at}
+use Rattle.normal_equations.specs.Equations.{total}
+use Rattle.normal_equations.specs.declared.row.Row.{Row}
+use Rattle.normal_equations.proofs.Sums.{sumTo, sumTo-zero, sumTo-next, sum-places}
+use Rattle.normal_equations.proofs.ColumnLaws.{filled-at}
 use Rattle.clocks.specs.Clocks.{slot}
 use Rattle.clocks.specs.declared.clocks.Clocks.{Clocks}
 use Rattle.records.specs.declared.record.Observation.{Observation}
@@ -25,7 +25,13 @@ use Rattle.records.proofs.RecordLaws.{blankObservation}
 use Rattle.quality.specs.Quality.{freedomOf, chiOf}
 use Rattle.quality.proofs.QualityLaws.{scaled}
 use Rattle.wls.specs.Fix.{sigmaOf, sightAt, residualAt, rowAt, chiAt}
+use Rattle.wls.specs.Steps.{chiFound, chiNumber, chiFloats, ChiAnswered}
+use Rattle.wls.specs.declared.chi.Chi.{Chi}
 use Rattle.wls.specs.declared.fix.Settings.{Settings}
+
+-- number and value follow the answer
+pub chi-answered : {settings : Settings} {k : Clocks} {os : List Observation} {x : List Float} {r : Chi} → r ≡ chiFound settings k os x → ChiAnswered settings k os x r
+chi-answered e = record { answer = e; number-is = ap chiNumber e; floats-are = ap chiFloats e }
 
 -- ---- the reduced chi-squared, of the observations' rows
 

@@ -18,13 +18,14 @@ use Rattle.numeric.specs.declared.sight.Sighting.the-variants.{Refused as NotSe
 use Rattle.numeric.proofs.SightLaws.{seen-by}
 use Rattle.clocks.specs.Clocks.{slot}
 use Rattle.clocks.specs.declared.clocks.Clocks.{Clocks}
-use Rattle.normal.proofs.ColumnLaws.{Column, column-start, column-next}
+use Rattle.normal_equations.proofs.ColumnLaws.{Column, column-start, column-next}
 use Rattle.records.specs.declared.record.Observation.{Observation}
 use Rattle.records.proofs.RecordLaws.{blankObservation}
-use Rattle.estimator.specs.Rounds.{vector}
-use Rattle.estimator.specs.declared.rules.Check.the-variants.{Refused as Stops, Passed}
-use Rattle.estimator.proofs.RulesLaws.{checked}
-use Rattle.wls.specs.Fix.{sightAt, residualAt, sightRules, Long, Rowed}
+use Rattle.estimate_rounds.specs.Rounds.{vector}
+use Rattle.estimate_rounds.specs.declared.rules.Check.the-variants.{Refused as Stops, Passed}
+use Rattle.estimate_rounds.proofs.RulesLaws.{checked}
+use Rattle.wls.specs.Fix.{sightAt, residualAt, sightRules}
+use Rattle.wls.specs.Steps.{Long, Rowed}
 use Rattle.wls.proofs.SightLaws.{Sights, sights-start, sights-end, sights-next, sights-stop}
 
 -- the first j of n rows at the state s: 15 lets each of them pass, and they stand in the columns

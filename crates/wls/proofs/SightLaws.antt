@@ -6,25 +6,24 @@ use Prim.Native.Nat.{ℕ, _+_, _≤_, _<_}
 use native.Mathlib.Omega.{arith}
 use lib.ListN.{length, getD, take, drop}
 use lib.Ieee.{Float}
-use Rattle.walk.proofs.Walk.{left-end, left-at}
+use Rattle.lists.proofs.Walk.{left-end, left-at}
 use Rattle.numeric.specs.Sight.{onReceiver, geometry}
 use Rattle.numeric.specs.declared.refusal.Refusal.{Refusal}
 use Rattle.numeric.specs.declared.refusal.Refusal.the-variants.{OnReceiver}
 use Rattle.numeric.specs.declared.sight.Sight.{Sight}
 use Rattle.numeric.specs.declared.sight.Sighting.{Sighting}
 use Rattle.numeric.specs.declared.sight.Sighting.the-variants.{Refused as NotSeen, Seen}
-use Rattle.numeric.proofs.SightLaws.{seen-by}
-use Rattle.numeric.proofs.SightLaws.{refused-by as not-seen-by}
-use Rattle.robust.specs.Round.{Round, Outcome, Refused as NoRound, Solved}
-use Rattle.robust.specs.Solving.{Solving}
+use Rattle.numeric.proofs.SightLaws.{seen-by, refused-by as not-seen-by}
+use Rattle.robust.specs.Round.{Round, RoundOutcome, Refused as NoRound, Solved}
+use Rattle.robust.specs.Steps.{Solving}
 use Rattle.robust.specs.declared.round.Stepping.the-variants as Stepping
 use Rattle.clocks.specs.declared.clocks.Clocks.{Clocks}
 use Rattle.records.specs.declared.record.Observation.{Observation}
 use Rattle.records.proofs.RecordLaws.{blankObservation}
-use Rattle.estimator.specs.Rules.{ruled}
-use Rattle.estimator.specs.Rounds.{vector}
-use Rattle.estimator.specs.declared.rules.Check.the-variants.{Refused as Stops, Passed}
-use Rattle.estimator.proofs.RulesLaws.{checked, refused-by, passed-by, passed-of}
+use Rattle.estimate_rounds.specs.Rules.{ruled}
+use Rattle.estimate_rounds.specs.Rounds.{vector}
+use Rattle.estimate_rounds.specs.declared.rules.Check.the-variants.{Refused as Stops, Passed}
+use Rattle.estimate_rounds.proofs.RulesLaws.{checked, refused-by, passed-by, passed-of}
 use Rattle.wls.specs.Fix.{sightAt, sightRules, roundAt}
 use Rattle.wls.specs.Before.{bare}
 use Rattle.wls.specs.declared.fix.Settings.{Settings}
@@ -58,12 +57,12 @@ module _ (os : List Observation) (n : ℕ) (s : List Float) where
 
 -- ---- the round at the state x
 module _ (settings : Settings) (k : Clocks) (os : List Observation) (x : List Float) where
-  abbrev plain : Outcome
+  abbrev plain : RoundOutcome
   plain = bare settings k os x
 
   pub round-refused : {r : Refusal} → Stops r ≡ checked (sightRules os x) → Solving (roundAt settings k os x) (Stepping.Refused r) [] []
   unfolding roundAt
-  round-refused {r} e = subst (λ (o : Outcome). Solving o (Stepping.Refused r) [] []) (refused-by NoRound plain (sightRules os x) e) (record { answer-is = refl; step-is = refl })
+  round-refused {r} e = subst (λ (o : RoundOutcome). Solving o (Stepping.Refused r) [] []) (refused-by NoRound plain (sightRules os x) e) (record { answer-is = refl; step-is = refl })
 
   pub round-passed : Passed ≡ checked (sightRules os x) → roundAt settings k os x ≡ plain
   unfolding roundAt

@@ -4,33 +4,33 @@ use mathlib.Core.Bool.{Bool, not, _&&_}
 use mathlib.Core.List.{List, [], _∷_, map}
 use lib.Ieee.{Float}
 use lib.Ieee.Scale.{finite}
-use Rattle.walk.specs.Walk.{every}
+use Rattle.lists.specs.Walk.{every}
 use Rattle.cholesky.specs.Factor.{factorOf}
 use Rattle.cholesky.specs.Answer as factor
 use Rattle.numeric.specs.Sight.{onReceiver}
 use Rattle.numeric.specs.declared.vec3.Vec3.{Vec3}
 use Rattle.numeric.specs.declared.refusal.Refusal.the-variants.{FitFailed, QualityNotFinite}
-use Rattle.robust.specs.Round.{Round, Outcome, roundOf}
-use Rattle.normal.specs.declared.row.Row.{Row}
+use Rattle.robust.specs.Round.{RoundOutcome, roundOf}
+use Rattle.normal_equations.specs.declared.row.Row.{Row}
 use Rattle.clocks.specs.declared.clocks.Clocks.{Clocks}
 use Rattle.records.specs.declared.record.Observation.{Observation}
-use Rattle.estimator.specs.Rules.{Rule, rule, ruled}
-use Rattle.estimator.specs.Rounds.{End, Stopped, Reached, Fit, moved, fitFrom, lastRows, finiteAt, concluded}
+use Rattle.estimate_rounds.specs.Rules.{Rule, rule, ruled}
+use Rattle.estimate_rounds.specs.Rounds.{Fit, fitFrom, lastRows, finiteAt, concluded}
 use Rattle.wls.specs.Front.{fixRules}
-use Rattle.wls.specs.Fix.{Input, sightAt, rowAt, limit, start, kept, clocks, chiAt, solutionAt}
+use Rattle.wls.specs.Fix.{Input, sightAt, rowAt, fixStop, start, keptObservations, clocks, chiAt, solutionAt}
 use Rattle.quality.specs.Quality.{unweightedMatrix, dilutionOf, chiOf}
 use Rattle.wls.specs.declared.fix.Settings.{Settings}
 use Rattle.wls.specs.declared.fix.Fix.{Fix}
 use Rattle.wls.specs.declared.fix.Fix.the-variants.{Refused, At}
 
--- ---- as the scope first had it: no range is tested, chi is that of the last round's rows, and nothing but 10 is checked at the end
+-- ---- as first specified: no range is tested, chi is that of the last round's rows, and only 10 is checked at the end
 
 -- the round at the state x, whatever its ranges are
-abbrev pub bare : Settings → Clocks → List Observation → List Float → Outcome
+abbrev pub bare : Settings → Clocks → List Observation → List Float → RoundOutcome
 bare settings k os x = roundOf (map (rowAt settings k x) os) (3 + k .count) (settings .huber)
 
 abbrev pub fitBefore : Settings → Clocks → List Observation → Vec3 → Fit
-fitBefore settings k os guess = fitFrom (bare settings k os) (3 + k .count) limit (settings .rounds) (start guess)
+fitBefore settings k os guess = fitFrom (bare settings k os) (3 + k .count) fixStop (settings .rounds) (start guess)
 
 -- 10
 abbrev pub tenRules : ℕ → List Row → List Float → List Rule
@@ -47,9 +47,9 @@ foundFirst settings k os guess =
     concluded Refused (tenRules n rows) (answerFirst n rows) (f .end)
 
 abbrev pub fixFirst : Input → Fix
-fixFirst i = ruled Refused (fixRules (i .observations) (i .guess) (i .settings)) (foundFirst (i .settings) (clocks i) (kept i) (i .guess))
+fixFirst i = ruled Refused (fixRules (i .observations) (i .guess) (i .settings)) (foundFirst (i .settings) (clocks i) (keptObservations i) (i .guess))
 
--- ---- with chi of the point handed out and 14, and still without 15
+-- ---- with chi of the returned point and 14, but without 15
 
 abbrev pub rulesBefore : Settings → Clocks → List Observation → List Row → List Float → List Rule
 rulesBefore settings k os rows x =
@@ -58,26 +58,20 @@ rulesBefore settings k os rows x =
     ∷ rule QualityNotFinite (not (finite (chiAt settings k os x) && finite (dilutionOf (3 + k .count) rows)))
     ∷ []
 
-abbrev pub answerBefore : Settings → Clocks → List Observation → List Row → List Float → Fix
-answerBefore settings k os rows x = At (solutionAt (3 + k .count) rows (chiAt settings k os x) x)
+abbrev pub solutionBefore : Settings → Clocks → List Observation → List Row → List Float → Fix
+solutionBefore settings k os rows x = At (solutionAt (3 + k .count) rows (chiAt settings k os x) x)
 
 abbrev pub foundBefore : Settings → Clocks → List Observation → Vec3 → Fix
 foundBefore settings k os guess =
     let f = fitBefore settings k os guess in
     let rows = lastRows [] (f .rounds) in
-    concluded Refused (rulesBefore settings k os rows) (answerBefore settings k os rows) (f .end)
+    concluded Refused (rulesBefore settings k os rows) (solutionBefore settings k os rows) (f .end)
 
 abbrev pub fixBefore : Input → Fix
-fixBefore i = ruled Refused (fixRules (i .observations) (i .guess) (i .settings)) (foundBefore (i .settings) (clocks i) (kept i) (i .guess))
+fixBefore i = ruled Refused (fixRules (i .observations) (i .guess) (i .settings)) (foundBefore (i .settings) (clocks i) (keptObservations i) (i .guess))
 
 -- ---- where 15 is met
 
 -- no row's range is zero or not finite at the state x
 abbrev pub seenAt : List Observation → List Float → Bool
 seenAt os x = every (λ (o : Observation). not (onReceiver (sightAt x o .range))) os
-
--- the states that the rounds of n unknowns begin at, from x on: those of the rounds that are solved, and that of a round that is refused
-unfoldable pub begins : ℕ → List Float → List Round → End → List (List Float)
-begins n x [] (Stopped r) = x ∷ []
-begins n x [] (Reached y) = []
-begins n x (r ∷ rs) e = x ∷ begins n (moved n x (r .step)) rs e

@@ -1,12 +1,11 @@
--- What comes before the rounds: the rows, and the rules on them in the order of docs/SCOPE.md, "Why a call turns back". Definitions only.
+-- What comes before the rounds: the rows, and the rules on them in the order of docs/REFUSALS.md. Definitions only.
 use mathlib.Core.List.{List, _++_}
 use lib.ListN.{length}
 use Rattle.numeric.specs.declared.vec3.Vec3.{Vec3}
-use Rattle.estimator.specs.Rules.{Rule, rowRules}
+use Rattle.estimate_rounds.specs.Rules.{Rule, rowRules}
 use Rattle.records.specs.Record.{countedObservations}
 use Rattle.clocks.specs.Clocks.{clocksOf}
-use Rattle.records.specs.Mask.{aboveMask}
-use Rattle.records.specs.Mask.{constellations as observedConstellations}
+use Rattle.records.specs.Mask.{aboveMask, constellations as observedConstellations}
 use Rattle.wls.specs.Valid.{fixInputRules}
 use Rattle.records.specs.declared.record.Observation.{Observation}
 use Rattle.records.specs.declared.record.Observations.{Observations}
@@ -19,5 +18,5 @@ fixRows observations settings = aboveMask (settings .mask) (countedObservations 
 -- 2 to 9
 unfoldable pub fixRules : Observations → Vec3 → FixSettings → List Rule
 fixRules observations guess settings =
-    let kept = fixRows observations settings in
-    fixInputRules observations guess settings ++ rowRules (length kept) (clocksOf (observedConstellations kept) .count)
+    let above = fixRows observations settings in
+    fixInputRules observations guess settings ++ rowRules (length above) (clocksOf (observedConstellations above) .count)

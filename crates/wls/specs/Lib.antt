@@ -1,4 +1,5 @@
 pub mod Valid
 pub mod Front
 pub mod Fix
+pub mod Steps
 pub mod Before

@@ -1,12 +1,12 @@
--- The rules of a fix, in the numbers and order of docs/SCOPE.md, "Why a call turns back". Definitions only.
+-- The rules of a fix, in the numbers and order of docs/REFUSALS.md. Definitions only.
 use mathlib.Core.Bool.{Bool, not, _&&_}
 use mathlib.Core.List.{List, [], _∷_}
 use lib.Dec.{eqb, ltb}
-use Rattle.walk.specs.Walk.{every}
+use Rattle.lists.specs.Walk.{every}
 use Rattle.numeric.specs.Real.{inRange}
 use Rattle.numeric.specs.declared.vec3.Vec3.{Vec3}
 use Rattle.numeric.specs.declared.refusal.Refusal.the-variants.{TooMany, SettingOutOfRange, RecordOutOfRange}
-use Rattle.estimator.specs.Rules.{Rule, rule}
+use Rattle.estimate_rounds.specs.Rules.{Rule, rule}
 use Rattle.records.specs.Record.{countedObservations, placeable, soundObservation}
 use Rattle.records.specs.declared.record.Observations.{Observations}
 use Rattle.wls.specs.declared.fix.Settings.{Settings as FixSettings}

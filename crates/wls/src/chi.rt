@@ -1,12 +1,13 @@
-// Chi at the point handed out.
+// Chi at the returned position.
 ghost use mathlib.Core.Path.{_≡_};
 ghost use mathlib.Core.List.{map};
 ghost use Prim.Native.Nat.{_≤_};
 ghost use lib.ListN.{take};
 ghost use Rattle.wls.specs.declared.fix.Settings.{Settings};
-ghost use Rattle.wls.specs.Fix as spec;
+ghost use Rattle.wls.specs.Fix.{sigmaOf};
+ghost use Rattle.wls.specs.Steps.{ChiAnswered};
 use clocks::clocks::Clocks;
-use estimator::rounds::state_at;
+use estimate_rounds::rounds::state_at;
 use numeric::real::square;
 use numeric::refusal::Refusal;
 use numeric::sight::Sighting;
@@ -16,16 +17,17 @@ use quality::figures::freedom_of;
 use records::record::Observations;
 use root::sqrt::sqrt;
 
-// chi at a state, or why a line of sight there is refused.
+// Chi at a state, or the refusal of a line of sight there.
 pub enum Chi {
     Refused(Refusal),
     Of(f64),
 }
 
-// chi of the observations with these sigmas at the state s, where lines of sight and residuals are worked out anew: the root of the reduced chi-squared.
+// Returns chi of the observations with these sigmas at the state s, the root of the reduced chi-squared, or refuses a line of sight by 15.
 pub(crate) fn chi_at(k: Clocks, sky: Observations, sigma: &[f64; 64], s: [f64; 9]) -> Chi
     requires { ⌜ (sky .count ≤ 64) × (k .count ≤ 6) ⌝ }
-    ensures { λ r. ⌜ ((settings : Settings) → take (sky .count) (now (sigma .entry)) ≡ map (spec.sigmaOf settings) (take (sky .count) (sky .observation)) → r ≡ spec.chiFound settings k (take (sky .count) (sky .observation)) s) ⌝ }
+    ensures { λ r. ⌜ (let os = take (sky .count) (sky .observation) in
+        ((settings : Settings) → take (sky .count) (now (sigma .entry)) ≡ map (sigmaOf settings) os → ChiAnswered settings k os s r)) ⌝ }
 {
     let count = sky.count;
     let at = Vec3 {

@@ -4,18 +4,19 @@ ghost use mathlib.Core.List.{List, map};
 ghost use lib.ListN.{length, take};
 ghost use Prim.Native.Nat.{ℕ, _≤_};
 ghost use lib.Ieee.{Float};
-ghost use Rattle.normal.specs.Columns.{columns, rowsIn};
-ghost use Rattle.estimator.specs.Rules.{Rule, ruled};
+ghost use Rattle.normal_equations.specs.Steps.{columns, rowsIn};
+ghost use Rattle.estimate_rounds.specs.Rules.{Rule, ruled};
 ghost use Rattle.wls.specs.Fix as spec;
+ghost use Rattle.wls.specs.Steps.{Long, Rowed, Fitted, concludedAt, ratedFix};
 use crate::chi::Chi;
 use crate::chi::chi_at;
 use crate::valid::check_fix;
 use clocks::clocks::Clocks;
-use estimator::rounds::is_short;
-use estimator::rounds::move_by;
-use estimator::rounds::state_at;
-use estimator::rules::Check;
-use estimator::rules::check_rows;
+use estimate_rounds::rounds::is_short;
+use estimate_rounds::rounds::move_by;
+use estimate_rounds::rounds::state_at;
+use estimate_rounds::rules::Check;
+use estimate_rounds::rules::check_rows;
 use numeric::order::pattern;
 use numeric::real::is_finite;
 use numeric::refusal::Refusal;
@@ -31,7 +32,7 @@ use robust::round::Stepping;
 use robust::round::round_step;
 use robust::sigma::elevation_sigma;
 
-// Weighting and robustness.
+// The settings of a fix: weighting and robustness.
 pub struct Settings {
     pub sigma_a: f64,
     pub sigma_b: f64,
@@ -40,7 +41,7 @@ pub struct Settings {
     pub rounds: u32,
 }
 
-// The position, how many observations were used, and what the fit says of itself.
+// The position, the number of observations used, and the quality of the fit.
 pub struct Solution {
     pub position: Vec3,
     pub used: usize,
@@ -48,18 +49,19 @@ pub struct Solution {
     pub pdop: f64,
 }
 
+// A fix, or the refusal.
 pub enum Fix {
     Refused(Refusal),
     At(Solution),
 }
 
-// The position alone.
+// The position of a fix, or the refusal.
 pub enum Position {
     Refused(Refusal),
     At(Vec3),
 }
 
-// The sigma of each observation, which no round changes.
+// Returns the sigma of each observation, which no round changes.
 pub(crate) fn sigmas_of(settings: Settings, sky: Observations) -> [f64; 64]
     requires { ⌜ sky .count ≤ 64 ⌝ }
     ensures { λ r. ⌜ take (sky .count) r ≡ map (spec.sigmaOf settings) (take (sky .count) (sky .observation)) ⌝ }
@@ -74,7 +76,7 @@ pub(crate) fn sigmas_of(settings: Settings, sky: Observations) -> [f64; 64]
     sigma
 }
 
-// The rows of the observations at the state s, but for their sigmas: lines of sight, clocks and residuals. False where 15 refuses a line of sight.
+// Writes the rows of the observations at the state s, except their sigmas: lines of sight, clocks and residuals. Returns false where 15 refuses one.
 pub(crate) fn rows_at(
     k: Clocks,
     sky: Observations,
@@ -85,8 +87,9 @@ pub(crate) fn rows_at(
     clock: &mut [usize; 64],
     residual: &mut [u64; 64],
 ) -> bool
-    requires { ⌜ (sky .count ≤ 64) × spec.Long (now x) (now y) (now z) (now clock) (now residual) ⌝ }
-    ensures { λ r. ⌜ spec.Rowed k (sky .count) (sky .observation) s r (now (x .exit)) (now (y .exit)) (now (z .exit)) (now (clock .exit)) (now (residual .exit)) ⌝ }
+    requires { ⌜ (sky .count ≤ 64) × Long (now x) (now y) (now z) (now clock) (now residual) ⌝ }
+    ensures { λ r. ⌜ Rowed k (sky .count) (sky .observation) s r
+        (now (x .exit)) (now (y .exit)) (now (z .exit)) (now (clock .exit)) (now (residual .exit)) ⌝ }
 {
     let count = sky.count;
     let at = Vec3 {
@@ -111,14 +114,14 @@ pub(crate) fn rows_at(
     true
 }
 
-// How the rounds end: one is refused, or the last of them had so many rows, none where there was no round.
+// The end of the rounds: a refusal, or the number of rows of the last round, 0 where there was none.
 pub enum Ending {
     Refused(Refusal),
     Rows(usize),
 }
 
-// The rounds over the observations from the state on: the state that they reach, and the rows of the last of them, but for the sigmas.
-// What is lent is of no use where one is refused.
+// Runs the rounds over the observations, starting at the state. Writes the state that they reach and the rows of the last round, except the sigmas.
+// On refusal, the lent memory is of no use.
 fn fit_rounds(
     settings: Settings,
     k: Clocks,
@@ -131,9 +134,10 @@ fn fit_rounds(
     residual: &mut [u64; 64],
     state: &mut [f64; 9],
 ) -> Ending
-    requires { ⌜ (sky .count ≤ 64) × (k .count ≤ 6) × spec.Long (now x) (now y) (now z) (now clock) (now residual) ⌝ }
+    requires { ⌜ (sky .count ≤ 64) × (k .count ≤ 6) × Long (now x) (now y) (now z) (now clock) (now residual) ⌝ }
     requires { ⌜ take (sky .count) (now sigma) ≡ map (spec.sigmaOf settings) (take (sky .count) (sky .observation)) ⌝ }
-    ensures { λ r. ⌜ spec.Fitted (spec.fitAt settings k (take (sky .count) (sky .observation)) (now (state .entry))) r (now (state .exit)) (now (x .exit)) (now (y .exit)) (now (z .exit)) (now (clock .exit)) (now (sigma .entry)) (now (residual .exit)) ⌝ }
+    ensures { λ r. ⌜ Fitted (spec.fitAt settings k (take (sky .count) (sky .observation)) (now (state .entry))) r (now (state .exit))
+        (now (x .exit)) (now (y .exit)) (now (z .exit)) (now (clock .exit)) (now (sigma .entry)) (now (residual .exit)) ⌝ }
 {
     let n = 3 + k.count;
     let count = sky.count;
@@ -170,7 +174,7 @@ fn fit_rounds(
     Ending::Rows(used)
 }
 
-// The rounds over the observations from the guess on, and what they come to.
+// Runs the rounds over the observations, starting at the guess. Returns the fix, or the refusal.
 pub(crate) fn fit_sky(settings: Settings, k: Clocks, sky: Observations, guess: Vec3) -> Fix
     requires { ⌜ (sky .count ≤ 64) × (k .count ≤ 6) ⌝ }
     ensures { λ r. ⌜ r ≡ spec.foundOver settings k (take (sky .count) (sky .observation)) guess ⌝ }
@@ -206,7 +210,8 @@ pub(crate) fn fit_sky(settings: Settings, k: Clocks, sky: Observations, guess: V
     }
 }
 
-// The answer at the state s that the rows of n unknowns lead to, with chi there: 10 where it is not finite or the unweighted matrix is refused.
+// Returns the answer at the state s that the rounds reach, given the last rows and chi there. Refuses by 10 where s is not finite or the unweighted matrix
+// has no factor.
 fn found_at(
     x: &[f64; 64],
     y: &[f64; 64],
@@ -219,7 +224,8 @@ fn found_at(
     chi: Chi,
 ) -> Fix
     requires { ⌜ (length (now residual) ≤ 64) × (3 ≤ n) × (n ≤ 9) ⌝ }
-    ensures { λ r. ⌜ ((sights : List Rule) (c : Float) → chi ≡ ruled Chi.Refused sights (Chi.Of c) → r ≡ spec.concludedAt n (rowsIn (columns (now (x .entry)) (now (y .entry)) (now (z .entry)) (now (clock .entry)) (now (sigma .entry)) (now (residual .entry)))) sights c s) ⌝ }
+    ensures { λ r. ⌜ (let rows = columns (now (x .entry)) (now (y .entry)) (now (z .entry)) (now (clock .entry)) (now (sigma .entry)) (now (residual .entry)) in
+        ((sights : List Rule) (c : Float) → chi ≡ ruled Chi.Refused sights (Chi.Of c) → r ≡ concludedAt n (rowsIn rows) sights c s)) ⌝ }
 {
     let position = Vec3 {
         x: s[0],
@@ -235,9 +241,9 @@ fn found_at(
     Fix::Refused(Refusal::FitFailed)
 }
 
-// What a fit that 10 lets pass comes to: 15 at the returned position, 14 where chi or pdop is not finite, or the solution.
+// Returns the answer of a fit that 10 lets pass: 15 at the returned position, 14 where chi or pdop is not finite, or the solution.
 fn rated(position: Vec3, used: usize, chi: Chi, pdop: f64) -> Fix
-    ensures { λ r. ⌜ r ≡ spec.ratedBy position used pdop chi ⌝ }
+    ensures { λ r. ⌜ r ≡ ratedFix position used pdop chi ⌝ }
 {
     match chi {
         Chi::Refused(r) => Fix::Refused(r),
@@ -255,7 +261,7 @@ fn rated(position: Vec3, used: usize, chi: Chi, pdop: f64) -> Fix
     }
 }
 
-// The receiver's position from one epoch, with what the fit says of itself. The first round begins at the guess.
+// Returns the receiver's position from one epoch and the quality of the fit, or the refusal. The first round begins at the guess.
 pub fn solve_full(observations: Observations, guess: Vec3, settings: Settings) -> Fix
     ensures { λ r. ⌜ spec.Promised (spec.input observations guess settings) r ⌝ }
 {
@@ -270,7 +276,7 @@ pub fn solve_full(observations: Observations, guess: Vec3, settings: Settings) -
     fit_sky(settings, clocks, kept, guess)
 }
 
-// The receiver's position from one epoch.
+// Returns the receiver's position from one epoch, or the refusal.
 pub fn solve(observations: Observations, guess: Vec3, settings: Settings) -> Position
     ensures { λ r. ⌜ spec.PositionPromised (spec.input observations guess settings) r ⌝ }
 {

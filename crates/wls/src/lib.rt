@@ -1,4 +1,4 @@
-// The fix from one epoch of pseudoranges: the rules on what is handed over, the rounds, and what the fit says of itself.
+// The fix from one epoch of pseudoranges: the rules on its arguments, the rounds, and the quality of the fit.
 mod chi;
 pub mod fix;
 mod valid;

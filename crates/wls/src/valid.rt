@@ -1,12 +1,12 @@
-// The rules on what is handed over for a fix.
+// The rules on the arguments of a fix.
 ghost use mathlib.Core.Path.{_≡_};
 ghost use Prim.Native.Nat.{_≤_};
-ghost use Rattle.walk.specs.Walk.{every};
+ghost use Rattle.lists.specs.Walk.{every};
 ghost use Rattle.records.specs.Record.{soundObservation, countedObservations};
-ghost use Rattle.estimator.specs.Rules.{ruled};
+ghost use Rattle.estimate_rounds.specs.Rules.{ruled};
 ghost use Rattle.wls.specs.Valid as spec;
 use crate::fix::Settings;
-use estimator::rules::Check;
+use estimate_rounds::rules::Check;
 use numeric::real::in_range;
 use numeric::refusal::Refusal;
 use numeric::vec3::Vec3;
@@ -14,7 +14,7 @@ use records::record::Observations;
 use records::record::is_placeable;
 use records::record::is_sound_observation;
 
-// Whether rule 4 lets each counted observation pass.
+// Checks rule 4 for each counted observation.
 pub(crate) fn all_sound_observations(o: Observations) -> bool
     requires { ⌜ o .count ≤ 64 ⌝ }
     ensures { λ r. ⌜ r ≡ every soundObservation (countedObservations o) ⌝ }
@@ -31,7 +31,7 @@ pub(crate) fn all_sound_observations(o: Observations) -> bool
     true
 }
 
-// Rule 3 of a fix.
+// Checks rule 3 of a fix.
 pub(crate) fn fix_settings_pass(s: Settings) -> bool
     ensures { λ r. ⌜ r ≡ spec.fixSettingsPass s ⌝ }
 {
@@ -43,7 +43,7 @@ pub(crate) fn fix_settings_pass(s: Settings) -> bool
         & !(s.rounds == 0)
 }
 
-// Rules 2 to 4 of a fix.
+// Checks rules 2 to 4 of a fix.
 pub(crate) fn check_fix(observations: Observations, guess: Vec3, settings: Settings) -> Check
     ensures { λ r. ⌜ r ≡ ruled Check.Refused (spec.fixInputRules observations guess settings) Check.Passed ⌝ }
 {

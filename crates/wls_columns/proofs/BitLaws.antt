@@ -4,7 +4,7 @@ use native.Mathlib.Omega.{arith}
 use native.Mathlib.Decide.{ℕ-discrete}
 use native.Mathlib.Numerals.{add-one}
 use mathlib.Core.Path.{_≡_, refl, sym, ap, _∙_, subst}
-use mathlib.Core.Bool.{Bool, true, false}
+use mathlib.Core.Bool.{Bool, true, false, cond}
 use mathlib.Core.List.{List, [], _∷_, map}
 use lib.Dec.{T}
 use lib.ListN.{length, take, set, getD, length-set, length-map, replicate, getD-replicate, List·getD-map}
@@ -16,35 +16,12 @@ use Rattle.numeric.proofs.OrderLaws.{pattern-bits}
 use Rattle.exact.specs.Float.{_⊘_}
 use Rattle.exact.specs.Products.{lessProducts}
 use Rattle.root.specs.Root.{rootOf}
-use Rattle.cholesky.specs.Factor.{at, row, cell, zeros, isPivot, withElement, below, pivotOf, rowOf, Factored, Refused, Lower, when, next, factorTo, factorOf}
+use Rattle.cholesky.specs.Factor.{at, row, cell, zeros, isPivot, withElement, below, pivotOf, rowOf, Factored, Refused, Lower, nextRow, factorTo, factorOf}
 use Rattle.cholesky.specs.Answer.{accepted, rowsAfter}
-use Rattle.wls_columns.specs.Bits.{patternsAfter, AllFinite}
+use Rattle.wls_columns.specs.Bits.{patternsAfter}
+use Rattle.wls_columns.specs.Steps.{FiniteSquare}
 use Rattle.cholesky.proofs.FactorElements.{Rows, factorTo-rows}
 use Rattle.cholesky.proofs.FactorFinite.{factor-finite}
-
--- ---- nine floats
-
--- the first k patterns of x are in r
-pub record Patterned (x : List Float) (k : ℕ) (r : List ℕ) : Type 0 where
-  pub upto : k ≤ 9
-  pub long : length r ≡ 9
-  pub so-far : take k r ≡ take k (map patternOf x)
-
-module _ (x : List Float) (nine : length x ≡ 9) where
-  pub patterned-next : (k : ℕ) {r : List ℕ} {p : ℕ} → Patterned x k r → k < 9 → p ≡ patternOf (at x k) → Patterned x (k + 1) (set r k p)
-  patterned-next k {r} {p} h l e =
-      let m : length (map patternOf x) ≡ 9 = length-map x patternOf ∙ nine in
-      let a : k < length r = omega (arith, h .long) in
-      let b : k < length (map patternOf x) = omega arith in
-      record {
-        upto = omega arith;
-        long = length-set r k p ∙ h .long;
-        so-far = rw (add-one, take-suc-set r k p a, take-suc (map patternOf x) k (patternOf nan) b, List·getD-map patternOf x k nan, ← e, h .so-far);
-      }
-
-  pub patterned-all : {k : ℕ} {r : List ℕ} → Patterned x k r → 9 ≤ k → r ≡ map patternOf x
-  patterned-all {k} {r} h l =
-      sym (take-all k r (omega (arith, h .long))) ∙ h .so-far ∙ take-all k (map patternOf x) (omega (arith, length-map x patternOf, nine))
 
 -- ---- a float that is finite
 
@@ -64,7 +41,7 @@ row-length : (n : ℕ) (m : List (List Float)) (a : List Float) → length (rowO
 unfolding rowOf
 row-length n m a = length-set (below n m a) n (rootOf (pivotOf n m a)) ∙ below-length n m a
 
--- ---- nine rows
+-- ---- nine floats and nine rows
 
 -- the list of what f gives of the first n places
 listed : {A : Type 0} → ℕ → (ℕ → A) → List A
@@ -76,16 +53,28 @@ unfolding listed
 listed-is [] d = refl
 listed-is (x ∷ xs) d = ap (λ r. x ∷ r) (listed-is xs d)
 
-nine-rows : (m : List (List Float)) → length m ≡ 9
-    → map patternOf (row m 0) ∷ map patternOf (row m 1) ∷ map patternOf (row m 2) ∷ map patternOf (row m 3) ∷ map patternOf (row m 4) ∷ map patternOf (row m 5) ∷ map patternOf (row m 6) ∷ map patternOf (row m 7) ∷ map patternOf (row m 8) ∷ [] ≡ map (map patternOf) m
-unfolding listed
-nine-rows m n = sym (ap (map (map patternOf)) (listed-is m [] ∙ ap (λ k. listed k (λ i. row m i)) n))
+-- what f gives of nine elements
+module _ {A B : Type 0} (f : A → B) (d : A) (xs : List A) (nine : length xs ≡ 9) where
+  pub nine-mapped : {r0 r1 r2 r3 r4 r5 r6 r7 r8 : B}
+      → r0 ≡ f (getD xs 0 d)
+      → r1 ≡ f (getD xs 1 d)
+      → r2 ≡ f (getD xs 2 d)
+      → r3 ≡ f (getD xs 3 d)
+      → r4 ≡ f (getD xs 4 d)
+      → r5 ≡ f (getD xs 5 d)
+      → r6 ≡ f (getD xs 6 d)
+      → r7 ≡ f (getD xs 7 d)
+      → r8 ≡ f (getD xs 8 d)
+      → r0 ∷ r1 ∷ r2 ∷ r3 ∷ r4 ∷ r5 ∷ r6 ∷ r7 ∷ r8 ∷ [] ≡ map f xs
+  unfolding listed
+  nine-mapped e0 e1 e2 e3 e4 e5 e6 e7 e8 =
+      rw (e0, e1, e2, e3, e4, e5, e6, e7, e8) (sym (ap (map f) (listed-is xs d ∙ ap (λ k. listed k (λ i. getD xs i d)) nine)))
 
 -- ---- an accepted factor
 
 -- each of its rows has nine places
 wide-to : (n : ℕ) (a l : List (List Float)) → n ≤ 9 → factorTo n a ≡ Lower l → (i : ℕ) → i < 9 → length (row l i) ≡ 9
-unfolding factorTo next
+unfolding factorTo nextRow
 wide-to zero a l b e i ib = let q : replicate 9 zeros ≡ l = cc in subst (λ (z : List (List Float)). length (row z i) ≡ 9) q (ap length (getD-replicate 9 i zeros [] ib))
 wide-to (suc n) a l b e i ib = go (factorTo n a) (λ m. wide-to n a m (omega arith)) (λ m. factorTo-rows n a m (omega arith)) e
   where
@@ -94,16 +83,16 @@ wide-to (suc n) a l b e i ib = go (factorTo n a) (λ m. wide-to n a m (omega ari
         ap length (ap (λ (k : ℕ). row (set m n (rowOf n m (row a n))) k) q ∙ getD-set-same m n (rowOf n m (row a n)) [] (omega arith)) ∙ row-length n m (row a n)
     at-row m nine w (no q) = ap length (getD-set-other m n i (rowOf n m (row a n)) [] q) ∙ w
 
-    next-wide : (m : List (List Float)) (p : Bool) → length m ≡ 9 → length (row m i) ≡ 9 → when p (Lower (set m n (rowOf n m (row a n)))) ≡ Lower l → length (row l i) ≡ 9
+    next-wide : (m : List (List Float)) (p : Bool) → length m ≡ 9 → length (row m i) ≡ 9 → cond p (Lower (set m n (rowOf n m (row a n)))) Refused ≡ Lower l → length (row l i) ≡ 9
     next-wide m true nine w q = let z : set m n (rowOf n m (row a n)) ≡ l = cc in subst (λ (k : List (List Float)). length (row k i) ≡ 9) z (at-row m nine w (ℕ-discrete i n))
     next-wide m false nine w q = absurd (let z : _≡_ {A = ℕ} 0 1 = cc in omega arith)
 
     go : (w : Factored) → ((m : List (List Float)) → w ≡ Lower m → (i : ℕ) → i < 9 → length (row m i) ≡ 9) → ((m : List (List Float)) → w ≡ Lower m → Rows n a m)
-        → next a n w ≡ Lower l → length (row l i) ≡ 9
+        → nextRow a n w ≡ Lower l → length (row l i) ≡ 9
     go Refused h k q = absurd (let z : _≡_ {A = ℕ} 0 1 = cc in omega arith)
     go (Lower m) h k q = next-wide m (isPivot (pivotOf n m (row a n))) (k m refl .nine) (h m refl i ib) q
 
-pub factor-all-finite : (a l : List (List Float)) → factorOf a ≡ Lower l → AllFinite l
+pub factor-all-finite : (a l : List (List Float)) → factorOf a ≡ Lower l → FiniteSquare l
 unfolding factorOf
 factor-all-finite a l e =
     record { rows = factorTo-rows 9 a l (omega arith) e .nine; wide = wide-to 9 a l (omega arith) e; finite-at = factor-finite a l e }
@@ -117,7 +106,7 @@ module _ (a m z : List (List Float)) (done : true ≡ accepted (factorOf a)) (m-
       go Refused d e = absurd (let y : _≡_ {A = ℕ} 0 1 = cc in omega arith)
       go (Lower l) d e = ap Lower (sym e)
 
-  -- from the patterns of its rows
+  -- its patterns, from those of its rows
   pub patterns-done : {r0 r1 r2 r3 r4 r5 r6 r7 r8 : List ℕ}
       → r0 ≡ map patternOf (row m 0)
       → r1 ≡ map patternOf (row m 1)
@@ -130,7 +119,7 @@ module _ (a m z : List (List Float)) (done : true ≡ accepted (factorOf a)) (m-
       → r8 ≡ map patternOf (row m 8)
       → (before : List (List ℕ)) → r0 ∷ r1 ∷ r2 ∷ r3 ∷ r4 ∷ r5 ∷ r6 ∷ r7 ∷ r8 ∷ [] ≡ patternsAfter (factorOf a) before
   patterns-done e0 e1 e2 e3 e4 e5 e6 e7 e8 before =
-      rw (e0, e1, e2, e3, e4, e5, e6, e7, e8) (nine-rows m (factor-all-finite a m factored .rows) ∙ sym (ap (λ (w : Factored). patternsAfter w before) factored))
+      nine-mapped (map patternOf) [] m (factor-all-finite a m factored .rows) e0 e1 e2 e3 e4 e5 e6 e7 e8 ∙ sym (ap (λ (w : Factored). patternsAfter w before) factored)
 
 pub patterns-refused : (w : Factored) (before : List (List ℕ)) → false ≡ accepted w → before ≡ patternsAfter w before
 patterns-refused Refused before e = refl

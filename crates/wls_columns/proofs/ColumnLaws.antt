@@ -7,9 +7,9 @@ use native.Mathlib.Omega.{arith}
 use lib.ListN.{length, take}
 use lib.Seq.{take-all}
 use borrow.Author.Tests.{leb-true}
-use Rattle.walk.proofs.Walk.{places-length, and-both}
-use Rattle.walk.specs.Walk.{places, Holds}
-use Rattle.walk.proofs.Filling.{Filling, filled}
+use Rattle.lists.proofs.Walk.{places-length, and-both}
+use Rattle.lists.specs.Walk.{places, Holds}
+use Rattle.lists.proofs.Filling.{Filling, filled}
 use Rattle.wls_columns.specs.Columns.{RowColumns, rowsFit, ObservationColumns, observationsFit}
 
 module _ {A : Type 0} (f : ℕ → A) (n : ℕ) (array : List A) (few : n ≤ 64) {count i : ℕ} (h : Filling f n array count i) where

@@ -5,7 +5,7 @@ use mathlib.Core.Bool.{true, false}
 use Prim.Native.Nat.{ℕ}
 use lib.IntN.{pos}
 use lib.Ieee.{Float}
-use Rattle.walk.specs.Walk.{places}
+use Rattle.lists.specs.Walk.{places}
 use Rattle.exact.specs.Float.{+0}
 use Rattle.numeric.specs.declared.refusal.Refusal.the-variants.{TooMany}
 use Rattle.cholesky.specs.Factor.{zeros}

@@ -1,25 +1,25 @@
 -- The fix of a caller's columns, from the records and settings that the code makes of them. Assumes nothing.
-use mathlib.Core.Path.{_≡_, ap, _∙_}
+use mathlib.Core.Path.{_≡_, _∙_, subst}
 use mathlib.Core.Bool.{Bool, true, false, cond}
 use mathlib.Core.List.{List}
 use Prim.Native.Nat.{ℕ, min}
 use native.Mathlib.Omega.{arith}
 use lib.Ieee.{Float}
-use Rattle.walk.specs.Walk.{places, Holds}
+use Rattle.lists.specs.Walk.{places, Holds}
 use Rattle.numeric.specs.declared.refusal.Refusal.the-variants.{TooMany}
 use Rattle.numeric.specs.declared.vec3.Vec3.{Vec3}
 use Rattle.records.specs.declared.record.Observations.{Observations}
 use Rattle.wls.specs.Fix as fix
-use Rattle.wls.specs.Fix.{fixOf, positionOf, fixNumber, positionNumber}
+use Rattle.wls.specs.Fix.{fixOf}
 use Rattle.wls.specs.declared.fix.Fix.{Fix}
 use Rattle.wls.specs.declared.fix.Fix.the-variants as Fix
 use Rattle.wls.specs.declared.fix.Solution.{Solution}
 use Rattle.wls.specs.declared.fix.Settings.{Settings}
 use Rattle.wls.proofs.FixSound.{fix-accepted}
 use Rattle.wls.proofs.CountedLaws.{fix-counted, fix-many-rounds}
-use Rattle.estimator.proofs.RoundsLaws.{capped}
+use Rattle.estimate_rounds.proofs.RoundsLaws.{capped}
 use Rattle.wls_columns.specs.Columns.{ObservationColumns, observationAt, observationsOf, observationsFit}
-use Rattle.wls_columns.specs.Fix.{fixSettings, fixInput, columnFixOf, solutionAfter, usedAfter, FixAnswers, positionAfter, PositionAnswers}
+use Rattle.wls_columns.specs.Fix.{fixSettings, fixInput, columnFixOf, FixLeaves, FixAnswers, PositionLeaves, PositionAnswers}
 use Rattle.wls_columns.proofs.ColumnLaws.{held-count, held-all}
 
 module _ (c : ObservationColumns) (n : ℕ) (guess : Vec3) (s : List Float) (rounds : ℕ) where
@@ -52,21 +52,10 @@ module _ (c : ObservationColumns) (n : ℕ) (guess : Vec3) (settings : Settings)
       go true e = fix-accepted (fixInput c n guess settings) v e
       go false e = absurd (not-at v e)
 
-  pub fix-answers : {f : Fix} {number : ℕ} {solution₀ solution : List ℕ} {used₀ used : ℕ} → f ≡ columnFixOf c n guess settings → number ≡ fixNumber f → solution ≡ solutionAfter f solution₀ → used ≡ usedAfter f used₀
-      → FixAnswers (fixInput c n guess settings) (columnFixOf c n guess settings) number solution₀ solution used₀ used
-  fix-answers {solution₀ = solution₀} {used₀ = used₀} q a b e =
-      record {
-        number-is = a ∙ ap fixNumber q;
-        solution-is = b ∙ ap (λ (z : Fix). solutionAfter z solution₀) q;
-        used-is = e ∙ ap (λ (z : Fix). usedAfter z used₀) q;
-        accepted = at-accepted;
-      }
+  pub fix-answers : {f : Fix} {number : ℕ} {solution₀ solution : List ℕ} {used₀ used : ℕ} → f ≡ columnFixOf c n guess settings → FixLeaves f number solution₀ solution used₀ used
+      → FixAnswers c n guess settings number solution₀ solution used₀ used
+  fix-answers {number = number} {solution₀} {solution} {used₀} {used} e h = record { leaves = subst (λ (z : Fix). FixLeaves z number solution₀ solution used₀ used) e h; accepted = at-accepted }
 
-  pub position-answers : {f : Fix} {number : ℕ} {position₀ position : List ℕ} → f ≡ columnFixOf c n guess settings → number ≡ positionNumber (positionOf f) → position ≡ positionAfter (positionOf f) position₀
-      → PositionAnswers (fixInput c n guess settings) (columnFixOf c n guess settings) number position₀ position
-  position-answers {position₀ = position₀} q a b =
-      record {
-        number-is = a ∙ ap (λ (z : Fix). positionNumber (positionOf z)) q;
-        position-is = b ∙ ap (λ (z : Fix). positionAfter (positionOf z) position₀) q;
-        accepted = at-accepted;
-      }
+  pub position-answers : {f : Fix} {number : ℕ} {position₀ position : List ℕ} → f ≡ columnFixOf c n guess settings → PositionLeaves f number position₀ position
+      → PositionAnswers c n guess settings number position₀ position
+  position-answers {number = number} {position₀} {position} e h = record { leaves = subst (λ (z : Fix). PositionLeaves z number position₀ position) e h; accepted = at-accepted }

@@ -5,10 +5,10 @@ use mathlib.Core.List.{List}
 use lib.Dec.{leb}
 use lib.ListN.{getD, length}
 use lib.Ieee.{Float, nan}
-use Rattle.walk.specs.Walk.{places}
+use Rattle.lists.specs.Walk.{places}
 use Rattle.exact.specs.Float.{+0}
-use Rattle.normal.specs.declared.row.Row.{Row}
-use Rattle.normal.specs.declared.row.Rows.{Rows}
+use Rattle.normal_equations.specs.declared.row.Row.{Row}
+use Rattle.normal_equations.specs.declared.row.Rows.{Rows}
 use Rattle.numeric.specs.Vec3.{vectorAt}
 use Rattle.records.specs.declared.record.Observation.{Observation}
 use Rattle.records.specs.declared.record.Observations.{Observations}
@@ -54,7 +54,7 @@ pub record ObservationColumns : Type 0 where
 abbrev pub observationColumns : List ℕ → List Float → ObservationColumns
 observationColumns constellation floats = record { constellation = constellation; floats = floats }
 
--- Observation i. A fix looks at no band, svid or `modelled`: they are 0.
+-- Observation i. A fix reads no band, svid or `modelled`: they are 0.
 unfoldable pub observationAt : ObservationColumns → ℕ → Observation
 observationAt c i =
     record {

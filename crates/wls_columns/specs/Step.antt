@@ -1,33 +1,27 @@
--- The round of a caller's columns: its number, and what the lent step holds afterwards. Definitions only.
+-- The round of a caller's columns: its number, and the lent step afterwards. Definitions only.
 use Prim.Native.Nat.{ℕ}
 use mathlib.Core.Path.{_≡_}
 use mathlib.Core.Bool.{cond}
 use mathlib.Core.List.{List, map}
 use lib.Ieee.{Float}
 use Rattle.numeric.specs.Order.{patternOf}
-use Rattle.numeric.specs.Refusal.{numberOf}
 use Rattle.numeric.specs.declared.refusal.Refusal.the-variants.{TooMany}
 use Rattle.cholesky.specs.Factor.{zeros}
-use Rattle.robust.specs.Step.{Stepped, refused, stepOf}
+use Rattle.robust.specs.Step.{Stepped, refused, stepOf, steppingNumber}
 use Rattle.robust.specs.declared.round.Stepping.{Stepping}
 use Rattle.robust.specs.declared.round.Stepping.the-variants as Stepping
 use Rattle.wls_columns.specs.Columns.{RowColumns, rowsFrom, rowsFit}
 
--- what a round called by itself answers
-abbrev pub stepNumber : Stepping → ℕ
-stepNumber (Stepping.Refused r) = numberOf r
-stepNumber Stepping.Done = 0
-
--- the round of the first n rows of the columns, worked out in nine zeros: refused by 2 where those are more than 64 or a column is too short
+-- the round of the first n rows of the columns, written over nine zeros: refused by 2 where there are more than 64 or a column is too short
 unfoldable pub columnStepOf : RowColumns → ℕ → ℕ → Float → Stepped
 columnStepOf c n unknowns huber = cond (rowsFit c n) (stepOf (rowsFrom c n) unknowns huber zeros) (refused TooMany zeros)
 
--- what the lent dx holds afterwards: the patterns of the step, or what it held, to the last bit
+-- the lent dx afterwards: the patterns of the step, or unchanged to the last bit
 abbrev pub stepAfter : Stepping → List Float → List ℕ → List ℕ
 stepAfter (Stepping.Refused r) step before = before
 stepAfter Stepping.Done step before = map patternOf step
 
 -- the number and the lent dx afterwards are those of the step s
 pub record StepAnswers (s : Stepped) (number : ℕ) (dx₀ dx : List ℕ) : Type 0 where
-  pub number-is : number ≡ stepNumber (s .answer)
+  pub number-is : number ≡ steppingNumber (s .answer)
   pub dx-is : dx ≡ stepAfter (s .answer) (s .dx) dx₀

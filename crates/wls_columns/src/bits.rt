@@ -5,35 +5,44 @@ ghost use Prim.Native.Nat.{_<_};
 ghost use Rattle.numeric.specs.Order.{patternOf};
 ghost use Rattle.cholesky.specs.Factor.{row, factorOf};
 ghost use Rattle.cholesky.specs.Answer.{factoringOf};
-ghost use Rattle.wls_columns.specs.Bits.{patternsAfter, AllFinite};
+ghost use Rattle.wls_columns.specs.Bits.{patternsAfter};
+ghost use Rattle.wls_columns.specs.Steps.{FiniteSquare};
 use cholesky::factor::Factoring;
 use cholesky::factor::factor_used;
 use numeric::order::pattern;
 use numeric::refusal::Refusal;
 
-// Returns the patterns of nine floats: of a NaN 7FF8000000000000.
+// Returns the patterns of nine floats: of a NaN 7FF8000000000000. Without a loop the array stays in registers.
 pub fn patterns(x: [f64; 9]) -> [u64; 9]
     ensures { λ r. ⌜ r ≡ map patternOf x ⌝ }
 {
-    let mut r = [0u64; 9];
-    for k in 0..9 {
-        let p = pattern(x[k]);
-        r[k] = p;
-    }
-    r
+    let a = pattern(x[0]);
+    let b = pattern(x[1]);
+    let c = pattern(x[2]);
+    let d = pattern(x[3]);
+    let e = pattern(x[4]);
+    let f = pattern(x[5]);
+    let g = pattern(x[6]);
+    let h = pattern(x[7]);
+    let k = pattern(x[8]);
+    [a, b, c, d, e, f, g, h, k]
 }
 
 // Returns the bits of row i of a matrix whose cells are finite: there is no NaN to test for.
 fn row_bits(i: usize, m: &[[f64; 9]; 9]) -> [u64; 9]
-    requires { ⌜ (i < 9) × AllFinite (now m) ⌝ }
+    requires { ⌜ (i < 9) × FiniteSquare (now m) ⌝ }
     ensures { λ r. ⌜ r ≡ map patternOf (row (now (m .entry)) i) ⌝ }
 {
-    let mut r = [0u64; 9];
-    for k in 0..9 {
-        let p = f64::to_bits(m[i][k]);
-        r[k] = p;
-    }
-    r
+    let a = f64::to_bits(m[i][0]);
+    let b = f64::to_bits(m[i][1]);
+    let c = f64::to_bits(m[i][2]);
+    let d = f64::to_bits(m[i][3]);
+    let e = f64::to_bits(m[i][4]);
+    let f = f64::to_bits(m[i][5]);
+    let g = f64::to_bits(m[i][6]);
+    let h = f64::to_bits(m[i][7]);
+    let k = f64::to_bits(m[i][8]);
+    [a, b, c, d, e, f, g, h, k]
 }
 
 // Writes the patterns of the factor of a to l, or refuses and leaves l unchanged. Only the lower triangle of a is read. An accepted factor is finite.

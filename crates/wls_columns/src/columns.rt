@@ -1,18 +1,18 @@
-// The records that a caller hands over as columns of numbers.
+// The records that a caller lends as columns of numbers.
 ghost use mathlib.Core.Path.{_≡_};
 ghost use mathlib.Core.Bool.{true};
 ghost use Prim.Native.Nat.{_+_, _*_, _<_};
 ghost use lib.ListN.{length};
-ghost use Rattle.walk.specs.Walk.{Holds};
+ghost use Rattle.lists.specs.Walk.{Holds};
 ghost use Rattle.wls_columns.specs.Columns as spec;
-use normal::row::Row;
-use normal::row::Rows;
+use normal_equations::row::Row;
+use normal_equations::row::Rows;
 use numeric::vec3::Vec3;
 use numeric::vec3::vector_at;
 use records::record::Observation;
 use records::record::Observations;
 
-// Whether there are at most 64 rows and no column is shorter than they need.
+// Checks that there are at most 64 rows and that each column has room for them.
 pub(crate) fn rows_fit(
     units: &[f64],
     clocks: &[usize],
@@ -20,7 +20,8 @@ pub(crate) fn rows_fit(
     sigmas: &[f64],
     n: usize,
 ) -> bool
-    ensures { λ r. ⌜ r ≡ spec.rowsFit (spec.rowColumns (now (units .entry)) (now (clocks .entry)) (now (residuals .entry)) (now (sigmas .entry))) n ⌝ }
+    ensures { λ r. ⌜ (let c = spec.rowColumns (now (units .entry)) (now (clocks .entry)) (now (residuals .entry)) (now (sigmas .entry)) in
+        r ≡ spec.rowsFit c n) ⌝ }
 {
     if n > 64 {
         return false;
@@ -28,11 +29,12 @@ pub(crate) fn rows_fit(
     (3 * n <= units.len()) & (n <= clocks.len()) & (n <= residuals.len()) & (n <= sigmas.len())
 }
 
-// Row i of the columns.
+// Returns row i of the columns.
 fn row_at(units: &[f64], clocks: &[usize], residuals: &[u64], sigmas: &[f64], i: usize) -> Row
     requires { ⌜ 3 * i + 2 < length (now units) ⌝ }
     requires { ⌜ (i < length (now clocks)) × (i < length (now residuals)) × (i < length (now sigmas)) ⌝ }
-    ensures { λ r. ⌜ r ≡ spec.rowFrom (spec.rowColumns (now (units .entry)) (now (clocks .entry)) (now (residuals .entry)) (now (sigmas .entry))) i ⌝ }
+    ensures { λ r. ⌜ (let c = spec.rowColumns (now (units .entry)) (now (clocks .entry)) (now (residuals .entry)) (now (sigmas .entry)) in
+        r ≡ spec.rowFrom c i) ⌝ }
 {
     let unit = vector_at(units, 3 * i);
     Row {
@@ -43,7 +45,7 @@ fn row_at(units: &[f64], clocks: &[usize], residuals: &[u64], sigmas: &[f64], i:
     }
 }
 
-// The first n rows of the columns.
+// Returns the first n rows of the columns.
 pub(crate) fn rows_of(
     units: &[f64],
     clocks: &[usize],
@@ -52,7 +54,8 @@ pub(crate) fn rows_of(
     n: usize,
 ) -> Rows
     requires { ⌜ spec.rowsFit (spec.rowColumns (now units) (now clocks) (now residuals) (now sigmas)) n ≡ true ⌝ }
-    ensures { λ r. ⌜ Holds (r .count) (r .row) (spec.rowsFrom (spec.rowColumns (now (units .entry)) (now (clocks .entry)) (now (residuals .entry)) (now (sigmas .entry))) n .row) ⌝ }
+    ensures { λ r. ⌜ (let c = spec.rowColumns (now (units .entry)) (now (clocks .entry)) (now (residuals .entry)) (now (sigmas .entry)) in
+        Holds (r .count) (r .row) (spec.rowsFrom c n .row)) ⌝ }
 {
     let zero = Vec3 {
         x: 0.0,
@@ -74,7 +77,7 @@ pub(crate) fn rows_of(
     out
 }
 
-// Whether there are at most 64 observations and no column is shorter than they need.
+// Checks that there are at most 64 observations and that each column has room for them.
 pub(crate) fn observations_fit(constellation: &[u8], floats: &[f64], n: usize) -> bool
     ensures { λ r. ⌜ r ≡ spec.observationsFit (spec.observationColumns (now (constellation .entry)) (now (floats .entry))) n ⌝ }
 {
@@ -84,7 +87,7 @@ pub(crate) fn observations_fit(constellation: &[u8], floats: &[f64], n: usize) -
     (n <= constellation.len()) & (5 * n <= floats.len())
 }
 
-// Observation i of the columns.
+// Returns observation i of the columns.
 fn observation_at(constellation: &[u8], floats: &[f64], i: usize) -> Observation
     requires { ⌜ (i < length (now constellation)) × (5 * i + 4 < length (now floats)) ⌝ }
     ensures { λ r. ⌜ r ≡ spec.observationAt (spec.observationColumns (now (constellation .entry)) (now (floats .entry))) i ⌝ }
@@ -102,10 +105,11 @@ fn observation_at(constellation: &[u8], floats: &[f64], i: usize) -> Observation
     }
 }
 
-// The first n observations of the columns.
+// Returns the first n observations of the columns.
 pub(crate) fn observations_of(constellation: &[u8], floats: &[f64], n: usize) -> Observations
     requires { ⌜ spec.observationsFit (spec.observationColumns (now constellation) (now floats)) n ≡ true ⌝ }
-    ensures { λ r. ⌜ Holds (r .count) (r .observation) (spec.observationsOf (spec.observationColumns (now (constellation .entry)) (now (floats .entry))) n .observation) ⌝ }
+    ensures { λ r. ⌜ (let c = spec.observationColumns (now (constellation .entry)) (now (floats .entry)) in
+        Holds (r .count) (r .observation) (spec.observationsOf c n .observation)) ⌝ }
 {
     let zero = Vec3 {
         x: 0.0,

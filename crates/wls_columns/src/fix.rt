@@ -7,7 +7,7 @@ ghost use Rattle.wls_columns.specs.Columns.{observationColumns};
 ghost use Rattle.wls_columns.specs.Fix as spec;
 use crate::columns::observations_fit;
 use crate::columns::observations_of;
-use estimator::rounds::rounds_of;
+use estimate_rounds::rounds::rounds_of;
 use numeric::order::pattern;
 use numeric::refusal::Refusal;
 use numeric::vec3::vector;
@@ -15,7 +15,7 @@ use wls::fix::Fix;
 use wls::fix::Settings;
 use wls::fix::solve_full;
 
-// The settings of a fix.
+// Returns the settings of a fix.
 fn fix_settings(s: &[f64; 4], rounds: usize) -> Settings
     ensures { λ r. ⌜ r ≡ spec.fixSettings (now (s .entry)) (min rounds 51) ⌝ }
 {
@@ -29,8 +29,8 @@ fn fix_settings(s: &[f64; 4], rounds: usize) -> Settings
     }
 }
 
-// The fix of the first `count` observations of the columns.
-fn fix_from(
+// Returns the fix of the first `count` observations of the columns, or the refusal.
+pub fn columns_fix(
     constellation: &[u8],
     floats: &[f64],
     count: usize,
@@ -38,7 +38,8 @@ fn fix_from(
     settings: &[f64; 4],
     rounds: usize,
 ) -> Fix
-    ensures { λ r. ⌜ r ≡ spec.columnFixOf (observationColumns (now (constellation .entry)) (now (floats .entry))) count (vectorAt (now (guess .entry)) 0) (spec.fixSettings (now (settings .entry)) rounds) ⌝ }
+    ensures { λ r. ⌜ r ≡ spec.columnFixOf (observationColumns (now (constellation .entry)) (now (floats .entry))) count
+        (vectorAt (now (guess .entry)) 0) (spec.fixSettings (now (settings .entry)) rounds) ⌝ }
 {
     if !observations_fit(constellation, floats, count) {
         return Fix::Refused(Refusal::TooMany);
@@ -49,23 +50,10 @@ fn fix_from(
     solve_full(observations, at, s)
 }
 
-// The position from one epoch: 0, x, y, z, chi and pdop in solution and how many observations were used in used; or the refusal's number, which leaves both as they were.
-pub fn fix_into(
-    constellation: &[u8],
-    floats: &[f64],
-    count: usize,
-    guess: &[f64; 3],
-    settings: &[f64; 4],
-    rounds: usize,
-    solution: &mut [u64; 5],
-    used: &mut usize,
-) -> u8
-    ensures { λ r. ⌜ spec.FixAnswers
-        (spec.fixInput (observationColumns (now (constellation .entry)) (now (floats .entry))) count (vectorAt (now (guess .entry)) 0) (spec.fixSettings (now (settings .entry)) rounds))
-        (spec.columnFixOf (observationColumns (now (constellation .entry)) (now (floats .entry))) count (vectorAt (now (guess .entry)) 0) (spec.fixSettings (now (settings .entry)) rounds))
-        r (now (solution .entry)) (now (solution .exit)) (now (used .entry)) (now (used .exit)) ⌝ }
+// Returns 0 and writes x, y, z, chi and pdop to `solution` and the observations used to `used`. On refusal, returns its number and changes nothing.
+pub fn fix_into(answer: Fix, solution: &mut [u64; 5], used: &mut usize) -> u8
+    ensures { λ r. ⌜ spec.FixLeaves answer r (now (solution .entry)) (now (solution .exit)) (now (used .entry)) (now (used .exit)) ⌝ }
 {
-    let answer = fix_from(constellation, floats, count, guess, settings, rounds);
     match answer {
         Fix::At(f) => {
             let p = f.position;
@@ -82,22 +70,10 @@ pub fn fix_into(
     }
 }
 
-// The same fix by its position alone (`solve` of wls.rs): 0 and x, y, z in position; or the refusal's number, which leaves position as it was.
-pub fn position_into(
-    constellation: &[u8],
-    floats: &[f64],
-    count: usize,
-    guess: &[f64; 3],
-    settings: &[f64; 4],
-    rounds: usize,
-    position: &mut [u64; 3],
-) -> u8
-    ensures { λ r. ⌜ spec.PositionAnswers
-        (spec.fixInput (observationColumns (now (constellation .entry)) (now (floats .entry))) count (vectorAt (now (guess .entry)) 0) (spec.fixSettings (now (settings .entry)) rounds))
-        (spec.columnFixOf (observationColumns (now (constellation .entry)) (now (floats .entry))) count (vectorAt (now (guess .entry)) 0) (spec.fixSettings (now (settings .entry)) rounds))
-        r (now (position .entry)) (now (position .exit)) ⌝ }
+// Returns 0 and writes x, y and z of the fix to `position` (`solve` of wls.rs). On refusal, returns its number and changes nothing.
+pub fn position_into(answer: Fix, position: &mut [u64; 3]) -> u8
+    ensures { λ r. ⌜ spec.PositionLeaves answer r (now (position .entry)) (now (position .exit)) ⌝ }
 {
-    let answer = fix_from(constellation, floats, count, guess, settings, rounds);
     match answer {
         Fix::At(f) => {
             let p = f.position;

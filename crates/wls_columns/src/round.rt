@@ -1,6 +1,8 @@
 // One round of a caller's columns.
+ghost use mathlib.Core.Path.{_≡_};
+ghost use Rattle.robust.specs.Step.{steppingNumber, StepPromised};
 ghost use Rattle.wls_columns.specs.Columns.{rowColumns};
-ghost use Rattle.wls_columns.specs.Step.{columnStepOf, StepAnswers};
+ghost use Rattle.wls_columns.specs.Step.{columnStepOf, stepAfter};
 use crate::bits::patterns;
 use crate::columns::rows_fit;
 use crate::columns::rows_of;
@@ -8,8 +10,8 @@ use numeric::refusal::Refusal;
 use robust::round::Stepping;
 use robust::round::step;
 
-// Returns 0 and writes the patterns of the step of the first `rows` rows to dx, zeros beyond the unknowns; or returns 2, 4 or 10 and leaves every bit of dx.
-pub fn round_into(
+// Runs one round over the first `rows` rows of the columns. Returns `Done` and writes the step to x; on refusal, writes zeros.
+pub fn columns_step(
     units: &[f64],
     clocks: &[usize],
     residuals: &[u64],
@@ -17,17 +19,23 @@ pub fn round_into(
     rows: usize,
     unknowns: usize,
     huber: f64,
-    dx: &mut [u64; 9],
-) -> u8
+    x: &mut [f64; 9],
+) -> Stepping
     ensures { λ r. ⌜ (let c = rowColumns (now (units .entry)) (now (clocks .entry)) (now (residuals .entry)) (now (sigmas .entry)) in
-        StepAnswers (columnStepOf c rows unknowns huber) r (now (dx .entry)) (now (dx .exit))) ⌝ }
+        StepPromised (columnStepOf c rows unknowns huber) r (now (x .exit))) ⌝ }
 {
+    *x = [0.0; 9];
     if !rows_fit(units, clocks, residuals, sigmas, rows) {
-        return Refusal::TooMany.number();
+        return Stepping::Refused(Refusal::TooMany);
     }
-    let handed = rows_of(units, clocks, residuals, sigmas, rows);
-    let mut x = [0.0; 9];
-    let answer = step(handed, unknowns, huber, &mut x);
+    let lent = rows_of(units, clocks, residuals, sigmas, rows);
+    step(lent, unknowns, huber, x)
+}
+
+// Returns 0 and writes the patterns of the step x to dx. On refusal, returns its number and changes nothing.
+pub fn step_into(answer: Stepping, x: [f64; 9], dx: &mut [u64; 9]) -> u8
+    ensures { λ r. ⌜ (r ≡ steppingNumber answer) × (now (dx .exit) ≡ stepAfter answer x (now (dx .entry))) ⌝ }
+{
     match answer {
         Stepping::Refused(r) => r.number(),
         Stepping::Done => {

@@ -2,8 +2,8 @@
 use mathlib.Core.Path.{_≡_, sym, ap, _∙_}
 use mathlib.Core.List.{List}
 use Prim.Native.Nat.{ℕ}
-use Rattle.table.specs.Widen.{wideningNumber, bandsAfter}
-use Rattle.table.specs.declared.widen.Widening.{Widening}
+use Rattle.corrections_table.specs.Widen.{wideningNumber, bandsAfter}
+use Rattle.corrections_table.specs.declared.widen.Widening.{Widening}
 
 -- the bands of an old table
 module _ (n : ℕ) (narrow wide wide′ : List ℕ) (o : Widening) {r : Widening} (e : r ≡ o) (h : wide′ ≡ bandsAfter r n narrow wide) where

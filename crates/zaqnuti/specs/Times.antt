@@ -1,4 +1,4 @@
--- The entry points of times: what a lent place holds afterwards; a refusal leaves it as it was, to the last bit. Definitions only.
+-- The entry points of times: what a lent place holds afterwards; a refusal leaves it unchanged, to the last bit. Definitions only.
 use Prim.Native.Nat.{ℕ}
 use lib.IntN.{ℤ}
 use Rattle.numeric.specs.Order.{patternOf}

@@ -3,10 +3,10 @@ use mathlib.Core.Path.{_≡_}
 use mathlib.Core.List.{List}
 use Prim.Native.Nat.{ℕ}
 use lib.Ieee.{Float}
-use Rattle.trajectory.specs.Input.{Trajectory}
-use Rattle.smooth.specs.declared.Settings.{Settings}
-use Rattle.smooth.specs.declared.Track.{Track}
-use Rattle.smooth.specs.Answer.{trackNumber, Called}
+use Rattle.track_pass.specs.Input.{Trajectory}
+use Rattle.track_smooth.specs.declared.Settings.{Settings}
+use Rattle.track_smooth.specs.declared.Track.{Track}
+use Rattle.track_smooth.specs.Answer.{trackNumber, Called}
 
 abbrev pub settings : Float → ℕ → Settings
 settings huber iterations = record { huber = huber; iterations = iterations }

@@ -10,8 +10,8 @@ use tdcp_columns::displacement::columns_displaced;
 use tdcp_columns::lent::answer_into;
 use time::time::GpsTime;
 
-// The displacement between two epochs whose times are known in nanoseconds since the start of week 0: 0, the displacement in metres in delta and how many pairs
-// were used and screened out in counts; or the refusal's number, which leaves both as they were.
+// The displacement between two epochs by their times in nanoseconds since the start of week 0.
+// Returns 0 and writes the displacement in metres to delta and how many pairs were used and screened out to counts. On refusal, returns its number and changes nothing.
 #[no_mangle]
 pub extern "C" fn zaqnuti_displacement_between(
     previous_constellation: &[u8],

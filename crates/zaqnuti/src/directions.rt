@@ -1,15 +1,15 @@
 // Entry point of a displacement as north, east, down.
-ghost use Rattle.frames.specs.Lent.{Answered};
+ghost use Rattle.frames.specs.Lent.{DirectionAnswered};
 use frames::lent::ned_into;
 
-// The displacement at the position along north, east and down in ned and 0, or 19, which leaves ned as it was.
+// Writes the displacement at the position along north, east and down to `ned` and returns 0. On refusal, returns 19 and changes nothing.
 #[no_mangle]
 pub extern "C" fn zaqnuti_north_east_down(
     position: &[f64; 3],
     displacement: &[f64; 3],
     ned: &mut [u64; 3],
 ) -> u8
-    ensures { λ r. ⌜ Answered (now (position .entry)) (now (displacement .entry)) r (now (ned .entry)) (now (ned .exit)) ⌝ }
+    ensures { λ r. ⌜ DirectionAnswered (now (position .entry)) (now (displacement .entry)) r (now (ned .entry)) (now (ned .exit)) ⌝ }
 {
     ned_into(position, displacement, ned)
 }

@@ -4,17 +4,17 @@ ghost use mathlib.Core.Path.{_≡_};
 ghost use Rattle.records.specs.Carriers.{carrierColumns};
 ghost use Rattle.numeric.specs.Vec3.{vectorAt};
 ghost use Rattle.trip.specs.Words.{heldOf};
-ghost use Rattle.drive.specs.Drive.{begunOf, underNew, tested};
+ghost use Rattle.trip_settings.specs.Drive.{begunOf, underNew, tested};
 ghost use Rattle.tdcp_columns.specs.Displacement.{lent, displacementSettings};
-ghost use Rattle.drive.specs.Lent.{DrivingAnswers, BegunAnswers, TravelAnswers};
-use drive::lent::begin_into;
-use drive::lent::change_into;
-use drive::lent::travel_into;
+ghost use Rattle.trip_settings.specs.Lent.{DrivingAnswers, BegunAnswers, TravelAnswers};
 use records::pair::Profile;
 use tdcp::displacement::Interval;
 use tdcp_columns::displacement::columns_displaced;
+use trip_settings::lent::begin_into;
+use trip_settings::lent::change_into;
+use trip_settings::lent::travel_into;
 
-// A trip just started in the lent words, its settings in force in the lent floats and rounds, and 0; or 3 or 16, which leave all of them as they were.
+// Starts a trip in the lent words, puts its settings in force in the lent patterns and rounds, and returns 0. On refusal, returns 3 or 16 and changes nothing.
 #[no_mangle]
 pub extern "C" fn zaqnuti_trip_begin(
     settings: &[f64; 5],
@@ -31,7 +31,7 @@ pub extern "C" fn zaqnuti_trip_begin(
     begin_into(settings, rounds, per_km, trip, in_force, in_force_rounds)
 }
 
-// New settings in force in the lent floats and rounds, and 0; or 3 or 16, which leave them as they were.
+// Puts new settings in force in the lent patterns and rounds and returns 0. On refusal, returns 3 or 16 and changes nothing.
 #[no_mangle]
 pub extern "C" fn zaqnuti_trip_settings(
     trip: &[u64; 6],
@@ -46,8 +46,8 @@ pub extern "C" fn zaqnuti_trip_settings(
     change_into(trip, settings, rounds, in_force, in_force_rounds)
 }
 
-// The displacement under the settings in force, added to the lent words with its pulses: 0, the displacement in metres in delta and how many pairs were used and screened out in
-// counts; or the refusal's number, which leaves all of them as they were.
+// Works a displacement out under the settings in force, adds it with its pulses to the trip in the lent words, writes it in metres to `delta` and how many pairs were
+// used and screened out to `counts`, and returns 0. On refusal, returns its number and changes nothing.
 #[no_mangle]
 pub extern "C" fn zaqnuti_trip_displacement(
     trip: &mut [u64; 6],

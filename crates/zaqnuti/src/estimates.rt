@@ -1,18 +1,20 @@
-// Entry points of the displacement and the fix. What a caller lends as doubles is taken as their patterns, so that a refusal is promised to leave every bit.
+// Entry points of the displacement and the fix. Doubles to be written are lent as their patterns, so that a refusal is promised to change no bit.
 ghost use mathlib.Core.Path.{_≡_};
 ghost use Rattle.records.specs.Carriers.{carrierColumns};
 ghost use Rattle.numeric.specs.Vec3.{vectorAt};
 ghost use Rattle.tdcp_columns.specs.Displacement.{lent, displacementSettings, DisplacementAnswers};
 ghost use Rattle.wls_columns.specs.Columns.{observationColumns};
-ghost use Rattle.wls_columns.specs.Fix as spec;
+ghost use Rattle.wls_columns.specs.Fix.{fixSettings, FixAnswers, PositionAnswers};
 use records::pair::Profile;
 use tdcp::displacement::Interval;
 use tdcp_columns::displacement::columns_displaced;
 use tdcp_columns::lent::answer_into;
+use wls_columns::fix::columns_fix;
 use wls_columns::fix::fix_into;
 use wls_columns::fix::position_into;
 
-// The displacement between two epochs: 0, the displacement in metres in delta and how many pairs were used and screened out in counts; or the refusal's number, which leaves both as they were.
+// The displacement between two epochs, dt seconds apart.
+// Returns 0 and writes the displacement in metres to delta and how many pairs were used and screened out to counts. On refusal, returns its number and changes nothing.
 #[no_mangle]
 pub extern "C" fn zaqnuti_displacement(
     previous_constellation: &[u8],
@@ -64,7 +66,7 @@ pub extern "C" fn zaqnuti_displacement(
     answer_into(answer, delta, counts)
 }
 
-// The position from one epoch: 0, x, y, z, chi and pdop in solution and how many observations were used in used; or the refusal's number, which leaves both as they were.
+// Returns 0 and writes x, y, z, chi and pdop of the fix to `solution` and the observations used to `used`. On refusal, returns its number and changes nothing.
 #[no_mangle]
 pub extern "C" fn zaqnuti_fix(
     constellation: &[u8],
@@ -76,25 +78,15 @@ pub extern "C" fn zaqnuti_fix(
     solution: &mut [u64; 5],
     used: &mut usize,
 ) -> u8
-    ensures { λ r. ⌜ (let columns = observationColumns (now (constellation .entry)) (now (floats .entry)) in
-        let place = vectorAt (now (guess .entry)) 0 in
-        let given = spec.fixSettings (now (settings .entry)) rounds in
-        spec.FixAnswers (spec.fixInput columns count place given) (spec.columnFixOf columns count place given)
-        r (now (solution .entry)) (now (solution .exit)) (now (used .entry)) (now (used .exit))) ⌝ }
+    ensures { λ r. ⌜ FixAnswers (observationColumns (now (constellation .entry)) (now (floats .entry))) count
+        (vectorAt (now (guess .entry)) 0) (fixSettings (now (settings .entry)) rounds)
+        r (now (solution .entry)) (now (solution .exit)) (now (used .entry)) (now (used .exit)) ⌝ }
 {
-    fix_into(
-        constellation,
-        floats,
-        count,
-        guess,
-        settings,
-        rounds,
-        solution,
-        used,
-    )
+    let answer = columns_fix(constellation, floats, count, guess, settings, rounds);
+    fix_into(answer, solution, used)
 }
 
-// The same fix by its position alone (`solve` of wls.rs): 0 and x, y, z in position; or the refusal's number, which leaves position as it was.
+// Returns 0 and writes x, y and z of the fix to `position` (`solve` of wls.rs). On refusal, returns its number and changes nothing.
 #[no_mangle]
 pub extern "C" fn zaqnuti_position(
     constellation: &[u8],
@@ -105,19 +97,10 @@ pub extern "C" fn zaqnuti_position(
     rounds: usize,
     position: &mut [u64; 3],
 ) -> u8
-    ensures { λ r. ⌜ (let columns = observationColumns (now (constellation .entry)) (now (floats .entry)) in
-        let place = vectorAt (now (guess .entry)) 0 in
-        let given = spec.fixSettings (now (settings .entry)) rounds in
-        spec.PositionAnswers (spec.fixInput columns count place given) (spec.columnFixOf columns count place given)
-        r (now (position .entry)) (now (position .exit))) ⌝ }
+    ensures { λ r. ⌜ PositionAnswers (observationColumns (now (constellation .entry)) (now (floats .entry))) count
+        (vectorAt (now (guess .entry)) 0) (fixSettings (now (settings .entry)) rounds)
+        r (now (position .entry)) (now (position .exit)) ⌝ }
 {
-    position_into(
-        constellation,
-        floats,
-        count,
-        guess,
-        settings,
-        rounds,
-        position,
-    )
+    let answer = columns_fix(constellation, floats, count, guess, settings, rounds);
+    position_into(answer, position)
 }

@@ -6,8 +6,9 @@ use numeric::vec3::Vec3;
 use tdcp::displacement::Settings;
 use wire_tdcp::displacement::displacement_records;
 
-// The displacement between two slices of carrier records, by the numbers of line S in its order: 0, and in the first 40 bytes of result how many pairs were used
-// and screened out and the displacement in metres; or the refusal's number, which leaves result as it was.
+// The displacement between two slices of carrier records, with the numbers of line S in its order.
+// Returns 0 and writes how many pairs were used and screened out and the displacement in metres to the first 40 bytes of result. On refusal, returns its number and
+// changes nothing.
 #[no_mangle]
 pub extern "C" fn zaqnuti_displacement_records(
     previous: &[u8],
@@ -24,8 +25,8 @@ pub extern "C" fn zaqnuti_displacement_records(
     rounds: u32,
     result: &mut [u8],
 ) -> u8
-    ensures { λ r. ⌜ spec.Answers
-        (spec.handed (now (previous .entry)) (now (current .entry)) dt (spec.vectorOf x y z) (spec.settingsOf screen «sigma_a» «sigma_b» huber mask rounds))
+    ensures { λ r. ⌜ spec.RecordAnswers
+        (spec.handed (now (previous .entry)) (now (current .entry)) dt (spec.vectorOf x y z) (spec.lineSettings screen «sigma_a» «sigma_b» huber mask rounds))
         r (now (result .entry)) (now (result .exit)) ⌝ }
 {
     let receiver = Vec3 { x: x, y: y, z: z };
@@ -41,7 +42,7 @@ pub extern "C" fn zaqnuti_displacement_records(
     displacement_records(previous, current, dt, receiver, settings, result)
 }
 
-// Writes the first count records of the columns into bytes: 0; or 2, which leaves bytes as they were.
+// Returns 0 and writes the first count records of the columns to bytes. On refusal, returns 2 and changes nothing.
 #[no_mangle]
 pub extern "C" fn zaqnuti_write_records(
     constellation: &[u8],
@@ -59,7 +60,7 @@ pub extern "C" fn zaqnuti_write_records(
     wire::columns::write_records(constellation, svid, band, state, floats, count, bytes)
 }
 
-// Reads the records of bytes into the columns and their number into count: 0; or 21 or 2, which leave every lent place.
+// Returns 0 and writes the records of bytes to the columns and their number to count. On refusal, returns 21 or 2 and changes nothing.
 #[no_mangle]
 pub extern "C" fn zaqnuti_read_records(
     bytes: &[u8],

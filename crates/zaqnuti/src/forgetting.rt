@@ -1,10 +1,12 @@
 // Entry point of the corrections: forgetting the samples before a time.
-ghost use Rattle.directory.specs.Directory.{lentBlocks, floats, blockCapacity, directoryIn};
-ghost use Rattle.forget.specs.Forget.{forgetIn, Forgets, PatternsAfter};
-use forget::calls::forget_call;
+ghost use Rattle.corrections_directory.specs.Directory.{blockCapacity, directoryIn};
+ghost use Rattle.corrections_directory.specs.Lent.{lentTable};
+ghost use Rattle.corrections_forget.specs.Forget.{ForgetsIn, forgetIn};
+use corrections_forget::forget::Forgetting;
+use corrections_forget::forget::forget;
 
-// Of each satellite's samples earlier than the time only the last is retained: 0, and the columns and the count with what is left; or the number of
-// the refusal, which leaves them as they were. The directory keeps its m entries.
+// Drops samples earlier than `time`, keeping each satellite's newest of these, and sets `table_count` to how many are left; the directory keeps its
+// entries. Returns 0. On refusal, returns its number and changes nothing.
 #[no_mangle]
 pub extern "C" fn zaqnuti_forget(
     block_constellation: &[u8],
@@ -18,16 +20,13 @@ pub extern "C" fn zaqnuti_forget(
     table_count: &mut usize,
     time: f64,
 ) -> u8
-    ensures { λ r. ⌜ (let l = lentBlocks
-        (now («block_constellation» .entry)) (now («block_svid» .entry)) (now («block_band» .entry))
-        (now («block_first» .entry)) (now («block_samples» .entry)) (floats (now («table_time» .entry))) (floats (now («table_metres» .entry))) in
-        let o = forgetIn blocks (now («table_count» .entry)) (blockCapacity l) (directoryIn blocks (now («table_count» .entry)) l) time in
-        Forgets o r blocks (now («table_count» .entry)) (now («table_count» .exit)) l (lentBlocks
-        (now («block_constellation» .entry)) (now («block_svid» .entry)) (now («block_band» .entry))
-        (now («block_first» .exit)) (now («block_samples» .exit)) (floats (now («table_time» .exit))) (floats (now («table_metres» .exit))))
-        × PatternsAfter o (now («table_time» .entry)) (now («table_metres» .entry)) (now («table_time» .exit)) (now («table_metres» .exit))) ⌝ }
+    ensures { λ r. ⌜ (let t = lentTable «block_constellation» «block_svid» «block_band» «block_first» «block_samples» «table_time» «table_metres» in
+        let n = now («table_count» .entry) in
+        let o = forgetIn blocks n (blockCapacity (t .before)) (directoryIn blocks n (t .before)) time in
+        ForgetsIn o r blocks n (now («table_count» .exit)) t) ⌝ }
 {
-    forget_call(
+    let count = *table_count;
+    let answer = forget(
         block_constellation,
         block_svid,
         block_band,
@@ -36,7 +35,14 @@ pub extern "C" fn zaqnuti_forget(
         blocks,
         table_time,
         table_metres,
-        table_count,
+        count,
         time,
-    )
+    );
+    match answer {
+        Forgetting::Refused(r) => r.number(),
+        Forgetting::Count(k) => {
+            *table_count = k;
+            0
+        }
+    }
 }

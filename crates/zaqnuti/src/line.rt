@@ -1,10 +1,18 @@
-// The line form for C: a text in, the answer's line out.
-ghost use Rattle.line_form.specs.Answer.{Answered};
+// The line form for C: a text in, the line of its answer out.
+ghost use Rattle.line_form.specs.Answer.{LineAnswers};
+use line_form::Printed;
 
-// text: the bytes of the text; line: where the answer's line goes. Answers how many bytes were written: 0, and `line` as it was, where it is too short.
+// Returns 0 and writes the line that answers `text` to `line` and its length to `written`. Returns 2 and changes nothing where `line` is shorter than the line.
 #[no_mangle]
-pub extern "C" fn zaqnuti_line(text: &[u8], line: &mut [u8]) -> usize
-    ensures { λ r. ⌜ Answered (now (text .entry)) (now (line .entry)) (now (line .exit)) r ⌝ }
+pub extern "C" fn zaqnuti_line(text: &[u8], line: &mut [u8], written: &mut usize) -> u8
+    ensures { λ r. ⌜ LineAnswers (now (text .entry)) r (now (line .entry)) (now (line .exit)) (now (written .entry)) (now (written .exit)) ⌝ }
 {
-    line_form::answer(text, line)
+    let answer = line_form::answer(text, line);
+    match answer {
+        Printed::Line(length) => {
+            *written = length;
+            0
+        }
+        Printed::Refused(r) => r.number(),
+    }
 }

@@ -5,11 +5,11 @@ ghost use Rattle.numeric.specs.Order.{patternOf};
 ghost use Rattle.cholesky.specs.Factor.{factorOf, solutionOf};
 ghost use Rattle.cholesky.specs.Answer.{factoringOf, factoringNumber};
 ghost use Rattle.wls_columns.specs.Bits.{patternsAfter};
-use cholesky::factor::solve_lent;
+use cholesky::factor::solve_into;
 use wls_columns::bits::factor_patterns;
 use wls_columns::bits::patterns;
 
-// Returns 0 and writes the patterns of the factor of a to l, or returns 10 and leaves every bit of l.
+// Returns 0 and writes the patterns of the factor of a to `l`. On refusal, returns 10 and changes nothing.
 #[no_mangle]
 pub extern "C" fn zaqnuti_factor(a: &[[f64; 9]; 9], l: &mut [[u64; 9]; 9]) -> u8
     ensures { λ r. ⌜ (let f = factorOf (now (a .entry)) in (r ≡ factoringNumber (factoringOf f)) × (now (l .exit) ≡ patternsAfter f (now (l .entry)))) ⌝ }
@@ -22,6 +22,7 @@ pub extern "C" fn zaqnuti_factor(a: &[[f64; 9]; 9], l: &mut [[u64; 9]; 9]) -> u8
 pub extern "C" fn zaqnuti_solve(l: &[[f64; 9]; 9], b: &[f64; 9], x: &mut [u64; 9])
     ensures { λ _. ⌜ now (x .exit) ≡ map patternOf (solutionOf (now (l .entry)) (now (b .entry))) ⌝ }
 {
-    let y = solve_lent(l, *b);
+    let mut y = *b;
+    solve_into(l, &mut y);
     *x = patterns(y);
 }

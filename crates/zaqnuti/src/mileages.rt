@@ -1,7 +1,7 @@
 // Entry points of a mileage, which the caller holds as ten words: the limit's bits, epochs, refused, set aside, counted millimetres, counted pulses, standing
 // millimetres, all pulses, whether the last epoch had a pulse, and the last epoch's millimetres where it stands so far.
 ghost use mathlib.Core.Path.{_≡_};
-ghost use Rattle.mileage.specs.Mileage.{started};
+ghost use Rattle.mileage.specs.Mileage.{mileageStarted};
 ghost use Rattle.mileage.specs.Words as spec;
 use mileage::words::add_in;
 use mileage::words::distance_in;
@@ -12,7 +12,7 @@ use mileage::words::start_in;
 // Starts a mileage in the lent words and returns 0. On refusal, returns 3 and changes nothing.
 #[no_mangle]
 pub extern "C" fn zaqnuti_mileage_start(limit: f64, mileage: &mut [u64; 10]) -> u8
-    ensures { λ r. ⌜ (let s = started limit in (r ≡ spec.stepNumber s) × (now (mileage .exit) ≡ spec.wordsAfter s (now (mileage .entry)))) ⌝ }
+    ensures { λ r. ⌜ (let s = mileageStarted limit in (r ≡ spec.mileageNumber s) × (now (mileage .exit) ≡ spec.mileageAfter s (now (mileage .entry)))) ⌝ }
 {
     start_in(limit, mileage)
 }
@@ -26,8 +26,8 @@ pub extern "C" fn zaqnuti_mileage_add(
     quality: &[f64; 2],
     pulses: u16,
 ) -> u8
-    ensures { λ r. ⌜ (let s = spec.addedWords (now (mileage .entry)) (spec.epochOf «refused_by» (now (delta .entry)) (now (quality .entry)) pulses) in
-        (r ≡ spec.stepNumber s) × (now (mileage .exit) ≡ spec.wordsAfter s (now (mileage .entry)))) ⌝ }
+    ensures { λ r. ⌜ (let s = spec.mileageAddedWords (now (mileage .entry)) (spec.lentEpoch «refused_by» (now (delta .entry)) (now (quality .entry)) pulses) in
+        (r ≡ spec.mileageNumber s) × (now (mileage .exit) ≡ spec.mileageAfter s (now (mileage .entry)))) ⌝ }
 {
     add_in(mileage, refused_by, delta, quality, pulses)
 }
@@ -36,8 +36,8 @@ pub extern "C" fn zaqnuti_mileage_add(
 // and changes nothing.
 #[no_mangle]
 pub extern "C" fn zaqnuti_mileage_report(mileage: &[u64; 10], report: &mut [u64; 7]) -> u8
-    ensures { λ r. ⌜ (let q = spec.reportedWords (now (mileage .entry)) in
-        (r ≡ spec.reportNumber q) × (now (report .exit) ≡ spec.reportAfter q (now (report .entry)))) ⌝ }
+    ensures { λ r. ⌜ (let q = spec.mileageReportedWords (now (mileage .entry)) in
+        (r ≡ spec.mileageReportNumber q) × (now (report .exit) ≡ spec.mileageReportAfter q (now (report .entry)))) ⌝ }
 {
     report_in(mileage, report)
 }
@@ -58,8 +58,8 @@ pub extern "C" fn zaqnuti_mileage_fuel(
     millilitres: u32,
     per_km: &mut u64,
 ) -> u8
-    ensures { λ r. ⌜ (let f = spec.fuelledWords (now (mileage .entry)) millilitres in
-        (r ≡ spec.fuelNumber f) × (now («per_km» .exit) ≡ spec.fuelAfter f (now («per_km» .entry)))) ⌝ }
+    ensures { λ r. ⌜ (let f = spec.mileageFuelledWords (now (mileage .entry)) millilitres in
+        (r ≡ spec.mileageFuelNumber f) × (now («per_km» .exit) ≡ spec.mileageFuelAfter f (now («per_km» .entry)))) ⌝ }
 {
     fuel_in(mileage, millilitres, per_km)
 }

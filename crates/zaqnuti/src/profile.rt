@@ -8,8 +8,8 @@ use tdcp::displacement::Interval;
 use tdcp_columns::displacement::columns_displaced;
 use tdcp_columns::lent::answer_into;
 
-// The displacement between two epochs by GPS (1) and Galileo (6) on the chosen band: 0, the displacement in metres in delta and how many of their pairs were used and
-// screened out in counts; or the refusal's number, which leaves both as they were.
+// The displacement between two epochs by GPS (1) and Galileo (6) on the chosen band.
+// Returns 0 and writes the displacement in metres to delta and how many pairs were used and screened out to counts. On refusal, returns its number and changes nothing.
 #[no_mangle]
 pub extern "C" fn zaqnuti_city_displacement(
     previous_constellation: &[u8],

@@ -1,11 +1,12 @@
-// Entry points of the corrections: one query of a directory, and many.
-ghost use Rattle.directory.specs.Directory.{lentBlocks, blockCapacity, directoryIn};
-ghost use Rattle.query.specs.Query.{queryIn, Answers};
-ghost use Rattle.query_calls.specs.Queries.{queriesIn, Replies};
-use query_calls::calls::queries_call;
-use query_calls::calls::query_call;
+// Entry points of the corrections: one query of a table, and many.
+ghost use Rattle.corrections_directory.specs.Directory.{lentBlocks, blockCapacity, directoryIn};
+ghost use Rattle.corrections_query.specs.Query.{queryIn, Answers};
+ghost use Rattle.corrections_queries.specs.Queries.{queriesIn, Replies};
+use corrections_queries::queries::call_number;
+use corrections_queries::queries::one_query;
+use corrections_queries::queries::queries;
 
-// The correction of a signal (constellation, svid, band) at a time in metres and 0, or the number of the refusal, which leaves metres as it was.
+// Returns 0, with the correction of a signal at a time in metres, or the number of the refusal, with metres unchanged.
 #[no_mangle]
 pub extern "C" fn zaqnuti_query(
     block_constellation: &[u8],
@@ -25,11 +26,12 @@ pub extern "C" fn zaqnuti_query(
     metres: &mut u64,
 ) -> u8
     ensures { λ r. ⌜ (let l = lentBlocks
-        (now («block_constellation» .entry)) (now («block_svid» .entry)) (now («block_band» .entry))
-        (now («block_first» .entry)) (now («block_samples» .entry)) (now («table_time» .entry)) (now («table_metres» .entry)) in
-        Answers (queryIn blocks «table_count» (blockCapacity l) (directoryIn blocks «table_count» l) «max_gap» constellation svid band time) r (now (metres .entry)) (now (metres .exit))) ⌝ }
+        (now («block_constellation» .entry)) (now («block_svid» .entry)) (now («block_band» .entry)) (now («block_first» .entry)) (now («block_samples» .entry))
+        (now («table_time» .entry)) (now («table_metres» .entry)) in
+        Answers (queryIn blocks «table_count» (blockCapacity l) (directoryIn blocks «table_count» l) «max_gap» constellation svid band time) r
+        (now (metres .entry)) (now (metres .exit))) ⌝ }
 {
-    query_call(
+    let answer = one_query(
         block_constellation,
         block_svid,
         block_band,
@@ -44,12 +46,14 @@ pub extern "C" fn zaqnuti_query(
         svid,
         band,
         time,
-        metres,
-    )
+        *metres,
+    );
+    *metres = answer.metres;
+    answer.number
 }
 
-// The queries at the first count places of constellation, svid, band and time, of a directory that is tested once: 0, and at each place its number and, where
-// it is given, its correction in metres; or the number of the refusal of the whole call, which leaves numbers and metres as they were.
+// Returns 0, with the number of each of the first count places of constellation, svid, band and time and, where it is given, its correction in metres;
+// or the number of the refusal of the whole call, with numbers and metres unchanged. The table is tested once.
 #[no_mangle]
 pub extern "C" fn zaqnuti_queries(
     block_constellation: &[u8],
@@ -71,12 +75,13 @@ pub extern "C" fn zaqnuti_queries(
     metres: &mut [u64],
 ) -> u8
     ensures { λ r. ⌜ (let l = lentBlocks
-        (now («block_constellation» .entry)) (now («block_svid» .entry)) (now («block_band» .entry))
-        (now («block_first» .entry)) (now («block_samples» .entry)) (now («table_time» .entry)) (now («table_metres» .entry)) in
-        Replies (queriesIn blocks «table_count» (blockCapacity l) (directoryIn blocks «table_count» l) «max_gap» (now (constellation .entry)) (now (svid .entry)) (now (band .entry)) (now (time .entry)) count (now (numbers .entry)) (now (metres .entry))) r
+        (now («block_constellation» .entry)) (now («block_svid» .entry)) (now («block_band» .entry)) (now («block_first» .entry)) (now («block_samples» .entry))
+        (now («table_time» .entry)) (now («table_metres» .entry)) in
+        Replies (queriesIn blocks «table_count» (blockCapacity l) (directoryIn blocks «table_count» l) «max_gap»
+        (now (constellation .entry)) (now (svid .entry)) (now (band .entry)) (now (time .entry)) count (now (numbers .entry)) (now (metres .entry))) r
         (now (numbers .entry)) (now (metres .entry)) (now (numbers .exit)) (now (metres .exit))) ⌝ }
 {
-    queries_call(
+    call_number(queries(
         block_constellation,
         block_svid,
         block_band,
@@ -94,5 +99,5 @@ pub extern "C" fn zaqnuti_queries(
         count,
         numbers,
         metres,
-    )
+    ))
 }

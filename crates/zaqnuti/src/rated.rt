@@ -65,7 +65,7 @@ pub extern "C" fn zaqnuti_displacement_rated(
     rated_into(answer, delta, quality, counts)
 }
 
-// The same by GPS (1) and Galileo (6) on the chosen band.
+// The rated displacement between two epochs by GPS (1) and Galileo (6) on the chosen band.
 // Returns 0 and writes the displacement to delta, chi and pdop to quality, and how many pairs were used and screened out to counts. On refusal, returns its number and
 // changes nothing.
 #[no_mangle]

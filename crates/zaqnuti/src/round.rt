@@ -14,9 +14,10 @@ use numeric::sight::Sighting;
 use numeric::sight::geometry;
 use numeric::vec3::vector;
 use robust::sigma::elevation_sigma;
-use wls_columns::round::round_into;
+use wls_columns::round::columns_step;
+use wls_columns::round::step_into;
 
-// Returns 0 and writes the patterns of the centre and the scale of the residuals to out, or returns 2 for more than 64 and leaves every bit of out.
+// Returns 0 and writes the patterns of the centre and the scale of the residuals to `out`. Refuses more than 64: returns 2 and changes nothing.
 #[no_mangle]
 pub extern "C" fn zaqnuti_centre(residuals: &[u64], out: &mut [u64; 2]) -> u8
     ensures { λ r. ⌜ (let s = centreScaleOf (now (residuals .entry)) in (r ≡ centreNumber s) × (now (out .exit) ≡ centreAfter s (now (out .entry)))) ⌝ }
@@ -31,14 +32,16 @@ pub extern "C" fn zaqnuti_centre(residuals: &[u64], out: &mut [u64; 2]) -> u8
     }
 }
 
-// The unit vector from the satellite to the receiver and the range in out and 0, or 15 where the range is zero or not finite, which leaves out as it was.
+// Returns 0 and writes the unit vector from the satellite to the receiver and the range to `out`. Refuses a range that is zero or not finite: returns 15 and
+// changes nothing.
 #[no_mangle]
 pub extern "C" fn zaqnuti_geometry(
     satellite: &[f64; 3],
     receiver: &[f64; 3],
     out: &mut [u64; 4],
 ) -> u8
-    ensures { λ r. ⌜ (r ≡ sight.sightingNumber (sight.geometry (vectorAt (now (satellite .entry)) 0) (vectorAt (now (receiver .entry)) 0))) × (now (out .exit) ≡ sightAfter (sight.geometry (vectorAt (now (satellite .entry)) 0) (vectorAt (now (receiver .entry)) 0)) (now (out .entry))) ⌝ }
+    ensures { λ r. ⌜ (let s = sight.geometry (vectorAt (now (satellite .entry)) 0) (vectorAt (now (receiver .entry)) 0) in
+        (r ≡ sight.sightingNumber s) × (now (out .exit) ≡ sightAfter s (now (out .entry)))) ⌝ }
 {
     let s = vector(satellite);
     let at = vector(receiver);
@@ -52,7 +55,7 @@ pub extern "C" fn zaqnuti_geometry(
     }
 }
 
-// The one-sigma of an elevation in degrees.
+// Returns the one-sigma of an elevation in degrees.
 #[no_mangle]
 pub extern "C" fn zaqnuti_elevation_sigma(elevation: f64, a: f64, b: f64) -> f64
     ensures { λ r. ⌜ r ≡ elevationSigma elevation a b ⌝ }
@@ -60,7 +63,7 @@ pub extern "C" fn zaqnuti_elevation_sigma(elevation: f64, a: f64, b: f64) -> f64
     elevation_sigma(elevation, a, b)
 }
 
-// Returns 0 and writes the patterns of the step of the first `rows` rows to dx, zeros beyond the unknowns; or returns 2, 4 or 10 and leaves every bit of dx.
+// Returns 0 and writes the patterns of the step of the first `rows` rows to `dx`, zeros beyond the unknowns. On refusal, returns 2, 4 or 10 and changes nothing.
 #[no_mangle]
 pub extern "C" fn zaqnuti_round(
     units: &[f64],
@@ -75,5 +78,16 @@ pub extern "C" fn zaqnuti_round(
     ensures { λ r. ⌜ (let c = rowColumns (now (units .entry)) (now (clocks .entry)) (now (residuals .entry)) (now (sigmas .entry)) in
         StepAnswers (columnStepOf c rows unknowns huber) r (now (dx .entry)) (now (dx .exit))) ⌝ }
 {
-    round_into(units, clocks, residuals, sigmas, rows, unknowns, huber, dx)
+    let mut x = [0.0; 9];
+    let answer = columns_step(
+        units,
+        clocks,
+        residuals,
+        sigmas,
+        rows,
+        unknowns,
+        huber,
+        &mut x,
+    );
+    step_into(answer, x, dx)
 }

@@ -4,7 +4,7 @@ ghost use Rattle.clocks.specs.Clocks as spec;
 ghost use Rattle.zaqnuti.specs.Numbers.{clocksFrom};
 use clocks::clocks::Clocks;
 
-// The state of no constellation given, in the lent slots and count.
+// Writes the state with no constellation to the lent slots and count.
 #[no_mangle]
 pub extern "C" fn zaqnuti_clocks_new(slot: &mut [usize; 8], count: &mut usize)
     ensures { λ _. ⌜ clocksFrom (now (slot .exit)) (now (count .exit)) ≡ spec.none ⌝ }
@@ -15,7 +15,7 @@ pub extern "C" fn zaqnuti_clocks_new(slot: &mut [usize; 8], count: &mut usize)
     *count = k.count;
 }
 
-// One constellation more, in the lent state.
+// Adds a constellation to the lent state.
 #[no_mangle]
 pub extern "C" fn zaqnuti_clocks_given(slot: &mut [usize; 8], count: &mut usize, constellation: u8)
     ensures { λ _. ⌜ clocksFrom (now (slot .exit)) (now (count .exit)) ≡ spec.given (clocksFrom (now (slot .entry)) (now (count .entry))) constellation ⌝ }
@@ -31,7 +31,7 @@ pub extern "C" fn zaqnuti_clocks_given(slot: &mut [usize; 8], count: &mut usize,
     *count = g.count;
 }
 
-// The slot of a constellation: the largest usize for one not yet given.
+// Returns the slot of a constellation: the largest usize for one not yet given.
 #[no_mangle]
 pub extern "C" fn zaqnuti_clocks_slot(slot: &[usize; 8], constellation: u8) -> usize
     ensures { λ r. ⌜ r ≡ spec.slot (clocksFrom (now (slot .entry)) 0) constellation ⌝ }
@@ -41,7 +41,7 @@ pub extern "C" fn zaqnuti_clocks_slot(slot: &[usize; 8], constellation: u8) -> u
     k.slot(constellation)
 }
 
-// Three coordinates and a clock for each constellation given.
+// Returns the number of unknowns: three coordinates and a clock for each constellation given.
 #[no_mangle]
 pub extern "C" fn zaqnuti_clocks_unknowns(slot: &[usize; 8], count: usize) -> usize
     ensures { λ r. ⌜ r ≡ spec.unknowns (clocksFrom (now (slot .entry)) count) ⌝ }

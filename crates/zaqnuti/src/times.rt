@@ -8,7 +8,7 @@ use time::time::Nanos;
 use time::time::Seconds;
 use time::time::Time;
 
-// The nanoseconds since the start of week 0 in nanos and 0, or 13, which leaves nanos as it was.
+// Returns 0 and writes the nanoseconds since the start of week 0 to nanos, or returns 13 and leaves nanos unchanged.
 #[no_mangle]
 pub extern "C" fn zaqnuti_time(week: u32, tow: f64, nanos: &mut u64) -> u8
     ensures { λ r. ⌜ (r ≡ timeNumber (timeOf week tow)) × (now (nanos .exit) ≡ timeAfter (timeOf week tow) (now (nanos .entry))) ⌝ }
@@ -23,7 +23,7 @@ pub extern "C" fn zaqnuti_time(week: u32, tow: f64, nanos: &mut u64) -> u8
     }
 }
 
-// The nanoseconds from the time `earlier` to `later` in nanos and 0, or 13, which leaves nanos as it was.
+// Returns 0 and writes the nanoseconds from the time `earlier` to `later` to nanos, or returns 13 and leaves nanos unchanged.
 #[no_mangle]
 pub extern "C" fn zaqnuti_nanos_since(later: u64, earlier: u64, nanos: &mut i64) -> u8
     ensures { λ r. ⌜ (r ≡ nanosNumber (nanosSince (timeAt later) (timeAt earlier)))
@@ -41,7 +41,7 @@ pub extern "C" fn zaqnuti_nanos_since(later: u64, earlier: u64, nanos: &mut i64)
     }
 }
 
-// The seconds from the time `earlier` to `later` in seconds and 0, or 13, which leaves seconds as it was.
+// Returns 0 and writes the seconds from the time `earlier` to `later` to seconds, or returns 13 and leaves seconds unchanged.
 #[no_mangle]
 pub extern "C" fn zaqnuti_seconds_since(later: u64, earlier: u64, seconds: &mut u64) -> u8
     ensures { λ r. ⌜ (r ≡ secondsNumber (secondsSince (timeAt later) (timeAt earlier)))

@@ -1,8 +1,8 @@
 // Entry point of the track. What a caller lends as doubles for the result and the work is taken as their patterns, so that a refusal is promised to leave every bit.
-ghost use Rattle.trajectory.specs.Input.{measured, trajectory};
+ghost use Rattle.track_pass.specs.Input.{measured, trajectory};
 ghost use Rattle.zaqnuti.specs.Track.{settings, TrackCalled};
-use smooth::Settings;
-use smooth::smooth;
+use track_smooth::Settings;
+use track_smooth::smooth;
 
 // Puts the track of some epochs into `result` and answers 0, or the number of the refusal.
 #[no_mangle]

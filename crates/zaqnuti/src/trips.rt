@@ -7,7 +7,7 @@ use trip::words::fuel_in;
 use trip::words::report_in;
 use trip::words::start_in;
 
-// A trip just started in the lent words and 0, or 16, which leaves them as they were.
+// Starts a trip in the lent words and returns 0. On refusal, returns 16 and changes nothing.
 #[no_mangle]
 pub extern "C" fn zaqnuti_trip_start(per_km: u16, trip: &mut [u64; 6]) -> u8
     ensures { λ r. ⌜ (let s = started «per_km» in (r ≡ stepNumber s) × (now (trip .exit) ≡ wordsAfter s (now (trip .entry)))) ⌝ }
@@ -15,7 +15,7 @@ pub extern "C" fn zaqnuti_trip_start(per_km: u16, trip: &mut [u64; 6]) -> u8
     start_in(per_km, trip)
 }
 
-// One epoch more in the lent words and 0, or 16, which leaves them as they were.
+// Adds an epoch to the trip in the lent words and returns 0. On refusal, returns 16 and changes nothing.
 #[no_mangle]
 pub extern "C" fn zaqnuti_trip_add(trip: &mut [u64; 6], delta: &[f64; 3], pulses: u16) -> u8
     ensures { λ r. ⌜ (let s = addedWords (now (trip .entry)) (now (delta .entry)) pulses in
@@ -24,7 +24,7 @@ pub extern "C" fn zaqnuti_trip_add(trip: &mut [u64; 6], delta: &[f64; 3], pulses
     add_in(trip, delta, pulses)
 }
 
-// Carrier millimetres, odometer millimetres, the greatest difference and its epoch in the lent report and 0, or 16, which leaves it as it was.
+// Writes carrier millimetres, odometer millimetres, the greatest difference and its epoch to `report` and returns 0. On refusal, returns 16 and changes nothing.
 #[no_mangle]
 pub extern "C" fn zaqnuti_trip_report(trip: &[u64; 6], report: &mut [u64; 4]) -> u8
     ensures { λ r. ⌜ (let q = reportedWords (now (trip .entry)) in
@@ -33,7 +33,7 @@ pub extern "C" fn zaqnuti_trip_report(trip: &[u64; 6], report: &mut [u64; 4]) ->
     report_in(trip, report)
 }
 
-// The millilitres for a kilometre in the lent number and 0, or 16 or 17, which leave it as it was.
+// Writes the millilitres for a kilometre to the lent number and returns 0. On refusal, returns 16 or 17 and changes nothing.
 #[no_mangle]
 pub extern "C" fn zaqnuti_trip_fuel(trip: &[u64; 6], millilitres: u32, per_km: &mut u64) -> u8
     ensures { λ r. ⌜ (let f = fuelledWords (now (trip .entry)) millilitres in

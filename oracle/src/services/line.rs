@@ -25,8 +25,11 @@ pub const SERVICE: Service = Service {
 /// How many bytes lie before and after a lent buffer.
 const MARGIN: usize = 16;
 
-/// Whether the library answers a text as expected in a buffer of so many bytes: the line and its
-/// length, or nothing where it does not fit. No byte beyond the line may change.
+/// The refusal of a buffer that is shorter than the line.
+const TOO_SHORT: u8 = 2;
+
+/// Whether the library answers a text as expected in a buffer of so many bytes: 0, the line and its
+/// length, or 2 where it does not fit, which changes nothing. No byte beyond the line may change.
 fn holds(random: &mut Random, text: &[u8], expected: &[u8], room: usize) -> bool {
     let mut memory = vec![0; MARGIN + room + MARGIN];
     memory.fill_with(|| random.bits() as u8);
@@ -35,8 +38,15 @@ fn holds(random: &mut Random, text: &[u8], expected: &[u8], room: usize) -> bool
     if fits {
         theirs[MARGIN..MARGIN + expected.len()].copy_from_slice(expected);
     }
-    let length = ffi::line(text, &mut memory[MARGIN..MARGIN + room]);
-    length == if fits { expected.len() } else { 0 } && memory == theirs
+    let before = random.bits() as usize;
+    let mut written = before;
+    let number = ffi::line(text, &mut memory[MARGIN..MARGIN + room], &mut written);
+    let answered = if fits {
+        (0, expected.len())
+    } else {
+        (TOO_SHORT, before)
+    };
+    (number, written) == answered && memory == theirs
 }
 
 /// A text as far as it can be read, and its length.
@@ -59,7 +69,8 @@ fn compare(tally: &mut Tally, random: &mut Random, count: u64) {
             .all(|room| holds(random, &text, &expected, room));
         tally.judge(same, || {
             let mut line = [0; LINE];
-            let length = ffi::line(&text, &mut line);
+            let mut length = 0;
+            ffi::line(&text, &mut line, &mut length);
             format!(
                 "ours {}, Rust's {}, of {}",
                 line[..length.min(LINE)].escape_ascii(),
@@ -84,14 +95,15 @@ fn time(random: &mut Random) {
             }
         }
         let (mut line, mut rust_line) = ([0; LINE], [0; LINE]);
+        let mut length = 0;
         bench::row(
             "line",
             n,
             texts.len(),
             || {
                 for text in &texts {
-                    black_box(ffi::line(black_box(text), &mut line));
-                    black_box(&line);
+                    black_box(ffi::line(black_box(text), &mut line, &mut length));
+                    black_box((&line, length));
                 }
             },
             || {

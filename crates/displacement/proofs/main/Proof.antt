@@ -1,4 +1,4 @@
--- `displacement::main`: the bytes that it lends are within the buffer. Assumes nothing.
+-- `displacement::main`: the bytes that it prints are within the buffer. Assumes nothing.
 use mathlib.Core.Path.{sym}
 use lib.Seq.{length-take-le}
 use native.Mathlib.Omega.{arith}
@@ -28,17 +28,26 @@ slice-aggregate-answer-2 c = search needs
 answer-requires : tie.Need-answer-requires
 answer-requires c κs = search needs
 
+enum-known-answer : tie.Need-enum-known-answer
+enum-known-answer c = search needs
+
 array-share-prefix-line : tie.Need-array-share-prefix-line
-array-share-prefix-line c = omega (arith, answered-room _ _ _ _ (c .before .answer .ensures))
+array-share-prefix-line c = omega (arith, answered-room _ _ _ _ _ (c .before .answer2 .given .1) (c .before .before .before .before .answer .ensures))
 
 slice-aggregate-write-all : tie.Need-slice-aggregate-write-all
-slice-aggregate-write-all c = sym (length-take-le _ _ (omega (arith, answered-room _ _ _ _ (c .before .before .answer .ensures))))
+slice-aggregate-write-all c = sym (length-take-le _ _ (omega (arith, answered-room _ _ _ _ _ (c .before .before .answer2 .given .1) (c .before .before .before .before .before .answer .ensures))))
 
 write-all-requires : tie.Need-write-all-requires
 write-all-requires c κs = search needs
 
+enum-told : tie.Need-enum-told
+enum-told c = search needs
+
 returns : tie.Need-returns
 returns c = search needs
+
+returns-2 : tie.Need-returns-2
+returns-2 c = search needs
 
 pub main-spec : {M : Type 1} → statement M
 main-spec =
@@ -51,7 +60,10 @@ main-spec =
     slice-aggregate-answer
     slice-aggregate-answer-2
     answer-requires
+    enum-known-answer
     array-share-prefix-line
     slice-aggregate-write-all
     write-all-requires
-    returns)
+    enum-told
+    returns
+    returns-2)

@@ -61,19 +61,22 @@ pub fn line(b: &mut Bytes) {
     // 0 to 80 bytes, and 80 where no byte is left.
     let room = LINE + 21 - b.below(LINE + 22);
     let mut memory = vec![b.byte(); room];
+    let before = b.u64() as usize;
     let text = text(b);
     let expected = line_form::line(&line_form::answer(&text));
     let mut lender = Lender::new();
     let text = lender.lend(&text);
     let line = lender.lend(&memory);
+    let written = lender.lend(&[before]);
     // SAFETY: each pointer leads to what its length says.
-    let length = unsafe { sys::zaqnuti_line(text.at(), text.len(), line.at(), line.len()) };
+    let number =
+        unsafe { sys::zaqnuti_line(text.at(), text.len(), line.at(), line.len(), written.at()) };
     text.kept();
-    if expected.len() <= memory.len() {
-        assert_eq!(length, expected.len());
-        memory[..length].copy_from_slice(&expected);
-    } else {
-        assert_eq!(length, 0);
+    let fits = expected.len() <= memory.len();
+    assert_eq!(number, if fits { 0 } else { 2 });
+    if fits {
+        memory[..expected.len()].copy_from_slice(&expected);
     }
     line.holds(&memory);
+    written.holds(&[if fits { expected.len() } else { before }]);
 }

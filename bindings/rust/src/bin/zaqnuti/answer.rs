@@ -23,7 +23,7 @@ pub struct Answers {
 }
 
 impl Answers {
-    /// Where the options say; the header is that of the CSV.
+    /// Returns where the options say; the header is that of the CSV.
     pub fn open(args: &Args, header: &str) -> Run<Self> {
         let (mut out, csv) = (Output::open(args.value("-o"))?, args.has("--csv"));
         if csv {
@@ -68,7 +68,7 @@ impl Answers {
     }
 }
 
-/// A refusal in words.
+/// Returns a refusal in words.
 pub fn in_words(why: Refusal) -> String {
     format!("refused by {}: {}", why.number(), why.why())
 }

@@ -34,7 +34,7 @@ impl Args {
                 };
                 match joined.or_else(|| words.next().cloned()) {
                     Some(value) => given.push((*name, value)),
-                    None => return said(format!("{name}: a value is wanted")),
+                    None => return said(format!("{name}: needs a value")),
                 }
             }
         }
@@ -50,7 +50,7 @@ impl Args {
         Ok(self)
     }
 
-    /// The files, or standard input where there are none.
+    /// Returns the files, or standard input where there are none.
     pub fn sources(&self) -> Vec<&str> {
         match self.files.is_empty() {
             true => vec!["-"],
@@ -58,7 +58,7 @@ impl Args {
         }
     }
 
-    /// The one file, or standard input.
+    /// Returns the one file, or standard input.
     pub fn source(&self) -> Run<&str> {
         match self.files.as_slice() {
             [] => Ok("-"),
@@ -67,22 +67,22 @@ impl Args {
         }
     }
 
-    /// Whether an option or a flag is given.
+    /// Checks whether an option or a flag is given.
     pub fn has(&self, name: &str) -> bool {
         self.given.iter().any(|(n, _)| *n == name)
     }
 
-    /// The value of an option.
+    /// Returns the value of an option.
     pub fn value(&self, name: &str) -> Option<&str> {
         let found = self.given.iter().find(|(n, _)| *n == name);
         found.map(|(_, value)| value.as_str())
     }
 
-    /// The value of an option that must be given.
+    /// Returns the value of an option that must be given.
     pub fn needed(&self, name: &str) -> Run<&str> {
         match self.value(name) {
             Some(value) => Ok(value),
-            None => said(format!("{name}: is wanted; see --help")),
+            None => said(format!("{name}: is required; see --help")),
         }
     }
 
@@ -90,7 +90,7 @@ impl Args {
         Fault::Said(format!("{name}: {value:?} is not {kind}"))
     }
 
-    /// A float, or the one that holds without the option.
+    /// Returns a float, or the one that holds without the option.
     pub fn float(&self, name: &str, without: f64) -> Run<f64> {
         let Some(value) = self.value(name) else {
             return Ok(without);
@@ -98,7 +98,7 @@ impl Args {
         decimal::read(value).ok_or_else(|| Self::wrong(name, value, "a number"))
     }
 
-    /// A whole number, or the one that holds without the option.
+    /// Returns a whole number, or the one that holds without the option.
     pub fn whole<T: FromStr>(&self, name: &str, without: T) -> Run<T> {
         let Some(value) = self.value(name) else {
             return Ok(without);
@@ -107,7 +107,7 @@ impl Args {
         parsed.map_err(|_| Self::wrong(name, value, "a whole number from 0 up"))
     }
 
-    /// The settings of the kind of receiver.
+    /// Returns the settings of the kind of receiver.
     pub fn receiver<T>(&self, phone: T, geodetic: T) -> Run<T> {
         match self.value("--receiver") {
             None | Some("phone") => Ok(phone),
@@ -116,7 +116,7 @@ impl Args {
         }
     }
 
-    /// A place by x, y and z, if the option is given.
+    /// Returns a place by x, y and z, if the option is given.
     pub fn place(&self, name: &str) -> Run<Option<[f64; 3]>> {
         let Some(value) = self.value(name) else {
             return Ok(None);

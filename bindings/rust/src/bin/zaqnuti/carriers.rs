@@ -61,7 +61,7 @@ impl Phase {
 }
 
 impl Columns {
-    /// Those of a table.
+    /// Returns those of a table.
     pub fn of(table: &Table) -> Run<Self> {
         Ok(Self {
             constellation: table.column("constellation")?,

@@ -48,7 +48,7 @@ impl Changes {
     /// Checks the whole file, so that a fault in it does not hang on the drives.
     pub fn check(args: &Args) -> Run<()> {
         if args.value("--settings") == Some("-") {
-            return said("--settings: each drive reads it; standard input can't be read so");
+            return said("--settings: every drive reads it, so it can't be standard input");
         }
         let Some(mut changes) = Self::open(args)? else {
             return Ok(());
@@ -84,7 +84,7 @@ impl Changes {
         }
     }
 
-    /// The settings of the last line at or before a time, if lines have been passed since the last call.
+    /// Returns the settings of the last line at or before a time, if lines have been passed since the last call.
     pub fn until(&mut self, time: Time) -> Run<Option<Settings>> {
         let mut found = None;
         while let Some((from, set)) = self.ahead {

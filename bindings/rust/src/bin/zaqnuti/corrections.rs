@@ -17,22 +17,22 @@ pub const HELP: &str = "\
 zaqnuti corrections --base BASE.csv --base-at X,Y,Z [OPTIONS] [ROVER.csv]:
 the correction of each line of the rover, from what a base station measured
 
-With --csv the rover's lines come out whole, with the columns correction and
-refusal behind them: `zaqnuti fix` reads that.
-  tow                  of both files: time of week, s, going forward; week before it
-                       where there is one
+With --csv the rover's lines are written with the columns correction and
+refusal appended, as `zaqnuti fix` reads them.
+  tow                  of both files: time of week, s, increasing; week too, if
+                       there is one
   constellation, svid  of both files; band, of 32 bits (may be left out of both)
-and of the base alone:
+of the base only:
   pseudorange          m, without the satellite's group delay
   x, y, z, vx, vy, vz  the satellite at transmission, m and m/s
   clock, modelled      m, as `zaqnuti fix` takes them
 
   --base FILE            what the base measured
-  --base-at X,Y,Z        where the base stands, m
-  --every N              only the first of each N epochs of the base [1]
+  --base-at X,Y,Z        the base's position, m
+  --every N              use one of N epochs of the base [1]
   --max-gap S            a longer gap is not bridged, s [90]
   --max-correction M     a larger correction is dropped, m [100]
-  --constellations LIST  those that are corrected [1,6]
+  --constellations LIST  which to correct [1,6]
 ";
 
 const VALUED: [&str; 6] = [
@@ -60,7 +60,7 @@ impl Signals {
         })
     }
 
-    /// The signal of a line, none where it has no satellite.
+    /// Returns the signal of a line, none where it has no satellite.
     fn read_any(&self, table: &Table) -> Run<Option<(u8, u16, u32)>> {
         let bare = |column| table.field(column).is_empty();
         match bare(self.constellation) && bare(self.svid) {
@@ -315,7 +315,7 @@ fn begin(args: &Args, header: &str) -> Run<Work> {
     let table = Table::open(args.needed("--base")?, args.has("--ignore-unknown"))?;
     let every: usize = args.whole("--every", 1)?;
     if every == 0 {
-        return said("--every: is 1 or more");
+        return said("--every: must be 1 or more");
     }
     let read = base_reader(&table)?;
     let mut base = Forward {

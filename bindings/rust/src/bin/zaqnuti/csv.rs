@@ -35,7 +35,7 @@ pub struct Table {
 /// Whether standard input is some file's already.
 static TAKEN: AtomicBool = AtomicBool::new(false);
 
-/// A name for messages, and what can be read; `-` is standard input.
+/// Returns a name for messages, and what can be read; `-` is standard input.
 pub fn open(path: &str) -> Run<(String, Box<dyn BufRead>, Option<u64>)> {
     if path == "-" {
         if TAKEN.swap(true, Ordering::Relaxed) {
@@ -55,7 +55,7 @@ pub fn open(path: &str) -> Run<(String, Box<dyn BufRead>, Option<u64>)> {
 }
 
 impl Table {
-    /// The table of a file, whose header line is read.
+    /// Returns the table of a file, whose header line is read.
     pub fn open(path: &str, strangers: bool) -> Run<Self> {
         let (name, source, size) = open(path)?;
         let mut table = Self {
@@ -69,7 +69,7 @@ impl Table {
             progress: Progress::new(size),
         };
         if !table.read_line()? {
-            return said(format!("{}: is empty; a header line is wanted", table.name));
+            return said(format!("{}: is empty; expected a header line", table.name));
         }
         // Spreadsheets begin a file so.
         if let Some(rest) = table.text.strip_prefix('\u{feff}') {
@@ -87,7 +87,7 @@ impl Table {
     fn check_header(&self, strangers: bool) -> Run<()> {
         for (i, name) in self.header.iter().enumerate() {
             if self.header[..i].contains(name) {
-                return Err(self.fault(&format!("the column {name:?} stands twice")));
+                return Err(self.fault(&format!("the column {name:?} appears twice")));
             }
             if names::is_known(name) {
                 continue;
@@ -104,12 +104,12 @@ impl Table {
         Ok(())
     }
 
-    /// A fault in the line that was read last.
+    /// Returns a fault in the line that was read last.
     pub fn fault(&self, why: &str) -> Fault {
         Fault::Said(format!("{}:{}: {why}", self.name, self.lines))
     }
 
-    /// A fault in a field of the line that was read last.
+    /// Returns a fault in a field of the line that was read last.
     pub fn fault_in(&self, column: Column, why: &str) -> Fault {
         self.fault(&format!("{}: {why}", column.name))
     }
@@ -134,7 +134,7 @@ impl Table {
             return Err(self.fault(&format!("the line is above {LONGEST} bytes")));
         }
         let text = String::from_utf8(bytes);
-        self.text = text.map_err(|_| self.fault("the line is no text (UTF-8)"))?;
+        self.text = text.map_err(|_| self.fault("the line is not UTF-8 text"))?;
         Ok(n > 0)
     }
 
@@ -164,33 +164,33 @@ impl Table {
         Err(self.fault(&format!("{have} fields, the header has {want}")))
     }
 
-    /// The number of the line that was read last.
+    /// Returns the number of the line that was read last.
     pub fn line(&self) -> u64 {
         self.lines
     }
 
-    /// The name of the file, for messages.
+    /// Returns the name of the file, for messages.
     pub fn name(&self) -> &str {
         &self.name
     }
 
-    /// The header line.
+    /// Returns the header line.
     pub fn header(&self) -> String {
         self.header.join(",")
     }
 
-    /// The line that was read last.
+    /// Returns the line that was read last.
     pub fn text(&self) -> &str {
         &self.text
     }
 
-    /// A column, if the file has it.
+    /// Returns a column, if the file has it.
     pub fn optional(&self, name: &'static str) -> Option<Column> {
         let place = self.header.iter().position(|n| n == name)?;
         Some(Column { place, name })
     }
 
-    /// A column that must be there.
+    /// Returns a column that must be there.
     pub fn column(&self, name: &'static str) -> Run<Column> {
         match self.optional(name) {
             Some(column) => Ok(column),
@@ -212,7 +212,7 @@ impl Table {
         }
     }
 
-    /// A field of the line that was read last, without spaces around it.
+    /// Returns a field of the line that was read last, without spaces around it.
     pub fn field(&self, column: Column) -> &str {
         let (start, end) = self.fields[column.place];
         let field = &self.text[start..end];
@@ -226,7 +226,7 @@ impl Table {
     fn parsed<T: FromStr>(&self, column: Column, kind: &str) -> Run<T> {
         let field = self.field(column);
         field.parse().map_err(|_| match field {
-            "" => self.fault_in(column, &format!("empty; {kind} is wanted")),
+            "" => self.fault_in(column, &format!("empty; expected {kind}")),
             _ => {
                 let start: String = field.chars().take(40).collect();
                 self.fault_in(column, &format!("{start:?} is not {kind}"))
@@ -234,7 +234,7 @@ impl Table {
         })
     }
 
-    /// A float.
+    /// Returns a float.
     pub fn float(&self, column: Column) -> Run<f64> {
         let field = self.field(column);
         match crate::decimal::read(field) {
@@ -249,17 +249,17 @@ impl Table {
         Ok([self.float(x)?, self.float(y)?, self.float(z)?])
     }
 
-    /// A float of a column that may not be there, 0 without it.
+    /// Returns a float of a column that may not be there, 0 without it.
     pub fn float_or_0(&self, column: Option<Column>) -> Run<f64> {
         column.map_or(Ok(0.0), |c| self.float(c))
     }
 
-    /// A whole number.
+    /// Returns a whole number.
     pub fn whole<T: Whole>(&self, column: Column) -> Run<T> {
         self.parsed(column, T::KIND)
     }
 
-    /// A whole number up to a bound.
+    /// Returns a whole number up to a bound.
     pub fn whole_to(&self, column: Column, most: u64) -> Run<u64> {
         let x = self.whole(column)?;
         match x > most {
@@ -268,7 +268,7 @@ impl Table {
         }
     }
 
-    /// A whole number of a column that may not be there.
+    /// Returns a whole number of a column that may not be there.
     pub fn whole_or<T: Whole>(&self, column: Option<Column>, without: T) -> Run<T> {
         column.map_or(Ok(without), |c| self.whole(c))
     }

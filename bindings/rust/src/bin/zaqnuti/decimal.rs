@@ -3,7 +3,7 @@
 /// The bits of the NaN that is written by the word alone.
 const QUIET: u64 = 0x7FF8_0000_0000_0000;
 
-/// The shortest decimal that reads back as x; `inf`, `-inf`, `NaN`, or `NaN:` and its bits.
+/// Returns the shortest decimal that reads back as x; `inf`, `-inf`, `NaN`, or `NaN:` and its bits.
 pub fn written(x: f64) -> String {
     match x.to_bits() {
         bits if x.is_nan() && bits != QUIET => format!("NaN:{bits:016X}"),
@@ -11,7 +11,7 @@ pub fn written(x: f64) -> String {
     }
 }
 
-/// The float of a decimal, to the nearest, or of the words that `written` gives.
+/// Returns the float of a decimal, to the nearest, or of the words that `written` gives.
 pub fn read(field: &str) -> Option<f64> {
     if let Some(digits) = field.strip_prefix("NaN:") {
         let x = f64::from_bits(hexadecimal(digits)?);
@@ -24,7 +24,7 @@ pub fn read(field: &str) -> Option<f64> {
     }
 }
 
-/// The number of 16 upper-case hexadecimal digits, as the line form has them.
+/// Returns the number of 16 upper-case hexadecimal digits, as the line form has them.
 pub fn hexadecimal(digits: &str) -> Option<u64> {
     let fits = |b: u8| b.is_ascii_digit() || (b'A'..=b'F').contains(&b);
     match digits.len() == 16 && digits.bytes().all(fits) {

@@ -62,7 +62,7 @@ impl Depot {
         self.reasons.push(why);
     }
 
-    /// Whether there is a figure, comparable or not.
+    /// Checks whether there is a figure, comparable or not.
     pub fn is_complete(&self) -> bool {
         !self.incomplete && self.distance > 0
     }
@@ -92,7 +92,7 @@ impl Depot {
         some.then(|| self.pulses_counted as f64 / self.pulses_all as f64)
     }
 
-    /// How far the odometer is above the carrier distance, per cent.
+    /// Returns how far the odometer is above the carrier distance, per cent.
     pub fn difference(&self) -> Option<f64> {
         let (odometer, carrier) = (self.odometer as f64, self.carrier as f64);
         (self.odometer > 0).then(|| 100.0 * (odometer - carrier) / odometer)
@@ -149,7 +149,7 @@ fn no_distance(driven: &Driven) -> String {
     format!("{} has no distance: {why}", driven.file)
 }
 
-/// The depots, the ranked ones first and best first, the others by name.
+/// Returns the depots, the ranked ones first and best first, the others by name.
 pub fn ranked(drives: &[Driven], fuel: &Fuel, bounds: Bounds) -> Run<Vec<Depot>> {
     let mut depots: BTreeMap<String, Depot> = BTreeMap::new();
     let mut used = vec![false; fuel.entries.len()];

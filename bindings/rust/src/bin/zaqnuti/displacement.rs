@@ -15,13 +15,13 @@ use crate::series::VALUED;
 pub const HELP: &str = "\
 zaqnuti displacement [OPTIONS] [FILE..]: how far the receiver moved between two
 epochs of carrier phases; a file is a series of epochs, or pairs
-  --compass           along north, east and down at the receiver's place
+  --compass           as north, east and down at the receiver's position
 ";
 
 /// The flag that asks for compass directions.
 const COMPASS: &str = "--compass";
 
-/// The displacement of a pair, and along north, east and down where that is asked for.
+/// Returns the displacement of a pair, and as north, east and down if asked for.
 fn solve(pair: &Pair, compass: bool) -> Result<(Delta, Option<Ned>), Refusal> {
     let moved = pair.solve()?;
     let [x, y, z] = pair.at;
@@ -29,13 +29,13 @@ fn solve(pair: &Pair, compass: bool) -> Result<(Delta, Option<Ned>), Refusal> {
     Ok((moved, ned.transpose()?))
 }
 
-/// Metres in one of two directions.
+/// Formats metres in one of two directions.
 fn along(x: f64, above: &str, below: &str) -> String {
     let word = if x < 0.0 { below } else { above };
     format!("{} m {word}", metres(x.abs()))
 }
 
-/// The way in words: along x, y and z, or by compass.
+/// Formats a displacement: x, y and z, or by compass.
 fn way(moved: &Delta, ned: Option<Ned>) -> String {
     match ned {
         None => {

@@ -48,7 +48,7 @@ pub struct Totals {
 }
 
 impl Totals {
-    /// A drive just begun, with so many pulses to the kilometre and a limit of the predicted error.
+    /// Returns a drive just begun, with so many pulses to the kilometre and a limit of the predicted error.
     pub fn begin(set: &Settings, per_km: u16, limit: f64) -> Result<Self, Refusal> {
         Ok(Self {
             per_km,
@@ -122,7 +122,7 @@ impl Totals {
         }
     }
 
-    /// The sums of the drive.
+    /// Returns the sums of the drive.
     pub fn sums(&self) -> Result<Sums, Refusal> {
         let report = self.trip.report()?;
         let mileage = self.mileage.report()?;
@@ -154,7 +154,7 @@ impl Totals {
     }
 }
 
-/// The odometer's distance in millimetres, rounded down.
+/// Returns the odometer's distance in millimetres, rounded down.
 fn odometer(pulses: u64, per_km: u16) -> u64 {
     let product = u128::from(pulses) * 1_000_000;
     (product / u128::from(per_km)) as u64
@@ -172,7 +172,7 @@ fn plus(a: Report, b: Report) -> Report {
     }
 }
 
-/// The counted distance times all pulses by counted pulses, rounded down; none where no pulse is counted.
+/// Returns the counted distance times all pulses by counted pulses, rounded down; none where no pulse is counted.
 fn scaled(sums: &Report) -> Option<u64> {
     let product = u128::from(sums.counted) * u128::from(sums.pulses);
     u64::try_from(product.checked_div(sums.covered.into())?).ok()

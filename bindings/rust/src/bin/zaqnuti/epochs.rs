@@ -27,7 +27,7 @@ impl Time {
         weeks as f64 * WEEK + (self.tow - other.tow)
     }
 
-    /// The time in whole nanoseconds, where the file has a week.
+    /// Returns the time in whole nanoseconds, where the file has a week.
     pub fn gps(self) -> Option<Result<GpsTime, Refusal>> {
         self.week.map(|week| GpsTime::new(week, self.tow))
     }
@@ -37,12 +37,12 @@ impl Time {
         self.since(Self { tow: 0.0, ..other })
     }
 
-    /// The GPS week, where the file has one.
+    /// Returns the GPS week, where the file has one.
     pub fn week(self) -> Option<u32> {
         self.week
     }
 
-    /// The second within the week.
+    /// Returns the second within the week.
     pub fn tow(self) -> f64 {
         self.tow
     }
@@ -76,18 +76,18 @@ pub struct Times {
 }
 
 impl Times {
-    /// Those of a table.
+    /// Returns those of a table.
     pub fn of(table: &Table) -> Run<Self> {
         Self::named(table, "tow")
     }
 
-    /// Those of a table whose time of week has another name.
+    /// Returns those of a table whose time of week has another name.
     pub fn named(table: &Table, tow: &'static str) -> Run<Self> {
         let (week, tow) = (table.optional("week"), table.column(tow)?);
         Ok(Self { week, tow })
     }
 
-    /// The time of the line that was read last.
+    /// Returns the time of the line that was read last.
     pub fn read(&self, table: &Table) -> Run<Time> {
         let filled = self.week.filter(|&w| !table.field(w).is_empty());
         let week = filled.map(|w| table.whole(w)).transpose()?;
@@ -141,7 +141,7 @@ pub struct Epochs<H, R> {
 }
 
 impl<R: 'static> Epochs<(), R> {
-    /// The epochs of a table that say nothing beside their rows.
+    /// Returns the epochs of a table that say nothing beside their rows.
     pub fn of_rows(
         table: Table,
         mut read: impl FnMut(&Table) -> Run<Option<R>> + 'static,
@@ -152,7 +152,7 @@ impl<R: 'static> Epochs<(), R> {
 }
 
 impl<H, R> Epochs<H, R> {
-    /// The epochs of a table, by how its lines are read.
+    /// Returns the epochs of a table, by how its lines are read.
     pub fn new(table: Table, head: ReadHead<H>, row: ReadRow<H, R>) -> Run<Self> {
         let times = Times::of(&table)?;
         Ok(Self {
@@ -165,14 +165,14 @@ impl<H, R> Epochs<H, R> {
         })
     }
 
-    /// The start of an epoch at the line that was read last.
+    /// Returns the start of an epoch at the line that was read last.
     fn begin(&mut self, time: Time) -> Run<(Time, H, Option<R>)> {
         let mut head = (self.head)(&self.table)?;
         let first = (self.row)(&self.table, &mut head)?;
         Ok((time, head, first))
     }
 
-    /// The next epoch, none at the end of the file.
+    /// Returns the next epoch, none at the end of the file.
     pub fn next(&mut self) -> Run<Option<Epoch<H, R>>> {
         let (time, mut head, first) = match self.ahead.take() {
             Some(ahead) => ahead,
@@ -201,7 +201,7 @@ impl<H, R> Epochs<H, R> {
         Ok(Some(Epoch { time, head, rows }))
     }
 
-    /// The table, for faults in the line that was read last.
+    /// Returns the table, for faults in the line that was read last.
     pub fn table(&self) -> &Table {
         &self.table
     }

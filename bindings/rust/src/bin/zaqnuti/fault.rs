@@ -13,12 +13,12 @@ pub enum Fault {
 /// What a step of a run gives, or why the run ends.
 pub type Run<T> = Result<T, Fault>;
 
-/// A fault in words.
+/// Returns a fault in words.
 pub fn said<T>(why: impl Into<String>) -> Run<T> {
     Err(Fault::Said(why.into()))
 }
 
-/// A fault of reading or writing the file of a name.
+/// Returns a fault of reading or writing the file of a name.
 pub fn failed(name: &str, e: &io::Error) -> Fault {
     match e.kind() {
         io::ErrorKind::BrokenPipe => Fault::Closed,

@@ -11,10 +11,10 @@ pub const FLAGS: [&str; 3] = ["--csv", "--json", "--ignore-unknown"];
 
 /// What such a command can write, for help.
 pub const ENDING: &str = "
-  --csv               as CSV, with a header line
-  --json              as JSON: an array of objects
-  -o FILE             where it goes, whole or not at all [standard output]
-  --ignore-unknown    columns of unknown names are allowed
+  --csv               prints CSV, with a header line
+  --json              prints JSON: an array of objects
+  -o FILE             output, written completely or not at all [standard output]
+  --ignore-unknown    allows columns with unknown names
   --help
 ";
 
@@ -28,12 +28,12 @@ pub enum Value {
 }
 
 impl Value {
-    /// A whole number.
+    /// Returns a whole number.
     pub fn whole(x: u64) -> Self {
         Self::Number(x.to_string())
     }
 
-    /// A number that may not be known.
+    /// Returns a number that may not be known.
     pub fn maybe(x: Option<String>) -> Self {
         x.map_or(Self::Missing, Self::Number)
     }
@@ -57,7 +57,7 @@ impl Value {
     }
 }
 
-/// A text as a string of JSON.
+/// Returns a text as a string of JSON.
 fn quoted(text: &str) -> String {
     let mut out = String::from("\"");
     for c in text.chars() {
@@ -89,10 +89,10 @@ pub struct Rows {
 }
 
 impl Rows {
-    /// Where and in which form the options say; the header is that of CSV.
+    /// Returns where and in which form the options say; the header is that of CSV.
     pub fn open(args: &Args, header: &str) -> Run<Self> {
         let form = match (args.has("--csv"), args.has("--json")) {
-            (true, true) => return said("--csv and --json: only one of them is written"),
+            (true, true) => return said("--csv and --json: choose one"),
             (true, false) => Form::Csv,
             (false, true) => Form::Json,
             (false, false) => Form::Words,

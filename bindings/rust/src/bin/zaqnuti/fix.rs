@@ -13,17 +13,17 @@ use crate::fault::Run;
 pub const HELP: &str = "\
 zaqnuti fix [OPTIONS] [FILE..]: a position from the pseudoranges of each epoch
 
-Lines of the same week and tow that follow each other are an epoch.
-  tow            time of week, s; week before it where there is one
+Consecutive lines with the same week and tow are an epoch.
+  tow            time of week, s; week too, if there is one
   constellation  1 GPS, 3 GLONASS, 5 BeiDou, 6 Galileo
   pseudorange    m, without the satellite's group delay
   x, y, z        satellite at transmission, earth-centred earth-fixed, m
   elevation      degrees
   clock          m, added to the pseudorange (may be left out)
   modelled       ionosphere and troposphere, m, subtracted (may be left out)
-  correction     m, subtracted (may be left out); a line where it is empty is not used
+  correction     m, subtracted (may be left out); a line with an empty field is not used
 
-  --at X,Y,Z          where the first round begins, m [0,0,0, the earth's centre]
+  --at X,Y,Z          where the first round starts, m [0,0,0, the earth's centre]
   --receiver KIND     phone or geodetic: the settings below [phone]
   --sigma-a M         sigma = a + b / sin(elevation), m [phone 0.3, geodetic 0.3]
   --sigma-b M         [phone 16, geodetic 0.3]
@@ -66,7 +66,7 @@ impl Columns {
         })
     }
 
-    /// Whether a row has no satellite.
+    /// Checks whether a row has no satellite.
     fn is_bare(&self, table: &Table) -> bool {
         let [x, y, z] = self.place;
         let fields = [
@@ -80,7 +80,7 @@ impl Columns {
         fields.iter().all(|&column| table.field(column).is_empty())
     }
 
-    /// The observation of a line, none where it has no satellite, or no correction where one is wanted.
+    /// Returns the observation of a line, none if it has no satellite or lacks its correction.
     fn read(&self, table: &Table) -> Run<Option<Observation>> {
         let none = self.correction.is_some_and(|c| table.field(c).is_empty());
         if none || self.is_bare(table) {

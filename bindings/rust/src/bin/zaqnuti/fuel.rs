@@ -45,7 +45,7 @@ impl Fuel {
                 day: day.map_or(String::new(), text),
             };
             if labels.depot.is_empty() {
-                return Err(table.fault_in(depot, "empty; a depot is wanted"));
+                return Err(table.fault_in(depot, "empty; expected a depot"));
             }
             let filled = Some(millilitres).filter(|&c| !table.field(c).is_empty());
             let place = fuel.entries.len();
@@ -65,7 +65,7 @@ impl Fuel {
         }
     }
 
-    /// The line for a trip, none where there is no such line; two lines are a fault.
+    /// Returns the line for a trip, none where there is no such line; two lines are a fault.
     pub fn find(&self, at: &str, labels: &Labels) -> Run<Option<usize>> {
         let mut found: Option<usize> = None;
         for (with_van, with_day) in [(true, true), (true, false), (false, true), (false, false)] {

@@ -37,12 +37,12 @@ impl Intervals {
         self.longest = self.longest.max(seconds);
     }
 
-    /// The longest interval.
+    /// Returns the longest interval.
     pub fn longest(&self) -> f64 {
         self.longest
     }
 
-    /// The median, the lower one of an even number.
+    /// Returns the median, the lower one of an even number.
     fn median(&self) -> f64 {
         let mut below = 0;
         for class in self.classes.values() {
@@ -54,7 +54,7 @@ impl Intervals {
         0.0
     }
 
-    /// The seconds that are missing: of each gap what it has beyond the median.
+    /// Returns the seconds that are missing: of each gap what it has beyond the median.
     pub fn missing(&self) -> f64 {
         let median = self.median();
         let beyond = |class: &Class| match class.sum > GAP * median * class.count as f64 {

@@ -17,7 +17,7 @@ pub struct Labels {
 }
 
 impl Labels {
-    /// Those of the drive in a file.
+    /// Returns those of the drive in a file.
     pub fn of(args: &Args, path: &str) -> Run<Self> {
         let mut labels = match args.value("--name-pattern") {
             Some(pattern) => by_name(pattern, path)?,
@@ -74,7 +74,7 @@ fn parts(pattern: &str) -> Run<Vec<Part<'_>>> {
     Ok(out)
 }
 
-/// Whether a text is a date such as 2026-11-03.
+/// Checks whether a text is a date such as 2026-11-03.
 fn is_date(text: &str) -> bool {
     let fits = |(i, b): (usize, u8)| match i {
         4 | 7 => b == b'-',
@@ -83,7 +83,7 @@ fn is_date(text: &str) -> bool {
     text.len() == 10 && text.bytes().enumerate().all(fits)
 }
 
-/// The labels in a file's name. Of several readings the one whose day is a date is taken.
+/// Returns the labels in a file's name. Of several readings the one whose day is a date is taken.
 fn by_name(pattern: &str, path: &str) -> Run<Labels> {
     let name = Path::new(path).file_name().and_then(|n| n.to_str());
     let name = name.unwrap_or(path);

@@ -34,7 +34,7 @@ pub struct Driven {
 }
 
 impl Driven {
-    /// Whether two lines of one label and one time are of one drive.
+    /// Checks whether two lines of one label and one time are of one drive.
     fn is_again(&self, other: &Self) -> bool {
         let sums = |d: &Self| (d.epochs, d.carrier, d.pulses_all);
         !self.labels.van.is_empty() || self.file == other.file || sums(self) == sums(other)
@@ -113,7 +113,7 @@ impl Columns {
 
     fn check(&self, table: &Table, driven: &Driven) -> Run<()> {
         if driven.labels.depot.is_empty() {
-            return Err(table.fault_in(self.depot, "empty; a depot is wanted"));
+            return Err(table.fault_in(self.depot, "empty; expected a depot"));
         }
         let (counted, all) = (driven.pulses_counted, driven.pulses_all);
         if counted > all {

@@ -10,7 +10,7 @@ pub struct Plane {
 }
 
 impl Plane {
-    /// The plane at x, y, z.
+    /// Returns the plane at x, y, z.
     pub fn at([x, y, z]: [f64; 3]) -> Self {
         let (lat, lon) = (z.atan2(x.hypot(y) * (1.0 - E2)), y.atan2(x));
         let ((sa, ca), (so, co)) = (lat.sin_cos(), lon.sin_cos());
@@ -20,7 +20,7 @@ impl Plane {
         }
     }
 
-    /// The parts of a vector to the east and to the north.
+    /// Returns the parts of a vector to the east and to the north.
     pub fn parts(&self, [x, y, z]: [f64; 3]) -> [f64; 2] {
         [self.east, self.north].map(|[a, b, c]| a * x + b * y + c * z)
     }

@@ -57,8 +57,8 @@ zaqnuti COMMAND [OPTIONS] [FILE..]: positioning from decimal CSV with a header l
   track          the track that fits fixes and displacements
   trip           the distance of each drive, by carrier phases and odometer
   rank           fuel per kilometre of each depot, best first
-  encode         CSV as texts of the program displacement
-  decode         such texts as CSV
+  encode         CSV to texts of the program displacement
+  decode         such texts to CSV
   plot           the path of a drive as a picture (SVG)
   rinex          a receiver's own files as CSV for the commands above
 
@@ -66,26 +66,26 @@ zaqnuti COMMAND [OPTIONS] [FILE..]: positioning from decimal CSV with a header l
   zaqnuti --version
 
 Without a FILE, and for -, standard input is read. Exit status: 0 answered,
-1 some call was refused (trip: no epoch counted in a file; rank: a depot not
-ranked), 2 bad input, or something can't be read or written.
+1 a call was refused (trip: a file has no counted epoch; rank: a depot has no
+rank), 2 bad input, or a file can't be read or written.
 ";
 
 const ENDING: &str = "
-  --csv               answers as CSV, with a header line and exact decimals
-  -o FILE             where answers go, whole or not at all [standard output]
-  --ignore-unknown    columns of unknown names are allowed
+  --csv               prints CSV, with a header line and exact decimals
+  -o FILE             output, written completely or not at all [standard output]
+  --ignore-unknown    allows columns with unknown names
   --help
 ";
 
 const SHORT_ENDING: &str = "
-  -o FILE             where it goes, whole or not at all
-  --ignore-unknown    columns of unknown names are allowed
+  -o FILE             output, written completely or not at all
+  --ignore-unknown    allows columns with unknown names
   --help
 ";
 
 type Command = fn(&[String]) -> Run<bool>;
 
-/// A command by its name, and its help.
+/// Returns a command by its name, and its help.
 fn command(name: &str) -> Option<(Command, Vec<&'static str>)> {
     Some(match name {
         "fix" => (fix::run, vec![fix::HELP, ENDING]),
@@ -124,7 +124,7 @@ fn print(text: &str) -> Run<bool> {
 
 fn run(words: &[String]) -> Run<bool> {
     let Some((name, rest)) = words.split_first() else {
-        return said("a command is wanted; see zaqnuti --help");
+        return said("a command is required; see zaqnuti --help");
     };
     match name.as_str() {
         "--help" | "-h" | "help" => return print(HELP),
@@ -144,7 +144,7 @@ fn main() -> ExitCode {
     let words: Result<Vec<String>, _> = env::args_os().skip(1).map(|w| w.into_string()).collect();
     let done = match words {
         Ok(words) => run(&words),
-        Err(word) => said(format!("{word:?}: is no text")),
+        Err(word) => said(format!("{word:?}: is not text")),
     };
     match done {
         Ok(true) => ExitCode::SUCCESS,

@@ -10,7 +10,7 @@ const KNOWN: &str = "week tow constellation svid band pseudorange carrier adr st
     greatest_mm reached set_aside standing_mm counted_mm pulses_counted pulses_all coverage \
     distance_mm gap_s trips ml_per_km_carrier millilitres";
 
-/// Whether a command reads or writes a column of this name.
+/// Checks whether a command reads or writes a column of this name.
 pub fn is_known(name: &str) -> bool {
     known().any(|known| known == name)
 }
@@ -19,7 +19,7 @@ fn known() -> impl Iterator<Item = &'static str> {
     KNOWN.split(' ').filter(|name| !name.is_empty())
 }
 
-/// The known name from which a name differs by case, quotes or one letter, and by which of them.
+/// Returns the known name from which a name differs by case, quotes or one letter, and by which of them.
 pub fn near(name: &str) -> Option<(&'static str, &'static str)> {
     let bare = name.trim_matches(['"', '\'', '`', ' ']);
     let lower = bare.to_lowercase();
@@ -35,7 +35,7 @@ pub fn near(name: &str) -> Option<(&'static str, &'static str)> {
     found.map(|known| (known, "by one letter"))
 }
 
-/// Whether one letter added, left out or replaced turns one word into the other.
+/// Checks whether one letter added, left out or replaced turns one word into the other.
 fn one_letter_apart(a: &str, b: &str) -> bool {
     let (a, b): (Vec<char>, Vec<char>) = (a.chars().collect(), b.chars().collect());
     let start = a.iter().zip(&b).take_while(|(x, y)| x == y).count();

@@ -61,7 +61,7 @@ impl Counter {
         }
     }
 
-    /// The total at the next count, or why there is none.
+    /// Returns the total at the next count, or why there is none.
     fn take(&mut self, count: u64) -> Result<u64, String> {
         let last = self.last.replace(count).unwrap_or(count);
         let back = || format!("runs backwards, from {last} to {count}");
@@ -134,7 +134,7 @@ impl Recording {
         Ok(Some((time, total)))
     }
 
-    /// The last count at or before a time.
+    /// Returns the last count at or before a time.
     fn at(&mut self, time: Time) -> Run<Option<u64>> {
         while let Some((next, total)) = self.ahead {
             if next.week().is_some() != time.week().is_some() {
@@ -203,7 +203,7 @@ impl Odometer {
         Ok(Self { form, counter })
     }
 
-    /// The column that the drive's rows have for it.
+    /// Returns the column that the drive's rows have for it.
     pub fn field(&self) -> Option<Field> {
         match self.form {
             Form::Pulses(field) | Form::Count(field) => Some(field),
@@ -211,7 +211,7 @@ impl Odometer {
         }
     }
 
-    /// The running total at an epoch, none before the first count of a second recording.
+    /// Returns the running total at an epoch, none before the first count of a second recording.
     pub fn total(&mut self, series: &Series, epoch: &Sky) -> Run<Option<u64>> {
         let count = epoch.head.count.unwrap_or(0);
         match &mut self.form {
@@ -228,7 +228,7 @@ impl Odometer {
         }
     }
 
-    /// The pulses of an epoch, from the totals at it and at the one before.
+    /// Returns the pulses of an epoch, from the totals at it and at the one before.
     pub fn pulses(series: &Series, epoch: &Sky, before: u64, now: u64) -> Run<u16> {
         let pulses = now - before;
         u16::try_from(pulses).map_err(|_| {
@@ -260,7 +260,7 @@ impl Odometer {
         Some(format!("a gap of {gap:.3} s: {why}"))
     }
 
-    /// The seconds by which a second recording ends before the drive, where it never paused so long.
+    /// Returns the seconds by which a second recording ends before the drive, where it never paused so long.
     pub fn ends_before(&self, last: Time) -> Option<f64> {
         match &self.form {
             Form::Recording(recording) if recording.ahead.is_none() => {
@@ -277,7 +277,7 @@ fn several<T>(name: &str, which: &str) -> Run<T> {
     Err(Fault::Said(format!("{name}:1: odometer: {which}; {why}")))
 }
 
-/// The bits of a count that wraps.
+/// Returns the bits of a count that wraps.
 fn wrap(args: &Args) -> Run<Option<u32>> {
     match args.value("--wrap") {
         None => Ok(None),

@@ -16,7 +16,7 @@ const HATCH: &str = "<svg width=\"0\" height=\"0\" style=\"position:absolute\" a
 <pattern id=\"hatch\" width=\"7\" height=\"7\" patternUnits=\"userSpaceOnUse\" patternTransform=\"rotate(45)\">\
 <rect class=\"unranked\" width=\"7\" height=\"7\"/><line class=\"hatch\" x1=\"0\" y1=\"0\" x2=\"0\" y2=\"7\"/></pattern></defs></svg>";
 
-/// A text as HTML shows it.
+/// Returns a text as HTML shows it.
 fn escaped(text: &str) -> String {
     let mut out = String::new();
     for c in text.chars() {
@@ -36,7 +36,7 @@ fn percent(part: Option<f64>) -> String {
     part.map_or("none".into(), |c| format!("{:.2} %", 100.0 * c))
 }
 
-/// The page.
+/// Returns the page.
 pub fn written(depots: &[Depot], drives: &[Driven], bounds: Bounds) -> String {
     let trips = drives.len();
     let far = kilometres(depots.iter().map(|d| d.distance).sum());
@@ -111,7 +111,7 @@ fn bar(depot: &Depot, depots: &[Depot], best: Option<&Depot>) -> String {
     )
 }
 
-/// How far a ranked depot is above the best.
+/// Returns how far a ranked depot is above the best.
 fn above(depot: &Depot, best: &Depot) -> Option<String> {
     depot.rank.filter(|&rank| rank > 1)?;
     let (own, least) = (depot.thousandths()? as f64, best.thousandths()? as f64);
@@ -149,7 +149,7 @@ struct Cell {
 }
 
 impl Cell {
-    /// A number, a dash where there is none.
+    /// Returns a number, a dash where there is none.
     fn number(x: Option<String>) -> Self {
         Self {
             class: "",
@@ -210,7 +210,7 @@ carrier distance times all its odometer pulses by the counted ones, so that brid
     )
 }
 
-/// The days from the first drive to the last, by GPS time; by their own names where there are no weeks.
+/// Returns the days from the first drive to the last, by GPS time; by their own names where there are no weeks.
 fn period(drives: &[Driven]) -> String {
     let days: Vec<i64> = drives.iter().filter_map(|d| day(d.first)).collect();
     let range = |first: String, last: String| match first == last {
@@ -241,7 +241,7 @@ fn day(time: Time) -> Option<i64> {
         .map(|week| 3657 + 7 * i64::from(week) + (seconds / 86_400.0) as i64)
 }
 
-/// A day of the Gregorian calendar.
+/// Returns a day of the Gregorian calendar.
 fn date(days: i64) -> String {
     let days = days + 719_468;
     let (era, day) = (days.div_euclid(146_097), days.rem_euclid(146_097));

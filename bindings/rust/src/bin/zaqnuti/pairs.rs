@@ -17,20 +17,19 @@ pub const HELP: &str = "\
 A series: lines of the same week and tow that follow each other are an epoch, and
 each epoch is paired with the one before it.
   tow            time of week, s; with week, times are exact to the nanosecond
-                 and go on across the end of a week
+                 and continue across the end of a week
   constellation  1 GPS, 3 GLONASS, 5 BeiDou, 6 Galileo; svid; band in MHz (may be left out)
   adr            accumulated delta range, m, corrected for the satellite's clock;
-                 or carrier, m, as measured, to which clock is added, from which
-                 modelled is subtracted, and to which twice ionosphere is added
-                 (each of the three may be left out)
+                 or carrier, m, as measured: plus clock, minus modelled, plus twice
+                 ionosphere (each of the three may be left out)
   state          1 valid, 2 cycle slip, 4 reset, summed (may be left out: 1)
   x, y, z        satellite at transmission, earth-centred earth-fixed, m
   elevation      degrees
   rate           range rate, m/s, receding is positive
-  rx, ry, rz     where the receiver is, m (or --at or --fixes); a metre of error
+  rx, ry, rz     the receiver's position, m (or --at or --fixes); a metre of error
                  moves the answer by 0.2 mm for each second between the epochs
   true_dx, true_dy, true_dz
-                 the true displacement from the epoch before, m (may be left out)
+                 the true displacement from the previous epoch, m (may be left out)
 
 Pairs, as `zaqnuti decode` writes them: a column line has S, P or C.
   S              begins the pair named in the column pair: dt (s), x, y, z of the
@@ -75,7 +74,7 @@ impl Pair {
         of.map(|(_, carrier)| *carrier).collect()
     }
 
-    /// The displacement of the pair.
+    /// Returns the displacement of the pair.
     pub fn solve(&self) -> Result<Delta, Refusal> {
         let [x, y, z] = self.at;
         let (previous, current) = (self.side(Side::Previous), self.side(Side::Current));
@@ -97,7 +96,7 @@ pub enum Pairs {
 }
 
 impl Pairs {
-    /// Those of a file, whose form its header tells.
+    /// Returns those of a file, whose form its header tells.
     pub fn open(source: &str, args: &Args) -> Run<Self> {
         let table = Table::open(source, args.has("--ignore-unknown"))?;
         if table.optional("line").is_none() {
@@ -115,7 +114,7 @@ impl Pairs {
         }
     }
 
-    /// The name of the file, for messages.
+    /// Returns the name of the file, for messages.
     pub fn name(&self) -> &str {
         match self {
             Self::Series(steps) => steps.series.name(),
@@ -123,7 +122,7 @@ impl Pairs {
         }
     }
 
-    /// The next pair, none at the end of the file.
+    /// Returns the next pair, none at the end of the file.
     pub fn next(&mut self) -> Run<Option<Pair>> {
         match self {
             Self::Series(steps) => steps.next(),
@@ -210,7 +209,7 @@ impl Lines {
         })
     }
 
-    /// The pair that a line S begins.
+    /// Returns the pair that a line S begins.
     fn head(&mut self) -> Run<Pair> {
         self.count += 1;
         let name = self.pair.map_or("", |pair| self.table.field(pair));

@@ -19,10 +19,10 @@ pub enum Places {
 }
 
 impl Places {
-    /// Those that the options or the series' own columns give.
+    /// Returns those that the options or the series' own columns give.
     pub fn of(args: &Args, series: &Table) -> Run<Self> {
         match (args.place("--at")?, args.value("--fixes")) {
-            (Some(_), Some(_)) => said("--at and --fixes: only one of them is read"),
+            (Some(_), Some(_)) => said("--at and --fixes: choose one"),
             (Some(at), None) => Ok(Self::One(at)),
             (None, Some(path)) => {
                 let path = path.replace("{}", stem(series.name()));
@@ -36,12 +36,12 @@ impl Places {
         }
     }
 
-    /// Whether the series' own rows give the places.
+    /// Checks whether the series' own rows give the places.
     pub fn are_lines(&self) -> bool {
         matches!(self, Self::Lines)
     }
 
-    /// The place at a time, of which the series' own line says `line`.
+    /// Returns the place at a time; `line` is the one in the series' own row.
     pub fn at(&mut self, time: Time, line: [f64; 3]) -> Run<[f64; 3]> {
         match self {
             Self::One(at) => Ok(*at),
@@ -51,7 +51,7 @@ impl Places {
     }
 }
 
-/// The name of a file without its folder and its ending.
+/// Returns the name of a file without its folder and its ending.
 pub fn stem(path: &str) -> &str {
     let stem = Path::new(path).file_stem().and_then(|s| s.to_str());
     stem.unwrap_or(path)
@@ -82,7 +82,7 @@ impl Fixes {
         Ok(fixes)
     }
 
-    /// The next fix that was answered.
+    /// Returns the next fix that was answered.
     fn read(&mut self) -> Run<Option<(Time, [f64; 3])>> {
         while self.table.next()? {
             if self.table.whole_or(self.refusal, 0u8)? == 0 {
@@ -93,7 +93,7 @@ impl Fixes {
         Ok(None)
     }
 
-    /// The last fix up to a time, or the first of all.
+    /// Returns the last fix up to a time, or the first of all.
     fn at(&mut self, time: Time) -> Run<[f64; 3]> {
         while let Some((next, place)) = self.ahead {
             if next.order(time) == Ordering::Greater && self.last.is_some() {

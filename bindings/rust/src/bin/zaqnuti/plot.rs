@@ -93,7 +93,7 @@ impl Drive {
         }
     }
 
-    /// The picture, under a title.
+    /// Returns the picture, under a title.
     fn chart(self, title: String) -> Chart {
         let (pairs, refused) = (self.pairs, self.refused.len());
         let off = match self.squares {

@@ -14,17 +14,17 @@ pub const HELP: &str = "\
 zaqnuti rank --fuel FUEL.csv [OPTIONS] TRIPS.csv..: fuel per kilometre by depot
 
 TRIPS.csv is what `zaqnuti trip --csv` wrote. FUEL.csv has
-  depot, millilitres  and van and day where the fuel is known by van or day; an
-                      empty van or day is all of them. Each trip must have exactly
-                      one line of fuel, each line of fuel a trip.
+  depot, millilitres  and van and day if the fuel is known by van or day; an empty
+                      van or day means all of them. Each trip must have exactly one
+                      line of fuel, and each line of fuel a trip.
 
 Best first; a depot that can't be compared has no rank and is listed last, with
 the reason. A trip without pulses (an idle van) adds its fuel and no distance.
 
   --fuel FILE           the fuel
-  --min-coverage PART   least share of the pulses that was counted [0.90]
-  --max-difference PC   most that odometer and carrier distance differ, per cent [3]
-  --allow-missing       list a depot without fuel or trips, without a rank
+  --min-coverage PART   smallest share of counted pulses [0.90]
+  --max-difference PC   largest difference of odometer and carrier distance, % [3]
+  --allow-missing       lists depots without fuel or trips, unranked
   --html PAGE           the ranking as a page for a browser
 ";
 
@@ -46,11 +46,11 @@ fn bounds(args: &Args) -> Run<Bounds> {
         missing: args.has("--allow-missing"),
     };
     if !(0.0..=1.0).contains(&bounds.coverage) {
-        return said("--min-coverage: is not from 0 to 1");
+        return said("--min-coverage: must be from 0 to 1");
     }
     match bounds.difference >= 0.0 {
         true => Ok(bounds),
-        false => said("--max-difference: is not from 0 up"),
+        false => said("--max-difference: must be 0 or more"),
     }
 }
 

@@ -10,14 +10,14 @@ pub struct Asked<'a> {
     pub previous: &'a [Carrier],
     pub current: &'a [Carrier],
     pub dt: f64,
-    /// The band of the city profile, where that is wanted.
+    /// The band of the city profile, if it is used.
     pub band: Option<u32>,
     pub at: Ecef,
     pub set: &'a Settings,
 }
 
 impl Asked<'_> {
-    /// The displacement and its quality.
+    /// Returns the displacement and its quality.
     pub fn rated(&self) -> Result<Moved, Refusal> {
         let (previous, current, at, set) = (self.previous, self.current, self.at, self.set);
         let rated = match self.band {

@@ -34,12 +34,12 @@ impl Reported {
         known.then(|| sums.covered as f64 / sums.pulses as f64)
     }
 
-    /// The drive's distance in millimetres.
+    /// Returns the drive's distance in millimetres.
     pub fn distance(&self) -> Option<u64> {
         self.sums.distance.filter(|_| !self.lost)
     }
 
-    /// Its fields, in the order of the columns.
+    /// Returns its fields, in the order of the columns.
     pub fn fields(&self) -> Fields {
         let (sums, counts, labels) = (&self.sums, &self.sums.mileage, &self.labels);
         let text = |text: &str| Value::Text(text.to_string());
@@ -87,7 +87,7 @@ impl Reported {
         fields
     }
 
-    /// The drive in words.
+    /// Returns the drive in words.
     pub fn words(&self) -> String {
         let (sums, counts) = (&self.sums, &self.sums.mileage);
         let far = match (self.distance(), self.coverage()) {

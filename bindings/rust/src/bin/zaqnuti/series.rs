@@ -28,11 +28,11 @@ pub const VALUED: [&str; 9] = [
 /// The options of a series, for help.
 pub const HELP: &str = "\
 Options of a series:
-  --at X,Y,Z          where the receiver is, m, through the whole series
-  --fixes FILE        where it is at each time, as `zaqnuti fix --csv` wrote it;
+  --at X,Y,Z          the receiver's position, m, for the whole series
+  --fixes FILE        its position at each time, as `zaqnuti fix --csv` wrote it;
                       {} in FILE is the series' name without its ending
   --receiver KIND     phone or geodetic: the settings below [phone]
-  --screen M          pairs as far off the others are dropped, m [phone 0.5, geodetic 2]
+  --screen M          drops pairs this far from the others, m [phone 0.5, geodetic 2]
   --sigma-a M         sigma = a + b / sin(elevation), m [0.008]
   --sigma-b M         [0.002]
   --huber N           in robust sigmas [1.5]
@@ -83,7 +83,7 @@ pub struct Series {
 }
 
 impl Series {
-    /// The series of a table; with an odometer field, times must go forward.
+    /// Returns the series of a table; with an odometer field, times must go forward.
     pub fn new(table: Table, args: &Args, odometer: Option<Field>, forward: bool) -> Run<Self> {
         let columns = Columns::of(&table)?;
         let place = table.optionals(["rx", "ry", "rz"])?;
@@ -117,23 +117,23 @@ impl Series {
         })
     }
 
-    /// The next epoch, none at the end of the file.
+    /// Returns the next epoch, none at the end of the file.
     pub fn next(&mut self) -> Run<Option<Sky>> {
         self.epochs.next()
     }
 
-    /// Where the receiver is at an epoch.
+    /// Returns where the receiver is at an epoch.
     pub fn place(&mut self, epoch: &Sky) -> Run<[f64; 3]> {
         self.last = epoch.head.at.unwrap_or(self.last);
         self.places.at(epoch.time, self.last)
     }
 
-    /// The name of the file, for messages.
+    /// Returns the name of the file, for messages.
     pub fn name(&self) -> &str {
         self.epochs.table().name()
     }
 
-    /// A fault in a column of the line where an epoch begins.
+    /// Returns a fault in a column of the line where an epoch begins.
     pub fn fault(&self, epoch: &Sky, column: &str, why: &str) -> Fault {
         let (name, line) = (self.name(), epoch.head.line);
         Fault::Said(format!("{name}:{line}: {column}: {why}"))
@@ -146,7 +146,7 @@ pub fn exact(before: Time, now: Time) -> Option<Result<[GpsTime; 2], Refusal>> {
     Some(before.and_then(|before| Ok([before, now?])))
 }
 
-/// The seconds between two epochs, exact to the nanosecond where both have a week.
+/// Returns the seconds between two epochs, exact to the nanosecond where both have a week.
 pub fn seconds(before: Time, now: Time) -> Result<f64, Refusal> {
     match exact(before, now) {
         None => Ok(now.since(before)),

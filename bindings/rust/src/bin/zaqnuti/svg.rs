@@ -46,7 +46,7 @@ struct Frame {
 }
 
 impl Frame {
-    /// A frame that holds every place with some room; none where a place is out of all measure.
+    /// Returns a frame that holds every place with some room; none where a place is out of all measure.
     fn of(series: &[Series]) -> Option<Self> {
         let places = || series.iter().flat_map(|s| s.parts.iter().flatten());
         let most = |k: usize| places().map(|p| p[k]).fold(0.0f64, f64::max);
@@ -85,7 +85,7 @@ impl Frame {
         (x, y)
     }
 
-    /// The ticks of an axis.
+    /// Returns the ticks of an axis.
     fn ticks(&self, k: usize) -> impl Iterator<Item = f64> + '_ {
         let first = (self.low[k] / self.step).ceil() as i64;
         let last = (self.high[k] / self.step).floor() as i64;
@@ -93,7 +93,7 @@ impl Frame {
     }
 }
 
-/// The first of 1, 2 and 5 times a power of ten that is not below a length.
+/// Returns the first of 1, 2 and 5 times a power of ten that is not below a length.
 fn step(length: f64) -> f64 {
     let power = 10f64.powf(length.log10().floor());
     let fits = [1.0, 2.0, 5.0].into_iter().find(|m| m * power >= length);
@@ -112,7 +112,7 @@ macro_rules! put {
 }
 
 impl Chart {
-    /// The picture as text; none where a place is out of all measure.
+    /// Returns the picture as text; none where a place is out of all measure.
     pub fn draw(&self) -> Option<String> {
         let frame = Frame::of(&self.series)?;
         let (width, height) = (LEFT + frame.width() + RIGHT, TOP + frame.height() + BOTTOM);

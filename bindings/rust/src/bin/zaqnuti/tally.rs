@@ -21,7 +21,7 @@ impl Tally {
         }
     }
 
-    /// How many there are.
+    /// Returns how many there are.
     pub fn total(&self) -> u64 {
         self.0.values().sum()
     }

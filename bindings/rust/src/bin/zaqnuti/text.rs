@@ -42,7 +42,7 @@ fn hex(floats: &[f64]) -> String {
     fields.collect::<Vec<_>>().join(",")
 }
 
-/// The text of a pair in the line form.
+/// Returns the text of a pair in the line form.
 fn encoded(pair: &Pair) -> Run<String> {
     let ([x, y, z], s) = (pair.at, &pair.set);
     let head = [
@@ -71,12 +71,12 @@ fn put(path: Option<&str>, text: &str) -> Run<()> {
     out.close()
 }
 
-/// The path of a pair's text, whose name must be one of a file alone.
+/// Returns the path of a pair's text, whose name must be one of a file alone.
 fn path(folder: &str, pair: &Pair) -> Run<String> {
     let name = pair.name.replace([' ', ','], "_");
     let plain = |c: char| c.is_ascii_alphanumeric() || "._-".contains(c);
     match name.starts_with('.') || !name.chars().all(plain) {
-        true => said(format!("{:?} is no name of a file", pair.name)),
+        true => said(format!("{:?} is not a file name", pair.name)),
         false => Ok(format!("{folder}/{name}.txt")),
     }
 }
@@ -123,7 +123,7 @@ impl Place<'_> {
         }
     }
 
-    /// A whole number as the line form has it, without plus sign or leading zeros.
+    /// Returns a whole number as the line form has it, without plus sign or leading zeros.
     fn whole(&self, field: &str, name: &str, range: (i64, i64)) -> Run<String> {
         let number = field.parse::<i64>().ok().filter(|n| n.to_string() == field);
         match number {
@@ -135,7 +135,7 @@ impl Place<'_> {
         }
     }
 
-    /// The fields of a line S after its letter, as CSV.
+    /// Returns the fields of a line S after its letter, as CSV.
     fn head(&self, fields: &[&str]) -> Run<String> {
         let names = [
             "dt", "x", "y", "z", "screen", "sigma_a", "sigma_b", "huber", "mask", "rounds",
@@ -149,7 +149,7 @@ impl Place<'_> {
         Ok(out.join(",") + ",,,,,,,")
     }
 
-    /// The fields of a line P or C after its letter, as CSV.
+    /// Returns the fields of a line P or C after its letter, as CSV.
     fn carrier(&self, fields: &[&str]) -> Run<String> {
         self.count(fields, 10)?;
         let constellation = self.whole(fields[0], "constellation", (0, u8::MAX.into()))?;
@@ -188,7 +188,7 @@ fn decoded(source: &str, known: Option<&Truth>, out: &mut Output) -> Run<()> {
     if text.len() > TEXT {
         return said(format!("{name}: a text has at most {TEXT} bytes"));
     }
-    let text = String::from_utf8(text).or_else(|_| said(format!("{name}: is no text")))?;
+    let text = String::from_utf8(text).or_else(|_| said(format!("{name}: is not text")))?;
     let Some(text) = text.strip_suffix('\n') else {
         return said(format!("{name}: is empty, or its last line has no end"));
     };

@@ -13,17 +13,17 @@ use crate::fault::{self, said, Run};
 pub const HELP: &str = "\
 zaqnuti track [OPTIONS] FILE..: the track that fits fixes and displacements
 
-The header tells what a file has; the lines that `zaqnuti fix --csv` and
-`zaqnuti displacement --csv` write are read as they are.
-  tow                time of week, s; week before it where there is one
+The header says what a file holds; output of `zaqnuti fix --csv` and
+`zaqnuti displacement --csv` can be read directly.
+  tow                time of week, s; week too, if there is one
   x, y, z            a fix, m; in a recording with satellites rx, ry, rz; or
   dx, dy, dz, dt     a displacement that ends at tow and took dt seconds, m and s
   sigma_x, sigma_y, sigma_z
                      one-sigma of either, m, above 0 (or the options below)
-  refusal            a line where it is not 0 is an epoch and nothing more
+  refusal            a line with another value than 0 is an epoch without data
 
-Each time of a line is an epoch of the track, at most 1,024 of them, and a
-displacement leads from one epoch to the next.
+Each time is an epoch of the track, at most 1,024 of them. A displacement
+leads from one epoch to the next.
 
   --fix-sigma M           one-sigma of each fix by axis, m [1]
   --displacement-sigma M  of each displacement by axis, m [0.05]
@@ -53,7 +53,7 @@ struct Columns {
     satellites: bool,
 }
 
-/// The columns of a fix: x, y, z belong to the satellites where a file has any.
+/// Returns the columns of a fix: x, y, z belong to the satellites where a file has any.
 fn fix_columns(table: &Table, satellites: bool) -> Run<[&'static str; 3]> {
     match table.optional("rx") {
         Some(_) => Ok(["rx", "ry", "rz"]),

@@ -28,12 +28,12 @@ A file is one drive: a series of epochs as `zaqnuti displacement` reads it, with
 rx, ry, rz or --at or --fixes, and one form of the odometer:
   odometer            a column: a running count of pulses, the same in all rows of
                       an epoch
-  pulses              a column: the pulses since the epoch before
+  pulses              a column: the pulses since the previous epoch
   --odometer FILE     a second recording with week, tow and odometer at times of its
                       own; an epoch has the last count at or before it; {} in FILE
                       is the drive's name without its ending
 A row whose satellite fields are empty is an epoch without satellites, as in a
-tunnel: its pulses count.
+tunnel; its pulses count.
 
   --pulses-per-km N   1 to 65535
   --wrap BITS         the running count wraps at 16 or 32 bits
@@ -41,12 +41,12 @@ tunnel: its pulses count.
   --name-pattern P    the same from the file's name, as '{depot}-{van}-{day}.csv'
   --settings FILE     week, tow, screen, sigma_a, sigma_b, huber, mask, rounds: each
                       line is in force from its time, the options before the first
-  --city BAND         GPS and Galileo on one band (MHz) alone
-  --max-error M       displacements with a predicted error from here up are set
-                      aside: pdop times chi (at least 1) times 0.01 m [0.2]
-  --millilitres ML    fuel of the one drive: adds millilitres for a kilometre of
-                      carrier distance, rounded down
-  --jobs N            files worked on side by side [the processor's cores]
+  --city BAND         only GPS and Galileo on one band (MHz)
+  --max-error M       sets aside displacements with a predicted error of M or more:
+                      pdop times chi (at least 1) times 0.01 m [0.2]
+  --millilitres ML    fuel of the drive: adds millilitres per kilometre of carrier
+                      distance, rounded down
+  --jobs N            files processed in parallel [the processor's cores]
 ";
 
 const VALUED: [&str; 7] = [
@@ -88,10 +88,10 @@ impl Plan {
             jobs: args.whole("--jobs", cores)?,
         };
         if plan.jobs == 0 {
-            return said("--jobs: is 1 or more");
+            return said("--jobs: must be 1 or more");
         }
         if Mileage::start(plan.limit).is_err() {
-            return said("--max-error: is above 1e9, or no number");
+            return said("--max-error: must be a number of at most 1e9");
         }
         match Totals::begin(&plan.set, per_km, plan.limit) {
             Ok(_) => Ok(plan),
@@ -115,7 +115,7 @@ struct Way {
     early: u64,
 }
 
-/// A refusal that no input can bring about.
+/// Returns a refusal that no input can bring about.
 fn unforeseen(why: Refusal) -> Fault {
     Fault::Said(format!("the drive's totals are {}", in_words(why)))
 }
@@ -223,7 +223,7 @@ impl Told {
         })
     }
 
-    /// Whether an epoch with pulses was counted.
+    /// Checks whether an epoch with pulses was counted.
     fn counted(&self) -> bool {
         self.line.sums.mileage.covered > 0
     }
@@ -263,7 +263,7 @@ fn drive(plan: Plan, args: &Args, file: &str, labels: Labels) -> Run<Told> {
     Told::of(&way, file, labels)
 }
 
-/// The files with their labels, each once.
+/// Returns the files with their labels, each once.
 fn drives(args: &Args) -> Run<Vec<(String, Labels)>> {
     let mut out: Vec<(String, Labels)> = Vec::new();
     let mut seen = std::collections::HashSet::new();
@@ -274,7 +274,7 @@ fn drives(args: &Args) -> Run<Vec<(String, Labels)>> {
         out.push((file.to_string(), Labels::of(args, file)?));
     }
     match args.has("--millilitres") && out.len() > 1 {
-        true => said("--millilitres: is the fuel of one drive; several are given"),
+        true => said("--millilitres: is the fuel of one drive, but several are given"),
         false => Ok(out),
     }
 }

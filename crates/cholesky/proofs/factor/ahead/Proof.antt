@@ -1,6 +1,6 @@
 -- `cholesky::factor::ahead` meets its contract: after k turns k products are taken off both sums. Assumes nothing.
 use Rattle.exact.proofs.Products.{less-zero, less-next}
-use Rattle.cholesky.specs.Columns.{sumOf}
+use Rattle.cholesky.specs.Steps.{sumOf}
 use native.Mathlib.Omega.{arith}
 use borrow.Author.Needs.{needs}
 use mathlib.Core.Path.{_≡_}

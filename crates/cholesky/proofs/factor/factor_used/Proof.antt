@@ -8,7 +8,7 @@ use lib.Ieee.{Float}
 use Prim.Native.Nat.{_<_, _-_, _+_}
 use Rattle.exact.proofs.Products.{less-zero}
 use Rattle.cholesky.specs.Factor.{factorOf, Refused, Lower}
-use Rattle.cholesky.specs.Columns.{store, sumOf}
+use Rattle.cholesky.specs.Steps.{store, sumOf}
 use Rattle.cholesky.proofs.FactorColumns.{Columns, columns-none, columns-stop}
 use Rattle.cholesky.proofs.FactorUsed.{closing-end, closing-unused}
 use Rattle.cholesky.proofs.ColumnLaws.{rooted, columns-next, pivot-after, closing-marked}
@@ -41,7 +41,12 @@ returns c =
     let k = closing-marked n l a (omega arith) (subst (λ z. Columns n z z a l) e g) in
     let f = h .before .before .held .ensures .1 in
     let z : factorOf a ≡ Lower _ = closing-end n a _ (omega arith) (s .pre .2) f k in
-    (rw z, λ _. (rw (z, c .mark .ensures), rw (c .mark .ensures) (closing-unused n a _ (omega arith) (s .pre .2) f k)), λ e. absurd (false≢true (sym e)))
+    record {
+      answer = rw z;
+      rows-are = λ _. rw (z, c .mark .ensures);
+      unused = λ _. rw (c .mark .ensures) (closing-unused n a _ (omega arith) (s .pre .2) f k);
+      unchanged = λ e. absurd (false≢true (sym e));
+    }
 
 returns-2 : tie.Need-returns-2 I μ
 returns-2 c =
@@ -50,7 +55,7 @@ returns-2 c =
     let s = h .before .before .before .before in
     let a = s .args .a .now in
     let z : factorOf a ≡ Refused = columns-stop a (h .loop .l) (s .args .n) (h .loop .j) (omega arith) (omega arith) (h .loop .inv .1) (h .loop .p) (h .loop .inv .2) (sym (b .before .is-pivot .ensures) ∙ b .if1 .left) in
-    (rw z, λ e. absurd (false≢true e), λ _. sym (s .pre .3))
+    record { answer = rw z; rows-are = λ e. absurd (false≢true e); unused = λ e. absurd (false≢true e); unchanged = λ _. sym (s .pre .3) }
 
 loop-again : tie.Need-loop-again I μ
 loop-again c =

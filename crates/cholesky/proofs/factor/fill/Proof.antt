@@ -1,6 +1,6 @@
 -- `cholesky::factor::fill` meets its contract: before row r the elements are made from row i on. Assumes nothing.
 use Rattle.cholesky.proofs.ColumnLaws.{filled-start, filled-next, filled-end}
-use Rattle.cholesky.specs.Columns.{filled}
+use Rattle.cholesky.specs.Steps.{filled}
 use native.Mathlib.Omega.{arith}
 use borrow.Author.Needs.{needs}
 use mathlib.Core.Path.{_≡_}

@@ -1,6 +1,6 @@
 -- `cholesky::factor::mark` meets its contract: before row i the diagonal is marked from row n on. Assumes nothing.
 use Rattle.cholesky.proofs.ColumnLaws.{marked-start, marked-next, marked-end}
-use Rattle.cholesky.specs.Columns.{marked}
+use Rattle.cholesky.specs.Steps.{onesMarked}
 use native.Mathlib.Omega.{arith}
 use mathlib.Core.Path.{_≡_}
 use Prim.Native.Nat.{_≤_, _-_}
@@ -8,7 +8,7 @@ use Rattle.cholesky.proofs.factor.mark.Statement.{statement}
 use Rattle.cholesky.proofs.factor.mark.Tie as tie
 
 abbrev I : tie.InvT-loop
-I n l₀ i₀ l i = (n ≤ i) × (i ≤ 9) × (l ≡ marked (i - n) n l₀)
+I n l₀ i₀ l i = (n ≤ i) × (i ≤ 9) × (l ≡ onesMarked (i - n) n l₀)
 
 abbrev μ : tie.MeasureT-loop
 μ n l₀ i₀ l i = 9 - i

@@ -1,7 +1,7 @@
 -- `line_form::print::print_to` meets its contract. Assumes nothing.
 use mathlib.Core.Path.{subst}
 use borrow.Author.Needs.{needs}
-use Rattle.line_form.specs.Written.{Printable}
+use Rattle.line_form.specs.Steps.{Printable}
 use Rattle.line_form.proofs.PrintLaws.{put-put, put-refused}
 use Rattle.line_form.proofs.print.print_to.Statement.{statement}
 use Rattle.line_form.proofs.print.print_to.Tie as tie

@@ -5,7 +5,7 @@ use denote.Ref.{now}
 use native.Mathlib.Omega.{arith}
 use lib.ListN.{length, drop}
 use borrow.Author.Needs.{needs}
-use Rattle.line_form.specs.Split.{countBefore}
+use Rattle.line_form.specs.Steps.{countBefore}
 use Rattle.line_form.proofs.SplitLaws.{before-end, before-yes, before-no}
 use Rattle.line_form.proofs.split.find.Statement.{statement}
 use Rattle.line_form.proofs.split.find.Tie as tie

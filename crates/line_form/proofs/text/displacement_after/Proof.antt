@@ -7,7 +7,7 @@ use lib.ListN.{length}
 use denote.Ref.{now}
 use borrow.Author.Needs.{needs}
 use borrow.Author.Tests.{ltb-false}
-use Rattle.walk.proofs.Walk.{or-no}
+use Rattle.lists.proofs.Walk.{or-no}
 use Rattle.line_form.proofs.TextLaws.{Going, going-start, going-broken, going-previous, going-current, lines-broken, lines-many, cut-room, cut-room′, fits, fits′, lines-are}
 use Rattle.line_form.proofs.text.displacement_after.Statement.{statement}
 use Rattle.line_form.proofs.text.displacement_after.Tie as tie

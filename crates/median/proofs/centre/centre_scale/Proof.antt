@@ -4,17 +4,17 @@ use mathlib.Core.Path.{sym, ap, _∙_}
 use lib.ListN.{length-map}
 use Rattle.exact.specs.Float.{bits}
 use Rattle.median.specs.Centre.{deviationOf, deviationsOf}
-use Rattle.median.proofs.CentreLaws.{centre-refused, centre-none, centre-some}
+use Rattle.median.proofs.CentreLaws.{centred, centre-refused, centre-none, centre-some}
 use Rattle.median.proofs.MedianSigns.{front-median, deviation-patterns}
 use borrow.Author.Needs.{needs}
 use Rattle.median.proofs.centre.centre_scale.Statement.{statement}
 use Rattle.median.proofs.centre.centre_scale.Tie as tie
 
 returns : tie.Need-returns
-returns c = centre-refused (c .before .before .args .residuals .now) (c .if1 .taken)
+returns c = centred (centre-refused (c .before .before .args .residuals .now) (c .if1 .taken))
 
 returns-2 : tie.Need-returns-2
-returns-2 c = centre-none (c .before .before .before .args .residuals .now) (c .if2 .taken)
+returns-2 c = centred (centre-none (c .before .before .before .args .residuals .now) (c .if2 .taken))
 
 middle-requires : tie.Need-middle-requires
 middle-requires c κs = search needs
@@ -43,10 +43,11 @@ returns-3 c =
     let e = f .before .before .before .before in
     let xs = e .before .before .args .residuals .now in
     let devs = deviationsOf (f .float .result) xs in
-    centre-some xs (f .float .result) (c .float2 .result) (omega arith) (e .if1 .left)
+    centred
+    (centre-some xs (f .float .result) (c .float2 .result) (omega arith) (e .if1 .left)
     (f .float .ensures ∙ ap bits (f .before .middle .ensures .0))
     (c .float2 .ensures
-    ∙ ap bits (c .before .of-like-sign .ensures .0 ∙ front-median devs _ _ (sym (length-map xs (deviationOf (f .float .result)))) (d .deviations .ensures)))
+    ∙ ap bits (c .before .of-like-sign .ensures .0 ∙ front-median devs _ _ (sym (length-map xs (deviationOf (f .float .result)))) (d .deviations .ensures))))
 
 pub centre-scale-spec : {M : Type 1} → statement M
 centre-scale-spec =

@@ -6,7 +6,7 @@ use mathlib.Core.Logic.{inl, inr}
 use lib.ListN.{take, length}
 use lib.Dec.{ltb}
 use borrow.Author.Tests.{lt-ltb, le-ltb}
-use Rattle.median.specs.Select.{lows}
+use Rattle.median.specs.Steps.{lows}
 use Rattle.median.proofs.SelectLoops.{passed-none, passed-yes, passed-no}
 use Rattle.median.proofs.median.count_low.Statement.{statement}
 use Rattle.median.proofs.median.count_low.Tie as tie

@@ -5,7 +5,7 @@ use mathlib.Core.Path.{_≡_, ap, _∙_}
 use lib.ListN.{take, drop, length}
 use lib.Seq.{length-take-le}
 use borrow.Author.Needs.{needs}
-use Rattle.median.specs.Select.{placed}
+use Rattle.median.specs.Steps.{numberAt}
 use Rattle.median.proofs.SelectFew.{each-below, from-end, from-before, Highest, highest-none, highest-more, highest-at}
 use Rattle.median.proofs.median.of_highest.Statement.{statement}
 use Rattle.median.proofs.median.of_highest.Tie as tie
@@ -76,7 +76,7 @@ returns c =
     let n = s .args .n in
     let e : t .before .loop .j ≡ 0 = omega arith in
     let len : length (take n k) ≡ n = length-take-le n k (omega arith) in
-    c .one-of .ensures ∙ highest-at (2 ^ 63 - 1) (take n k) (s .args .m) (omega arith) (s .pre .1) (rw e at (t .before .loop .inv .1)) ∙ ap (λ (i : ℕ). placed (i - 1 - s .args .m) (take n k)) len
+    c .one-of .ensures ∙ highest-at (2 ^ 63 - 1) (take n k) (s .args .m) (omega arith) (s .pre .1) (rw e at (t .before .loop .inv .1)) ∙ ap (λ (i : ℕ). numberAt (i - 1 - s .args .m) (take n k)) len
 
 pub of-highest-spec : {M : Type 1} → statement M
 of-highest-spec =

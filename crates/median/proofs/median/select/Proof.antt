@@ -1,13 +1,13 @@
 -- `median::median::select` meets its contract: the number looked for stays at place `at` of the first len. Assumes nothing.
 use native.Mathlib.Omega.{arith}
 use lib.ListN.{take}
-use Rattle.median.specs.Select.{placed}
+use Rattle.median.specs.Steps.{numberAt}
 use Rattle.median.proofs.SelectSeek.{Seeking, seeking, lowest-found, highest-found, low-fewer, low-turn, high-fewer, high-turn, found}
 use Rattle.median.proofs.median.select.Statement.{statement}
 use Rattle.median.proofs.median.select.Tie as tie
 
 abbrev Inv-loop : tie.InvT-loop
-Inv-loop k₀ n m len₀ at₀ k len at = Seeking (placed m (take n k₀)) k len at
+Inv-loop k₀ n m len₀ at₀ k len at = Seeking (numberAt m (take n k₀)) k len at
 
 abbrev μ-loop : tie.MeasureT-loop
 μ-loop k₀ n m len₀ at₀ k len at = len

@@ -1,7 +1,7 @@
 -- `mileage::mileage::way_for` meets its contract. Assumes nothing.
 use Rattle.numeric.specs.Vec3.{norm}
 use borrow.Author.Tests.{eq-eqb, ne-eqb}
-use Rattle.mileage.specs.Mileage.{wayFor}
+use Rattle.mileage.specs.Steps.{wayFor}
 use borrow.Author.Needs.{needs}
 use Rattle.mileage.proofs.mileage.way_for.Statement.{statement}
 use Rattle.mileage.proofs.mileage.way_for.Tie as tie

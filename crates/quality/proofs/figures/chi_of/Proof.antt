@@ -3,7 +3,7 @@ use mathlib.Core.Path.{_≡_}
 use Prim.Native.Nat.{_-_, _≤_}
 use native.Mathlib.Omega.{arith}
 use borrow.Author.Needs.{needs}
-use Rattle.normal.specs.Columns.{columns}
+use Rattle.normal_equations.specs.Steps.{columns}
 use Rattle.quality.proofs.QualityLaws.{squared, squared-zero, squared-next, chi-rows}
 use Rattle.quality.proofs.figures.chi_of.Statement.{statement}
 use Rattle.quality.proofs.figures.chi_of.Tie as tie

@@ -1,9 +1,9 @@
 -- `quality::figures::unweighted_matrix` meets its contract. Assumes nothing.
 use mathlib.Core.Path.{_≡_, ap, _∙_}
 use Prim.Native.Nat.{_-_, _≤_}
-use Rattle.normal.specs.Equations.{wide, triangleOf}
-use Rattle.normal.specs.Columns.{Columns, columns}
-use Rattle.normal.proofs.AddedLaws.{triangle-wide}
+use Rattle.normal_equations.specs.Equations.{wide, triangleOf}
+use Rattle.normal_equations.specs.Steps.{RoundColumns, columns}
+use Rattle.normal_equations.proofs.AddedLaws.{triangle-wide}
 use Rattle.quality.proofs.QualityLaws.{plain, plain-start, plain-next, plain-end}
 use borrow.Author.Needs.{needs}
 use native.Mathlib.Omega.{arith}
@@ -16,7 +16,7 @@ Inv-loop x y z clock sigma residual n a₀ count e₀ k₀ a e k = (k ≤ count)
 abbrev μ-loop : tie.MeasureT-loop
 μ-loop x y z clock sigma residual n a₀ count e₀ k₀ a e k = count - k
 
-abbrev given : tie.Start Inv-loop μ-loop → Columns
+abbrev given : tie.Start Inv-loop μ-loop → RoundColumns
 given c = columns (c .args .x .now) (c .args .y .now) (c .args .z .now) (c .args .clock .now) (c .args .sigma .now) (c .args .residual .now)
 
 unused-requires : tie.Need-unused-requires Inv-loop μ-loop

@@ -3,10 +3,10 @@ use borrow.Author.Needs.{needs}
 use mathlib.Core.Path.{_≡_, refl}
 use Prim.Native.Nat.{_≤_, _-_}
 use lib.ListN.{length}
-use Rattle.records.specs.Signals.{Laid}
+use Rattle.records.specs.Steps.{Laid}
 use native.Mathlib.Omega.{arith}
 use Rattle.records.proofs.PutLaws.{laid-next, getD-any}
-use Rattle.walk.proofs.Walk.{length-mapped}
+use Rattle.lists.proofs.Walk.{length-mapped}
 use Rattle.records.proofs.RecordLaws.{blank}
 use Rattle.records.proofs.carriers.epoch_into.Statement.{statement}
 use Rattle.records.proofs.carriers.epoch_into.Tie as tie

@@ -5,8 +5,8 @@ use Prim.Native.Nat.{_≤_, _-_}
 use native.Mathlib.Omega.{arith}
 use lib.ListN.{length, take, drop}
 use borrow.Author.Tests.{not-true, not-false}
-use Rattle.walk.specs.Walk.{every}
-use Rattle.walk.proofs.Walk.{every-yes, every-no, every-end}
+use Rattle.lists.specs.Walk.{every}
+use Rattle.lists.proofs.Walk.{every-yes, every-no, every-end}
 use Rattle.records.specs.Record.{soundCarrier}
 use Rattle.records.specs.Signals.{carriersIn}
 use Rattle.records.proofs.RecordLaws.{blank}

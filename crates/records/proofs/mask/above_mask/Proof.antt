@@ -5,7 +5,7 @@ use Prim.Native.Nat.{_≤_, _-_}
 use native.Mathlib.Omega.{arith}
 use lib.ListN.{length}
 use borrow.Author.Needs.{needs}
-use Rattle.walk.proofs.Walk.{length-mapped, Collecting, collecting-start, collecting-none, collecting-one, collecting-end}
+use Rattle.lists.proofs.Walk.{length-mapped, Collecting, collecting-start, collecting-none, collecting-one, collecting-end}
 use Rattle.records.specs.Record.{countedObservations, keep}
 use Rattle.records.specs.Mask.{clears, aboveMask}
 use Rattle.records.proofs.KeepLaws.{keep-yes, keep-no}

@@ -4,8 +4,8 @@ use Prim.Native.Nat.{_≤_, _-_}
 use native.Mathlib.Omega.{arith}
 use lib.ListN.{length, drop, take}
 use borrow.Author.Needs.{needs}
-use Rattle.walk.specs.Walk.{fold}
-use Rattle.walk.proofs.Walk.{length-mapped, fold-turn, fold-end}
+use Rattle.lists.specs.Walk.{fold}
+use Rattle.lists.proofs.Walk.{length-mapped, fold-turn, fold-end}
 use Rattle.clocks.specs.Clocks.{none, given, clocksOf}
 use Rattle.records.specs.Mask.{constellations}
 use Rattle.clocks.proofs.ClocksLaws.{law, fold-map}

@@ -6,8 +6,8 @@ use mathlib.Core.List.{[], _∷_}
 use Prim.Native.Nat.{_-_}
 use native.Mathlib.Omega.{arith}
 use lib.ListN.{length, take}
-use Rattle.walk.specs.Walk.{every, collect}
-use Rattle.walk.proofs.Walk.{length-mapped, Collecting, collecting-start, collecting-none, collecting-one, collecting-end}
+use Rattle.lists.specs.Walk.{every, collect}
+use Rattle.lists.proofs.Walk.{length-mapped, Collecting, collecting-start, collecting-none, collecting-one, collecting-end}
 use Rattle.records.specs.Signals.{carriersIn}
 use Rattle.records.specs.Pair.{pairOf, seen}
 use Rattle.records.specs.declared.record.Carrier.{Carrier}

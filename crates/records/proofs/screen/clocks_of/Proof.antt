@@ -5,8 +5,8 @@ use native.Mathlib.Omega.{arith}
 use lib.ListN.{length, drop, take}
 use lib.Seq.{take-all}
 use borrow.Author.Needs.{needs}
-use Rattle.walk.specs.Walk.{fold}
-use Rattle.walk.proofs.Walk.{fold-turn, fold-end}
+use Rattle.lists.specs.Walk.{fold}
+use Rattle.lists.proofs.Walk.{fold-turn, fold-end}
 use Rattle.clocks.specs.Clocks.{none, given, clocksOf}
 use Rattle.clocks.proofs.ClocksLaws.{law}
 use Rattle.records.proofs.screen.clocks_of.Statement.{statement}

@@ -8,7 +8,7 @@ use lib.ListN.{take, length, length-set}
 use lib.Seq.{length-take-le}
 use lib.Ieee.{Float, lt}
 use borrow.Author.Needs.{needs}
-use Rattle.walk.proofs.Walk.{length-mapped}
+use Rattle.lists.proofs.Walk.{length-mapped}
 use Rattle.numeric.specs.Order.{patternOf}
 use Rattle.records.specs.Screen.{detectors, centre, within, keptOf}
 use Rattle.records.specs.declared.pair.Pair.{Pair}

@@ -6,7 +6,7 @@ use native.Mathlib.Omega.{arith}
 use borrow.Author.Needs.{needs}
 use lib.Count.{leadingZeros}
 use lib.Ieee.{binary64, ofBits}
-use Rattle.root.specs.Digits.{IsParts}
+use Rattle.root.specs.Steps.{IsParts}
 use Rattle.root.proofs.Parts.{Leading, leading, normal-parts}
 use Rattle.root.proofs.sqrt.split.Statement.{statement}
 use Rattle.root.proofs.sqrt.split.Tie as tie

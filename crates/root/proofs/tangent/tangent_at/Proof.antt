@@ -3,7 +3,7 @@ use mathlib.Core.Path.{_≡_, refl, sym, ap, subst, _∙_}
 use mathlib.Core.Bool.{true, false}
 use lib.Dec.{T}
 use lib.Ieee.{Float, inf, binary64, le, ofBits}
-use Rattle.root.specs.Tangent.{touch}
+use Rattle.root.specs.Steps.{touch}
 use Rattle.root.proofs.Reading.{by-bits}
 use Rattle.root.proofs.Normal.{least, infinity, infinity-is, le-number, normal-bits}
 use borrow.Author.Needs.{needs}

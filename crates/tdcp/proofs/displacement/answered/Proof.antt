@@ -4,8 +4,8 @@ use mathlib.Core.Bool.{false, _&&_}
 use lib.Dec.{ltb}
 use borrow.Author.Tests.{le-ltb}
 use borrow.Author.Needs.{needs}
-use Rattle.walk.specs.Walk.{every}
-use Rattle.records.specs.Record.{counted, soundCarrier, placeable}
+use Rattle.lists.specs.Walk.{every}
+use Rattle.records.specs.Record.{countedCarriers, soundCarrier, placeable}
 use Rattle.records.specs.City.{looked}
 use Rattle.records.specs.Pair.{seen, pairsOf, Paired}
 use Rattle.records.specs.Signals.{epochIn}
@@ -29,7 +29,7 @@ few′ s = le-ltb _ _ (s .pre .1 .few)
 
 -- the code's test of 4
 sound : (c : tie.After-is-placeable)
-    → (let i = given (c .before .before .before .before .before .before .before) in (c .before .before .sound-in .result && c .before .sound-in2 .result && c .is-placeable .result) ≡ (every soundCarrier (counted (i .previous)) && every soundCarrier (counted (i .current)) && placeable (i .receiver)))
+    → (let i = given (c .before .before .before .before .before .before .before) in (c .before .before .sound-in .result && c .before .sound-in2 .result && c .is-placeable .result) ≡ (every soundCarrier (countedCarriers (i .previous)) && every soundCarrier (countedCarriers (i .current)) && placeable (i .receiver)))
 sound c =
     let a = c .before .before .before .before .before .before .before .args in
     rw (carriers-all (a .previous-signals .now) (a .previous-states .now) (a .previous-floats .now), carriers-all (a .current-signals .now) (a .current-states .now) (a .current-floats .now), c .before .before .sound-in .ensures, c .before .sound-in2 .ensures, c .is-placeable .ensures)
@@ -72,7 +72,7 @@ returns-2 c =
     let i = given s in
     let g = s .args in
     let e = sym (t .seconds2 .given .1) ∙ a .seconds-of .ensures in
-    let h : Paired (c .before .pairs-in .result) (pairsOf (i .receiver) (i .settings .mask) (t .seconds2 .given .0 .0) (counted (i .previous)) (looked (i .profile) (counted (i .current)))) =
+    let h : Paired (c .before .pairs-in .result) (pairsOf (i .receiver) (i .settings .mask) (t .seconds2 .given .0 .0) (countedCarriers (i .previous)) (looked (i .profile) (countedCarriers (i .current)))) =
     rw (carriers-all (g .previous-signals .now) (g .previous-states .now) (g .previous-floats .now), carriers-all (g .current-signals .now) (g .current-states .now) (g .current-floats .now)) (c .before .pairs-in .ensures) in
     c .moved-by .ensures ∙ answered-pairs i (g .wanted) (paired i (since-is _ e) h) (passed-given i (few s) (few′ s) (sound (a .before)) e)
 

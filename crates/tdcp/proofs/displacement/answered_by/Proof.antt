@@ -2,7 +2,7 @@
 use borrow.Author.Needs.{needs}
 use mathlib.Core.Path.{sym, _∙_}
 use borrow.Author.Tests.{lt-ltb, le-ltb}
-use Rattle.walk.proofs.Walk.{length-mapped}
+use Rattle.lists.proofs.Walk.{length-mapped}
 use Rattle.records.proofs.EpochLaws.{laid-count, laid-fits, laid-counted}
 use Rattle.tdcp.proofs.DisplacementCall.{too-many, answered-refused}
 use Rattle.tdcp.proofs.CountedLaws.{answer-counted}

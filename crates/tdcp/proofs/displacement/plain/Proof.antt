@@ -1,6 +1,6 @@
 -- `tdcp::displacement::plain` meets its contract. Assumes nothing.
 use mathlib.Core.Path.{sym, ap}
-use Rattle.tdcp.specs.Rows.{plainOf}
+use Rattle.tdcp.specs.Rated.{plainOf}
 use borrow.Author.Needs.{needs}
 use Rattle.tdcp.proofs.displacement.plain.Statement.{statement}
 use Rattle.tdcp.proofs.displacement.plain.Tie as tie

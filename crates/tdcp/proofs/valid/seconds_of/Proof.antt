@@ -2,8 +2,8 @@
 use mathlib.Core.Path.{sym, _∙_}
 use borrow.Author.Tests.{not-false}
 use borrow.Author.Needs.{needs}
-use Rattle.estimator.specs.Rules.{ruled}
-use Rattle.tdcp.specs.Valid.{givenRules}
+use Rattle.estimate_rounds.specs.Rules.{ruled}
+use Rattle.tdcp.specs.Steps.{givenRules}
 use Rattle.tdcp.proofs.IntervalLaws.{not-timed, bad-interval, good-interval}
 use Rattle.tdcp.proofs.valid.seconds_of.Statement.{statement}
 use Rattle.tdcp.proofs.valid.seconds_of.Tie as tie

@@ -1,7 +1,7 @@
 use mathlib.Core.Path.{_≡_, refl, _∙_}
 use lib.IntN.{pos, negsuc}
 use lib.Ieee.{ofInt, ofBits, toBits, neg, add, sub, mul, div, le, lt, eq, isNan}
-use Rattle.walk.specs.Walk.{every, first, collect}
+use Rattle.lists.specs.Walk.{every, first, collect}
 use Rattle.root.specs.Root.{rootOf}
 use Rattle.numeric.specs.Real.{travelSine, travelCosine, abs, inRange}
 use Rattle.numeric.specs.Vec3.{sub as vec-minus, norm}
@@ -10,16 +10,16 @@ use Rattle.exact.specs.Pattern.{sign, exponent, digits}
 use Rattle.numeric.specs.Order.{isNanPattern, isQuiet, payload, payloadOrder, unordered, totalOrder, patternOf}
 use Rattle.median.specs.Sorted.{insertBy, sortedBy, medianOf}
 use Rattle.median.specs.Centre.{centreOf}
-use Rattle.estimator.specs.Rules.{ruled, rowRules}
+use Rattle.estimate_rounds.specs.Rules.{ruled, rowRules}
 use Rattle.records.specs.Record.{placeable, isElevation, soundCarrier, unsigned, bitSet, usable, same}
 use Rattle.clocks.specs.Clocks.{has, appearing, slotFrom, clocksIn, clocksOf}
 use Rattle.records.specs.Pair.{pairOf, firstPair, pairAt, pairsOf}
 use Rattle.records.specs.Screen.{centre, within, keptOf}
 use Rattle.tdcp.specs.Valid.{settingsPass, badInterval, epochRules, intervalRules, fewRules}
 use Rattle.tdcp.specs.Front.{sightRules, countRules, cityRules, pairRules}
-use Rattle.estimator.specs.Rounds.{fitFrom, finiteAt}
+use Rattle.estimate_rounds.specs.Rounds.{fitFrom, finiteAt}
 use Rattle.tdcp.specs.Displacement.{fitOver, fitBy, endRules, movedBy, displacementOf}
-use Rattle.trials.specs.Carriers.{sixIn, usedOf}
+use Rattle.trials.specs.Steps.{sixIn, usedOf}
 use borrow.Author.Needs.{needs}
 use Rattle.trials.proofs.carriers.states.Statement.{statement}
 use Rattle.trials.proofs.carriers.states.Tie as tie

@@ -2,7 +2,7 @@ use mathlib.Core.Path.{sym, ap, _∙_}
 use mir.Facts.{toZ-ofZ}
 use lib.IntN.{ℤ}
 use Rattle.tdcp.specs.Displacement.{displacementOf}
-use Rattle.trials.specs.Carriers.{sixIn, usedOf}
+use Rattle.trials.specs.Steps.{sixIn, usedOf}
 use borrow.Author.Needs.{needs}
 use Rattle.trials.proofs.carriers.used_in.Statement.{statement}
 use Rattle.trials.proofs.carriers.used_in.Tie as tie

@@ -38,10 +38,10 @@ enum-told : tie.Need-enum-told
 enum-told c = search needs
 
 returns : tie.Need-returns
-returns c = rw (c .before .pattern .ensures) (ap test (sym (c .before .before .before .answer .given .1) ∙ c .before .before .before .before .before .centre-scale .ensures ∙ centre-empty) ∙ passes)
+returns c = rw (c .before .pattern .ensures) (ap test (sym (c .before .before .before .answer .given .1) ∙ c .before .before .before .before .before .centre-scale .ensures .answer ∙ centre-empty) ∙ passes)
 
 returns-2 : tie.Need-returns-2
-returns-2 c = ap test (sym (c .enum-told .given .1) ∙ c .before .before .centre-scale .ensures ∙ centre-empty) ∙ passes
+returns-2 c = ap test (sym (c .enum-told .given .1) ∙ c .before .before .centre-scale .ensures .answer ∙ centre-empty) ∙ passes
 
 pub empty-spec : {M : Type 1} → statement M
 empty-spec =

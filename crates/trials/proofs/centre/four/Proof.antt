@@ -48,10 +48,10 @@ enum-told : tie.Need-enum-told
 enum-told c = search needs
 
 returns : tie.Need-returns
-returns c = ap test (sym (c .before .before .before .answer .given .1) ∙ c .before .before .before .before .before .centre-scale .ensures) ∙ rw (c .before .before .before .before .before .before .before .before .before .before .pattern .ensures, c .before .before .before .before .before .before .before .before .before .pattern2 .ensures, c .before .before .before .before .before .before .before .before .pattern3 .ensures, c .before .before .before .before .before .before .before .pattern4 .ensures) passes
+returns c = ap test (sym (c .before .before .before .answer .given .1) ∙ c .before .before .before .before .before .centre-scale .ensures .answer) ∙ rw (c .before .before .before .before .before .before .before .before .before .before .pattern .ensures, c .before .before .before .before .before .before .before .before .before .pattern2 .ensures, c .before .before .before .before .before .before .before .before .pattern3 .ensures, c .before .before .before .before .before .before .before .pattern4 .ensures) passes
 
 returns-2 : tie.Need-returns-2
-returns-2 c = ap test (sym (c .enum-told .given .1) ∙ c .before .before .centre-scale .ensures) ∙ rw (c .before .before .before .before .before .before .before .pattern .ensures, c .before .before .before .before .before .before .pattern2 .ensures, c .before .before .before .before .before .pattern3 .ensures, c .before .before .before .before .pattern4 .ensures) passes
+returns-2 c = ap test (sym (c .enum-told .given .1) ∙ c .before .before .centre-scale .ensures .answer) ∙ rw (c .before .before .before .before .before .before .before .pattern .ensures, c .before .before .before .before .before .before .pattern2 .ensures, c .before .before .before .before .before .pattern3 .ensures, c .before .before .before .before .pattern4 .ensures) passes
 
 pub four-spec : {M : Type 1} → statement M
 four-spec =

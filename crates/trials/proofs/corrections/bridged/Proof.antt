@@ -2,9 +2,9 @@ use mathlib.Core.Path.{_≡_, refl, sym, ap, _∙_}
 use mathlib.Core.Bool.{Bool, true, false}
 use lib.Ieee.{Float, binary64, ofBits, ofInt, eq}
 use Rattle.exact.specs.Float.{whole}
-use Rattle.query.specs.Query.{queryIn}
-use Rattle.query.specs.declared.query.Correction.{Correction}
-use Rattle.query.specs.declared.query.Correction.the-variants.{Metres, Refused}
+use Rattle.corrections_query.specs.Query.{queryIn}
+use Rattle.corrections_query.specs.declared.query.Correction.{Correction}
+use Rattle.corrections_query.specs.declared.query.Correction.the-variants.{Metres, Refused}
 use Rattle.trials.specs.Marked.{twoSamples}
 use Rattle.trials.proofs.Trials.{half-way}
 use borrow.Author.Needs.{needs}

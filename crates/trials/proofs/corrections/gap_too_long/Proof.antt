@@ -4,9 +4,9 @@ use lib.Dec.{eqb}
 use Rattle.numeric.specs.Refusal.{numberOf}
 use lib.Ieee.{Float, binary64, ofBits, ofInt}
 use Rattle.exact.specs.Float.{whole}
-use Rattle.query.specs.Query.{queryIn}
-use Rattle.query.specs.declared.query.Correction.{Correction}
-use Rattle.query.specs.declared.query.Correction.the-variants.{Metres, Refused}
+use Rattle.corrections_query.specs.Query.{queryIn}
+use Rattle.corrections_query.specs.declared.query.Correction.{Correction}
+use Rattle.corrections_query.specs.declared.query.Correction.the-variants.{Metres, Refused}
 use Rattle.trials.specs.Marked.{twoSamples}
 use Rattle.trials.proofs.Trials.{gap-too-long}
 use borrow.Author.Needs.{needs}

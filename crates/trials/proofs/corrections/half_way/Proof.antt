@@ -1,9 +1,14 @@
 -- `trials::corrections::half_way` meets its contract. Assumes nothing.
+use mathlib.Core.Path.{_∙_}
 use lib.Ieee.{ofInt, ofBits}
-use Rattle.directory.specs.Directory.{entryRows, readingRows}
+use Rattle.corrections_directory.specs.Directory.{entryRows, readingRows}
+use Rattle.corrections_query.proofs.QueryLaws.{signal-query}
 use borrow.Author.Needs.{needs}
 use Rattle.trials.proofs.corrections.half_way.Statement.{statement}
 use Rattle.trials.proofs.corrections.half_way.Tie as tie
+
+signal-of-requires : tie.Need-signal-of-requires
+signal-of-requires c κs = search needs
 
 slice-aggregate-query : tie.Need-slice-aggregate-query
 slice-aggregate-query c = search needs
@@ -31,12 +36,13 @@ query-requires c κs = search needs
 
 returns : tie.Need-returns
 unfolding entryRows readingRows ofBits ofInt
-returns c = c .query .ensures .0
+returns c = rw (c .before .before .before .before .before .before .before .before .signal-of .ensures) at (c .query .ensures .0) ∙ signal-query _ _ _ _ _ _ _ _ _
 
 pub half-way-spec : {M : Type 1} → statement M
 half-way-spec =
     tie.close
     (tie.spec
+    signal-of-requires
     slice-aggregate-query
     slice-aggregate-query-2
     slice-aggregate-query-3

@@ -32,12 +32,12 @@ returns : tie.Need-returns
 returns c =
     let a = c .before .before .before .before .before .identity .ensures in
     let f = ap factorOf a ∙ identity-factors in
-    rw (c .differ .ensures (a ∙ sym (rw f at (c .before .before .before .factor .ensures .1))))
+    rw (c .differ .ensures (a ∙ sym (rw f at (c .before .before .before .factor .ensures .rows-are))))
 
 returns-2 : tie.Need-returns-2
 returns-2 c =
     let f = ap factorOf (c .before .before .before .before .identity .ensures) ∙ identity-factors in
-    ap test (sym (c .enum-told2 .given .1) ∙ c .before .before .factor .ensures .0) ∙ ap (λ (z : Factored). test (factoringOf z)) f
+    ap test (sym (c .enum-told2 .given .1) ∙ c .before .before .factor .ensures .answer) ∙ ap (λ (z : Factored). test (factoringOf z)) f
 
 pub identity-factors-spec : {M : Type 1} → statement M
 identity-factors-spec =

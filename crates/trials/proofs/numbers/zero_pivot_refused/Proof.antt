@@ -55,13 +55,13 @@ differ-requires : tie.Need-differ-requires
 differ-requires c κs = search needs
 
 returns : tie.Need-returns
-returns c = ap test (sym (c .enum-told .given .1) ∙ c .before .before .factor .ensures .0) ∙ ap (λ (z : Factored). test (factoringOf z)) (zero-pivot _ (inl (rw (c .before .before .before .before .before .identity .ensures))))
+returns c = ap test (sym (c .enum-told .given .1) ∙ c .before .before .factor .ensures .answer) ∙ ap (λ (z : Factored). test (factoringOf z)) (zero-pivot _ (inl (rw (c .before .before .before .before .before .identity .ensures))))
 
 returns-2 : tie.Need-returns-2
 returns-2 c =
     let i = c .before .before .before .before .before .before .before .before .identity .ensures in
-    let n = c .before .number .ensures ∙ ap number (sym (c .before .before .before .answer .given .1) ∙ c .before .before .before .before .before .factor .ensures .0) ∙ ap (λ (z : Factored). number (factoringOf z)) (zero-pivot _ (inl (rw i))) in
-    rw (n, c .differ .ensures (left _ _ _ (c .before .before .before .before .before .factor .ensures .1) (rw i)))
+    let n = c .before .number .ensures ∙ ap number (sym (c .before .before .before .answer .given .1) ∙ c .before .before .before .before .before .factor .ensures .answer) ∙ ap (λ (z : Factored). number (factoringOf z)) (zero-pivot _ (inl (rw i))) in
+    rw (n, c .differ .ensures (left _ _ _ (c .before .before .before .before .before .factor .ensures .rows-are) (rw i)))
 
 pub zero-pivot-refused-spec : {M : Type 1} → statement M
 zero-pivot-refused-spec =

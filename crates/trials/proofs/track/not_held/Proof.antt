@@ -1,7 +1,7 @@
 use mathlib.Core.Path.{ap, _∙_}
 use lib.Ieee.{ofBits, ofInt}
-use Rattle.smooth.specs.Answer.{Tracked, answerOf, trackNumber}
-use Rattle.smooth.proofs.Trials.{not-held}
+use Rattle.track_smooth.specs.Answer.{Tracked, trackAnswer, trackNumber}
+use Rattle.track_smooth.proofs.Trials.{not-held}
 use borrow.Author.Needs.{needs}
 use Rattle.trials.proofs.track.not_held.Statement.{statement}
 use Rattle.trials.proofs.track.not_held.Tie as tie
@@ -38,7 +38,7 @@ number-requires c κs = search needs
 
 returns : tie.Need-returns
 unfolding ofBits ofInt
-returns c = rw (c .number .ensures ∙ ap trackNumber (c .before .before .before .smooth .ensures .answer) ∙ ap (λ (t : Tracked). trackNumber (answerOf t)) not-held)
+returns c = rw (c .number .ensures ∙ ap trackNumber (c .before .before .before .smooth .ensures .answer) ∙ ap (λ (t : Tracked). trackNumber (trackAnswer t)) not-held)
 
 pub not-held-spec : {M : Type 1} → statement M
 not-held-spec =

@@ -7,8 +7,8 @@ use lib.ListN.{getD}
 use lib.Ieee.{isNan, toBits, ofBits, ofInt}
 use Rattle.numeric.specs.Order.{patternOf}
 use Rattle.exact.specs.Float.{whole}
-use Rattle.smooth.specs.Answer.{Tracked, Points, answerOf, trackNumber, resultAfter}
-use Rattle.smooth.proofs.Trials.{one-point}
+use Rattle.track_smooth.specs.Answer.{Tracked, Points, trackAnswer, trackNumber, trackResultAfter}
+use Rattle.track_smooth.proofs.Trials.{one-point}
 use borrow.Author.Needs.{needs}
 use Rattle.trials.proofs.track.one_point.Statement.{statement}
 use Rattle.trials.proofs.track.one_point.Tie as tie
@@ -16,15 +16,15 @@ use Rattle.trials.proofs.track.one_point.Tie as tie
 abbrev test : ℕ → List ℕ → Bool
 test n r = ((eqb n 0 && eqb (getD r 0 0) 0x4014_0000_0000_0000) && eqb (getD r 1 0) 0x4018_0000_0000_0000) && eqb (getD r 2 0) 0x401C_0000_0000_0000
 
-passes : (r : List ℕ) → test 0 (resultAfter (Points (whole 5 ∷ whole 6 ∷ whole 7 ∷ [])) r) ≡ true
+passes : (r : List ℕ) → test 0 (trackResultAfter (Points (whole 5 ∷ whole 6 ∷ whole 7 ∷ [])) r) ≡ true
 unfolding patternOf isNan toBits ofInt
 passes r = refl
 
 -- the number n and the result r' of a call that gives the point
-found : (n : ℕ) (r r' : List ℕ) (t : Tracked) → t ≡ Points (whole 5 ∷ whole 6 ∷ whole 7 ∷ []) → n ≡ trackNumber (answerOf t) → r' ≡ resultAfter t r → test n r' ≡ true
+found : (n : ℕ) (r r' : List ℕ) (t : Tracked) → t ≡ Points (whole 5 ∷ whole 6 ∷ whole 7 ∷ []) → n ≡ trackNumber (trackAnswer t) → r' ≡ trackResultAfter t r → test n r' ≡ true
 found n r r' t e h g =
-    ap (λ (k : ℕ). test k r') (h ∙ ap (λ (t : Tracked). trackNumber (answerOf t)) e)
-    ∙ ap (test 0) (g ∙ ap (λ (t : Tracked). resultAfter t r) e)
+    ap (λ (k : ℕ). test k r') (h ∙ ap (λ (t : Tracked). trackNumber (trackAnswer t)) e)
+    ∙ ap (test 0) (g ∙ ap (λ (t : Tracked). trackResultAfter t r) e)
     ∙ passes r
 
 slice-aggregate-smooth : tie.Need-slice-aggregate-smooth

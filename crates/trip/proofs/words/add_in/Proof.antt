@@ -1,7 +1,6 @@
 -- `trip::words::add_in` meets its contract. Assumes nothing.
 use mathlib.Core.Path.{sym, _∙_}
 use borrow.Author.Needs.{needs}
-use Rattle.trip.proofs.MeasureLaws.{way-few}
 use Rattle.trip.proofs.WordLaws.{step-refused, step-goes}
 use Rattle.trip.proofs.words.add_in.Statement.{statement}
 use Rattle.trip.proofs.words.add_in.Tie as tie
@@ -19,7 +18,7 @@ way-of-requires : tie.Need-way-of-requires
 way-of-requires c κs = search needs
 
 add-held-requires : tie.Need-add-held-requires
-add-held-requires c κs = rw (c .before .way-of .ensures) (way-few _)
+add-held-requires c κs = search needs
 
 enum-known-answer : tie.Need-enum-known-answer
 enum-known-answer c = search needs

@@ -3,7 +3,7 @@ use mathlib.Core.Path.{_≡_}
 use mir.Syntax.{w32}
 use mir.Val.{toZ, ofZ}
 use mir.Facts.{toZ-ofZ}
-use Rattle.wire_tdcp.specs.Displacement.{carrierOf}
+use Rattle.wire_tdcp.specs.Displacement.{recordCarrier}
 use borrow.Author.Needs.{needs}
 use Rattle.wire_tdcp.proofs.displacement.carrier_of.Statement.{statement}
 use Rattle.wire_tdcp.proofs.displacement.carrier_of.Tie as tie
@@ -27,7 +27,7 @@ float-requires-6 : tie.Need-float-requires-6
 float-requires-6 c κs = search needs
 
 returns : tie.Need-returns
-unfolding carrierOf
+unfolding recordCarrier
 returns c =
     let r = c .before .before .before .before .before .before .before .args .r in
     let z : toZ w32 (ofZ w32 (r .state)) ≡ r .state = toZ-ofZ (search needs) in

@@ -4,15 +4,15 @@ use Prim.Native.Nat.{ℕ, _≤_, _-_}
 use native.Mathlib.Omega.{arith}
 use denote.Ref.{now}
 use borrow.Author.Needs.{needs}
-use Rattle.records.specs.Signals.{Laid}
+use Rattle.records.specs.Steps.{Laid}
 use Rattle.records.proofs.PutLaws.{laid-next}
-use Rattle.wire_tdcp.specs.Displacement.{carrierOf, carriersIn}
+use Rattle.wire_tdcp.specs.Displacement.{recordCarrier, recordCarriers}
 use Rattle.wire_tdcp.proofs.DisplacementLaws.{carrier-in}
 use Rattle.wire_tdcp.proofs.displacement.carriers_into.Statement.{statement}
 use Rattle.wire_tdcp.proofs.displacement.carriers_into.Tie as tie
 
 abbrev Inv-loop : tie.InvT-loop
-Inv-loop s n signals₀ states₀ floats₀ i₀ signals states floats i = (i ≤ n) × Laid (carriersIn s n) i signals states floats
+Inv-loop s n signals₀ states₀ floats₀ i₀ signals states floats i = (i ≤ n) × Laid (recordCarriers s n) i signals states floats
 
 abbrev μ-loop : tie.MeasureT-loop
 μ-loop s n signals₀ states₀ floats₀ i₀ signals states floats i = n - i
@@ -45,7 +45,7 @@ loop-again c =
     let l = t .before in
     let a = l .before .before .args in (
       search needs,
-      laid-next (l .loop .inv .1) (λ d. x .carrier-of .ensures ∙ ap carrierOf (x .before .record-of .ensures) ∙ carrier-in (now (a .s)) (a .n) (l .loop .i) d (t .loop-test .taken)) (c .put-carrier .ensures),
+      laid-next (l .loop .inv .1) (λ d. x .carrier-of .ensures ∙ ap recordCarrier (x .before .record-of .ensures) ∙ carrier-in (now (a .s)) (a .n) (l .loop .i) d (t .loop-test .taken)) (c .put-carrier .ensures),
     )
 
 returns : tie.Need-returns Inv-loop μ-loop
@@ -53,7 +53,7 @@ returns c =
     let l = c .before .loop in
     let a = c .before .before .before .args in
     let q : l .i ≡ a .n = omega (arith, l .inv .0, c .loop-test .left) in
-    subst (λ (k : ℕ). Laid (carriersIn (now (a .s)) (a .n)) k (l .signals) (l .states) (l .floats)) q (l .inv .1)
+    subst (λ (k : ℕ). Laid (recordCarriers (now (a .s)) (a .n)) k (l .signals) (l .states) (l .floats)) q (l .inv .1)
 
 pub carriers-into-spec : {M : Type 1} → statement M
 carriers-into-spec =

@@ -3,7 +3,7 @@ use mathlib.Core.Path.{refl, subst}
 use denote.Ref.{now}
 use borrow.Author.Needs.{needs}
 use Rattle.tdcp.specs.Displacement.{Promised}
-use Rattle.wire_tdcp.specs.Displacement.{Handed, handed, inputOf}
+use Rattle.wire_tdcp.specs.Displacement.{Handed, handed, recordInput}
 use Rattle.wire_tdcp.proofs.DisplacementLaws.{previous-broken, current-broken, previous-many, current-many, result-short, displacement-answers, result-is}
 use Rattle.wire_tdcp.proofs.displacement.displacement_records.Statement.{statement}
 use Rattle.wire_tdcp.proofs.displacement.displacement_records.Tie as tie
@@ -82,14 +82,14 @@ same-length c = search needs
 returns-6 : tie.Need-returns-6
 returns-6 c =
     let s = c .before .before .before .before .before .before .before .before .before .before .before .before .before .before .before .before .before .before .before .before in
-    let made = subst (Promised (inputOf (given s))) (c .before .before .before .before .before .before .before .before .before .answer .given .1) (c .before .before .before .before .before .before .before .before .before .before .before .displacement-of .ensures) in
+    let made = subst (Promised (recordInput (given s))) (c .before .before .before .before .before .before .before .before .before .answer .given .1) (c .before .before .before .before .before .before .before .before .before .before .before .displacement-of .ensures) in
     displacement-answers (given s) (now (s .args .result)) (c .before .before .before .before .before .before .before .before .before .before .before .before .before .before .before .before .if1 .left) (c .before .before .before .before .before .before .before .before .before .before .before .before .before .before .before .if2 .left) (c .before .before .before .before .before .before .before .before .before .before .before .before .before .before .if3 .left) (c .before .before .before .before .before .before .before .before .before .before .before .before .before .if4 .left) (c .before .before .before .before .before .before .before .before .before .before .before .before .if5 .left) made refl
     (result-is (now (s .args .result)) (c .before .before .before .before .before .before .before .before .before .answer .given .0 .0) _ _ _ (c .before .before .before .before .before .before .before .before .before .before .before .before .if5 .left) (c .before .before .before .before .before .pattern .ensures) (c .before .before .before .before .pattern2 .ensures) (c .before .before .before .pattern3 .ensures) (c .before .before .put-five .ensures))
 
 returns-7 : tie.Need-returns-7
 returns-7 c =
     let s = c .before .before .before .before .before .before .before .before .before .before .before .before .before in
-    let made = subst (Promised (inputOf (given s))) (c .before .before .answer2 .given .1) (c .before .before .before .before .displacement-of .ensures) in
+    let made = subst (Promised (recordInput (given s))) (c .before .before .answer2 .given .1) (c .before .before .before .before .displacement-of .ensures) in
     displacement-answers (given s) (now (s .args .result)) (c .before .before .before .before .before .before .before .before .before .if1 .left) (c .before .before .before .before .before .before .before .before .if2 .left) (c .before .before .before .before .before .before .before .if3 .left) (c .before .before .before .before .before .before .if4 .left) (c .before .before .before .before .before .if5 .left) made (c .number6 .ensures) refl
 
 pub displacement-records-spec : {M : Type 1} → statement M

@@ -3,13 +3,13 @@ use mathlib.Core.Path.{_≡_, sym, ap, _∙_}
 use Prim.Native.Nat.{_-_, _≤_}
 use native.Mathlib.Omega.{arith}
 use lib.ListN.{length, take}
-use Rattle.walk.proofs.Walk.{length-mapped}
+use Rattle.lists.proofs.Walk.{length-mapped}
 use Rattle.numeric.proofs.SightLaws.{seen-by}
-use Rattle.estimator.proofs.RulesLaws.{refused-by, passed-by}
+use Rattle.estimate_rounds.proofs.RulesLaws.{refused-by, passed-by}
 use Rattle.wls.specs.declared.chi.Chi.the-variants.{Refused as NoChi, Of as ChiOf}
 use Rattle.wls.specs.Fix.{sightRules, chiAt}
 use Rattle.wls.proofs.SightLaws.{Sights, sights-start, sights-end, sights-next, sights-stop}
-use Rattle.wls.proofs.QualityLaws.{squares, squares-zero, squares-next, chi-is}
+use Rattle.wls.proofs.QualityLaws.{chi-answered, squares, squares-zero, squares-next, chi-is}
 use borrow.Author.Needs.{needs}
 use Rattle.wls.proofs.chi.chi_at.Statement.{statement}
 use Rattle.wls.proofs.chi.chi_at.Tie as tie
@@ -54,7 +54,7 @@ returns : tie.Need-returns Inv-loop μ-loop
 returns c =
     let s = c .before .before .before .before .before .before in
     let h = c .before .before .before .before .before .loop in
-    λ settings e. refused-by NoChi _ _ (sights-stop (s .args .t2 .observation) _ (s .args .t4) (omega (arith, long s)) (h .j) (h .inv .1) (omega arith) (c .before .before .geometry .ensures) (c .enum-told .given .1))
+    λ settings e. chi-answered (refused-by NoChi _ _ (sights-stop (s .args .t2 .observation) _ (s .args .t4) (omega (arith, long s)) (h .j) (h .inv .1) (omega arith) (c .before .before .geometry .ensures) (c .enum-told .given .1)))
 
 slot-requires : tie.Need-slot-requires Inv-loop μ-loop
 slot-requires c κs = search needs
@@ -103,8 +103,9 @@ returns-2 c =
     let os = s .args .t2 .observation in
     let last : h .j ≡ s .args .t2 .count = omega arith in
     λ settings e.
-    ap ChiOf (chi-is (s .args .k) os (s .args .sigma .now) (s .args .t4) settings (s .args .t2 .count) (omega (arith, long s)) e (h .inv .2 ∙ ap (squares (s .args .k) os (s .args .sigma .now) (s .args .t4)) last) (c .before .freedom-of .ensures) (c .sqrt .ensures))
-    ∙ sym (passed-by NoChi (ChiOf (chiAt settings (s .args .k) (take (s .args .t2 .count) os) (s .args .t4))) (sightRules (take (s .args .t2 .count) os) (s .args .t4)) (sights-end os _ (s .args .t4) (omega (arith, long s)) (h .j) (h .inv .1) (omega arith)))
+    chi-answered
+    (ap ChiOf (chi-is (s .args .k) os (s .args .sigma .now) (s .args .t4) settings (s .args .t2 .count) (omega (arith, long s)) e (h .inv .2 ∙ ap (squares (s .args .k) os (s .args .sigma .now) (s .args .t4)) last) (c .before .freedom-of .ensures) (c .sqrt .ensures))
+    ∙ sym (passed-by NoChi (ChiOf (chiAt settings (s .args .k) (take (s .args .t2 .count) os) (s .args .t4))) (sightRules (take (s .args .t2 .count) os) (s .args .t4)) (sights-end os _ (s .args .t4) (omega (arith, long s)) (h .j) (h .inv .1) (omega arith))))
 
 pub chi-at-spec : {M : Type 1} → statement M
 chi-at-spec =

@@ -5,16 +5,17 @@ use mathlib.Core.List.{List, map}
 use lib.ListN.{length, take}
 use lib.Seq.{length-take-le}
 use lib.Ieee.{Float}
-use Rattle.walk.specs.Walk.{places}
-use Rattle.walk.proofs.Walk.{length-mapped}
-use Rattle.robust.specs.Round.{Outcome}
-use Rattle.normal.specs.Columns.{columns, rowsIn}
+use Rattle.lists.specs.Walk.{places}
+use Rattle.lists.proofs.Walk.{length-mapped}
+use Rattle.robust.specs.Round.{RoundOutcome}
+use Rattle.normal_equations.specs.Steps.{columns, rowsIn}
 use Rattle.records.specs.declared.record.Observation.{Observation}
-use Rattle.estimator.specs.Rounds.{Fit, shortStep}
-use Rattle.estimator.specs.declared.rules.Check.the-variants.{Passed}
-use Rattle.estimator.proofs.RulesLaws.{checked}
-use Rattle.estimator.proofs.RoundsLaws.{three-places, left-end, rows-end, left-stopped, left-stops, left-goes, rows-stop, rows-go}
-use Rattle.wls.specs.Fix.{sightRules, rowAt, roundAt, limit, fitAt, Long, RowsAt}
+use Rattle.estimate_rounds.specs.Rounds.{Fit, shortStep}
+use Rattle.estimate_rounds.specs.declared.rules.Check.the-variants.{Passed}
+use Rattle.estimate_rounds.proofs.RulesLaws.{checked}
+use Rattle.estimate_rounds.proofs.RoundsLaws.{three-places, left-end, rows-end, left-stopped, left-stops, left-goes, rows-stop, rows-go}
+use Rattle.wls.specs.Fix.{sightRules, rowAt, roundAt, fixStop, fitAt}
+use Rattle.wls.specs.Steps.{Long, RowsAt}
 use Rattle.wls.proofs.SightLaws.{round-refused}
 use Rattle.wls.proofs.RowLaws.{rowed-passed, rowed-refused}
 use borrow.Author.Tests.{not-true, not-false}
@@ -34,7 +35,7 @@ abbrev μ-loop : tie.MeasureT-loop
 abbrev os : tie.Start Inv-loop μ-loop → List Observation
 os s = take (s .args .sky .count) (s .args .sky .observation)
 
-abbrev at : tie.Start Inv-loop μ-loop → List Float → Outcome
+abbrev at : tie.Start Inv-loop μ-loop → List Float → RoundOutcome
 at s = roundAt (s .args .settings) (s .args .k) (os s)
 
 abbrev whole : tie.Start Inv-loop μ-loop → Fit
@@ -70,7 +71,7 @@ returns c =
     let s = c .before .before .before .before .before .before .before .before .before .before .before .before in
     let l = c .before .before .before .before .before .before .before .before .before .before .loop in
     let q = round-refused (s .args .settings) (s .args .k) (os s) (l .state) (rowed-refused (c .before .rows-at .ensures) (not-true _ (c .if2 .taken))) in
-    fitted-refused _ _ _ _ _ _ _ _ (left-stopped (at s) (3 + s .args .k .count) limit (s .args .settings .rounds) (whole s) (l .i) (l .state) (c .before .before .before .before .before .before .before .before .if1 .taken) _ _ _ q _ refl (l .inv .4))
+    fitted-refused _ _ _ _ _ _ _ _ (left-stopped (at s) (3 + s .args .k .count) fixStop (s .args .settings .rounds) (whole s) (l .i) (l .state) (c .before .before .before .before .before .before .before .before .if1 .taken) _ _ _ q _ refl (l .inv .4))
 
 slice-aggregate-round-step : tie.Need-slice-aggregate-round-step Inv-loop μ-loop
 slice-aggregate-round-step c = let t = c .before .before .before .before .before .before .before in sym (length-take-le _ _ (omega (arith, rowed t .long .residual-long, t .before .before .before .before .before .before .before .before .before .before .before .before .pre .0 .0)))
@@ -93,7 +94,7 @@ returns-2 c =
     let more = t .before .before .before .before .before .before .before .before .if1 .taken in
     let g = c .before .before .before .round-step in
     let q = solving (s .args .settings) (s .args .k) (os s) (l .state) _ (rows t) (seen t) _ (g .result) _ _ (l .inv .1) (g .ensures) in
-    fitted-refused _ _ _ _ _ _ _ _ (left-stopped (at s) (3 + s .args .k .count) limit (s .args .settings .rounds) (whole s) (l .i) (l .state) more (g .result) _ _ q _ (c .before .r .given .1) (l .inv .4))
+    fitted-refused _ _ _ _ _ _ _ _ (left-stopped (at s) (3 + s .args .k .count) fixStop (s .args .settings .rounds) (whole s) (l .i) (l .state) more (g .result) _ _ q _ (c .before .r .given .1) (l .inv .4))
 
 enum-told : tie.Need-enum-told Inv-loop μ-loop
 enum-told c = search needs
@@ -121,8 +122,8 @@ returns-3 c =
     fitted-ended _ _ _ _ _ _ _ _ (record {
       few = s .pre .0 .0;
       room = omega (arith, rowed t .long .residual-long, s .pre .0 .0);
-      state-is = left-stops (at s) (3 + s .args .k .count) limit (s .args .settings .rounds) (whole s) (l .i) (l .state) more (g .result) _ _ q v (m .result) (h .result) (m .ensures) u (c .if3 .taken) (l .inv .4);
-      rows-are = rows-stop (at s) (3 + s .args .k .count) limit (s .args .settings .rounds) (whole s) (l .i) (l .state) more (g .result) _ _ q v (m .result) (h .result) (m .ensures) u old _ made (c .if3 .taken) (l .inv .5);
+      state-is = left-stops (at s) (3 + s .args .k .count) fixStop (s .args .settings .rounds) (whole s) (l .i) (l .state) more (g .result) _ _ q v (m .result) (h .result) (m .ensures) u (c .if3 .taken) (l .inv .4);
+      rows-are = rows-stop (at s) (3 + s .args .k .count) fixStop (s .args .settings .rounds) (whole s) (l .i) (l .state) more (g .result) _ _ q v (m .result) (h .result) (m .ensures) u old _ made (c .if3 .taken) (l .inv .5);
     })
 
 add-i : tie.Need-add-i Inv-loop μ-loop
@@ -145,7 +146,7 @@ loop-again c =
     let v = c .before .before .before .enum-told .given .1 in
     let old = rowsIn (columns (l .x) (l .y) (l .z) (l .clock) (s .args .sigma .now) (take (l .used) (l .residual))) in
     let made = made-rows (s .args .settings) (s .args .k) (os s) (l .state) _ (rows t) in
-    (omega (arith, more), l .inv .1, s .pre .0 .0, rowed t .long, left-goes (at s) (3 + s .args .k .count) limit (s .args .settings .rounds) (whole s) (l .i) (l .state) more (g .result) _ _ q v (m .result) (h .result) (m .ensures) u (c .if3 .left) (l .inv .4), rows-go (at s) (3 + s .args .k .count) limit (s .args .settings .rounds) (whole s) (l .i) (l .state) more (g .result) _ _ q v (m .result) (h .result) (m .ensures) u old _ made (c .if3 .left) (l .inv .5))
+    (omega (arith, more), l .inv .1, s .pre .0 .0, rowed t .long, left-goes (at s) (3 + s .args .k .count) fixStop (s .args .settings .rounds) (whole s) (l .i) (l .state) more (g .result) _ _ q v (m .result) (h .result) (m .ensures) u (c .if3 .left) (l .inv .4), rows-go (at s) (3 + s .args .k .count) fixStop (s .args .settings .rounds) (whole s) (l .i) (l .state) more (g .result) _ _ q v (m .result) (h .result) (m .ensures) u old _ made (c .if3 .left) (l .inv .5))
 
 returns-4 : tie.Need-returns-4 Inv-loop μ-loop
 returns-4 c =
@@ -155,8 +156,8 @@ returns-4 c =
     fitted-ended _ _ _ _ _ _ _ _ (record {
       few = l .inv .2;
       room = omega (arith, l .inv .3 .residual-long, l .inv .2);
-      state-is = left-end (at s) (3 + s .args .k .count) limit (s .args .settings .rounds) (whole s) (l .i) (l .state) done (l .inv .4);
-      rows-are = rows-end (at s) (3 + s .args .k .count) limit (s .args .settings .rounds) (whole s) (l .i) (l .state) done _ (l .inv .5);
+      state-is = left-end (at s) (3 + s .args .k .count) fixStop (s .args .settings .rounds) (whole s) (l .i) (l .state) done (l .inv .4);
+      rows-are = rows-end (at s) (3 + s .args .k .count) fixStop (s .args .settings .rounds) (whole s) (l .i) (l .state) done _ (l .inv .5);
     })
 
 pub fit-rounds-spec : {M : Type 1} → statement M

@@ -60,7 +60,7 @@ returns-2 c =
     let s = c .before .before .before .before .before .before .before .before .before .before .before .before .before .before .before .before .before .before .before .before .before .before in
     let f = c .before .before .before .before .before .before .before .before .before .before .before .before .before .fit-rounds in
     let at = f .last .1 .1 .1 .1 .1 .1 .1 .1 .1 .0 in
-    reached-at (s .args .settings) (s .args .k) (os s) (s .args .guess) (f .ensures .ended _ (c .before .before .before .before .before .before .before .before .before .before .before .used .given .1)) (c .found-at .result) (c .found-at .ensures (sightRules (os s) at) (chiAt (s .args .settings) (s .args .k) (os s) at) (c .before .before .before .before .before .before .before .chi-at .ensures (s .args .settings) (c .before .before .before .before .before .before .before .before .before .before .before .before .before .before .before .before .before .before .before .before .before .sigmas-of .ensures)))
+    reached-at (s .args .settings) (s .args .k) (os s) (s .args .guess) (f .ensures .ended _ (c .before .before .before .before .before .before .before .before .before .before .before .used .given .1)) (c .found-at .result) (c .found-at .ensures (sightRules (os s) at) (chiAt (s .args .settings) (s .args .k) (os s) at) (c .before .before .before .before .before .before .before .chi-at .ensures (s .args .settings) (c .before .before .before .before .before .before .before .before .before .before .before .before .before .before .before .before .before .before .before .before .before .sigmas-of .ensures) .answer))
 
 pub fit-sky-spec : {M : Type 1} → statement M
 fit-sky-spec =

@@ -1,14 +1,14 @@
 -- `wls::fix::found_at` meets its contract. Assumes nothing.
 use mathlib.Core.Path.{sym, _∙_}
 use lib.ListN.{length}
-use Rattle.walk.proofs.Walk.{places-length}
-use Rattle.normal.specs.Columns.{Columns, columns, rowIn, rowsIn}
+use Rattle.lists.proofs.Walk.{places-length}
+use Rattle.normal_equations.specs.Steps.{RoundColumns, columns, rowIn, rowsIn}
 use Rattle.wls.proofs.FixCall.{found-no, found-refused, found-rated}
 use borrow.Author.Needs.{needs}
 use Rattle.wls.proofs.fix.found_at.Statement.{statement}
 use Rattle.wls.proofs.fix.found_at.Tie as tie
 
-abbrev given : tie.Start → Columns
+abbrev given : tie.Start → RoundColumns
 given c = columns (c .args .x .now) (c .args .y .now) (c .args .z .now) (c .args .clock .now) (c .args .sigma .now) (c .args .residual .now)
 
 array-read-t16 : tie.Need-array-read-t16
@@ -41,7 +41,7 @@ rated-requires c κs = search needs
 returns : tie.Need-returns
 returns c =
     let s = c .before .before .before .before .before .before .before .before .before .before in
-    let d = sym (c .before .before .pdop .given .1) ∙ c .before .before .before .before .dilution-of .ensures in
+    let d = sym (c .before .before .pdop .given .1) ∙ c .before .before .before .before .dilution-of .ensures .answer in
     λ sights chi e. c .rated .ensures ∙ found-rated (s .args .n) (rowsIn (given s)) sights chi (s .args .t8) _ _ _ (c .before .before .before .before .before .before .before .before .is-finite .ensures) (c .before .before .before .before .before .before .before .is-finite2 .ensures) (c .before .before .before .before .before .before .is-finite3 .ensures) (c .before .before .before .before .before .if1 .taken) _ d _ (sym (places-length (rowIn (given s)) (length (s .args .residual .now)))) e
 
 enum-told : tie.Need-enum-told
@@ -50,7 +50,7 @@ enum-told c = search needs
 returns-2 : tie.Need-returns-2
 returns-2 c =
     let s = c .before .before .before .before .before .before .before .before in
-    let d = sym (c .enum-told .given .1) ∙ c .before .before .dilution-of .ensures in
+    let d = sym (c .enum-told .given .1) ∙ c .before .before .dilution-of .ensures .answer in
     λ sights chi e. found-refused (s .args .n) (rowsIn (given s)) sights chi (s .args .t8) _ _ _ (c .before .before .before .before .before .before .is-finite .ensures) (c .before .before .before .before .before .is-finite2 .ensures) (c .before .before .before .before .is-finite3 .ensures) (c .before .before .before .if1 .taken) _ d
 
 returns-3 : tie.Need-returns-3

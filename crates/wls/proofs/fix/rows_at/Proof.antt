@@ -2,7 +2,7 @@
 use Prim.Native.Nat.{_-_, _≤_}
 use mathlib.Core.Path.{_≡_}
 use lib.ListN.{length}
-use Rattle.walk.proofs.Walk.{length-mapped}
+use Rattle.lists.proofs.Walk.{length-mapped}
 use Rattle.wls.proofs.RowLaws.{RowsTo, rows-start, rows-end, rows-stop, rows-next}
 use borrow.Author.Needs.{needs}
 use native.Mathlib.Omega.{arith}

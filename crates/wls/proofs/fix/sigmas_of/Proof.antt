@@ -5,8 +5,8 @@ use Prim.Native.Nat.{_≤_, _-_}
 use native.Mathlib.Omega.{arith}
 use lib.ListN.{take, length, length-set}
 use borrow.Author.Needs.{needs}
-use Rattle.walk.proofs.Walk.{length-mapped}
-use Rattle.normal.proofs.Sums.{mapped-next}
+use Rattle.lists.proofs.Walk.{length-mapped}
+use Rattle.normal_equations.proofs.Sums.{mapped-next}
 use Rattle.wls.specs.Fix.{sigmaOf}
 use Rattle.records.proofs.RecordLaws.{blankObservation}
 use Rattle.wls.proofs.fix.sigmas_of.Statement.{statement}

@@ -1,8 +1,8 @@
 -- `wls::fix::solve_full` meets its contract. Assumes nothing.
 use mathlib.Core.Path.{_≡_, sym, _∙_}
 use Rattle.wls.specs.Valid.{fixInputRules}
-use Rattle.estimator.specs.declared.rules.Check.the-variants.{Passed}
-use Rattle.estimator.proofs.RulesLaws.{checked}
+use Rattle.estimate_rounds.specs.declared.rules.Check.the-variants.{Passed}
+use Rattle.estimate_rounds.proofs.RulesLaws.{checked}
 use Rattle.wls.proofs.FrontLaws.{observations-fit}
 use Rattle.wls.proofs.FixSound.{promised}
 use Rattle.wls.proofs.FixCall.{refused-input, refused-counts, few-clocks, found}

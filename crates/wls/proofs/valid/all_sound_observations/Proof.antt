@@ -1,9 +1,9 @@
 -- `wls::valid::all_sound_observations` meets its contract. Assumes nothing.
-use Rattle.walk.specs.Walk.{every}
+use Rattle.lists.specs.Walk.{every}
 use native.Mathlib.Omega.{arith}
 use lib.ListN.{length}
 use borrow.Author.Tests.{not-true, not-false}
-use Rattle.walk.proofs.Walk.{length-mapped, every-yes, every-no, every-end}
+use Rattle.lists.proofs.Walk.{length-mapped, every-yes, every-no, every-end}
 use Rattle.records.proofs.RecordLaws.{blankObservation}
 use mathlib.Core.Path.{_≡_, refl}
 use Prim.Native.Nat.{_≤_, _-_}

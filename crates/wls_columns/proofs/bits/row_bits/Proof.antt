@@ -1,75 +1,83 @@
--- `wls_columns::bits::row_bits` meets its contract: before place k the first k bits are in r. Assumes nothing.
-use Prim.Native.Nat.{_-_, _<_}
+-- `wls_columns::bits::row_bits` meets its contract. Assumes nothing.
+use borrow.Author.Needs.{needs}
 use native.Mathlib.Omega.{arith}
-use mathlib.Core.Path.{refl}
+use lib.Ieee.{nan}
 use Rattle.cholesky.specs.Factor.{row}
-use Rattle.wls_columns.proofs.BitLaws.{Patterned, patterned-next, patterned-all, finite-number, finite-pattern}
+use Rattle.numeric.specs.Order.{patternOf}
+use Rattle.wls_columns.proofs.BitLaws.{nine-mapped, finite-number, finite-pattern}
 use Rattle.wls_columns.proofs.bits.row_bits.Statement.{statement}
 use Rattle.wls_columns.proofs.bits.row_bits.Tie as tie
 
-abbrev Inv-loop : tie.InvT-loop
-Inv-loop i m r₀ k₀ r k = Patterned (row m i) k r
+float-to-bits-a : tie.Need-float-to-bits-a
+float-to-bits-a c = let s = c .before in rw (finite-number _ (s .pre .1 .finite-at _ 0 (s .pre .0) (omega arith))) tt
 
-abbrev μ-loop : tie.MeasureT-loop
-μ-loop i m r₀ k₀ r k = 9 - k
+float-to-bits-b : tie.Need-float-to-bits-b
+float-to-bits-b c = let s = c .before .before in rw (finite-number _ (s .pre .1 .finite-at _ 1 (s .pre .0) (omega arith))) tt
 
-loop-holds : tie.Need-loop-holds Inv-loop μ-loop
-loop-holds c = record { upto = omega arith; long = refl; so-far = refl }
+float-to-bits-c : tie.Need-float-to-bits-c
+float-to-bits-c c = let s = c .before .before .before in rw (finite-number _ (s .pre .1 .finite-at _ 2 (s .pre .0) (omega arith))) tt
 
-mul-p : tie.Need-mul-p Inv-loop μ-loop
-mul-p c = omega arith
+float-to-bits-d : tie.Need-float-to-bits-d
+float-to-bits-d c = let s = c .before .before .before .before in rw (finite-number _ (s .pre .1 .finite-at _ 3 (s .pre .0) (omega arith))) tt
 
-mul-p-2 : tie.Need-mul-p-2 Inv-loop μ-loop
-mul-p-2 c = omega arith
+float-to-bits-e : tie.Need-float-to-bits-e
+float-to-bits-e c = let s = c .before .before .before .before .before in rw (finite-number _ (s .pre .1 .finite-at _ 4 (s .pre .0) (omega arith))) tt
 
-index-1-p : tie.Need-index-1-p Inv-loop μ-loop
-index-1-p c = omega arith
+float-to-bits-f : tie.Need-float-to-bits-f
+float-to-bits-f c = let s = c .before .before .before .before .before .before in rw (finite-number _ (s .pre .1 .finite-at _ 5 (s .pre .0) (omega arith))) tt
 
-index-2-p : tie.Need-index-2-p Inv-loop μ-loop
-index-2-p c = omega arith
+float-to-bits-g : tie.Need-float-to-bits-g
+float-to-bits-g c = let s = c .before .before .before .before .before .before .before in rw (finite-number _ (s .pre .1 .finite-at _ 6 (s .pre .0) (omega arith))) tt
 
-float-to-bits-p : tie.Need-float-to-bits-p Inv-loop μ-loop
-float-to-bits-p c =
-    let s = c .before .before .before in
-    let l : c .before .before .loop .k < 9 = omega arith in
-    rw (finite-number _ (s .pre .1 .finite-at _ _ (s .pre .0) l)) tt
+float-to-bits-h : tie.Need-float-to-bits-h
+float-to-bits-h c = let s = c .before .before .before .before .before .before .before .before in rw (finite-number _ (s .pre .1 .finite-at _ 7 (s .pre .0) (omega arith))) tt
 
-mul-r : tie.Need-mul-r Inv-loop μ-loop
-mul-r c = omega arith
+float-to-bits-k : tie.Need-float-to-bits-k
+float-to-bits-k c = let s = c .before .before .before .before .before .before .before .before .before in rw (finite-number _ (s .pre .1 .finite-at _ 8 (s .pre .0) (omega arith))) tt
 
-array-write-r : tie.Need-array-write-r Inv-loop μ-loop
-array-write-r c = omega arith
-
-add-k : tie.Need-add-k Inv-loop μ-loop
-add-k c = omega arith
-
-loop-less : tie.Need-loop-less Inv-loop μ-loop
-loop-less c = omega arith
-
-loop-again : tie.Need-loop-again Inv-loop μ-loop
-loop-again c =
-    let t = c .before .before in
-    let s = t .before in
-    patterned-next _ (s .pre .1 .wide _ (s .pre .0)) _ (t .loop .inv) (omega arith) (finite-pattern _)
-
-returns : tie.Need-returns Inv-loop μ-loop
-returns c = let s = c .before .before in patterned-all _ (s .pre .1 .wide _ (s .pre .0)) (c .before .loop .inv) (omega arith)
+returns : tie.Need-returns
+returns c =
+    let s = c .before .before .before .before .before .before .before .before .before in
+    nine-mapped patternOf nan (row (s .args .m .now) (s .args .i)) (s .pre .1 .wide _ (s .pre .0)) (finite-pattern _) (finite-pattern _) (finite-pattern _) (finite-pattern _) (finite-pattern _) (finite-pattern _) (finite-pattern _) (finite-pattern _) (finite-pattern _)
 
 pub row-bits-spec : {M : Type 1} → statement M
 row-bits-spec =
     tie.close
     (tie.spec
-    Inv-loop
-    μ-loop
-    loop-holds
-    mul-p
-    mul-p-2
-    index-1-p
-    index-2-p
-    float-to-bits-p
-    mul-r
-    array-write-r
-    add-k
-    loop-less
-    loop-again
+    (λ c. search needs)
+    (λ c. search needs)
+    (λ c. search needs)
+    float-to-bits-a
+    (λ c. search needs)
+    (λ c. search needs)
+    (λ c. search needs)
+    float-to-bits-b
+    (λ c. search needs)
+    (λ c. search needs)
+    (λ c. search needs)
+    float-to-bits-c
+    (λ c. search needs)
+    (λ c. search needs)
+    (λ c. search needs)
+    float-to-bits-d
+    (λ c. search needs)
+    (λ c. search needs)
+    (λ c. search needs)
+    float-to-bits-e
+    (λ c. search needs)
+    (λ c. search needs)
+    (λ c. search needs)
+    float-to-bits-f
+    (λ c. search needs)
+    (λ c. search needs)
+    (λ c. search needs)
+    float-to-bits-g
+    (λ c. search needs)
+    (λ c. search needs)
+    (λ c. search needs)
+    float-to-bits-h
+    (λ c. search needs)
+    (λ c. search needs)
+    (λ c. search needs)
+    float-to-bits-k
     returns)

@@ -3,7 +3,7 @@ use mathlib.Core.Path.{refl}
 use Prim.Native.Nat.{_-_}
 use borrow.Author.Needs.{needs}
 use Rattle.wls_columns.specs.Columns.{RowColumns, rowColumns, rowFrom}
-use Rattle.walk.proofs.Filling.{Filling, filling-start, filling-next}
+use Rattle.lists.proofs.Filling.{Filling, filling-start, filling-next}
 use Rattle.wls_columns.proofs.ColumnLaws.{RowRoom, rows-room, filling-end}
 use Rattle.wls_columns.proofs.columns.rows_of.Statement.{statement}
 use Rattle.wls_columns.proofs.columns.rows_of.Tie as tie

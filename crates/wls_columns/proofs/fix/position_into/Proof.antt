@@ -1,36 +1,24 @@
 -- `wls_columns::fix::position_into` meets its contract. Assumes nothing.
-use mathlib.Core.Path.{refl, sym, _∙_}
-use Rattle.wls_columns.proofs.FixLaws.{position-answers}
+use mathlib.Core.Path.{refl}
 use borrow.Author.Needs.{needs}
 use Rattle.wls_columns.proofs.fix.position_into.Statement.{statement}
 use Rattle.wls_columns.proofs.fix.position_into.Tie as tie
 
-fix-from-requires : tie.Need-fix-from-requires
-fix-from-requires c κs = search needs
-
-enum-known-answer : tie.Need-enum-known-answer
-enum-known-answer c = search needs
-
-pattern-requires : tie.Need-pattern-requires
-pattern-requires c κs = search needs
-
-pattern-requires-2 : tie.Need-pattern-requires-2
-pattern-requires-2 c κs = search needs
-
-pattern-requires-3 : tie.Need-pattern-requires-3
-pattern-requires-3 c κs = search needs
-
-enum-known-answer-2 : tie.Need-enum-known-answer-2
-enum-known-answer-2 c = search needs
-
-number-requires : tie.Need-number-requires
-number-requires c κs = search needs
-
 returns : tie.Need-returns
-returns c = position-answers _ _ _ _ (sym (c .before .before .before .before .before .before .answer .given .1) ∙ c .before .before .before .before .before .before .before .before .fix-from .ensures) refl (rw (c .before .before .before .pattern .ensures, c .before .before .pattern2 .ensures, c .before .pattern3 .ensures))
+returns c = rw (c .before .before .before .before .before .before .answer .given .1) (record { number-is = refl; position-is = rw (c .before .before .before .pattern .ensures, c .before .before .pattern2 .ensures, c .before .pattern3 .ensures) })
 
 returns-2 : tie.Need-returns-2
-returns-2 c = position-answers _ _ _ _ (sym (c .before .before .answer2 .given .1) ∙ c .before .before .before .before .fix-from .ensures) (c .number .ensures) refl
+returns-2 c = rw (c .before .before .answer2 .given .1) (record { number-is = c .number .ensures; position-is = refl })
 
 pub position-into-spec : {M : Type 1} → statement M
-position-into-spec = tie.close (tie.spec fix-from-requires enum-known-answer pattern-requires pattern-requires-2 pattern-requires-3 enum-known-answer-2 number-requires returns returns-2)
+position-into-spec =
+    tie.close
+    (tie.spec
+    (λ c. search needs)
+    (λ c κs. search needs)
+    (λ c κs. search needs)
+    (λ c κs. search needs)
+    (λ c. search needs)
+    (λ c κs. search needs)
+    returns
+    returns-2)

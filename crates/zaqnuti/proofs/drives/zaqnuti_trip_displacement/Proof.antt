@@ -1,6 +1,6 @@
 -- `zaqnuti::drives::zaqnuti_trip_displacement` meets its contract. Assumes nothing.
 use borrow.Author.Needs.{needs}
-use Rattle.drive.proofs.LentLaws.{travel-answers}
+use Rattle.trip_settings.proofs.LentLaws.{travel-answers}
 use Rattle.zaqnuti.proofs.drives.zaqnuti_trip_displacement.Statement.{statement}
 use Rattle.zaqnuti.proofs.drives.zaqnuti_trip_displacement.Tie as tie
 

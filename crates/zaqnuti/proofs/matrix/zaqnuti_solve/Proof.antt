@@ -6,14 +6,14 @@ use Rattle.numeric.specs.Order.{patternOf}
 use Rattle.zaqnuti.proofs.matrix.zaqnuti_solve.Statement.{statement}
 use Rattle.zaqnuti.proofs.matrix.zaqnuti_solve.Tie as tie
 
-solve-lent-requires : tie.Need-solve-lent-requires
-solve-lent-requires c κs = search needs
+solve-into-requires : tie.Need-solve-into-requires
+solve-into-requires c κs = search needs
 
 patterns-requires : tie.Need-patterns-requires
 patterns-requires c κs = search needs
 
 returns : tie.Need-returns
-returns c = c .patterns .ensures ∙ ap (map patternOf) (c .before .solve-lent .ensures)
+returns c = c .patterns .ensures ∙ ap (map patternOf) (c .before .solve-into .ensures)
 
 pub zaqnuti-solve-spec : {M : Type 1} → statement M
-zaqnuti-solve-spec = tie.close (tie.spec solve-lent-requires patterns-requires returns)
+zaqnuti-solve-spec = tie.close (tie.spec solve-into-requires patterns-requires returns)

@@ -29,12 +29,12 @@ returns : tie.Need-returns
 returns c =
     let p = c .before in
     let q = p .before .before .before in
-    let e = sym (q .answer .given .1) ∙ q .before .before .centre-scale .ensures in
+    let e = sym (q .answer .given .1) ∙ q .before .before .centre-scale .ensures .answer in
     (ap centreNumber e, rw (p .before .pattern .ensures, p .pattern2 .ensures) (ap (λ (z : Centre). centreAfter z (q .before .before .before .before .args .out .now)) e))
 
 returns-2 : tie.Need-returns-2
 returns-2 c =
-    let e = sym (c .before .before .answer2 .given .1) ∙ c .before .before .before .before .centre-scale .ensures in
+    let e = sym (c .before .before .answer2 .given .1) ∙ c .before .before .before .before .centre-scale .ensures .answer in
     (c .number .ensures ∙ ap centreNumber e, ap (λ (z : Centre). centreAfter z (c .before .before .before .before .before .before .args .out .now)) e)
 
 pub zaqnuti-centre-spec : {M : Type 1} → statement M

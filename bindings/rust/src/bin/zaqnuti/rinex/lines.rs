@@ -172,7 +172,7 @@ impl Lines {
     pub fn fault_in(&self, field: &[u8], what: &str) -> Fault {
         let field = String::from_utf8_lossy(field);
         match field.is_empty() {
-            true => self.fault(&format!("empty; {what} is wanted")),
+            true => self.fault(&format!("empty; expected {what}")),
             false => self.fault(&format!("{field:?} is not {what}")),
         }
     }

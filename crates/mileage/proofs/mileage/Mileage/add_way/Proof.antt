@@ -1,6 +1,10 @@
 -- `mileage::mileage::Mileage::add_way` meets its contract. Assumes nothing.
-use borrow.Author.Tests.{ltb-true, not-true, not-false}
-use Rattle.mileage.proofs.CallLaws.{way-short, add-refused, accepted, add-goes}
+use mathlib.Core.Bool.{not, _&&_}
+use Prim.Native.Nat.{_≤_}
+use lib.Dec.{ltb, eqb}
+use borrow.Author.Tests.{ltb-true, leb-true, not-true, not-false}
+use Rattle.lists.proofs.Walk.{and-both}
+use Rattle.mileage.proofs.CallLaws.{add-refused, accepted, add-goes, add-driven}
 use borrow.Author.Needs.{needs}
 use Rattle.mileage.proofs.mileage.Mileage.add_way.Statement.{statement}
 use Rattle.mileage.proofs.mileage.Mileage.add_way.Tie as tie
@@ -9,7 +13,7 @@ is-sound-requires : tie.Need-is-sound-requires
 is-sound-requires c κs = search needs
 
 returns : tie.Need-returns
-returns c = let s = c .before .before .before in add-refused (s .before .args .e) (s .before .pre) _ (s .is-sound .ensures) (not-true _ (c .if1 .taken))
+returns c = let s = c .before .before in add-refused (s .before .args .e) (s .before .pre) _ (s .is-sound .ensures) (not-true _ (c .if1 .taken))
 
 is-rated-requires : tie.Need-is-rated-requires
 is-rated-requires c κs = search needs
@@ -17,18 +21,41 @@ is-rated-requires c κs = search needs
 cast-pulses : tie.Need-cast-pulses
 cast-pulses c = search needs
 
-grown-requires : tie.Need-grown-requires
-grown-requires c κs =
-    let s = c .before .before .before .before .before .before in
-    let a = accepted (s .before .args .e) (s .before .pre) _ (s .is-sound .ensures) (not-false _ (c .before .before .before .if1 .left)) in
-    (a .is-sound, ltb-true _ _ (a .room), way-short (s .before .args .e) (s .before .pre), search needs)
+narrow : (c : tie.After-struct-known3) → c .before .before .before .before .before .before .args .e .pulses ≤ 65535
+narrow c = search needs
+
+driven-requires : tie.Need-driven-requires
+driven-requires c κs =
+    let g = c .before .before in
+    let f = g .before .before in
+    let s = f .before .before in
+    let p = s .before .args .e .pulses in
+    let a = accepted (s .before .args .e) (s .before .pre) _ (s .is-sound .ensures) (not-false _ (f .if1 .left)) in
+    let moves = and-both (not (not (eqb (s .before .args .e .refused) 0)) && g .is-rated .result) (ltb 0 p) (c .if2 .taken) .1 in
+    (a .is-sound, ltb-true _ _ (a .room), leb-true _ _ (a .within), ltb-true _ _ moves, narrow (c .before))
 
 returns-2 : tie.Need-returns-2
 returns-2 c =
-    let s = c .before .before .before .before .before .before .before in
-    rw (c .grown .ensures) (add-goes (s .before .args .e) (s .before .pre) _ (s .is-sound .ensures) (c .before .before .is-rated .ensures) (not-false _ (c .before .before .before .before .if1 .left)))
+    let g = c .before .before .before in
+    let f = g .before .before in
+    let s = f .before .before in
+    rw (c .driven .ensures) (add-driven (s .before .args .e) (s .before .pre) _ (s .is-sound .ensures) (g .is-rated .ensures) (not-false _ (f .if1 .left)) (c .before .if2 .taken))
+
+grown-requires : tie.Need-grown-requires
+grown-requires c κs =
+    let f = c .before .before .before .before in
+    let s = f .before .before in
+    let a = accepted (s .before .args .e) (s .before .pre) _ (s .is-sound .ensures) (not-false _ (f .if1 .left)) in
+    (a .is-sound, ltb-true _ _ (a .room), leb-true _ _ (a .within), search needs)
+
+returns-3 : tie.Need-returns-3
+returns-3 c =
+    let g = c .before .before .before in
+    let f = g .before .before in
+    let s = f .before .before in
+    rw (c .grown .ensures) (add-goes (s .before .args .e) (s .before .pre) _ (s .is-sound .ensures) (g .is-rated .ensures) (not-false _ (f .if1 .left)))
 
 pub add-way-spec : {M : Type 1} → statement M
 add-way-spec =
     tie.close
-    (tie.spec is-sound-requires returns is-rated-requires cast-pulses grown-requires returns-2)
+    (tie.spec is-sound-requires returns is-rated-requires cast-pulses driven-requires returns-2 grown-requires returns-3)

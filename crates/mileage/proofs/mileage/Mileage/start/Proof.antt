@@ -1,6 +1,6 @@
 -- `mileage::mileage::Mileage::start` meets its contract. Assumes nothing.
 use mathlib.Core.Path.{sym, _∙_}
-use Rattle.mileage.specs.Mileage.{placed, sum, reportOf, mileageOf, started}
+use Rattle.mileage.specs.Mileage.{inPlaces, sum, mileageReport, mileageOf, mileageStarted}
 use borrow.Author.Needs.{needs}
 use Rattle.mileage.proofs.mileage.Mileage.start.Statement.{statement}
 use Rattle.mileage.proofs.mileage.Mileage.start.Tie as tie
@@ -9,11 +9,11 @@ in-range-requires : tie.Need-in-range-requires
 in-range-requires c κs = search needs
 
 returns : tie.Need-returns
-unfolding started mileageOf reportOf placed sum
+unfolding mileageStarted mileageOf mileageReport inPlaces sum
 returns c = rw (sym (c .before .in-range .ensures) ∙ c .if1 .taken)
 
 returns-2 : tie.Need-returns-2
-unfolding started
+unfolding mileageStarted
 returns-2 c = rw (sym (c .before .in-range .ensures) ∙ c .if1 .left)
 
 pub start-spec : {M : Type 1} → statement M

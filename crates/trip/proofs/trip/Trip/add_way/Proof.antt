@@ -2,8 +2,8 @@
 use mathlib.Core.Path.{sym, _∙_}
 use lib.Dec.{ltb}
 use borrow.Author.Needs.{needs}
-use borrow.Author.Tests.{ltb-true, not-true, not-false}
-use Rattle.walk.proofs.Walk.{and-both}
+use borrow.Author.Tests.{ltb-true, le-leb, lt-leb, not-true, not-false}
+use Rattle.lists.proofs.Walk.{and-both}
 use Rattle.trip.proofs.TripLaws.{adds, way-refused, trip-refused, way-added}
 use Rattle.trip.proofs.trip.Trip.add_way.Statement.{statement}
 use Rattle.trip.proofs.trip.Trip.add_way.Tie as tie
@@ -12,23 +12,23 @@ is-sound-requires : tie.Need-is-sound-requires
 is-sound-requires c κs = search needs
 
 returns : tie.Need-returns
-returns c = let s = c .before .before in λ d e. adds _ _ (trip-refused _ d _ e (s .is-sound .ensures) (s .before .if1 .taken) (not-true _ (c .if2 .taken)))
+returns c = let s = c .before .before in λ d e. adds _ _ (trip-refused _ d _ e (s .is-sound .ensures) (le-leb _ _ (s .before .if1 .taken)) (not-true _ (c .if2 .taken)))
 
 counted-requires : tie.Need-counted-requires
 counted-requires c κs =
     let s = c .before .before in
     let a = s .before .before in
     let q = and-both (s .is-sound .result) (ltb (a .args .self .epochs) 65535) (not-false _ (c .if2 .left)) in
-    (sym (s .is-sound .ensures) ∙ q .0, ltb-true _ _ (q .1), a .pre, search needs)
+    (sym (s .is-sound .ensures) ∙ q .0, ltb-true _ _ (q .1), s .before .if1 .taken, search needs)
 
 returns-2 : tie.Need-returns-2
 returns-2 c =
     let e = c .before in
     let s = e .before .before in
-    λ d h. adds _ _ (rw (c .counted .ensures) (way-added _ d _ h (s .is-sound .ensures) (s .before .if1 .taken) (not-false _ (e .if2 .left))))
+    λ d h. adds _ _ (rw (c .counted .ensures) (way-added _ d _ h (s .is-sound .ensures) (le-leb _ _ (s .before .if1 .taken)) (not-false _ (e .if2 .left))))
 
 returns-3 : tie.Need-returns-3
-returns-3 c = λ d e. adds _ _ (way-refused _ d _ e (c .if1 .left))
+returns-3 c = λ d e. adds _ _ (way-refused _ d _ e (lt-leb _ _ (c .if1 .left)))
 
 pub add-way-spec : {M : Type 1} → statement M
 add-way-spec = tie.close (tie.spec is-sound-requires returns counted-requires returns-2 returns-3)

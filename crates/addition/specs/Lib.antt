@@ -1,2 +1,0 @@
-pub mod Merge
-pub mod Add

@@ -1,0 +1,9 @@
+-- What the proofs of more than one function use, and the theorems.
+pub mod DirectoryLaws
+pub mod FaultLaws
+pub mod ColumnLaws
+pub mod SeriesLaws
+pub mod BlockLaws
+pub mod SoundLaws
+pub mod EntryLaws
+pub mod PatternLaws

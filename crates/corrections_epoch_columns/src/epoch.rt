@@ -1,0 +1,161 @@
+// The columns of a base epoch and of states read into records.
+// rc, rv, rb and rp are the columns of the ranges' constellations, svids, bands and pseudoranges; sc, sv and sb those of the states' constellations, svids and bands,
+// and sf has eight floats for each state: position, velocity, clock, modelled.
+ghost use mathlib.Core.Path.{_≡_};
+ghost use mathlib.Core.Bool.{cond};
+ghost use Prim.Native.Nat.{_+_, _*_, _<_};
+ghost use lib.ListN.{length};
+ghost use Rattle.corrections_epoch_columns.specs.Epoch.{stateAt};
+ghost use Rattle.corrections_epoch_columns.specs.Steps.{RangesIn, ReadsEpoch, ReadsStates, StatesIn, rangesShort, statesShort};
+use corrections_epoch::record::BaseEpoch;
+use corrections_epoch::record::Range;
+use corrections_epoch::record::State;
+use corrections_epoch::record::States;
+use numeric::vec3::Vec3;
+use numeric::vec3::vector_at;
+
+// Reads the epoch of the first k ranges.
+pub(crate) fn epoch_from(
+    time: f64,
+    k: usize,
+    range_constellation: &[u8],
+    range_svid: &[u16],
+    range_band: &[u32],
+    range_pseudorange: &[f64],
+) -> BaseEpoch
+    requires { ⌜ RangesIn k «range_constellation» «range_svid» «range_band» «range_pseudorange» ⌝ }
+    ensures { λ r. ⌜ ReadsEpoch time k «range_constellation» «range_svid» «range_band» «range_pseudorange» r ⌝ }
+{
+    let nothing = Range {
+        constellation: 0,
+        svid: 0,
+        band: 0,
+        pseudorange: 0.0,
+    };
+    let mut ranges = [nothing; 64];
+    let mut i: usize = 0;
+    while i < k {
+        let q = Range {
+            constellation: range_constellation[i],
+            svid: range_svid[i],
+            band: range_band[i],
+            pseudorange: range_pseudorange[i],
+        };
+        ranges[i] = q;
+        i += 1;
+    }
+    BaseEpoch {
+        count: k,
+        time: time,
+        ranges: ranges,
+    }
+}
+
+// Reads state i of the columns.
+fn state_at(
+    state_constellation: &[u8],
+    state_svid: &[u16],
+    state_band: &[u32],
+    state_floats: &[f64],
+    i: usize,
+) -> State
+    requires { ⌜ (i < length (now «state_constellation»)) × (i < length (now «state_svid»)) ⌝ }
+    requires { ⌜ (i < length (now «state_band»)) × (i * 8 + 7 < length (now «state_floats»)) ⌝ }
+    ensures { λ r. ⌜ r ≡ stateAt (now («state_constellation» .entry)) (now («state_svid» .entry)) (now («state_band» .entry))
+        (now («state_floats» .entry)) i ⌝ }
+{
+    let at = i * 8;
+    let position = vector_at(state_floats, at);
+    let velocity = vector_at(state_floats, at + 3);
+    State {
+        constellation: state_constellation[i],
+        svid: state_svid[i],
+        band: state_band[i],
+        position: position,
+        velocity: velocity,
+        clock: state_floats[at + 6],
+        modelled: state_floats[at + 7],
+    }
+}
+
+// Returns how many states are read: none under the mark that there are none.
+pub(crate) fn wanted(present: bool, j: usize) -> usize
+    ensures { λ r. ⌜ r ≡ cond present j 0 ⌝ }
+{
+    if present { j } else { 0 }
+}
+
+// Reads the first m states, or the mark that there are none.
+pub(crate) fn states_from(
+    present: bool,
+    m: usize,
+    state_constellation: &[u8],
+    state_svid: &[u16],
+    state_band: &[u32],
+    state_floats: &[f64],
+) -> States
+    requires { ⌜ StatesIn m «state_constellation» «state_svid» «state_band» «state_floats» ⌝ }
+    ensures { λ r. ⌜ ReadsStates present m «state_constellation» «state_svid» «state_band» «state_floats» r ⌝ }
+{
+    let zero = Vec3 {
+        x: 0.0,
+        y: 0.0,
+        z: 0.0,
+    };
+    let nothing = State {
+        constellation: 0,
+        svid: 0,
+        band: 0,
+        position: zero,
+        velocity: zero,
+        clock: 0.0,
+        modelled: 0.0,
+    };
+    let mut states = [nothing; 64];
+    for i in 0..m {
+        states[i] = state_at(state_constellation, state_svid, state_band, state_floats, i);
+    }
+    States {
+        present: present,
+        count: m,
+        states: states,
+    }
+}
+
+// Checks whether there are more than 64 ranges, or a lent column is shorter than they need.
+pub(crate) fn ranges_short(
+    k: usize,
+    range_constellation: &[u8],
+    range_svid: &[u16],
+    range_band: &[u32],
+    range_pseudorange: &[f64],
+) -> bool
+    ensures { λ r. ⌜ r ≡ rangesShort k (now («range_constellation» .entry)) (now («range_svid» .entry)) (now («range_band» .entry))
+        (now («range_pseudorange» .entry)) ⌝ }
+{
+    (64 < k)
+        | (range_constellation.len() < k)
+        | (range_svid.len() < k)
+        | (range_band.len() < k)
+        | (range_pseudorange.len() < k)
+}
+
+// Checks whether there are more than 64 states, or a lent column is shorter than they need.
+pub(crate) fn states_short(
+    m: usize,
+    state_constellation: &[u8],
+    state_svid: &[u16],
+    state_band: &[u32],
+    state_floats: &[f64],
+) -> bool
+    ensures { λ r. ⌜ r ≡ statesShort m (now («state_constellation» .entry)) (now («state_svid» .entry)) (now («state_band» .entry))
+        (now («state_floats» .entry)) ⌝ }
+{
+    if 64 < m {
+        return true;
+    }
+    (state_constellation.len() < m)
+        | (state_svid.len() < m)
+        | (state_band.len() < m)
+        | (state_floats.len() < m * 8)
+}

@@ -1,5 +1,0 @@
-pub mod Record
-pub mod Raw
-pub mod Sample
-pub mod AddEpoch
-pub mod Build

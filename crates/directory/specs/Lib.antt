@@ -1,5 +1,0 @@
-pub mod Directory
-pub mod Faults
-pub mod Passes
-pub mod Rearrange
-pub mod Series

@@ -1,0 +1,4 @@
+pub mod NeverLaws
+pub mod CityLaws
+pub mod RecordLaws
+pub mod LineLaws

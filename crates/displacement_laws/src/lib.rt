@@ -1,0 +1,1 @@
+// Nothing to run: the crate is for its proofs.

@@ -1,3 +1,0 @@
-pub mod Forget
-pub mod History
-pub mod Retain

@@ -1,5 +1,0 @@
-pub mod Nine
-pub mod Weight
-pub mod Equations
-pub mod Columns
-pub mod Formed

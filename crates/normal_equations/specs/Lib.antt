@@ -1,0 +1,4 @@
+pub mod Nine
+pub mod Weight
+pub mod Equations
+pub mod Steps

@@ -1,3 +1,0 @@
-pub mod Query
-pub mod Past
-pub mod Search

@@ -1,5 +1,0 @@
-// The correction of a signal at a time from a table of one block per satellite.
-// In every call dc, dv, db, df and dn are the directory's columns of constellations, svids, bands, first samples and counts, of which m entries count;
-// ts and xs are the columns of times and corrections, of which n samples count.
-pub mod query;
-mod search;

@@ -1,4 +1,0 @@
-pub mod Table
-pub mod Add
-pub mod Build
-pub mod Widen

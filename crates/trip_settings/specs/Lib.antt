@@ -1,0 +1,4 @@
+pub mod Drive
+pub mod Events
+pub mod Lent
+pub mod Calls

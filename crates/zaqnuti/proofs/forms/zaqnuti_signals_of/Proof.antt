@@ -1,0 +1,34 @@
+-- `zaqnuti::forms::zaqnuti_signals_of` meets its contract. Assumes nothing.
+use Prim.Native.Nat.{min}
+use lib.ListN.{length}
+use borrow.Author.Needs.{needs}
+use Rattle.corrections_table.specs.Table.{lentSamples}
+use Rattle.corrections_directory.specs.Directory.{lentBlocks}
+use Rattle.corrections_directory.specs.Rearrange.{listedOf}
+use Rattle.corrections_convert.proofs.NumberLaws.{lists-number}
+use Rattle.zaqnuti.proofs.forms.zaqnuti_signals_of.Statement.{statement}
+use Rattle.zaqnuti.proofs.forms.zaqnuti_signals_of.Tie as tie
+
+signals-of-requires : tie.Need-signals-of-requires
+signals-of-requires c κs = search needs
+
+listing-number-requires : tie.Need-listing-number-requires
+listing-number-requires c κs = search needs
+
+same-length : tie.Need-same-length
+same-length c = search needs
+
+same-length-2 : tie.Need-same-length-2
+same-length-2 c = search needs
+
+same-length-3 : tie.Need-same-length-3
+same-length-3 c = search needs
+
+returns : tie.Need-returns
+returns c =
+    let a = c .before .before .before .before .before .before .before .before .before .before .before .before .before .before .before .before .before .before .before .before .before .args in
+    lists-number (listedOf (a .blocks) (a .table-count) (min (length (a .constellation .now)) (min (length (a .svid .now)) (length (a .band .now)))) (lentBlocks (a .block-constellation .now) (a .block-svid .now) (a .block-band .now) (a .block-first .now) (a .block-samples .now) (a .table-time .now) (a .table-metres .now)))
+    (lentSamples (a .constellation .now) (a .svid .now) (a .band .now) (a .table-time .now) (a .table-metres .now)) (c .before .before .before .before .before .before .before .signals-of .ensures) (c .listing-number .ensures)
+
+pub zaqnuti-signals-of-spec : {M : Type 1} → statement M
+zaqnuti-signals-of-spec = tie.close (tie.spec signals-of-requires listing-number-requires same-length same-length-2 same-length-3 returns)
