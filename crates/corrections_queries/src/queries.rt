@@ -164,7 +164,8 @@ pub fn one_query(
     ensures { λ r. ⌜ (let l = lentBlocks
         (now («block_constellation» .entry)) (now («block_svid» .entry)) (now («block_band» .entry)) (now («block_first» .entry)) (now («block_samples» .entry))
         (now («table_time» .entry)) (now («table_metres» .entry)) in
-        Answers (queryIn blocks «table_count» (blockCapacity l) (directoryIn blocks «table_count» l) «max_gap» constellation svid band time) (r .number) old (r .metres)) ⌝ }
+        let q = queryIn blocks «table_count» (blockCapacity l) (directoryIn blocks «table_count» l) «max_gap» constellation svid band time in
+        Answers q (r .number) old (r .metres)) ⌝ }
 {
     let constellations = [constellation; 1];
     let svids = [svid; 1];
