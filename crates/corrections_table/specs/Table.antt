@@ -43,7 +43,7 @@ rows l = beside (l .constellations) (l .svids) (l .bands) (l .times) (l .correct
 abbrev pub blank : Sample
 blank = record { constellation = 0; svid = 0; band = 0; time = nan; correction = nan }
 
--- docs/SCOPE.md, number 11: the capacity is the shortest lent column, at most 2,048
+-- docs/REFUSALS.md, 11: the capacity is the shortest lent column, at most 2,048
 abbrev pub capacity : Columns → ℕ
 capacity l = min 2048 (length (rows l))
 
@@ -74,7 +74,7 @@ unfoldable pub sorted : List Sample → Bool
 sorted [] = true
 sorted (s ∷ ss) = sortedFrom s ss
 
--- ---- docs/SCOPE.md, number 4
+-- ---- docs/REFUSALS.md, 4
 
 -- time and correction are finite and not above 1e9 in magnitude
 unfoldable pub ranged : Sample → Bool
