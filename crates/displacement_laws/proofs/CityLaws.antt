@@ -1,31 +1,27 @@
 -- The city call beside the general call on columns that hold just the certified carriers. Assumes nothing.
 use mathlib.Core.Path.{_≡_, refl, sym, ap, ap₂, subst, _∙_}
-use mathlib.Core.Bool.{Bool, true, false, cond, not, _&&_}
-use mathlib.Core.List.{List, _++_}
+use mathlib.Core.Bool.{Bool, true, false, cond, _&&_}
+use mathlib.Core.List.{List}
 use Prim.Native.Nat.{ℕ}
-use native.Mathlib.Omega.{arith}
 use lib.ListN.{length}
 use lib.Ieee.{Float}
 use Rattle.lists.proofs.Walk.{places-length, places-all}
-use Rattle.clocks.specs.Clocks.{has}
 use Rattle.numeric.specs.declared.vec3.Vec3.{Vec3}
 use Rattle.numeric.specs.declared.refusal.Refusal.{Refusal}
 use Rattle.numeric.specs.declared.refusal.Refusal.the-variants.{TooMany, NotCertified}
 use Rattle.records.specs.Record.{countedCarriers}
 use Rattle.records.specs.Carriers.{CarrierColumns, carrierAt, carriersOf, epochOf, epochFits}
 use Rattle.records.specs.City.{certifiedOf}
-use Rattle.records.specs.Screen.{constellations}
 use Rattle.records.specs.declared.record.Carrier.{Carrier}
 use Rattle.records.specs.declared.record.Epoch.{Epoch}
 use Rattle.records.specs.declared.pair.Profile.the-variants.{General, City}
-use Rattle.estimate_rounds.specs.Rules.{Rule, ruled}
+use Rattle.estimate_rounds.specs.Rules.{Rule}
 use Rattle.estimate_rounds.specs.declared.rules.Check.{Check}
 use Rattle.estimate_rounds.specs.declared.rules.Check.the-variants.{Refused as Stops, Passed}
 use Rattle.estimate_rounds.proofs.RulesLaws.{checked, ruled-append, passed-by, refused-by}
 use Rattle.tdcp.specs.Valid.{epochRules, intervalRules}
-use Rattle.tdcp.specs.Front.{sightRules, countRules}
 use Rattle.tdcp.specs.City.{inCity, certifiedEpoch, left}
-use Rattle.tdcp.specs.Displacement.{Input, input, pairs, keptPairs, displacementOf, displacementNumber}
+use Rattle.tdcp.specs.Displacement.{Input, input, pairs, displacementOf, displacementNumber}
 use Rattle.tdcp.specs.declared.displacement.Settings.{Settings}
 use Rattle.tdcp.specs.declared.displacement.Interval.the-variants.{Seconds}
 use Rattle.tdcp.specs.declared.displacement.Displacement.{Displacement}
@@ -34,6 +30,7 @@ use Rattle.tdcp.proofs.CityLaws.{rules-left, left-passed, earlier, lacks, city-
 use Rattle.tdcp_columns.specs.Displacement.{Lent, lent, lentInput, isFit, columnsDisplaced, deltaAfter, countsAfter, DisplacementAnswers}
 use Rattle.tdcp_columns.proofs.CallLaws.{Alike}
 use Rattle.displacement_laws.proofs.NeverLaws.{never-twenty}
+use Rattle.displacement_laws.specs.City.{before, lacking, isPassed, isTwenty}
 
 -- columns that hold just the certified carriers of others, in their order
 pub record Certified (band : ℕ) (c : CarrierColumns) (n : ℕ) (c′ : CarrierColumns) (n′ : ℕ) : Type 0 where
@@ -47,23 +44,6 @@ same-epoch : {band : ℕ} {c : CarrierColumns} {n : ℕ} {c′ : CarrierColumns}
 same-epoch {band} {c} {n} {c′} {n′} h =
     let all : carriersOf c′ n′ ≡ certifiedOf band (countedCarriers (epochOf c n)) = h .carriers ∙ ap (certifiedOf band) (sym (places-all (carrierAt c) n)) in
     ap₂ epoch (sym (places-length (carrierAt c′) n′) ∙ ap length all) all
-
--- 2 to 5, 15 and 7 to 9 of a call
-abbrev pub before : Input → List Rule
-before j =
-    epochRules (j .previous) (j .current) (j .receiver) (j .settings)
-    ++ (intervalRules (j .since) ++ (sightRules (pairs j) ++ countRules (j .settings) (pairs j)))
-
--- its kept pairs lack constellation 1 or 6
-abbrev pub lacking : Input → Bool
-lacking j = not (has (constellations (keptPairs j)) 1 && has (constellations (keptPairs j)) 6)
-
-abbrev pub isPassed : Check → Bool
-isPassed (Stops r) = false
-isPassed Passed = true
-
-abbrev pub isTwenty : Input → Bool
-isTwenty j = isPassed (checked (before j)) && lacking j
 
 module _ (band : ℕ) (i : Input) (passed : Passed ≡ checked (epochRules (i .previous) (i .current) (i .receiver) (i .settings))) where
   front : checked (before (left band i)) ≡ checked (earlier band i passed)

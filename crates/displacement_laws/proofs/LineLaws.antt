@@ -3,31 +3,26 @@ use mathlib.Core.Path.{_≡_, refl, sym, ap, _∙_}
 use mathlib.Core.Bool.{Bool, true, false, cond, _&&_, _||_}
 use mathlib.Core.List.{List, [], _∷_}
 use Prim.Native.Nat.{ℕ, _≤_, _<_}
-use native.Mathlib.Omega.{arith}
-use borrow.Author.Tests.{lt-ltb, lt-leb, ne-eqb, ltb-true, ltb-false}
-use lib.Dec.{ltb, leb, eqb}
-use lib.ListN.{length, getD, drop}
-use lib.Ieee.{Float}
-use Rattle.lists.proofs.Walk.{places-all, or-no}
+use borrow.Author.Tests.{lt-leb, ne-eqb, ltb-true, ltb-false}
+use lib.Dec.{ltb, eqb}
+use lib.ListN.{getD}
+use Rattle.lists.proofs.Walk.{places-all}
 use Rattle.numeric.specs.Refusal.{numberOf}
-use Rattle.numeric.specs.Order.{patternOf}
 use Rattle.numeric.proofs.OrderLaws.{pattern-bits}
-use Rattle.numeric.specs.declared.refusal.Refusal.the-variants.{TooMany}
 use Rattle.records.specs.Record.{countedCarriers}
 use Rattle.records.specs.Carriers.{CarrierColumns, carrierAt, carriersOf, epochOf, epochFits}
 use Rattle.records.specs.declared.record.Epoch.{Epoch}
 use Rattle.records.specs.declared.pair.Profile.the-variants.{General}
 use Rattle.estimate_rounds.specs.Rules.{ruled}
 use Rattle.tdcp.specs.Valid.{epochRules}
-use Rattle.tdcp.specs.Displacement.{Input, input, displacementOf, displacementNumber}
+use Rattle.tdcp.specs.Displacement.{Input, displacementOf, displacementNumber}
 use Rattle.tdcp.proofs.CountedLaws.{displacement-counted}
-use Rattle.tdcp.specs.declared.displacement.Interval.the-variants.{Seconds}
 use Rattle.tdcp.specs.declared.displacement.Displacement.{Displacement}
 use Rattle.tdcp.specs.declared.displacement.Displacement.the-variants.{Refused, Moved}
 use Rattle.line_form.specs.Text.{isText, textInput, displacementIn}
-use Rattle.line_form.specs.Print.{digitsText, digitCount, decimalText, hexText, floatText, lineText, answerText}
+use Rattle.line_form.specs.Print.{digitsText, digitCount, decimalText, hexText, lineText, answerText}
 use Rattle.line_form.specs.Answer.{answerLine}
-use Rattle.tdcp_columns.specs.Displacement.{Lent, lent, lentInput, isFit, columnsDisplaced, deltaAfter, countsAfter, DisplacementAnswers}
+use Rattle.tdcp_columns.specs.Displacement.{Lent, lent, isFit, columnsDisplaced, deltaAfter, countsAfter, DisplacementAnswers}
 use Rattle.displacement_laws.proofs.NeverLaws.{never-one}
 use Rattle.displacement_laws.proofs.RecordLaws.{not-zero}
 

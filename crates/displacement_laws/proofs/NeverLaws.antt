@@ -1,12 +1,11 @@
 -- Numbers that a displacement never gives: 1, and in the general profile 20. Assumes nothing.
 use mathlib.Core.Logic.{_⊎_, inl, inr}
 use mathlib.Core.Path.{_≡_, refl, sym, ap, _∙_}
-use mathlib.Core.Bool.{Bool, true, false, cond, _&&_}
+use mathlib.Core.Bool.{Bool, true, false, cond}
 use mathlib.Core.List.{List, [], _∷_, _++_}
-use Prim.Native.Nat.{ℕ, zero, suc, _+_, _-_}
+use Prim.Native.Nat.{ℕ, zero, suc}
 use native.Mathlib.Omega.{arith}
 use lib.Dec.{eqb}
-use lib.ListN.{length}
 use lib.Ieee.{Float}
 use Rattle.lists.specs.Walk.{collect}
 use Rattle.lists.proofs.Walk.{and-both}
@@ -17,7 +16,7 @@ use Rattle.clocks.specs.declared.clocks.Clocks.{Clocks}
 use Rattle.normal_equations.specs.declared.row.Row.{Row}
 use Rattle.robust.specs.Round.{RoundOutcome, Refused as Fails, Solved, solved, roundBy, roundOf}
 use Rattle.estimate_rounds.specs.Rules.{Rule, ruled, rowRules}
-use Rattle.estimate_rounds.specs.Rounds.{End, Stopped, Reached, Fit, moved, shortStep, reachedAt, afterRound, fitFrom, concluded}
+use Rattle.estimate_rounds.specs.Rounds.{End, Stopped, Reached, moved, shortStep, reachedAt, afterRound, fitFrom, concluded}
 use Rattle.records.specs.City.{isCity}
 use Rattle.records.specs.Screen.{keptOf}
 use Rattle.records.specs.declared.pair.Pair.{Pair}

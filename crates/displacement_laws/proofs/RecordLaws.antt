@@ -1,12 +1,11 @@
 -- The call on byte records beside the call on the columns that they are read into. Assumes nothing.
 use mathlib.Core.Path.{_≡_, refl, sym, ap, _∙_}
 use mathlib.Core.Bool.{true}
-use mathlib.Core.List.{List, [], _∷_, _++_, map}
+use mathlib.Core.List.{List, map}
 use Prim.Native.Nat.{ℕ, _*_, _≤_}
 use native.Mathlib.Omega.{arith}
 use borrow.Author.Tests.{le-leb}
-use lib.ListN.{length, getD, drop, length-append, length-map}
-use lib.IntN.{ℤ}
+use lib.ListN.{length, drop, length-append, length-map}
 use lib.Ieee.{Float}
 use Rattle.exact.specs.Float.{bits}
 use Rattle.lists.specs.Walk.{collect}
@@ -22,7 +21,6 @@ use Rattle.tdcp.specs.declared.displacement.Settings.{Settings}
 use Rattle.tdcp.specs.declared.displacement.Interval.the-variants.{Seconds}
 use Rattle.tdcp.specs.declared.displacement.Displacement.{Displacement}
 use Rattle.tdcp.specs.declared.displacement.Displacement.the-variants.{Refused, Moved}
-use Rattle.wire.specs.Number.{fiveBytes}
 use Rattle.wire.specs.Record.{recordAt, countIn, recordsOf}
 use Rattle.wire.specs.Columns.{RecordColumns, over, recordFloats}
 use Rattle.wire.specs.Lent.{ReadAnswers}
@@ -33,6 +31,7 @@ use Rattle.wire.proofs.LentLaws.{had-room}
 use Rattle.wire_tdcp.specs.Displacement.{handed, recordsDisplaced, bytesAfter, floatColumns, RecordAnswers}
 use Rattle.wire_tdcp.proofs.ColumnLaws.{same-displacement}
 use Rattle.tdcp_columns.specs.Displacement.{Lent, lent, columnsDisplaced, deltaAfter, countsAfter, DisplacementAnswers}
+use Rattle.displacement_laws.specs.Records.{Beside}
 
 -- ---- columns that records were read into fit
 
@@ -87,16 +86,6 @@ not-zero Refusal.BadDropTime e = omega arith
 not-zero Refusal.NotTurned e = omega arith
 not-zero Refusal.NotCertified e = omega arith
 not-zero Refusal.BrokenRecords e = omega arith
-
--- the 40 bytes of these counts and patterns
-abbrev pub fortyBytes : List ℕ → List ℕ → List ℕ
-fortyBytes counts delta = fiveBytes (getD counts 0 0) (getD counts 1 0) (getD delta 0 0) (getD delta 1 0) (getD delta 2 0)
-
--- the numbers are one; where it is 0 the result has the bytes of the counts and patterns, and otherwise it is unchanged
-pub record Beside (number number′ : ℕ) (delta counts out out′ : List ℕ) : Type 0 where
-  pub numbers : number ≡ number′
-  pub accepted : number ≡ 0 → out′ ≡ over (fortyBytes counts delta) out
-  pub refused : (number ≡ 0 → ⊥) → out′ ≡ out
 
 beside : (x : Displacement) (delta₀ counts₀ : List ℕ) {number number′ : ℕ} {delta counts out out′ : List ℕ} → number ≡ displacementNumber x → out′ ≡ bytesAfter x out
     → number′ ≡ displacementNumber x → delta ≡ deltaAfter x delta₀ → counts ≡ countsAfter x counts₀ → Beside number number′ delta counts out out′
