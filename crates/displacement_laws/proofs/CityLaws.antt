@@ -30,7 +30,7 @@ use Rattle.tdcp.proofs.CityLaws.{rules-left, left-passed, earlier, lacks, city-
 use Rattle.tdcp_columns.specs.Displacement.{Lent, lent, lentInput, isFit, columnsDisplaced, deltaAfter, countsAfter, DisplacementAnswers}
 use Rattle.tdcp_columns.proofs.CallLaws.{Alike}
 use Rattle.displacement_laws.proofs.NeverLaws.{never-twenty}
-use Rattle.displacement_laws.specs.City.{rulesBefore, lacking, isPassed, isTwenty}
+use Rattle.displacement_laws.specs.City.{rulesBeforeTwenty, lacking, isPassed, isTwenty}
 
 -- columns that hold just the certified carriers of others, in their order
 pub record Certified (band : ℕ) (c : CarrierColumns) (n : ℕ) (c′ : CarrierColumns) (n′ : ℕ) : Type 0 where
@@ -46,7 +46,7 @@ same-epoch {band} {c} {n} {c′} {n′} h =
     ap₂ epoch (sym (places-length (carrierAt c′) n′) ∙ ap length all) all
 
 module _ (band : ℕ) (i : Input) (passed : Passed ≡ checked (epochRules (i .previous) (i .current) (i .receiver) (i .settings))) where
-  front : checked (rulesBefore (left band i)) ≡ checked (earlier band i passed)
+  front : checked (rulesBeforeTwenty (left band i)) ≡ checked (earlier band i passed)
   front = ruled-append Stops Passed (rules-left band i passed) (earlier band i passed) ∙ passed-by Stops _ (rules-left band i passed) (left-passed band i passed)
 
   go : (v : Check) → checked (earlier band i passed) ≡ v → (b : Bool) → lacks band i passed ≡ b

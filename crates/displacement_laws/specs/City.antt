@@ -11,8 +11,8 @@ use Rattle.tdcp.specs.Front.{sightRules, countRules}
 use Rattle.tdcp.specs.Displacement.{Input, pairs, keptPairs}
 
 -- 2 to 5, 15 and 7 to 9 of a call
-abbrev pub rulesBefore : Input → List Rule
-rulesBefore j =
+abbrev pub rulesBeforeTwenty : Input → List Rule
+rulesBeforeTwenty j =
     epochRules (j .previous) (j .current) (j .receiver) (j .settings)
     ++ (intervalRules (j .since) ++ (sightRules (pairs j) ++ countRules (j .settings) (pairs j)))
 
@@ -25,4 +25,4 @@ isPassed (Stops r) = false
 isPassed Passed = true
 
 abbrev pub isTwenty : Input → Bool
-isTwenty j = isPassed (ruled Stops (rulesBefore j) Passed) && lacking j
+isTwenty j = isPassed (ruled Stops (rulesBeforeTwenty j) Passed) && lacking j
