@@ -7,6 +7,7 @@ use super::ephemeris::Ephemeris;
 use super::grain;
 use super::head::{self, Version};
 use super::lines::Lines;
+use super::motion;
 use super::record::Record;
 use super::signals::{Band, Satellite, System, SYSTEMS};
 use super::time::Moment;
@@ -105,7 +106,8 @@ impl Ephemerides {
 
     /// Keeps the ephemerides of a file, without those that were damaged.
     fn keep(&mut self, found: Vec<(Satellite, Ephemeris, Record)>, name: &str) {
-        let odd: Vec<u64> = found.iter().map(|(s, e, r)| r.odd(*s, e)).collect();
+        let tilt = motion::tilt(found.iter().map(|(_, e, _)| e));
+        let odd: Vec<u64> = found.iter().map(|(s, e, r)| r.odd(*s, e, tilt)).collect();
         let mut bad = vec![false; found.len()];
         for system in SYSTEMS {
             let own = (0..found.len()).filter(|i| found[*i].0.system == system);
