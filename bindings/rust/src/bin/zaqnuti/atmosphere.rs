@@ -37,6 +37,22 @@ fn dot([a, b, c]: [f64; 3], [x, y, z]: [f64; 3]) -> f64 {
     a * x + b * y + c * z
 }
 
+fn length(a: [f64; 3]) -> f64 {
+    dot(a, a).sqrt()
+}
+
+/// Returns the line of sight to a satellite, with the earth's rotation while the signal travels.
+fn sight([rx, ry, rz]: [f64; 3], [x, y, z]: [f64; 3]) -> [f64; 3] {
+    let turn = TURN * length([x - rx, y - ry, z - rz]) / LIGHT;
+    let (sin, cos) = turn.sin_cos();
+    [x * cos + y * sin - rx, y * cos - x * sin - ry, z - rz]
+}
+
+/// Returns the length of the line of sight, m.
+pub fn range(from: [f64; 3], satellite: [f64; 3]) -> f64 {
+    length(sight(from, satellite))
+}
+
 /// Returns latitude, longitude (rad) and ellipsoidal height (m) on WGS 84.
 pub fn geodetic([x, y, z]: [f64; 3]) -> [f64; 3] {
     let across = x * x + y * y;
@@ -78,13 +94,9 @@ impl Sky {
     }
 
     /// Returns the direction of a satellite, with the earth's rotation while the signal travels.
-    pub fn direction(&self, [x, y, z]: [f64; 3]) -> Direction {
-        let [rx, ry, rz] = self.place;
-        let length = |a: f64, b: f64, c: f64| (a * a + b * b + c * c).sqrt();
-        let turn = TURN * length(x - rx, y - ry, z - rz) / LIGHT;
-        let (sin, cos) = turn.sin_cos();
-        let to = [x * cos + y * sin - rx, y * cos - x * sin - ry, z - rz];
-        let range = length(to[0], to[1], to[2]);
+    pub fn direction(&self, satellite: [f64; 3]) -> Direction {
+        let to = sight(self.place, satellite);
+        let range = length(to);
         let unit = to.map(|d| d / range);
         Direction {
             elevation: dot(self.up, unit).clamp(-1.0, 1.0).asin(),
@@ -97,8 +109,10 @@ impl Sky {
     pub fn receding(&self, of: &State) -> f64 {
         let after = |seconds: f64| {
             let ([x, y, z], [vx, vy, vz]) = (of.place, of.velocity);
-            let moved = [x + vx * seconds, y + vy * seconds, z + vz * seconds];
-            self.direction(moved).range
+            range(
+                self.place,
+                [x + vx * seconds, y + vy * seconds, z + vz * seconds],
+            )
         };
         after(0.5) - after(-0.5)
     }

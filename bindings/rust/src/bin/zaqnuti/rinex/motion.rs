@@ -14,8 +14,11 @@ const TIMES: [f64; 9] = [
 ];
 /// The root of the semi-major axis below which a satellite is no geosynchronous one.
 const MEDIUM: f64 = 5_700.0;
-/// The least number of orbits from which the earth's axis is found.
+/// The least and the greatest number of orbits from which the earth's axis is found.
 const LEAST: usize = 4;
+const MOST: usize = 100;
+/// The mean difference below which no correction of the radius is far off, m.
+const CALM: f64 = 0.7;
 /// The greatest difference of luni-solar accelerations, whose unit is 0.93e-6, m/s².
 const PULL: f64 = 1.8e-6;
 
@@ -74,9 +77,11 @@ fn medium(of: &Ephemeris) -> Option<&Kepler> {
     }
 }
 
-/// Returns the tilt of the earth's axis, which all orbits share: the median of theirs.
+/// Returns the tilt of the earth's axis, which all orbits share: the median of some of theirs.
 pub fn tilt<'a>(all: impl Iterator<Item = &'a Ephemeris>) -> Option<[f64; 2]> {
-    let tilts = all.filter_map(|e| Some(Excess::of(medium(e)?, e.toe).tilt()));
+    let all: Vec<_> = all.filter_map(|e| Some((medium(e)?, e.toe))).collect();
+    let some = all.iter().step_by(all.len() / MOST + 1);
+    let tilts = some.map(|(orbit, toe)| Excess::of(orbit, *toe).tilt());
     let (mut x, mut y): (Vec<f64>, Vec<f64>) = tilts.map(|[x, y]| (x, y)).unzip();
     (x.len() >= LEAST).then(|| [median(&mut x), median(&mut y)])
 }
@@ -97,6 +102,9 @@ pub fn strained(of: &Ephemeris, system: System, tilt: Option<[f64; 2]>) -> bool 
     // One metre of a correction of the radius is an acceleration of about 7 n².
     let metre = 7.0 * orbit.rate().powi(2);
     let mean = (dot(&beyond, &beyond) / beyond.len() as f64).sqrt() / metre;
+    if mean < CALM {
+        return false;
+    }
     let corrected = |part: usize| {
         let mut other = *orbit;
         other.radius[part] += 1.0;
