@@ -74,11 +74,6 @@ pub struct Codes {
     found: Vec<Option<Jump>>,
 }
 
-/// Returns how much noisier a pseudorange is than at the zenith.
-fn noisier(sight: &Sight) -> f64 {
-    0.5 + 0.5 / sight.to.elevation.sin().max(0.1)
-}
-
 impl Codes {
     /// Starts with no signals, for a number of bands.
     pub fn new(bands: usize) -> Self {
@@ -111,7 +106,7 @@ impl Codes {
         for (i, sight) in sights.iter().enumerate() {
             let (place, jump) = (self.place(sight), self.jumps[i]);
             let found = match jump.filter(|j| j.abs() > limit) {
-                Some(jump) => self.fault(place, jump * noisier(sight), residuals[i]),
+                Some(jump) => self.fault(place, jump * sight.noisier(), residuals[i]),
                 None => self.back(place, jump).then_some(Jump::Back),
             };
             self.keep(place, sight, carriers[i], (residuals[i], jump), found);
@@ -139,7 +134,7 @@ impl Codes {
         // A step of the receiver's clock may move all pseudoranges alike.
         let middle = median(&mut self.sorted);
         for (jump, sight) in self.jumps.iter_mut().zip(sights) {
-            *jump = jump.map(|j| (j - middle) / noisier(sight));
+            *jump = jump.map(|j| (j - middle) / sight.noisier());
         }
     }
 

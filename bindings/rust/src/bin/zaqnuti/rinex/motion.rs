@@ -86,12 +86,12 @@ pub fn tilt<'a>(all: impl Iterator<Item = &'a Ephemeris>) -> Option<[f64; 2]> {
     (x.len() >= LEAST).then(|| [median(&mut x), median(&mut y)])
 }
 
-/// Checks whether an orbit contradicts the forces. Those of a day of broadcast orbits of GPS are
-/// within 1.5 m, and their corrections of the radius within 2.1 m.
+/// Checks whether an orbit contradicts the forces. In four days of GPS broadcasts orbits are within
+/// 1.5 m, and their cosine and sine corrections of the radius within 1.5 m and 2.2 m.
 pub fn strained(of: &Ephemeris, system: System, tilt: Option<[f64; 2]>) -> bool {
-    let (limit, radius) = match system {
-        System::Gps => (1.8, 2.6),
-        _ => (3.0, 4.0),
+    let [limit, cosine, sine] = match system {
+        System::Gps => [1.8, 1.9, 2.6],
+        _ => [3.0, 3.0, 4.0],
     };
     let (orbit, tilt) = match (&of.orbit, medium(of).zip(tilt)) {
         (Orbit::Glonass(orbit), _) => return pulled(orbit, of.toe),
@@ -112,7 +112,7 @@ pub fn strained(of: &Ephemeris, system: System, tilt: Option<[f64; 2]>) -> bool 
         let step: Vec<f64> = other.iter().zip(&beyond).map(|(o, b)| o - b).collect();
         (dot(&step, &beyond) / dot(&step, &step)).abs()
     };
-    mean > limit || corrected(0) > radius || corrected(1) > radius
+    mean > limit || corrected(0) > cosine || corrected(1) > sine
 }
 
 /// Checks whether a GLONASS message's luni-solar acceleration is not that of the sun and the moon.

@@ -47,6 +47,11 @@ impl Sight {
         self.range() - self.to.range
     }
 
+    /// Returns how much noisier the pseudorange is than at the zenith.
+    pub fn noisier(&self) -> f64 {
+        0.5 + 0.5 / self.to.elevation.sin().max(0.1)
+    }
+
     fn observation(&self, elevation: f64) -> Observation {
         Observation {
             constellation: self.band.system.constellation(),

@@ -126,7 +126,8 @@ impl Record {
         said(format!("{}:{}: {why}", self.name, self.line))
     }
 
-    fn kepler(&self, of: Satellite) -> Run<Ephemeris> {
+    /// Returns the orbit of a record that is not of GLONASS.
+    fn orbit(&self, of: Satellite) -> Kepler {
         let n = |i: usize| self.numbers.get(i).copied().unwrap_or(0.0);
         let earth = match (of.system, of.number) {
             (System::Galileo, _) => Earth::GALILEO,
@@ -134,7 +135,7 @@ impl Record {
             (System::Beidou, _) => Earth::BEIDOU,
             _ => Earth::GPS,
         };
-        let orbit = Kepler {
+        Kepler {
             earth,
             root: n(10),
             eccentricity: n(8),
@@ -149,7 +150,12 @@ impl Record {
             radius: [n(16), n(4)],
             tilt: [n(12), n(14)],
             second: n(11),
-        };
+        }
+    }
+
+    fn kepler(&self, of: Satellite) -> Run<Ephemeris> {
+        let n = |i: usize| self.numbers.get(i).copied().unwrap_or(0.0);
+        let orbit = self.orbit(of);
         if !orbit.sound() {
             return self.wrong("not the orbit of a navigation satellite");
         }
