@@ -456,11 +456,13 @@ fn sent(name: &str, from: &str, to: &str) -> (Option<i32>, String) {
 
 #[test]
 fn ephemerides_that_no_satellite_sent_are_told() {
-    // The anomaly is no multiple of its unit, a time is another, and an exponent is none.
+    // The anomaly is no multiple of its unit, a time is another, an exponent is none, and a
+    // correction of the radius, though a multiple, is 6 m off.
     for (from, to) in [
         ("2.871534990340D+00", "2.871544990340D+00"),
         (" 1 05  4  2  2  0  0.0", " 1 05  4  2  2 40  0.0"),
         ("4.026596389650D-09", "4.026596389650D-89"),
+        ("-5.218750000000D+01", "-5.818750000000D+01"),
     ] {
         let (status, why) = sent("damaged.05n", from, to);
         assert_eq!(status, Some(0), "{why}");
@@ -469,8 +471,8 @@ fn ephemerides_that_no_satellite_sent_are_told() {
             "{why}"
         );
     }
-    // The radius is 200 m off, which is a multiple.
-    let (status, why) = sent("radius.05n", "2.197187500000D+02", "4.197187500000D+02");
+    // The semi-major axis is 10 km off, which is a multiple, and another orbit.
+    let (status, why) = sent("axis.05n", "5.153750442500D+03", "5.154750442500D+03");
     assert_eq!(status, Some(0), "{why}");
     assert!(
         why.contains("ephemerides are left out, which contradict those before or after"),

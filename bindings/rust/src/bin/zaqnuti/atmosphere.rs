@@ -37,6 +37,22 @@ fn dot([a, b, c]: [f64; 3], [x, y, z]: [f64; 3]) -> f64 {
     a * x + b * y + c * z
 }
 
+fn length(a: [f64; 3]) -> f64 {
+    dot(a, a).sqrt()
+}
+
+/// Returns the line of sight to a satellite, with the earth's rotation while the signal travels.
+fn sight([rx, ry, rz]: [f64; 3], [x, y, z]: [f64; 3]) -> [f64; 3] {
+    let turn = TURN * length([x - rx, y - ry, z - rz]) / LIGHT;
+    let (sin, cos) = turn.sin_cos();
+    [x * cos + y * sin - rx, y * cos - x * sin - ry, z - rz]
+}
+
+/// Returns the length of the line of sight, m.
+pub fn range(from: [f64; 3], satellite: [f64; 3]) -> f64 {
+    length(sight(from, satellite))
+}
+
 /// Returns latitude, longitude (rad) and ellipsoidal height (m) on WGS 84.
 pub fn geodetic([x, y, z]: [f64; 3]) -> [f64; 3] {
     let across = x * x + y * y;
@@ -78,13 +94,9 @@ impl Sky {
     }
 
     /// Returns the direction of a satellite, with the earth's rotation while the signal travels.
-    pub fn direction(&self, [x, y, z]: [f64; 3]) -> Direction {
-        let [rx, ry, rz] = self.place;
-        let length = |a: f64, b: f64, c: f64| (a * a + b * b + c * c).sqrt();
-        let turn = TURN * length(x - rx, y - ry, z - rz) / LIGHT;
-        let (sin, cos) = turn.sin_cos();
-        let to = [x * cos + y * sin - rx, y * cos - x * sin - ry, z - rz];
-        let range = length(to[0], to[1], to[2]);
+    pub fn direction(&self, satellite: [f64; 3]) -> Direction {
+        let to = sight(self.place, satellite);
+        let range = length(to);
         let unit = to.map(|d| d / range);
         Direction {
             elevation: dot(self.up, unit).clamp(-1.0, 1.0).asin(),
@@ -97,8 +109,10 @@ impl Sky {
     pub fn receding(&self, of: &State) -> f64 {
         let after = |seconds: f64| {
             let ([x, y, z], [vx, vy, vz]) = (of.place, of.velocity);
-            let moved = [x + vx * seconds, y + vy * seconds, z + vz * seconds];
-            self.direction(moved).range
+            range(
+                self.place,
+                [x + vx * seconds, y + vy * seconds, z + vz * seconds],
+            )
         };
         after(0.5) - after(-0.5)
     }
@@ -194,6 +208,52 @@ mod tests {
             let t = sky.troposphere(&to);
             assert!((i - ionosphere).abs() < 1e-3, "{i}");
             assert!((i + t - both).abs() < 3e-3, "{}", i + t);
+        }
+    }
+
+    /// Returns the position of a latitude, a longitude (degrees) and a height.
+    fn position(latitude: f64, longitude: f64, height: f64) -> [f64; 3] {
+        let ((sin, cos), (so, co)) = (
+            latitude.to_radians().sin_cos(),
+            longitude.to_radians().sin_cos(),
+        );
+        let normal = AXIS / (1.0 - E2 * sin * sin).sqrt();
+        let across = (normal + height) * cos;
+        [
+            across * co,
+            across * so,
+            (normal * (1.0 - E2) + height) * sin,
+        ]
+    }
+
+    #[test]
+    fn the_ionosphere_is_that_of_rtklibs_unit_test() {
+        // test/utest/t_atmos.c of RTKLIB 2.4.3: 2007-01-16, hour, position, azimuth, elevation, m.
+        let numbers = [2e-8, -8e-9, -5e-8, 1e-7, 2e5, 2e5, -1e5, -1e6];
+        let [a, b, c] = [
+            [35.0, 140.0, 100.0],
+            [-80.0, -170.0, 1e3],
+            [10.0, 30.0, 0.0],
+        ];
+        let cases = [
+            (1.0, a, 60.0, 75.0, 6.735_905_320_994_38),
+            (1.0, b, 60.0, 75.0, 3.568_953_821_973_87),
+            (1.0, c, 60.0, 75.0, 3.807_164_356_551_61),
+            (13.0, a, 60.0, 75.0, 5.217_969_545_854_52),
+            (22.0, a, 60.0, 75.0, 5.901_905_392_647_77),
+            (1.0, a, 190.0, 3.0, 21.634_541_512_363_2),
+            (1.0, a, 350.0, 60.0, 7.338_442_788_225_61),
+            (1.0, a, 0.0, 90.0, 6.583_397_114_006_94),
+        ];
+        for (hour, [latitude, longitude, height], azimuth, elevation, delay) in cases {
+            let sky = Sky::over(position(latitude, longitude, height));
+            let to = Direction {
+                elevation: f64::to_radians(elevation),
+                azimuth: f64::to_radians(azimuth),
+                range: 2e7,
+            };
+            let found = sky.ionosphere(&to, &numbers, 172_800.0 + 3_600.0 * hour);
+            assert!((found - delay).abs() < 1e-8, "{found} {delay}");
         }
     }
 

@@ -16,6 +16,7 @@ mod fault;
 mod fields;
 mod files;
 mod fix;
+mod forces;
 mod fuel;
 mod intervals;
 mod jobs;

@@ -91,10 +91,15 @@ impl Kepler {
             && (0.0..604_800.0).contains(&self.second)
     }
 
+    /// Returns the rate of the mean anomaly, rad/s.
+    pub fn rate(&self) -> f64 {
+        let axis = self.root * self.root;
+        (self.earth.gravity / (axis * axis * axis)).sqrt() + self.motion
+    }
+
     /// Solves Kepler's equation. Returns sine, cosine and rate of the eccentric anomaly.
     fn eccentric(&self, since: f64) -> (f64, f64, f64) {
-        let axis = self.root * self.root;
-        let rate = (self.earth.gravity / (axis * axis * axis)).sqrt() + self.motion;
+        let rate = self.rate();
         let (e, mean) = (self.eccentricity, self.anomaly + rate * since);
         let mut angle = mean;
         for _ in 0..30 {

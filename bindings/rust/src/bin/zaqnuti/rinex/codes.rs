@@ -7,25 +7,32 @@ use super::signals::Satellite;
 /// The least and the greatest limit of a jump at the zenith, m, and how many robust sigmas it has.
 const LIMIT: (f64, f64) = (0.6, 15.0);
 const SIGMAS: f64 = 8.0;
-/// The same of a jump that goes back at once: the least limit, and robust sigmas.
-const BACK: (f64, f64) = (0.4, 4.5);
+/// The same of a jump that goes back at once, in mean sizes of the satellite's own.
+const BACK: (f64, f64) = (0.15, 6.2);
+/// The least number of epochs from which a mean size is known, and the most that count.
+const EPOCHS: (u32, u32) = (16, 64);
 /// The part of a jump that the pseudorange's residual must have if the pseudorange is at fault.
 const PART: f64 = 0.3;
 /// The least number of signals whose jumps can be compared.
 const LEAST: usize = 4;
 
-/// A jump in robust sigmas, and in m as it would be at the zenith.
+/// How far a signal's pseudoranges usually jump for one epoch.
 #[derive(Clone, Copy, Default)]
-struct Size {
-    sigmas: f64,
-    metres: f64,
+struct Usual {
+    mean: f64,
+    count: u32,
 }
 
-impl Size {
-    /// Checks for a jump that undoes the one before.
-    fn back(self, before: Self) -> bool {
-        let both = |a: f64, b: f64, limit: f64| a * b < 0.0 && a.abs().min(b.abs()) > limit;
-        both(self.sigmas, before.sigmas, BACK.1) && both(self.metres, before.metres, BACK.0)
+impl Usual {
+    /// Adds the size of a jump that goes back at once. Returns whether it is far above the usual,
+    /// or above `noise` as long as the usual is not known.
+    fn exceeds(&mut self, size: f64, noise: f64) -> bool {
+        let known = self.count >= EPOCHS.0;
+        let usual = if known { self.mean } else { noise };
+        let limit = (BACK.1 * usual).max(BACK.0);
+        self.count = (self.count + 1).min(EPOCHS.1);
+        self.mean += (size.min(limit) - self.mean) / f64::from(self.count);
+        size > limit
     }
 }
 
@@ -35,8 +42,8 @@ struct Kept {
     /// Pseudorange minus carrier, and the pseudorange's residual, m.
     apart: f64,
     residual: f64,
-    /// The last jump, in robust sigmas and as at the zenith, m.
-    jump: Size,
+    /// The last jump as it would be at the zenith, m, unless it was told.
+    jump: Option<f64>,
     /// Epochs accepted since the carrier was locked, and those left out since.
     accepted: u32,
     out: u32,
@@ -55,7 +62,9 @@ pub enum Jump {
 
 /// The signals of the last written epochs.
 pub struct Codes {
+    /// By satellite and band.
     kept: Vec<Option<Kept>>,
+    usual: Vec<Usual>,
     bands: usize,
     /// The usual size of jumps at the zenith, m.
     noise: Option<f64>,
@@ -65,16 +74,12 @@ pub struct Codes {
     found: Vec<Option<Jump>>,
 }
 
-/// Returns how much noisier a pseudorange is than at the zenith.
-fn noisier(sight: &Sight) -> f64 {
-    0.5 + 0.5 / sight.to.elevation.sin().max(0.1)
-}
-
 impl Codes {
     /// Starts with no signals, for a number of bands.
     pub fn new(bands: usize) -> Self {
         Self {
             kept: vec![None; Satellite::PLACES * bands],
+            usual: vec![Usual::default(); Satellite::PLACES * bands],
             bands,
             noise: None,
             jumps: Vec::new(),
@@ -96,19 +101,13 @@ impl Codes {
         residuals: &[f64],
     ) -> &[Option<Jump>] {
         self.measure(sights, carriers);
-        let (noise, limit) = self.limit();
+        let limit = self.limit();
         self.found.clear();
         for (i, sight) in sights.iter().enumerate() {
-            let place = self.place(sight);
-            let metres = self.jumps[i].unwrap_or(0.0);
-            let sigmas = metres / noise.max(1e-6);
-            let jump = Size { sigmas, metres };
-            let found = match metres.abs() > limit {
-                true => self.fault(place, metres * noisier(sight), residuals[i]),
-                false => {
-                    let back = self.kept[place].is_some_and(|b| jump.back(b.jump));
-                    back.then_some(Jump::Back)
-                }
+            let (place, jump) = (self.place(sight), self.jumps[i]);
+            let found = match jump.filter(|j| j.abs() > limit) {
+                Some(jump) => self.fault(place, jump * sight.noisier(), residuals[i]),
+                None => self.back(place, jump).then_some(Jump::Back),
             };
             self.keep(place, sight, carriers[i], (residuals[i], jump), found);
             self.found.push(found);
@@ -135,12 +134,12 @@ impl Codes {
         // A step of the receiver's clock may move all pseudoranges alike.
         let middle = median(&mut self.sorted);
         for (jump, sight) in self.jumps.iter_mut().zip(sights) {
-            *jump = jump.map(|j| (j - middle) / noisier(sight));
+            *jump = jump.map(|j| (j - middle) / sight.noisier());
         }
     }
 
-    /// Returns the noise and the limit at the zenith, from the jumps so far.
-    fn limit(&mut self) -> (f64, f64) {
+    /// Returns the limit at the zenith, from the jumps so far.
+    fn limit(&mut self) -> f64 {
         self.sorted.clear();
         self.sorted
             .extend(self.jumps.iter().flatten().map(|j| j.abs()));
@@ -149,7 +148,15 @@ impl Codes {
             self.noise = Some(self.noise.map_or(now, |old| old + 0.1 * (now - old)));
         }
         let noise = self.noise.unwrap_or(LIMIT.1);
-        (noise, (SIGMAS * noise).clamp(LIMIT.0, LIMIT.1))
+        (SIGMAS * noise).clamp(LIMIT.0, LIMIT.1)
+    }
+
+    /// Checks for a jump that undoes the one before: the pseudorange between them is out of line.
+    fn back(&mut self, place: usize, jump: Option<f64>) -> bool {
+        let before = self.kept[place].and_then(|k| k.jump);
+        let between = jump.zip(before).map(|(now, before)| (now - before) / 2.0);
+        let noise = self.noise.unwrap_or(LIMIT.1);
+        between.is_some_and(|size| self.usual[place].exceeds(size.abs(), noise))
     }
 
     /// Tells a pseudorange that jumps from a carrier that does; nothing where a jump has lasted.
@@ -168,7 +175,7 @@ impl Codes {
         place: usize,
         sight: &Sight,
         carrier: Option<Held>,
-        (residual, jump): (f64, Size),
+        (residual, jump): (f64, Option<f64>),
         found: Option<Jump>,
     ) {
         let before = self.kept[place];
@@ -183,7 +190,7 @@ impl Codes {
                 Some(Kept {
                     apart: sight.signal.pseudorange - carrier.metres,
                     residual,
-                    jump,
+                    jump: jump.filter(|_| found.is_none()),
                     accepted: lasting.map_or(1, |b| b.accepted + 1),
                     out: 0,
                 })

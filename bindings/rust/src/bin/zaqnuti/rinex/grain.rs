@@ -4,10 +4,11 @@ use std::f64::consts::PI;
 
 use super::signals::System;
 
-/// The greatest part of a unit by which a number may miss a whole multiple; and the part of the
-/// number itself, since some programs have kept rates in 32 bits.
-const STRAY: f64 = 0.01;
+/// The parts of a number by which it may miss a whole multiple: files have 12 digits, and some
+/// programs have kept rates in 32 bits. And the greatest part of a unit.
+const DIGITS: f64 = 5.5e-12;
 const SINGLE: f64 = 6.2e-8;
+const STRAY: f64 = 0.012;
 /// How many times larger a correction or a rate may be than in all other records.
 const LARGER: f64 = 5.0;
 /// The least number of records that can be compared.
@@ -59,8 +60,11 @@ pub fn odd(system: System, numbers: &[f64]) -> u64 {
         let parts = unit(system, i).map_or(0.0, |u| x / u);
         // A number that is nearly 0 has a damaged exponent.
         let lost = parts != 0.0 && parts.round() == 0.0;
-        let stray = (2e-4 + SINGLE * parts.abs()).min(STRAY);
-        bits |= u64::from(lost || (parts - parts.round()).abs() > stray) << i;
+        let stray = match (system, i) {
+            (System::Glonass, _) | (_, 0..=4 | 6..=17 | 20..) => 1e-6 + DIGITS * parts.abs(),
+            _ => 2e-4 + SINGLE * parts.abs(),
+        };
+        bits |= u64::from(lost || (parts - parts.round()).abs() > stray.min(STRAY)) << i;
     }
     bits
 }

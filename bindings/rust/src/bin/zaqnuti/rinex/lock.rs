@@ -109,42 +109,46 @@ impl Locks {
         let wave = |s: &Signal| channel(s.satellite).map(|c| bands[s.band].wavelength(c));
         let middles = self.measure(epoch, passed.filter(|_| !gap), wave);
         for (i, signal) in epoch.signals.iter().enumerate() {
+            let jumped = self.far(i, middles);
+            let slipped = self.slips(signal, gap || epoch.failed || jumped);
+            self.untold += u64::from(jumped && signal.lost & 1 == 0);
+            let Some((cycles, wavelength)) = signal.carrier.zip(wave(signal)) else {
+                continue;
+            };
             let place = self.place(signal);
-            let before = self.seen[place].filter(|b| b.epoch + 1 == self.epoch);
-            let (old, written) = match self.seen[place] {
-                Some(b) => (b.slipped, b.written),
-                None => (false, 0),
-            };
-            let far = |kind: usize, limit: f64| {
-                let jump = self.jumps[i][kind];
-                jump.is_some_and(|j| (j - middles[kind]).abs() > limit)
-            };
-            let jumped = far(0, BY_DOPPLER) || far(1, BY_CODE);
-            let told = signal.lost & 1 != 0;
-            let slipped = match before {
-                _ if told => true,
-                None => self.seen[place].is_some(),
-                Some(b) => {
-                    // The half-cycle ambiguity was resolved, or lost.
-                    let half = (b.lost ^ signal.lost) & 2 != 0;
-                    gap || epoch.failed || b.code != signal.code || half || jumped
-                }
-            };
-            self.untold += u64::from(jumped && !told);
-            self.seen[place] = match (signal.carrier, wave(signal)) {
-                (Some(cycles), Some(wavelength)) => Some(Seen {
-                    epoch: self.epoch,
-                    code: signal.code,
-                    lost: signal.lost,
-                    carrier: cycles * wavelength,
-                    pseudorange: signal.pseudorange,
-                    rate: rate(signal, wavelength),
-                    written,
-                    slipped: slipped || old,
-                }),
-                _ => self.seen[place],
-            };
+            let before = self.seen[place];
+            self.seen[place] = Some(Seen {
+                epoch: self.epoch,
+                code: signal.code,
+                lost: signal.lost,
+                carrier: cycles * wavelength,
+                pseudorange: signal.pseudorange,
+                rate: rate(signal, wavelength),
+                written: before.map_or(0, |b| b.written),
+                slipped: slipped || before.is_some_and(|b| b.slipped),
+            });
         }
+    }
+
+    /// Checks whether a carrier jumps far beyond the medians.
+    fn far(&self, index: usize, middles: [f64; 2]) -> bool {
+        let limits = [BY_DOPPLER, BY_CODE];
+        (0..2).any(|kind| {
+            let jump = self.jumps[index][kind];
+            jump.is_some_and(|j| (j - middles[kind]).abs() > limits[kind])
+        })
+    }
+
+    /// Checks whether a carrier has slipped; `broken` says that something else shows it.
+    fn slips(&self, signal: &Signal, broken: bool) -> bool {
+        let told = signal.lost & 1 != 0;
+        let Some(seen) = self.seen[self.place(signal)] else {
+            return told;
+        };
+        // The half-cycle ambiguity was resolved, or lost.
+        let half = (seen.lost ^ signal.lost) & 2 != 0;
+        let absent = seen.epoch + 1 != self.epoch;
+        told || absent || broken || half || seen.code != signal.code
     }
 
     /// Checks whether epochs are missing: then the lock may have been lost.

@@ -8,6 +8,7 @@ mod header;
 mod left;
 mod lines;
 mod lock;
+mod motion;
 mod navigation;
 mod observations;
 mod place;

@@ -7,6 +7,7 @@ use super::ephemeris::Ephemeris;
 use super::grain;
 use super::head::{self, Version};
 use super::lines::Lines;
+use super::motion;
 use super::record::Record;
 use super::signals::{Band, Satellite, System, SYSTEMS};
 use super::time::Moment;
@@ -105,7 +106,8 @@ impl Ephemerides {
 
     /// Keeps the ephemerides of a file, without those that were damaged.
     fn keep(&mut self, found: Vec<(Satellite, Ephemeris, Record)>, name: &str) {
-        let odd: Vec<u64> = found.iter().map(|(s, e, r)| r.odd(*s, e)).collect();
+        let tilt = motion::tilt(found.iter().map(|(_, e, _)| e));
+        let odd: Vec<u64> = found.iter().map(|(s, e, r)| r.odd(*s, e, tilt)).collect();
         let mut bad = vec![false; found.len()];
         for system in SYSTEMS {
             let own = (0..found.len()).filter(|i| found[*i].0.system == system);
@@ -162,16 +164,22 @@ impl Ephemerides {
             let field = |i: usize| lines.float(from + 12 * i, from + 12 * (i + 1), "a number");
             numbers[place] = Some([field(0)?, field(1)?, field(2)?, field(3)?]);
         }
-        if let [Some([a, b, c, d]), Some([e, f, g, h])] = numbers {
-            let numbers = [a, b, c, d, e, f, g, h];
-            // Those that were fitted to other data are no multiples at all.
-            if (1..=3).contains(&grain::odd_ionosphere(&numbers)) {
-                let why = "ionosphere parameters that no broadcast message has";
-                tell(&format!("{}: {why}", lines.name()));
-            }
-            self.klobuchar.get_or_insert(numbers);
-        }
+        self.ionosphere(numbers, lines.name());
         Ok(version)
+    }
+
+    /// Keeps the first Klobuchar parameters of the files.
+    fn ionosphere(&mut self, numbers: [Option<[f64; 4]>; 2], name: &str) {
+        let [Some([a, b, c, d]), Some([e, f, g, h])] = numbers else {
+            return;
+        };
+        let numbers = [a, b, c, d, e, f, g, h];
+        // Those that were fitted to other data are no multiples at all.
+        if (1..=3).contains(&grain::odd_ionosphere(&numbers)) {
+            let why = "ionosphere parameters that no broadcast message has";
+            tell(&format!("{name}: {why}"));
+        }
+        self.klobuchar.get_or_insert(numbers);
     }
 
     /// Returns a satellite's ephemeris nearest to a time.

@@ -3,7 +3,7 @@
 use zaqnuti::wls::{solve_full, Observation, Settings};
 use zaqnuti::{Ecef, RECORDS};
 
-use crate::atmosphere::{Direction, Klobuchar, Sky};
+use crate::atmosphere::{range, Direction, Klobuchar, Sky};
 use crate::orbit::State;
 
 use super::lock::median;
@@ -47,6 +47,11 @@ impl Sight {
         self.range() - self.to.range
     }
 
+    /// Returns how much noisier the pseudorange is than at the zenith.
+    pub fn noisier(&self) -> f64 {
+        0.5 + 0.5 / self.to.elevation.sin().max(0.1)
+    }
+
     fn observation(&self, elevation: f64) -> Observation {
         Observation {
             constellation: self.band.system.constellation(),
@@ -75,6 +80,13 @@ pub fn look(sights: &mut [Sight], sky: &Sky, models: &Models, second: f64) {
     }
 }
 
+/// Computes the ranges from a position near that of the directions.
+fn measure(sights: &mut [Sight], at: [f64; 3]) {
+    for sight in sights {
+        sight.to.range = range(at, sight.state.place);
+    }
+}
+
 /// Why an epoch has no position.
 #[derive(Clone, Copy, PartialEq)]
 pub enum Nowhere {
@@ -90,6 +102,8 @@ pub struct Places {
     pub told: Option<[f64; 3]>,
     /// The sky at the last position.
     sky: Option<Sky>,
+    /// Where the epoch's directions and delays were computed.
+    looked: Option<[f64; 3]>,
     /// Epochs whose fix is far from the header's position.
     pub away: u64,
     rows: Vec<Observation>,
@@ -105,6 +119,7 @@ impl Places {
         Self {
             told,
             sky: None,
+            looked: None,
             away: 0,
             rows: Vec::new(),
             settings: Settings::default(),
@@ -133,6 +148,7 @@ impl Places {
         models: &Models,
         second: f64,
     ) -> Result<(Sky, u64), Nowhere> {
+        self.looked = None;
         if let Some(told) = self.told {
             let sky = self.stay(told, sights, models, second);
             return Ok((sky, screen(sights)));
@@ -189,7 +205,10 @@ impl Places {
     ) -> Option<[f64; 3]> {
         let fixed = fixed.filter(|f| ground(*f));
         let mut against = |at: [f64; 3]| {
-            self.stay(at, sights, models, second);
+            match self.looked {
+                Some(place) if apart(place, at) <= SAME => measure(sights, at),
+                _ => drop(self.stay(at, sights, models, second)),
+            }
             missing(sights)
         };
         let mut best = fixed.map(|at| (against(at), at));
@@ -239,8 +258,11 @@ impl Places {
             Some(sky) if sky.place == at => sky,
             _ => Sky::over(at),
         };
-        look(sights, &sky, models, second);
-        self.sky = Some(sky);
+        match self.looked == Some(at) {
+            true => measure(sights, at),
+            false => look(sights, &sky, models, second),
+        }
+        (self.sky, self.looked) = (Some(sky), Some(at));
         sky
     }
 }

@@ -7,6 +7,7 @@ use super::ephemeris::{Ephemeris, Orbit};
 use super::grain;
 use super::head::{self, Version};
 use super::lines::Lines;
+use super::motion;
 use super::signals::{skipped, Satellite, System};
 use super::time::{Moment, Scale};
 
@@ -66,9 +67,15 @@ impl Record {
         let Some(system) = System::of(self.letter) else {
             return Ok(None);
         };
-        let wanted = if system == System::Glonass { 15 } else { 31 };
-        if self.numbers.len() < wanted {
+        let (least, most) = match system {
+            System::Glonass => (15, 19),
+            _ => (31, 31),
+        };
+        if self.numbers.len() < least {
             return self.wrong("the record is incomplete");
+        }
+        if self.numbers.len() > most {
+            return self.wrong("the record has lines of another one");
         }
         let number = match u8::try_from(self.number) {
             Ok(number @ 1..=99) => number,
@@ -93,8 +100,9 @@ impl Record {
     }
 
     /// Returns bits for what a broadcast message would not say: numbers that are no multiples of
-    /// their units, and times, weeks and issues that contradict each other.
-    pub fn odd(&self, of: Satellite, found: &Ephemeris) -> u64 {
+    /// their units, times, weeks and issues that contradict each other, and an orbit that no
+    /// satellite can have.
+    pub fn odd(&self, of: Satellite, found: &Ephemeris, tilt: Option<[f64; 2]>) -> u64 {
         let n = |i: usize| self.numbers.get(i).copied().unwrap_or(0.0);
         let apart = match of.system {
             // GLONASS ephemerides are a quarter of an hour apart in UTC.
@@ -108,15 +116,18 @@ impl Record {
         };
         let week = (weeks + 1.0).rem_euclid(1024.0) > 2.0;
         let issue = of.system == System::Gps && (n(26) - n(3)).rem_euclid(256.0) != 0.0;
-        let rest = u64::from(apart) << 61 | u64::from(week) << 62 | u64::from(issue) << 63;
-        grain::odd(of.system, &self.numbers) | rest
+        let strained = motion::strained(found, of.system, tilt);
+        let rest = [strained, apart, week, issue];
+        let bits = rest.iter().fold(0, |bits, b| bits << 1 | u64::from(*b));
+        grain::odd(of.system, &self.numbers) | bits << 60
     }
 
     fn wrong<T>(&self, why: &str) -> Run<T> {
         said(format!("{}:{}: {why}", self.name, self.line))
     }
 
-    fn kepler(&self, of: Satellite) -> Run<Ephemeris> {
+    /// Returns the orbit of a record that is not of GLONASS.
+    fn orbit(&self, of: Satellite) -> Kepler {
         let n = |i: usize| self.numbers.get(i).copied().unwrap_or(0.0);
         let earth = match (of.system, of.number) {
             (System::Galileo, _) => Earth::GALILEO,
@@ -124,7 +135,7 @@ impl Record {
             (System::Beidou, _) => Earth::BEIDOU,
             _ => Earth::GPS,
         };
-        let orbit = Kepler {
+        Kepler {
             earth,
             root: n(10),
             eccentricity: n(8),
@@ -139,7 +150,12 @@ impl Record {
             radius: [n(16), n(4)],
             tilt: [n(12), n(14)],
             second: n(11),
-        };
+        }
+    }
+
+    fn kepler(&self, of: Satellite) -> Run<Ephemeris> {
+        let n = |i: usize| self.numbers.get(i).copied().unwrap_or(0.0);
+        let orbit = self.orbit(of);
         if !orbit.sound() {
             return self.wrong("not the orbit of a navigation satellite");
         }

@@ -7,6 +7,8 @@ pub const FIRST: usize = 9;
 /// How far receivers stray from whole steps of their own clock, and from those of GPS time, s.
 const STRAY: f64 = 3.0e-4;
 const NEAREST: f64 = 5.2e-4;
+/// The unit of the times that most receivers write, s.
+const UNIT: f64 = 1.0e-3;
 /// The drift of a free-running clock, s/s, and how far it counts, s.
 const DRIFT: (f64, f64) = (2.0e-5, 2.0e-4);
 
@@ -17,6 +19,8 @@ const DRIFT: (f64, f64) = (2.0e-5, 2.0e-4);
 pub struct Rhythm {
     /// The largest step that divides a second and the intervals; none where they have no pattern.
     step: Option<f64>,
+    /// Whether times are whole milliseconds.
+    whole: bool,
     /// The second of the week of the last accepted epoch, and the same by GPS time.
     tag: f64,
     gps: Option<f64>,
@@ -46,6 +50,11 @@ fn usual(times: &[Moment]) -> Option<f64> {
     clear.then_some(step)
 }
 
+/// Checks that a time is a whole millisecond, as far as RINEX tells.
+fn whole(tag: f64) -> bool {
+    off(tag, UNIT) < 1e-6
+}
+
 /// Returns how far a span is from whole steps, s.
 fn off(span: f64, step: f64) -> f64 {
     (span - (span / step).round() * step).abs()
@@ -63,6 +72,7 @@ impl Rhythm {
         let tag = tags.iter().copied().max_by_key(|t| near(*t));
         Self {
             step,
+            whole: 2 * tags.iter().filter(|t| whole(**t)).count() > tags.len(),
             tag: tag.unwrap_or(0.0),
             gps: None,
             last: None,
@@ -82,11 +92,12 @@ impl Rhythm {
         let passed = self.last.map_or(0.0, |last| time.since(last));
         let stray = STRAY + (DRIFT.0 * passed).min(DRIFT.1);
         let near = |a: f64, b: f64| off(a - b, step) <= stray;
-        let whole = |gps: f64| off(gps, step) <= NEAREST;
+        let close = |gps: f64| off(gps, step) <= NEAREST;
         let steady = near(tag, self.tag) || self.gps.is_some_and(|last| near(gps, last));
-        let nearest = whole(gps) && self.gps.map_or(true, whole);
+        let nearest = close(gps) && self.gps.map_or(true, close);
         let again = self.odd.is_some_and(|odd| near(tag, odd));
-        let kept = steady || nearest || again;
+        let written = whole(tag) || !self.whole;
+        let kept = (steady || nearest) && written || again;
         if kept {
             (self.tag, self.gps, self.last) = (tag, Some(gps), Some(time));
         }
@@ -158,7 +169,7 @@ mod tests {
 
     #[test]
     fn a_changed_digit_is_told() {
-        for late in [0.9, 0.03, 0.008, 0.002, -0.01] {
+        for late in [0.9, 0.03, 0.008, 0.002, -0.01, 0.000_3, 0.000_002] {
             for at in [0, 1, 5, 12] {
                 let mut all: Vec<(f64, f64)> =
                     (0..15).map(|i| (30.0 * f64::from(i), 2e-4)).collect();

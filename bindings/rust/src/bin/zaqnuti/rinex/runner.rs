@@ -1,6 +1,6 @@
 //! Turns epochs into lines of CSV.
 
-use crate::atmosphere::{Direction, Sky};
+use crate::atmosphere::{range, Direction, Sky};
 use crate::orbit::LIGHT;
 
 use super::codes::{Codes, Jump};
@@ -241,7 +241,7 @@ impl Runner {
             (Some(rate), _) => (rate, true),
             (None, None) => (sky.receding(&sight.state), state & VALID == 0),
             (None, Some(before)) => {
-                let range = |x: [f64; 3]| sky.direction(x).range;
+                let range = |x: [f64; 3]| range(sky.place, x);
                 let more = excess(&before, &now, range);
                 self.tell_before(&sight.signal, more);
                 (sky.receding(&sight.state) + more, true)

@@ -32,7 +32,7 @@ fn rows(sights: &[Sight]) -> (Vec<Row>, usize) {
         let (sin, cos) = sight.to.elevation.sin_cos();
         let (east, north) = sight.to.azimuth.sin_cos();
         // Low satellites are noisier.
-        let weight = 1.0 / noisier(sight);
+        let weight = 1.0 / sight.noisier();
         let mut row = [0.0; MOST];
         row[..3].copy_from_slice(&[-cos * east, -cos * north, -sin].map(|x| x * weight));
         row[clock] = weight;
@@ -67,11 +67,6 @@ fn forward(a: &[[f64; MOST]; MOST], n: usize, mut b: [f64; MOST]) -> [f64; MOST]
 
 fn dot(a: &[f64; MOST], b: &[f64; MOST]) -> f64 {
     a.iter().zip(b).map(|(x, y)| x * y).sum()
-}
-
-/// Returns how much noisier a pseudorange is than at the zenith.
-fn noisier(sight: &Sight) -> f64 {
-    0.5 + 0.5 / sight.to.elevation.sin().max(0.1)
 }
 
 /// Checks whether all residuals are small, as in most epochs.

@@ -94,6 +94,11 @@ impl Moment {
         Some(Self::new(seconds + ahead, second))
     }
 
+    /// Returns the seconds since the start of week 0.
+    pub fn seconds(self) -> f64 {
+        self.seconds as f64 + self.rest
+    }
+
     /// Returns the seconds since another time.
     pub fn since(self, other: Self) -> f64 {
         (self.seconds - other.seconds) as f64 + (self.rest - other.rest)
