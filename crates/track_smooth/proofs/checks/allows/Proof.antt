@@ -1,7 +1,7 @@
 use Rattle.track_smooth.specs.Answer.{settingsOk}
 use borrow.Author.Needs.{needs}
-use Rattle.track_smooth.proofs.allows.Statement.{statement}
-use Rattle.track_smooth.proofs.allows.Tie as tie
+use Rattle.track_smooth.proofs.checks.allows.Statement.{statement}
+use Rattle.track_smooth.proofs.checks.allows.Tie as tie
 
 in-range-requires : tie.Need-in-range-requires
 in-range-requires c κs = search needs

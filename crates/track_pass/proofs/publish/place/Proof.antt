@@ -1,12 +1,12 @@
-use Rattle.track_smooth.proofs.FiniteSum.{add-finite}
+use Rattle.track_pass.proofs.FiniteSum.{add-finite}
 use Rattle.track_tridiagonal.proofs.Nan.{finite-number, finite-writable}
 use Rattle.track_tridiagonal.proofs.Cells.{readable}
 use Rattle.numeric.proofs.OrderLaws.{pattern-bits}
 use lib.Ieee.Bits.{ofBits-fits}
 use lib.Ieee.{binary64}
 use mathlib.Core.Path.{sym}
-use Rattle.track_smooth.proofs.fit.place.Statement.{statement}
-use Rattle.track_smooth.proofs.fit.place.Tie as tie
+use Rattle.track_pass.proofs.publish.place.Statement.{statement}
+use Rattle.track_pass.proofs.publish.place.Tie as tie
 
 float-from-bits-result : tie.Need-float-from-bits-result
 float-from-bits-result c = readable _ (finite-number _ (c .pre .0))
