@@ -1,9 +1,9 @@
--- `quality::figures::pdop_of` meets its contract. Assumes nothing.
+-- `quality::inverse::pdop_by_columns` meets its contract. Assumes nothing.
 use native.Mathlib.Omega.{arith}
 use Rattle.quality.proofs.QualityLaws.{pdop-is, column-unused}
 use borrow.Author.Needs.{needs}
-use Rattle.quality.proofs.figures.pdop_of.Statement.{statement}
-use Rattle.quality.proofs.figures.pdop_of.Tie as tie
+use Rattle.quality.proofs.inverse.pdop_by_columns.Statement.{statement}
+use Rattle.quality.proofs.inverse.pdop_by_columns.Tie as tie
 
 array-write-x : tie.Need-array-write-x
 array-write-x c = search needs
@@ -38,8 +38,8 @@ sqrt-requires c κs = search needs
 returns : tie.Need-returns
 returns c = pdop-is _ _ _ _ _ (c .before .before .before .solve-used .ensures) (c .before .before .solve-used2 .ensures) (c .before .solve-used3 .ensures) (c .sqrt .ensures)
 
-pub pdop-of-spec : {M : Type 1} → statement M
-pdop-of-spec =
+pub pdop-by-columns-spec : {M : Type 1} → statement M
+pdop-by-columns-spec =
     tie.close
     (tie.spec
     array-write-x
