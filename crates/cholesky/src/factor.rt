@@ -4,6 +4,7 @@ ghost use Prim.Native.Nat.{_-_, _≤_, _<_};
 ghost use lib.Dec.{T};
 ghost use lib.ListN.{replicate};
 ghost use lib.Ieee.{binary64, fits};
+ghost use Rattle.lists.specs.Memory.{before, after};
 ghost use Rattle.cholesky.specs.Factor.{zeros, isPivot, forwardTo, backTo, solutionOf, at, Unused, UnusedPlaces};
 ghost use Rattle.cholesky.specs.Steps.{sumOf, filled, onesMarked, FactoredUsed};
 ghost use Rattle.cholesky.specs.Answer.{factoringNumber, FactorPromised};
@@ -64,7 +65,7 @@ struct Next {
 // Returns row m of the matrix at column j and at its diagonal, less the first j products of rows m and j and of row m with itself.
 fn ahead(m: usize, j: usize, a: &[[f64; 9]; 9], l: &[[f64; 9]; 9]) -> Next
     requires { ⌜ (m < 9) × (j ≤ 7) ⌝ }
-    ensures { λ r. ⌜ (r .sum ≡ sumOf j m j (now (a .entry)) (now (l .entry))) × (r .pivot ≡ sumOf j m m (now (a .entry)) (now (l .entry))) ⌝ }
+    ensures { λ r. ⌜ (r .sum ≡ sumOf j m j (before a) (before l)) × (r .pivot ≡ sumOf j m m (before a) (before l)) ⌝ }
 {
     let c = few(j);
     let mut s = a[m][j];
@@ -80,7 +81,7 @@ fn ahead(m: usize, j: usize, a: &[[f64; 9]; 9], l: &[[f64; 9]; 9]) -> Next
 // Returns row i of the matrix at column j, less the first j products of rows i and j.
 fn sum(i: usize, j: usize, a: &[[f64; 9]; 9], l: &[[f64; 9]; 9]) -> f64
     requires { ⌜ (i < 9) × (j ≤ 7) ⌝ }
-    ensures { λ r. ⌜ r ≡ sumOf j i j (now (a .entry)) (now (l .entry)) ⌝ }
+    ensures { λ r. ⌜ r ≡ sumOf j i j (before a) (before l) ⌝ }
 {
     let c = few(j);
     let mut s = a[i][j];
@@ -93,7 +94,7 @@ fn sum(i: usize, j: usize, a: &[[f64; 9]; 9], l: &[[f64; 9]; 9]) -> f64
 // Computes the elements of column j in the rows from i up to, not including, n; d is the column's diagonal.
 fn fill(j: usize, d: f64, i: usize, n: usize, a: &[[f64; 9]; 9], l: &mut [[f64; 9]; 9])
     requires { ⌜ (j ≤ 7) × (j < i) × (i ≤ n) × (n ≤ 9) ⌝ }
-    ensures { λ _. ⌜ now (l .exit) ≡ filled (n - i) j d i (now (a .entry)) (now (l .entry)) ⌝ }
+    ensures { λ _. ⌜ after l ≡ filled (n - i) j d i (before a) (before l) ⌝ }
 {
     for r in i..n {
         let s = sum(r, j, a, l);
@@ -104,7 +105,7 @@ fn fill(j: usize, d: f64, i: usize, n: usize, a: &[[f64; 9]; 9], l: &mut [[f64; 
 // Writes 1 on the diagonal of the rows from n on.
 fn mark(n: usize, l: &mut [[f64; 9]; 9])
     requires { ⌜ n ≤ 9 ⌝ }
-    ensures { λ _. ⌜ now (l .exit) ≡ onesMarked (9 - n) n (now (l .entry)) ⌝ }
+    ensures { λ _. ⌜ after l ≡ onesMarked (9 - n) n (before l) ⌝ }
 {
     for i in n..9 {
         l[i][i] = 1.0;
@@ -117,7 +118,7 @@ fn mark(n: usize, l: &mut [[f64; 9]; 9])
 // pivot less the products of the columns before j: q - s * s / p is so near that pivot that the tangent there gives its root at once.
 pub fn factor_used(n: usize, a: &[[f64; 9]; 9], l: &mut [[f64; 9]; 9]) -> bool
     requires { ⌜ (0 < n) × (n ≤ 9) × Unused n (now a) × (now l ≡ replicate 9 zeros) ⌝ }
-    ensures { λ r. ⌜ FactoredUsed n (now (a .entry)) (now (l .entry)) r (now (l .exit)) ⌝ }
+    ensures { λ r. ⌜ FactoredUsed n (before a) (before l) r (after l) ⌝ }
 {
     let mut p = held(a[0][0]);
     let mut t = no_tangent();
@@ -150,7 +151,7 @@ pub fn factor_used(n: usize, a: &[[f64; 9]; 9], l: &mut [[f64; 9]; 9]) -> bool
 // Returns `Done` and writes the factor of a to l, or returns the refusal and leaves l unchanged. Only the lower triangle of a is read.
 // The factor is made in l itself: made beside it and copied at the end, factor and solution together took 7 percent longer.
 pub fn factor(a: [[f64; 9]; 9], l: &mut [[f64; 9]; 9]) -> Factoring
-    ensures { λ r. ⌜ FactorPromised a r (now (l .entry)) (now (l .exit)) ⌝ }
+    ensures { λ r. ⌜ FactorPromised a r (before l) (after l) ⌝ }
 {
     let kept = *l;
     *l = [[0.0; 9]; 9];
@@ -165,7 +166,7 @@ pub fn factor(a: [[f64; 9]; 9], l: &mut [[f64; 9]; 9]) -> Factoring
 // Solves l y = b for the first n unknowns by forward substitution: x holds b, and then y. The other places are unchanged.
 fn forward(n: usize, l: &[[f64; 9]; 9], x: &mut [f64; 9])
     requires { ⌜ n ≤ 9 ⌝ }
-    ensures { λ _. ⌜ now (x .exit) ≡ forwardTo n (now (l .entry)) (now (x .entry)) ⌝ }
+    ensures { λ _. ⌜ after x ≡ forwardTo n (before l) (before x) ⌝ }
 {
     for i in 0..n {
         let mut s = x[i];
@@ -179,7 +180,7 @@ fn forward(n: usize, l: &[[f64; 9]; 9], x: &mut [f64; 9])
 // Solves lᵀ x = y by back substitution, from the last row up: x holds y, and then the solution. The unknowns from n on are unused: they stay 0 and add nothing.
 fn back(n: usize, l: &[[f64; 9]; 9], x: &mut [f64; 9])
     requires { ⌜ (n ≤ 9) × Unused n (now l) × UnusedPlaces n (now x) × T (fits binary64 (at (now x) (n - 1))) ⌝ }
-    ensures { λ _. ⌜ now (x .exit) ≡ backTo 9 (now (l .entry)) (now (x .entry)) ⌝ }
+    ensures { λ _. ⌜ after x ≡ backTo 9 (before l) (before x) ⌝ }
 {
     for m in 0..n {
         let i = n - 1 - m;
@@ -193,7 +194,7 @@ fn back(n: usize, l: &[[f64; 9]; 9], x: &mut [f64; 9])
 
 // Solves l lᵀ x = b in place: x holds b, and then the solution.
 pub fn solve_into(l: &[[f64; 9]; 9], x: &mut [f64; 9])
-    ensures { λ _. ⌜ now (x .exit) ≡ solutionOf (now (l .entry)) (now (x .entry)) ⌝ }
+    ensures { λ _. ⌜ after x ≡ solutionOf (before l) (before x) ⌝ }
 {
     forward(9, l, x);
     back(9, l, x);
@@ -201,7 +202,7 @@ pub fn solve_into(l: &[[f64; 9]; 9], x: &mut [f64; 9])
 
 // Returns the solution x of l lᵀ x = b.
 pub fn solve_lent(l: &[[f64; 9]; 9], b: [f64; 9]) -> [f64; 9]
-    ensures { λ r. ⌜ r ≡ solutionOf (now (l .entry)) b ⌝ }
+    ensures { λ r. ⌜ r ≡ solutionOf (before l) b ⌝ }
 {
     let mut x = b;
     solve_into(l, &mut x);
@@ -212,7 +213,7 @@ pub fn solve_lent(l: &[[f64; 9]; 9], b: [f64; 9]) -> [f64; 9]
 // places are 0; otherwise they may be NaN, since 0 times infinity is.
 pub fn solve_used(n: usize, l: &[[f64; 9]; 9], b: [f64; 9]) -> [f64; 9]
     requires { ⌜ (0 < n) × (n ≤ 9) × Unused n (now l) × UnusedPlaces n b ⌝ }
-    ensures { λ r. ⌜ r ≡ solutionOf (now (l .entry)) b ⌝ }
+    ensures { λ r. ⌜ r ≡ solutionOf (before l) b ⌝ }
 {
     let mut x = b;
     forward(n, l, &mut x);

@@ -9,6 +9,7 @@ use lib.ListN.{length, length-map}
 use lib.Seq.{length-take-le}
 use borrow.Author.Tests.{ltb-false, lt-ltb, le-ltb, not-true, not-false}
 use Rattle.lists.specs.Walk.{every}
+use Rattle.numeric.specs.Rules.{ruled}
 use Rattle.numeric.specs.declared.refusal.Refusal.{Refusal}
 use Rattle.numeric.specs.declared.refusal.Refusal.the-variants.{TooMany, RecordOutOfRange, TableFull}
 use Rattle.corrections_table.specs.Table.{ranged}
@@ -47,26 +48,26 @@ few-of m n r k e =
 
 module _ (m n room r : ℕ) (e : r ≡ room) (d : Directory) (new : Samples) where
   pub test-count : ((ltb r m || ltb r n) || ltb 64 (new .count)) ≡ true → Test.Refused TooMany ≡ testIn m n room d new
-  unfolding testIn
+  unfolding testIn ruled
   test-count h = rw (← e, h)
 
   module _ (h : ((ltb r m || ltb r n) || ltb 64 (new .count)) ≡ false) {x : Bool} (ex : x ≡ soundDirectory d) where
     pub test-sound : not x ≡ true → Test.Refused RecordOutOfRange ≡ testIn m n room d new
-    unfolding testIn
+    unfolding testIn ruled
     test-sound u = rw (← e, h, sym ex ∙ not-true x u)
 
     module _ (u : not x ≡ false) {y : Bool} (ey : y ≡ every ranged (countedSamples new)) where
       pub test-ranged : not y ≡ true → Test.Refused RecordOutOfRange ≡ testIn m n room d new
-      unfolding testIn
+      unfolding testIn ruled
       test-ranged v = rw (← e, h, sym ex ∙ not-false x u, sym ey ∙ not-true y v)
 
       module _ (v : not y ≡ false) where
         pub test-room : r < n + new .count → Test.Refused TableFull ≡ testIn m n room d new
-        unfolding testIn
+        unfolding testIn ruled
         test-room w = rw (← e, h, sym ex ∙ not-false x u, sym ey ∙ not-false y v, lt-ltb r (n + new .count) w)
 
         pub test-passed : n + new .count ≤ r → Test.Passed ≡ testIn m n room d new
-        unfolding testIn
+        unfolding testIn ruled
         test-passed w = rw (← e, h, sym ex ∙ not-false x u, sym ey ∙ not-false y v, le-ltb r (n + new .count) w)
 
 -- ---- what a passed test says
@@ -80,7 +81,7 @@ pub record PassedAddition (m n room : ℕ) (d : Directory) (new : Samples) : Typ
   pub fit : n + new .count ≤ room
 
 pub passed : (m n room : ℕ) (d : Directory) (new : Samples) → testIn m n room d new ≡ Test.Passed → PassedAddition m n room d new
-unfolding testIn
+unfolding testIn ruled
 passed m n room d new e = go ((ltb room m || ltb room n) || ltb 64 (new .count)) (soundDirectory d && every ranged (countedSamples new)) (ltb room (n + new .count)) refl refl refl e
   where
     go : (x y z : Bool) → ((ltb room m || ltb room n) || ltb 64 (new .count)) ≡ x → (soundDirectory d && every ranged (countedSamples new)) ≡ y → ltb room (n + new .count) ≡ z

@@ -18,7 +18,8 @@ use Rattle.corrections_table.proofs.SeriesLaws.{insertAll-append}
 use Rattle.corrections_table.proofs.InsertLaws.{insertAll-length}
 use Rattle.corrections_directory.specs.Directory.{Entry, Reading, ascends, block, entriesFrom, entryOf, isMine, joined, readingOf, sampleOf, signalIn, tiles}
 use Rattle.corrections_directory.specs.Steps.{noEntry}
-use Rattle.corrections_directory.proofs.DirectoryLaws.{Same, Narrow, same-of, same-signal, signal-same, run}
+use Rattle.corrections_directory.proofs.DirectoryLaws.{Same, same-of, run}
+use Rattle.corrections_directory.proofs.NarrowLaws.{Narrow, same-signal, signal-same}
 use Rattle.corrections_directory.proofs.SoundLaws.{tiles-at}
 use Rattle.corrections_directory.proofs.EntryLaws.{ascends-at, block-length, tiles-first, tiles-next}
 use Rattle.corrections_add.specs.Steps.{Lies, blocksUpTo, entriesUpTo}

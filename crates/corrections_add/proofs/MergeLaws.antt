@@ -20,15 +20,15 @@ use Rattle.corrections_table.proofs.TableLaws.{and-right}
 use Rattle.corrections_table.proofs.Places.{placeOf, rises, sorted-rises}
 use Rattle.corrections_table.proofs.ColumnLaws.{rows-at, rows-length}
 use Rattle.corrections_directory.specs.Directory.{Entry, Reading, block, columnOf, directoryIn, entryRows, flat, floats, lentBlocks, readingOf, readingRows, sampleOf, signalIn, soundDirectory, tiles}
-use Rattle.corrections_directory.specs.Steps.{noEntry, noReading}
+use Rattle.corrections_directory.specs.Steps.{noEntry}
 use Rattle.corrections_directory.proofs.DirectoryLaws.{sound-parts, sound-flat, flat-readings}
-use Rattle.corrections_directory.proofs.ColumnLaws.{entries-length, entry-at, flat-length, readings-length}
+use Rattle.corrections_directory.proofs.ColumnLaws.{entries-length, entry-at, flat-length, noReading, readings-length}
 use Rattle.corrections_directory.proofs.PatternLaws.{T-true, every-of, floats-at, floats-column, floats-fit-all, floats-length, map-of, numbers-in, numbers-of, patterns-back}
 use Rattle.corrections_directory.proofs.EntryLaws.{flat-at, getD-map-in}
-use Rattle.corrections_add.specs.Steps.{ReadingsMerged, Stays, mixed, shifted}
+use Rattle.corrections_add.specs.Steps.{ReadingsMerged, Stays, shifted}
 use Rattle.corrections_add.proofs.SortLaws.{before-le, every-all, every-insertAll}
 use Rattle.corrections_add.proofs.FillLaws.{Filling, filling-start, filling-turn, filling-end}
-use Rattle.corrections_add.proofs.MixLaws.{mixed-old, mixed-new, mixed-length, mixed-none}
+use Rattle.corrections_add.proofs.MixLaws.{mixed, mixed-old, mixed-new, mixed-length, mixed-none}
 use Rattle.corrections_add.proofs.CursorLaws.{Cursor, cursor-some, cursor-start, cursor-stay, cursor-leave}
 
 -- the patterns of the two fields that are moved

@@ -14,8 +14,11 @@ use Rattle.corrections_table.proofs.TableLaws.{rises-at}
 use Rattle.corrections_table.proofs.Places.{placeOf, rises}
 use Rattle.corrections_table.proofs.SeriesLaws.{insertAll-append}
 use Rattle.corrections_table.proofs.InsertLaws.{insertAll-length}
-use Rattle.corrections_add.specs.Steps.{mixed}
 use Rattle.corrections_add.proofs.SortLaws.{before-lt, lt-before, le-before, every-all, every-insertAll, insertAll-left, insert-end}
+
+-- the first i samples of a table with the first j of new ones
+abbrev pub mixed : List Sample → List Sample → ℕ → ℕ → List Sample
+mixed t u i j = insertAll (take i t) (take j u)
 
 -- of the first samples of a sorted list none has a higher place than the last of them
 upto : (q : Sample → Bool) (l : List Sample) (i : ℕ) (p : ℕ) → rises 0 l ≡ true → i ≤ length l → (0 < i → placeOf (getD l (i - 1) blank) ≤ p) → ((a : Sample) → placeOf a ≤ p → q a ≡ true) → every q (take i l) ≡ true

@@ -13,7 +13,7 @@ use Rattle.corrections_table.specs.declared.sample.Sample.{Sample}
 use Rattle.corrections_table.proofs.Places.{rises, sorted-rises}
 use Rattle.corrections_directory.specs.Directory.{Entry, Reading, ascends, entriesFrom, entryRows, isMine, signalIn}
 use Rattle.corrections_directory.specs.Steps.{noEntry}
-use Rattle.corrections_directory.proofs.DirectoryLaws.{Narrow}
+use Rattle.corrections_directory.proofs.NarrowLaws.{Narrow}
 use Rattle.corrections_directory.proofs.ColumnLaws.{entries-length, entry-at}
 use Rattle.corrections_add.specs.Steps.{LastOf, Lies, NewLast, OfSignals, OwnFrom, blocksUpTo, entriesUpTo, lastEntry}
 use Rattle.corrections_add.specs.declared.entries.Last.{Last}

@@ -7,9 +7,9 @@ use lib.ListN.{length, getD, take, set, replicate, length-append, length-map, le
 use lib.Seq.{take-take}
 use Rattle.corrections_table.specs.declared.sample.Sample.{Sample}
 use Rattle.corrections_directory.specs.Directory.{Entry, Reading, entryRows}
-use Rattle.corrections_directory.specs.Steps.{noEntry, noReading}
-use Rattle.corrections_directory.proofs.DirectoryLaws.{Narrow}
-use Rattle.corrections_directory.proofs.ColumnLaws.{entries-length}
+use Rattle.corrections_directory.specs.Steps.{noEntry}
+use Rattle.corrections_directory.proofs.NarrowLaws.{Narrow}
+use Rattle.corrections_directory.proofs.ColumnLaws.{entries-length, noReading}
 use Rattle.corrections_add.specs.Steps.{EntriesMerged, LastIs, LastOf, OfSignals, SomeSignals, Tiled, blocksUpTo, entriesUpTo, lastEntry}
 use Rattle.corrections_add.specs.declared.entries.Last.{Last}
 use Rattle.corrections_add.proofs.LastLaws.{lies-fewer}

@@ -1,11 +1,12 @@
 -- New samples added to a directory (request (ix)): the refusal, or the directory of the table with them. Definitions only.
 use Prim.Native.Nat.{ℕ, _+_}
 use mathlib.Core.Path.{_≡_}
-use mathlib.Core.Bool.{cond, not, _&&_, _||_}
-use mathlib.Core.List.{List}
+use mathlib.Core.Bool.{not, _&&_, _||_}
+use mathlib.Core.List.{List, [], _∷_}
 use lib.Dec.{ltb}
 use lib.ListN.{length}
 use Rattle.lists.specs.Walk.{every}
+use Rattle.numeric.specs.Rules.{rule, ruled}
 use Rattle.numeric.specs.Refusal.{numberOf}
 use Rattle.numeric.specs.declared.refusal.Refusal.{Refusal}
 use Rattle.numeric.specs.declared.refusal.Refusal.the-variants.{TooMany, RecordOutOfRange, TableFull}
@@ -15,7 +16,7 @@ use Rattle.corrections_table.specs.declared.sample.Sample.{Sample}
 use Rattle.corrections_table.specs.declared.add.Samples.{Samples}
 use Rattle.corrections_table.specs.declared.add.Test.{Test}
 use Rattle.corrections_table.specs.declared.add.Test.the-variants as Test
-use Rattle.corrections_directory.specs.Directory.{Directory, Blocks, PatternsWith, blocksWith, directoryOf, flat, soundDirectory}
+use Rattle.corrections_directory.specs.Directory.{Directory, Blocks, PatternsWith, blockCapacity, blocksWith, directoryIn, directoryOf, flat, soundDirectory}
 use Rattle.corrections_directory.specs.Lent.{LentTable}
 use Rattle.corrections_add.specs.declared.add.Addition.{Addition}
 use Rattle.corrections_add.specs.declared.add.Addition.the-variants as Addition
@@ -27,10 +28,12 @@ directoryWith d ss = directoryOf (insertAll (flat d) ss)
 -- what is tested before new samples go to m entries and n samples in columns with that capacity: numbers 2, 4 and 11
 unfoldable pub testIn : ℕ → ℕ → ℕ → Directory → Samples → Test
 testIn m n room d new =
-    cond ((ltb room m || ltb room n) || ltb 64 (new .count)) (Test.Refused TooMany)
-    (cond (not (soundDirectory d && every ranged (countedSamples new))) (Test.Refused RecordOutOfRange)
-    (cond (ltb room (n + new .count)) (Test.Refused TableFull)
-    Test.Passed))
+    ruled Test.Refused
+    (rule TooMany ((ltb room m || ltb room n) || ltb 64 (new .count))
+    ∷ rule RecordOutOfRange (not (soundDirectory d && every ranged (countedSamples new)))
+    ∷ rule TableFull (ltb room (n + new .count))
+    ∷ [])
+    Test.Passed
 
 -- a refusal, or the directory afterwards
 pub data Placed : Type 0 where
@@ -92,6 +95,10 @@ AddsIn o number m m′ n n′ t = Places o number m m′ n n′ (t .before) (t .
 -- so are those of an answer by value, and the answer is the outcome's
 abbrev pub AddedBy : Placed → Addition → ℕ → ℕ → LentTable → Type 0
 AddedBy o r m n t = (r ≡ additionOf o) × AddsIn o (additionNumber r) m (entriesNow r m) n (samplesNow r n) t
+
+-- new samples are added to the m entries and n samples of lent columns, with this answer
+abbrev pub AddsSamples : Samples → Addition → ℕ → ℕ → LentTable → Type 0
+AddsSamples new r m n t = AddedBy (addIn m n (blockCapacity (t .before)) (directoryIn m n (t .before)) new) r m n t
 
 -- ---- the outcome for the table that the directory stands for
 abbrev pub flatOutcome : Placed → AddOutcome

@@ -5,7 +5,8 @@ use mathlib.Core.Path.{_≡_}
 use mathlib.Core.Bool.{true, false, _&&_, _||_}
 use lib.Dec.{eqb, ltb}
 use lib.Ieee.{Float}
-use denote.Ref.{RefT, now}
+use denote.Ref.{now}
+use Rattle.lists.specs.Memory.{before, after, LentNumbers, LentFloats}
 use Rattle.exact.specs.Float.{bits}
 use lib.ListN.{length, getD, take, set}
 use Rattle.lists.specs.Walk.{collect}
@@ -14,15 +15,14 @@ use Rattle.signal.specs.Signal.{signal}
 use Rattle.corrections_table.specs.Table.{blank, rows, sorted, tableOf, timeBefore}
 use Rattle.corrections_table.specs.Add.{insertAll}
 use Rattle.corrections_table.specs.declared.sample.Sample.{Sample}
-use Rattle.corrections_directory.specs.Directory.{Blocks, Directory, Entry, PatternsWith, Reading, ascends, block, blocksWith, columnOf, directoryIn, entriesFrom, entriesIn, entryRows, flat, floats, lentBlocks, readingRows, readingsIn, soundDirectory, tiles}
-use Rattle.corrections_directory.specs.Steps.{noEntry}
-use Rattle.corrections_directory.specs.Lent.{LentTable}
-use Rattle.corrections_table.specs.Lent.{LentColumn, LentFloats, columnsBefore, columnsNow}
+use Rattle.corrections_table.specs.declared.add.Samples.{Samples}
+use Rattle.corrections_table.specs.declared.add.Test.{Test}
+use Rattle.corrections_directory.specs.Directory.{Blocks, Directory, Entry, PatternsWith, Reading, ascends, block, blockCapacity, blocksWith, columnOf, directoryIn, entriesFrom, entriesIn, entryRows, flat, floats, lentBlocks, readingsIn, soundDirectory, tiles}
+use Rattle.corrections_directory.specs.Steps.{noEntry, readingsNow, rowsBefore, rowsNow}
+use Rattle.corrections_directory.specs.Lent.{FloatSlice, LentTable, Slice}
+use Rattle.corrections_table.specs.Lent.{columnsBefore, columnsNow}
+use Rattle.corrections_add.specs.Add.{directoryWith, testIn}
 use Rattle.corrections_add.specs.declared.entries.Last.{Last}
-
--- the first i samples of a table with the first j of new ones
-abbrev pub mixed : List Sample → List Sample → ℕ → ℕ → List Sample
-mixed t u i j = insertAll (take i t) (take j u)
 
 -- the samples of the first i blocks
 abbrev pub blocksUpTo : List Reading → List Entry → ℕ → List Sample
@@ -129,10 +129,6 @@ pub record EntriesMerged (es : List Entry) (dc dv db df dn dc′ dv′ db′ df�
 
 -- ---- the columns of the contracts
 
--- a column of numbers as a step finds it
-abbrev pub Slice : Type 0
-Slice = RefT (List ℕ)
-
 -- the j-th of new samples and those before it are in the columns of signals
 abbrev pub NewIn : ℕ → Slice → Slice → Slice → Type 0
 NewIn j c v b = (j ≤ length (now c)) × ((j ≤ length (now v)) × (j ≤ length (now b)))
@@ -140,21 +136,21 @@ NewIn j c v b = (j ≤ length (now c)) × ((j ≤ length (now v)) × (j ≤ leng
 -- i blocks in ascending order and j new samples, which end at `end`; no number wraps
 abbrev pub Ending : Slice → Slice → Slice → Slice → Slice → ℕ → Slice → Slice → Slice → ℕ → ℕ → Type 0
 Ending c v b f n i nc nv nb j end =
-    (let es = entryRows (now c) (now v) (now b) (now f) (now n) in (i ≤ length es) × (ascends 0 (take i es) ≡ true))
+    (let es = rowsNow c v b f n in (i ≤ length es) × (ascends 0 (take i es) ≡ true))
     × (((0 < j) × ((j ≤ end) × NewIn j nc nv nb)) × (0 < i → (getD (now f) (i - 1) 0 + j < 2 ^ 64) × (getD (now n) (i - 1) 0 + j < 2 ^ 64)))
 
 -- the entry that was found is the last one
-abbrev pub Found : LentColumn → LentColumn → LentColumn → LentColumn → LentColumn → ℕ → LentColumn → LentColumn → LentColumn → ℕ → ℕ → Last → Type 0
+abbrev pub Found : LentNumbers → LentNumbers → LentNumbers → LentNumbers → LentNumbers → ℕ → LentNumbers → LentNumbers → LentNumbers → ℕ → ℕ → Last → Type 0
 Found c v b f n i nc nv nb j end r =
-    LastOf (take i (entryRows (now (c .entry)) (now (v .entry)) (now (b .entry)) (now (f .entry)) (now (n .entry)))) (now (nc .entry)) (now (nv .entry)) (now (nb .entry)) i j end r
+    LastOf (take i (rowsBefore c v b f n)) (before nc) (before nv) (before nb) i j end r
 
 -- r is how many entries m blocks of n samples have with k new samples, whatever these and the readings are
 abbrev pub EntryCount : List ℕ → List ℕ → List ℕ → List ℕ → List ℕ → ℕ → ℕ → List ℕ → List ℕ → List ℕ → ℕ → ℕ → Type 0
 EntryCount dc dv db df dn m n cs vs bs k r = (rs : List Reading) (u : List Sample) → length rs ≡ n → OfSignals cs vs bs k u → r ≡ length (entriesUpTo rs (take m (entryRows dc dv db df dn)) u m k)
 
-abbrev pub Counted : LentColumn → LentColumn → LentColumn → LentColumn → LentColumn → ℕ → ℕ → LentColumn → LentColumn → LentColumn → ℕ → ℕ → Type 0
+abbrev pub Counted : LentNumbers → LentNumbers → LentNumbers → LentNumbers → LentNumbers → ℕ → ℕ → LentNumbers → LentNumbers → LentNumbers → ℕ → ℕ → Type 0
 Counted c v b f n m samples nc nv nb k r =
-    EntryCount (now (c .entry)) (now (v .entry)) (now (b .entry)) (now (f .entry)) (now (n .entry)) m samples (now (nc .entry)) (now (nv .entry)) (now (nb .entry)) k r
+    EntryCount (before c) (before v) (before b) (before f) (before n) m samples (before nc) (before nv) (before nb) k r
 
 -- m blocks of some samples lie one after the other, and k new ones may be counted with them
 abbrev pub Countable : Slice → Slice → Slice → Slice → Slice → ℕ → ℕ → Slice → Slice → Slice → ℕ → Type 0
@@ -164,19 +160,19 @@ Countable c v b f n m samples nc nv nb k = Tiled (now c) (now v) (now b) (now f)
 abbrev pub Writable : Slice → Slice → Slice → Slice → Slice → ℕ → ℕ → Slice → Slice → Slice → ℕ → ℕ → Type 0
 Writable c v b f n m samples nc nv nb k r =
     Tiled (now c) (now v) (now b) (now f) (now n) m samples × (((samples + k < 2 ^ 64) × NewIn k nc nv nb) × (SomeSignals (now nc) (now nv) (now nb) k
-    × ((r ≤ length (entryRows (now c) (now v) (now b) (now f) (now n))) × EntryCount (now c) (now v) (now b) (now f) (now n) m samples (now nc) (now nv) (now nb) k r)))
+    × ((r ≤ length (rowsNow c v b f n)) × EntryCount (now c) (now v) (now b) (now f) (now n) m samples (now nc) (now nv) (now nb) k r)))
 
 -- the columns have the entries of the blocks with the new samples
-abbrev pub EntriesWritten : LentColumn → LentColumn → LentColumn → LentColumn → LentColumn → ℕ → ℕ → LentColumn → LentColumn → LentColumn → ℕ → Type 0
+abbrev pub EntriesWritten : LentNumbers → LentNumbers → LentNumbers → LentNumbers → LentNumbers → ℕ → ℕ → LentNumbers → LentNumbers → LentNumbers → ℕ → Type 0
 EntriesWritten c v b f n m samples nc nv nb k =
-    (rs : List Reading) (u : List Sample) → length rs ≡ samples → OfSignals (now (nc .entry)) (now (nv .entry)) (now (nb .entry)) k u
-    → EntriesMerged (entriesUpTo rs (take m (entryRows (now (c .entry)) (now (v .entry)) (now (b .entry)) (now (f .entry)) (now (n .entry)))) u m k)
-    (now (c .entry)) (now (v .entry)) (now (b .entry)) (now (f .entry)) (now (n .entry)) (now (c .exit)) (now (v .exit)) (now (b .exit)) (now (f .exit)) (now (n .exit))
+    (rs : List Reading) (u : List Sample) → length rs ≡ samples → OfSignals (before nc) (before nv) (before nb) k u
+    → EntriesMerged (entriesUpTo rs (take m (rowsBefore c v b f n)) u m k)
+    (before c) (before v) (before b) (before f) (before n) (after c) (after v) (after b) (after f) (after n)
 
 -- ---- times and corrections
 
 -- k samples that are sorted
-abbrev pub SortedNew : ℕ → Slice → Slice → Slice → RefT (List Float) → RefT (List Float) → Type 0
+abbrev pub SortedNew : ℕ → Slice → Slice → Slice → FloatSlice → FloatSlice → Type 0
 SortedNew k c v b t x = (let l = columnsNow c v b t x in (k ≤ length (rows l)) × (sorted (tableOf k l) ≡ true))
 
 -- the first i times, the last one in the block of the entry e - 1
@@ -185,10 +181,14 @@ InLast c v b f e t i =
     ((e ≤ length (now c)) × ((e ≤ length (now v)) × ((e ≤ length (now b)) × (e ≤ length (now f)))))
     × ((i ≤ length (now t)) × (0 < i → (0 < e) × (getD (now f) (e - 1) 0 < i)))
 
+-- r of the first e entries hold the first i samples: the last one goes if its block begins at i
+abbrev pub HeldBy : List ℕ → ℕ → ℕ → ℕ → Type 0
+HeldBy firsts e i r = (getD firsts (e - 1) 0 ≡ i → r ≡ e - 1) × ((getD firsts (e - 1) 0 ≡ i → ⊥) → r ≡ e)
+
 -- the first r of them stay before a new sample of the signal g at the time x
-abbrev pub StaysIn : LentColumn → LentColumn → LentColumn → LentColumn → ℕ → LentColumn → ℕ → ℕ → Float → ℕ → Type 0
+abbrev pub StaysIn : LentNumbers → LentNumbers → LentNumbers → LentNumbers → ℕ → LentNumbers → ℕ → ℕ → Float → ℕ → Type 0
 StaysIn c v b f e t i g x r =
-    Stays (now (t .entry)) (getD (now (f .entry)) (e - 1) 0) i g x (signal (getD (now (c .entry)) (e - 1) 0) (getD (now (v .entry)) (e - 1) 0) (getD (now (b .entry)) (e - 1) 0)) r
+    Stays (before t) (getD (before f) (e - 1) 0) i g x (signal (getD (before c) (e - 1) 0) (getD (before v) (e - 1) 0) (getD (before b) (e - 1) 0)) r
 
 -- with the counts dn the columns are those of a sound directory of m entries and n samples
 pub record Steady (dc dv db df : List ℕ) (m : ℕ) (ts xs : List ℕ) (n : ℕ) (dn : List ℕ) : Type 0 where
@@ -196,18 +196,18 @@ pub record Steady (dc dv db df : List ℕ) (m : ℕ) (ts xs : List ℕ) (n : ℕ
   pub steady : soundDirectory (directoryIn m n (lentBlocks dc dv db df dn (floats ts) (floats xs))) ≡ true
 
 -- they are with some counts, have room for k samples more, and k samples are sorted
-pub record Mergeable (c v b f : Slice) (m : ℕ) (t x : Slice) (n : ℕ) (nc nv nb : Slice) (nt nx : RefT (List Float)) (k : ℕ) : Type 0 where
+pub record Mergeable (c v b f : Slice) (m : ℕ) (t x : Slice) (n : ℕ) (nc nv nb : Slice) (nt nx : FloatSlice) (k : ℕ) : Type 0 where
   pub counts : List ℕ
   pub held : Steady (now c) (now v) (now b) (now f) m (now t) (now x) n counts
-  pub room : n + k ≤ length (readingRows (floats (now t)) (floats (now x)))
+  pub room : n + k ≤ length (readingsNow t x)
   pub new : SortedNew k nc nv nb nt nx
 
 -- the times and corrections have those of u, whatever counts make the directory
-abbrev pub ReadingsWritten : LentColumn → LentColumn → LentColumn → LentColumn → ℕ → LentColumn → LentColumn → ℕ → List Sample → Type 0
+abbrev pub ReadingsWritten : LentNumbers → LentNumbers → LentNumbers → LentNumbers → ℕ → LentNumbers → LentNumbers → ℕ → List Sample → Type 0
 ReadingsWritten c v b f m t x n u =
-    (dn : List ℕ) → Steady (now (c .entry)) (now (v .entry)) (now (b .entry)) (now (f .entry)) m (now (t .entry)) (now (x .entry)) n dn
-    → (let l = lentBlocks (now (c .entry)) (now (v .entry)) (now (b .entry)) (now (f .entry)) dn (floats (now (t .entry))) (floats (now (x .entry))) in
-    ReadingsMerged (insertAll (flat (directoryIn m n l)) u) (now (t .entry)) (now (x .entry)) (now (t .exit)) (now (x .exit)))
+    (dn : List ℕ) → Steady (before c) (before v) (before b) (before f) m (before t) (before x) n dn
+    → (let l = lentBlocks (before c) (before v) (before b) (before f) dn (floats (before t)) (floats (before x)) in
+    ReadingsMerged (insertAll (flat (directoryIn m n l)) u) (before t) (before x) (after t) (after x))
 
 -- ---- the table
 
@@ -220,14 +220,18 @@ pub record Fitting (m n k : ℕ) (l : Blocks) : Type 0 where
   pub room-readings : n + k ≤ length (readingsIn l)
   pub steady : soundDirectory (directoryIn m n l) ≡ true
 
--- the lent columns of a table as a step finds them
-abbrev pub tableNow : Slice → Slice → Slice → Slice → Slice → Slice → Slice → Blocks
-tableNow c v b f n t x = lentBlocks (now c) (now v) (now b) (now f) (now n) (floats (now t)) (floats (now x))
-
 -- the first k new samples
-abbrev pub lentSamples : ℕ → LentColumn → LentColumn → LentColumn → LentFloats → LentFloats → List Sample
+abbrev pub lentSamples : ℕ → LentNumbers → LentNumbers → LentNumbers → LentFloats → LentFloats → List Sample
 lentSamples k c v b t x = tableOf k (columnsBefore c v b t x)
+
+-- what is tested before new samples go to the m entries and n samples of lent columns
+abbrev pub lentTest : ℕ → ℕ → Samples → LentTable → Test
+lentTest m n new t = testIn m n (blockCapacity (t .before)) (directoryIn m n (t .before)) new
 
 -- the columns have the directory d, of r entries, and its patterns
 abbrev pub Becomes : Directory → ℕ → LentTable → Type 0
 Becomes d r t = (r ≡ length (d .entries)) × ((t .after ≡ blocksWith d (t .before)) × PatternsWith d (t .times) (t .corrections) (t .timesAfter) (t .correctionsAfter))
+
+-- the columns of m entries and n samples have those with the samples ss, in r entries
+abbrev pub Gains : List Sample → ℕ → ℕ → ℕ → LentTable → Type 0
+Gains ss r m n t = Becomes (directoryWith (directoryIn m n (t .before)) ss) r t

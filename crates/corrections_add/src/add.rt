@@ -5,10 +5,9 @@ ghost use Prim.Native.Nat.{_≤_};
 ghost use lib.ListN.{take};
 ghost use Rattle.lists.specs.Walk.{every};
 ghost use Rattle.corrections_table.specs.Table.{ranged};
-ghost use Rattle.corrections_directory.specs.Directory.{blockCapacity, directoryIn};
-ghost use Rattle.corrections_directory.specs.Lent.{lentTable};
-ghost use Rattle.corrections_add.specs.Add.{AddedBy, addIn, directoryWith, testIn};
-ghost use Rattle.corrections_add.specs.Steps.{Becomes, Fitting, SortedNew, lentSamples, tableNow};
+ghost use Rattle.corrections_directory.specs.Lent.{lentTable, tableNow};
+ghost use Rattle.corrections_add.specs.Add.{AddsSamples};
+ghost use Rattle.corrections_add.specs.Steps.{Fitting, Gains, SortedNew, lentSamples, lentTest};
 use crate::entries::entries_after;
 use crate::entries::merge_entries;
 use crate::readings::merge_readings;
@@ -46,8 +45,8 @@ fn tested(
     table_count: usize,
     new: Samples,
 ) -> Test
-    ensures { λ r. ⌜ (let l = lentTable «block_constellation» «block_svid» «block_band» «block_first» «block_samples» «table_time» «table_metres» .before in
-        r ≡ testIn blocks «table_count» (blockCapacity l) (directoryIn blocks «table_count» l) new) ⌝ }
+    ensures { λ r. ⌜ r ≡ lentTest blocks «table_count» new (lentTable
+        «block_constellation» «block_svid» «block_band» «block_first» «block_samples» «table_time» «table_metres») ⌝ }
 {
     let new_count = new.count;
     let room = capacity_of(
@@ -105,9 +104,8 @@ fn merge(
     requires { ⌜ Fitting blocks «table_count» «new_count»
         (tableNow «block_constellation» «block_svid» «block_band» «block_first» «block_samples» «table_time» «table_metres») ⌝ }
     requires { ⌜ SortedNew «new_count» «new_constellation» «new_svid» «new_band» «new_time» «new_metres» ⌝ }
-    ensures { λ r. ⌜ (let t = lentTable «block_constellation» «block_svid» «block_band» «block_first» «block_samples» «table_time» «table_metres» in
-        let u = lentSamples «new_count» «new_constellation» «new_svid» «new_band» «new_time» «new_metres» in
-        Becomes (directoryWith (directoryIn blocks «table_count» (t .before)) u) r t) ⌝ }
+    ensures { λ r. ⌜ Gains (lentSamples «new_count» «new_constellation» «new_svid» «new_band» «new_time» «new_metres») r blocks «table_count» (lentTable
+        «block_constellation» «block_svid» «block_band» «block_first» «block_samples» «table_time» «table_metres») ⌝ }
 {
     let count = entries_after(
         block_constellation,
@@ -172,8 +170,8 @@ fn place(
     requires { ⌜ («new_count» ≤ 64) × (every ranged (take «new_count» new) ≡ true) ⌝ }
     requires { ⌜ Fitting blocks «table_count» «new_count»
         (tableNow «block_constellation» «block_svid» «block_band» «block_first» «block_samples» «table_time» «table_metres») ⌝ }
-    ensures { λ r. ⌜ (let t = lentTable «block_constellation» «block_svid» «block_band» «block_first» «block_samples» «table_time» «table_metres» in
-        Becomes (directoryWith (directoryIn blocks «table_count» (t .before)) (take «new_count» new)) r t) ⌝ }
+    ensures { λ r. ⌜ Gains (take «new_count» new) r blocks «table_count» (lentTable
+        «block_constellation» «block_svid» «block_band» «block_first» «block_samples» «table_time» «table_metres») ⌝ }
 {
     let mut new_constellation = [0u8; 64];
     let mut new_svid = [0u16; 64];
@@ -222,9 +220,8 @@ pub fn add(
     table_count: usize,
     new: Samples,
 ) -> Addition
-    ensures { λ r. ⌜ (let t = lentTable «block_constellation» «block_svid» «block_band» «block_first» «block_samples» «table_time» «table_metres» in
-        let d = directoryIn blocks «table_count» (t .before) in
-        AddedBy (addIn blocks «table_count» (blockCapacity (t .before)) d new) r blocks «table_count» t) ⌝ }
+    ensures { λ r. ⌜ AddsSamples new r blocks «table_count» (lentTable
+        «block_constellation» «block_svid» «block_band» «block_first» «block_samples» «table_time» «table_metres») ⌝ }
 {
     let test = tested(
         block_constellation,

@@ -1,5 +1,6 @@
 // The entries of a directory with new samples, from the back to the front.
 ghost use Prim.Native.Nat.{_≤_, _<_};
+ghost use Rattle.lists.specs.Memory.{before};
 ghost use Rattle.corrections_add.specs.Steps.{Countable, Counted, Ending, EntriesWritten, Found, NewIn, NewLast, OwnFrom, Writable};
 use corrections_directory::entry::signal_at;
 
@@ -23,7 +24,7 @@ fn own_start(
     g: u64,
 ) -> usize
     requires { ⌜ NewIn j «new_constellation» «new_svid» «new_band» ⌝ }
-    ensures { λ r. ⌜ OwnFrom (now («new_constellation» .entry)) (now («new_svid» .entry)) (now («new_band» .entry)) g r j ⌝ }
+    ensures { λ r. ⌜ OwnFrom (before «new_constellation») (before «new_svid») (before «new_band») g r j ⌝ }
 {
     let mut a = j;
     while 0 < a {
@@ -46,7 +47,7 @@ fn new_last(
     end: usize,
 ) -> Last
     requires { ⌜ (0 < j) × ((j ≤ end) × NewIn j «new_constellation» «new_svid» «new_band») ⌝ }
-    ensures { λ r. ⌜ NewLast (now («new_constellation» .entry)) (now («new_svid» .entry)) (now («new_band» .entry)) i j end r ⌝ }
+    ensures { λ r. ⌜ NewLast (before «new_constellation») (before «new_svid») (before «new_band») i j end r ⌝ }
 {
     let g = signal_at(new_constellation, new_svid, new_band, j - 1);
     let a = own_start(new_constellation, new_svid, new_band, j, g);

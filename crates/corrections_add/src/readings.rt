@@ -1,8 +1,9 @@
 // The times and corrections of a directory with those of new samples, from the back to the front.
 ghost use mathlib.Core.Path.{_≡_};
-ghost use Prim.Native.Nat.{_+_, _-_, _≤_, _<_};
-ghost use lib.ListN.{length, getD};
-ghost use Rattle.corrections_add.specs.Steps.{InLast, Mergeable, ReadingsWritten, StaysIn, TimesStay, lentSamples, shifted};
+ghost use Prim.Native.Nat.{_+_, _≤_, _<_};
+ghost use lib.ListN.{length};
+ghost use Rattle.lists.specs.Memory.{before, after};
+ghost use Rattle.corrections_add.specs.Steps.{HeldBy, InLast, Mergeable, ReadingsWritten, StaysIn, TimesStay, lentSamples, shifted};
 use corrections_directory::entry::signal_at;
 use corrections_table::sample::is_earlier;
 use numeric::order::float;
@@ -11,7 +12,7 @@ use numeric::order::pattern;
 // Returns the number of the first i times that are not after t, in a block in order that begins at the place first.
 fn times_stay(table_time: &[u64], first: usize, i: usize, t: f64) -> usize
     requires { ⌜ (first ≤ i) × (i ≤ length (now «table_time»)) ⌝ }
-    ensures { λ r. ⌜ TimesStay (now («table_time» .entry)) first i t r ⌝ }
+    ensures { λ r. ⌜ TimesStay (before «table_time») first i t r ⌝ }
 {
     let mut p = i;
     while first < p {
@@ -55,7 +56,7 @@ fn old_stay(
 // Moves the count values from the place first on up by so many places, the last of them first.
 fn shift(d: &mut [u64], first: usize, count: usize, by: usize)
     requires { ⌜ first + count + by ≤ length (now d) ⌝ }
-    ensures { λ _. ⌜ now (d .exit) ≡ shifted first by count 0 (now (d .entry)) ⌝ }
+    ensures { λ _. ⌜ after d ≡ shifted first by count 0 (before d) ⌝ }
 {
     let mut c = count;
     while 0 < c {
@@ -68,7 +69,7 @@ fn shift(d: &mut [u64], first: usize, count: usize, by: usize)
 // Returns how many of the first e entries hold the first i samples: the last one goes if its block begins at i.
 fn blocks_left(block_first: &[usize], e: usize, i: usize) -> usize
     requires { ⌜ (0 < e) × (e ≤ length (now «block_first»)) ⌝ }
-    ensures { λ r. ⌜ (getD (now («block_first» .entry)) (e - 1) 0 ≡ i → r ≡ e - 1) × ((getD (now («block_first» .entry)) (e - 1) 0 ≡ i → ⊥) → r ≡ e) ⌝ }
+    ensures { λ r. ⌜ HeldBy (before «block_first») e i r ⌝ }
 {
     if block_first[e - 1] == i {
         return e - 1;

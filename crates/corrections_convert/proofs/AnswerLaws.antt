@@ -7,6 +7,7 @@ use lib.Dec.{ltb}
 use lib.ListN.{length}
 use borrow.Author.Tests.{ltb-false, lt-ltb, le-ltb, not-true, not-false}
 use Rattle.numeric.specs.declared.refusal.Refusal.the-variants.{TooMany, RecordOutOfRange}
+use Rattle.numeric.specs.Rules.{ruled}
 use Rattle.corrections_table.proofs.UnitLaws.{never}
 use Rattle.corrections_table.specs.Table.{Columns, capacity, rows, soundTable, tableOf}
 use Rattle.corrections_directory.specs.Directory.{Blocks, blockCapacity, directoryIn, directoryOf, entriesFrom, entriesIn, flat, readingsIn, soundDirectory}
@@ -17,7 +18,7 @@ use Rattle.corrections_convert.specs.declared.«signals_of».Listing.the
 
 module _ (n long : ℕ) (t : Columns) (l : Blocks) (r : ℕ) (e : r ≡ min long (capacity t)) where
   pub file-many : r < n → (Filing.Refused TooMany ≡ filingOf (filedOf n long t)) × (l ≡ filedColumns (filedOf n long t) l)
-  unfolding filedOf
+  unfolding filedOf ruled
   file-many h = rw (← e, lt-ltb r n h) (refl, refl)
 
   module _ (h : n ≤ r) where
@@ -29,12 +30,12 @@ module _ (n long : ℕ) (t : Columns) (l : Blocks) (r : ℕ) (e : r ≡ min long
 
     module _ {x : Bool} (ex : x ≡ soundTable (tableOf n t)) where
       pub file-unsound : not x ≡ true → (Filing.Refused RecordOutOfRange ≡ filingOf (filedOf n long t)) × (l ≡ filedColumns (filedOf n long t) l)
-      unfolding filedOf
+      unfolding filedOf ruled
       file-unsound k = rw (← e, le-ltb r n h, sym ex ∙ not-true x k) (refl, refl)
 
       pub file-done : not x ≡ false → (m : ℕ) (l′ : Blocks) → m ≡ length (entriesFrom 0 (tableOf n t)) → l′ ≡ entriesWith (entriesFrom 0 (tableOf n t)) l
           → (Filing.Entries m ≡ filingOf (filedOf n long t)) × (l′ ≡ filedColumns (filedOf n long t) l)
-      unfolding filedOf directoryOf
+      unfolding filedOf directoryOf ruled
       file-done k m l′ qm ql = rw (← e, le-ltb r n h, sym ex ∙ not-false x k) (ap Filing.Entries qm, ql)
 
 or-left : (a b : Bool) → (a || b) ≡ false → a ≡ false
@@ -47,7 +48,7 @@ or-right false b e = e
 
 module _ (m n long : ℕ) (d : Blocks) (t : Columns) (r k : ℕ) (e : r ≡ blockCapacity d) (el : k ≡ long) where
   pub list-many : ((ltb r m || ltb r n) || ltb k n) ≡ true → (Listing.Refused TooMany ≡ listingOf (listedOf m n long d)) × (t ≡ listedColumns (listedOf m n long d) t)
-  unfolding listedOf
+  unfolding listedOf ruled
   list-many h = rw (← e, ← el, h) (refl, refl)
 
   module _ (h : ((ltb r m || ltb r n) || ltb k n) ≡ false) where
@@ -73,9 +74,9 @@ module _ (m n long : ℕ) (d : Blocks) (t : Columns) (r k : ℕ) (e : r ≡ bloc
 
     module _ {x : Bool} (ex : x ≡ soundDirectory (directoryIn m n d)) where
       pub list-unsound : not x ≡ true → (Listing.Refused RecordOutOfRange ≡ listingOf (listedOf m n long d)) × (t ≡ listedColumns (listedOf m n long d) t)
-      unfolding listedOf
+      unfolding listedOf ruled
       list-unsound z = rw (← e, ← el, h, sym ex ∙ not-true x z) (refl, refl)
 
       pub list-done : not x ≡ false → (t′ : Columns) → t′ ≡ signalsWith (flat (directoryIn m n d)) t → (Listing.Listed ≡ listingOf (listedOf m n long d)) × (t′ ≡ listedColumns (listedOf m n long d) t)
-      unfolding listedOf
+      unfolding listedOf ruled
       list-done z t′ q = rw (← e, ← el, h, sym ex ∙ not-false x z) (refl, q)

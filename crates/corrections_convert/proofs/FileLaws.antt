@@ -20,7 +20,8 @@ use Rattle.corrections_table.proofs.UnitLaws.{never}
 use Rattle.corrections_table.proofs.Places.{rises, sorted-rises}
 use Rattle.corrections_directory.specs.Directory.{Blocks, Entry, columnOf, entriesFrom, isMine, lentBlocks, signalIn}
 use Rattle.corrections_directory.specs.Rearrange.{entriesWith}
-use Rattle.corrections_directory.proofs.DirectoryLaws.{Narrow, Same, same-of}
+use Rattle.corrections_directory.proofs.DirectoryLaws.{Same, same-of}
+use Rattle.corrections_directory.proofs.NarrowLaws.{Narrow}
 use Rattle.corrections_add.proofs.LastLaws.{group-mine, last-block, mine-by-signal, new-below, signals-rise}
 use Rattle.corrections_add.proofs.OwnLaws.{Room}
 use Rattle.corrections_add.proofs.PlaceLaws.{entries-fewer}

@@ -13,10 +13,10 @@ use borrow.Author.Tests.{eqb-true, eqb-false, ltb-true, ltb-false}
 use Rattle.corrections_table.specs.Table.{blank, lentSamples}
 use Rattle.corrections_table.specs.declared.sample.Sample.{Sample}
 use Rattle.corrections_directory.specs.Directory.{Entry, columnOf, directoryIn, entryRows, flat, lentBlocks, readingRows, sampleOf, soundDirectory, tiles}
-use Rattle.corrections_directory.specs.Steps.{noEntry, noReading}
+use Rattle.corrections_directory.specs.Steps.{noEntry}
 use Rattle.corrections_directory.specs.Rearrange.{signalsWith}
 use Rattle.corrections_directory.proofs.DirectoryLaws.{sound-parts}
-use Rattle.corrections_directory.proofs.ColumnLaws.{flat-length}
+use Rattle.corrections_directory.proofs.ColumnLaws.{flat-length, noReading}
 use Rattle.corrections_directory.proofs.EntryLaws.{flat-at, getD-map-in, tiles-first, tiles-next, tiles-last}
 use Rattle.corrections_add.proofs.OwnLaws.{row-at}
 use Rattle.corrections_convert.specs.Steps.{Laid, Spread, startOf}
@@ -58,6 +58,10 @@ start-up counts i (suc d) =
 
 pub start-mono : (counts : List ℕ) (i j : ℕ) → i ≤ j → startOf counts i ≤ startOf counts j
 start-mono counts i j h = let z : i + (j - i) ≡ j = omega arith in rw z at (start-up counts i (j - i))
+
+-- a block that begins at the place ends where the next begins, which is not past the end of the m blocks
+pub block-end : (counts : List ℕ) (place i m : ℕ) → place ≡ startOf counts i → i < m → (place + getD counts i 0 ≡ startOf counts (i + 1)) × (startOf counts (i + 1) ≤ startOf counts m)
+block-end counts place i m e h = (omega (arith, start-next counts i), start-mono counts (i + 1) m (omega arith))
 
 pub laid-none : (values counts l : List ℕ) → Laid values counts 0 l l
 laid-none values counts l = record { same-length = refl; here = λ j k h a b. absurd (omega arith); beyond = λ k h. refl }

@@ -4,10 +4,13 @@ use mathlib.Core.Path.{_≡_}
 use mathlib.Core.Bool.{true}
 use mathlib.Core.List.{List, []}
 use lib.ListN.{length, getD}
+use denote.Ref.{RefT, now}
+use Rattle.lists.specs.Memory.{before, after, LentNumbers}
 use Rattle.numeric.specs.Refusal.{numberOf}
 use Rattle.corrections_table.specs.Table.{blank, sorted}
 use Rattle.corrections_table.specs.declared.sample.Sample.{Sample}
-use Rattle.corrections_directory.specs.Directory.{Blocks, lentBlocks}
+use Rattle.corrections_directory.specs.Directory.{Blocks, Entry, entriesFrom, entryRows, lentBlocks}
+use Rattle.corrections_directory.specs.Rearrange.{entriesWith}
 use Rattle.corrections_convert.specs.declared.«directory_of».Filing.{Filing}
 use Rattle.corrections_convert.specs.declared.«directory_of».Filing.the-variants as Filing
 use Rattle.corrections_convert.specs.declared.«signals_of».Listing.{Listing}
@@ -33,12 +36,20 @@ listingNumber Listing.Listed = 0
 -- ---- from a table to its directory
 
 -- each of the three columns of signals has n places or more
-abbrev pub SignalsHold : ℕ → List ℕ → List ℕ → List ℕ → Type 0
-SignalsHold n cs vs bs = (n ≤ length cs) × ((n ≤ length vs) × (n ≤ length bs))
+abbrev pub SignalsHold : ℕ → RefT (List ℕ) → RefT (List ℕ) → RefT (List ℕ) → Type 0
+SignalsHold n c v b = (n ≤ length (now c)) × ((n ≤ length (now v)) × (n ≤ length (now b)))
 
 -- the directory's five columns, with no times and corrections beside them
 abbrev pub lentEntries : List ℕ → List ℕ → List ℕ → List ℕ → List ℕ → Blocks
 lentEntries dc dv db df dn = lentBlocks dc dv db df dn [] []
+
+-- the entries that lie in the directory's columns before a call
+abbrev pub entriesBefore : LentNumbers → LentNumbers → LentNumbers → LentNumbers → LentNumbers → List Entry
+entriesBefore c v b f n = entryRows (before c) (before v) (before b) (before f) (before n)
+
+-- the same entries in a condition on the caller
+abbrev pub entriesNow : RefT (List ℕ) → RefT (List ℕ) → RefT (List ℕ) → RefT (List ℕ) → RefT (List ℕ) → List Entry
+entriesNow c v b f n = entryRows (now c) (now v) (now b) (now f) (now n)
 
 -- t is a sorted table of n samples whose signals are those of the columns
 pub record Signals (cs vs bs : List ℕ) (n : ℕ) (t : List Sample) : Type 0 where
@@ -49,6 +60,14 @@ pub record Signals (cs vs bs : List ℕ) (n : ℕ) (t : List Sample) : Type 0 wh
   pub in-order : sorted t ≡ true
   pub svids-fit : (x : ℕ) → getD vs x 0 < 2 ^ 16
   pub bands-fit : (x : ℕ) → getD bs x 0 < 2 ^ 32
+
+-- the entries of each sorted table of n samples with these signals, r of them, are written to the front of the directory's columns
+abbrev pub WritesEntries : LentNumbers → LentNumbers → LentNumbers → ℕ → LentNumbers → LentNumbers → LentNumbers → LentNumbers → LentNumbers → ℕ → Type 0
+WritesEntries c v b n dc dv db df dn r =
+    (t : List Sample) → Signals (before c) (before v) (before b) n t
+    → (r ≡ length (entriesFrom 0 t))
+    × (lentEntries (after dc) (after dv) (after db) (after df) (after dn)
+    ≡ entriesWith (entriesFrom 0 t) (lentEntries (before dc) (before dv) (before db) (before df) (before dn)))
 
 -- the signal at the place x is that at i
 abbrev pub SameAt : List ℕ → List ℕ → List ℕ → ℕ → ℕ → Type 0
@@ -80,3 +99,10 @@ pub record Laid (values counts : List ℕ) (m : ℕ) (column column′ : List �
   pub same-length : length column′ ≡ length column
   pub here : (j k : ℕ) → j < m → startOf counts j ≤ k → k < startOf counts (suc j) → getD column′ k 0 ≡ getD values j 0
   pub beyond : (k : ℕ) → startOf counts m ≤ k → getD column′ k 0 ≡ getD column k 0
+
+-- a lent column after its places are written
+abbrev pub Spreads : ℕ → ℕ → ℕ → LentNumbers → Type 0
+Spreads x from to column = Spread x from to (before column) (after column)
+
+abbrev pub Lays : LentNumbers → LentNumbers → ℕ → LentNumbers → Type 0
+Lays values counts m column = Laid (before values) (before counts) m (before column) (after column)

@@ -1,14 +1,11 @@
 // The directory of a sorted table.
 ghost use mathlib.Core.Path.{_≡_};
-ghost use mathlib.Core.List.{List};
 ghost use Prim.Native.Nat.{_≤_, _<_, min};
 ghost use lib.ListN.{length};
-ghost use Rattle.corrections_table.specs.Table.{lentSamples};
-ghost use Rattle.corrections_table.specs.declared.sample.Sample.{Sample};
-ghost use Rattle.corrections_directory.specs.Directory.{lentBlocks, entriesIn, entryRows, entriesFrom};
-ghost use Rattle.corrections_directory.specs.Rearrange.{filedOf, filedColumns, entriesWith};
-ghost use Rattle.corrections_convert.specs.Lent.{filingOf};
-ghost use Rattle.corrections_convert.specs.Steps.{Run, Signals, SignalsHold, lentEntries};
+ghost use Rattle.lists.specs.Memory.{before};
+ghost use Rattle.corrections_table.specs.Lent.{columnsBefore};
+ghost use Rattle.corrections_convert.specs.Lent.{FiledAs, lentDirectory};
+ghost use Rattle.corrections_convert.specs.Steps.{Run, SignalsHold, WritesEntries, entriesBefore, entriesNow};
 use corrections_table::sample::capacity_of;
 use corrections_table::sample::is_sound;
 use numeric::refusal::Refusal;
@@ -34,9 +31,7 @@ fn entry_room(
     block_first: &[usize],
     block_samples: &[usize],
 ) -> usize
-    ensures { λ r. ⌜ r ≡ length (entryRows
-        (now («block_constellation» .entry)) (now («block_svid» .entry)) (now («block_band» .entry)) (now («block_first» .entry))
-        (now («block_samples» .entry))) ⌝ }
+    ensures { λ r. ⌜ r ≡ length (entriesBefore «block_constellation» «block_svid» «block_band» «block_first» «block_samples») ⌝ }
 {
     lesser(
         block_constellation.len(),
@@ -52,8 +47,8 @@ fn entry_room(
 
 // Returns where the samples of the signal at the place i end.
 fn run_end(constellation: &[u8], svid: &[u16], band: &[u32], i: usize, table_count: usize) -> usize
-    requires { ⌜ (i < «table_count») × SignalsHold «table_count» (now constellation) (now svid) (now band) ⌝ }
-    ensures { λ r. ⌜ Run (now (constellation .entry)) (now (svid .entry)) (now (band .entry)) i «table_count» r ⌝ }
+    requires { ⌜ (i < «table_count») × SignalsHold «table_count» constellation svid band ⌝ }
+    ensures { λ r. ⌜ Run (before constellation) (before svid) (before band) i «table_count» r ⌝ }
 {
     let c = constellation[i];
     let v = svid[i];
@@ -80,15 +75,10 @@ fn file_all(
     block_first: &mut [usize],
     block_samples: &mut [usize],
 ) -> usize
-    requires { ⌜ SignalsHold «table_count» (now constellation) (now svid) (now band) ⌝ }
-    requires { ⌜ «table_count» ≤ length (entryRows
-        (now «block_constellation») (now «block_svid») (now «block_band») (now «block_first») (now «block_samples»)) ⌝ }
-    ensures { λ r. ⌜ ((t : List Sample) → Signals (now (constellation .entry)) (now (svid .entry)) (now (band .entry)) «table_count» t →
-        (r ≡ length (entriesFrom 0 t)) × (lentEntries
-        (now («block_constellation» .exit)) (now («block_svid» .exit)) (now («block_band» .exit)) (now («block_first» .exit)) (now («block_samples» .exit))
-        ≡ entriesWith (entriesFrom 0 t) (lentEntries
-        (now («block_constellation» .entry)) (now («block_svid» .entry)) (now («block_band» .entry)) (now («block_first» .entry))
-        (now («block_samples» .entry))))) ⌝ }
+    requires { ⌜ SignalsHold «table_count» constellation svid band ⌝ }
+    requires { ⌜ «table_count» ≤ length (entriesNow «block_constellation» «block_svid» «block_band» «block_first» «block_samples») ⌝ }
+    ensures { λ r. ⌜ WritesEntries constellation svid band «table_count»
+        «block_constellation» «block_svid» «block_band» «block_first» «block_samples» r ⌝ }
 {
     let mut entries: usize = 0;
     let mut i: usize = 0;
@@ -119,15 +109,8 @@ pub fn directory_of(
     block_first: &mut [usize],
     block_samples: &mut [usize],
 ) -> Filing
-    ensures { λ r. ⌜ (let t = lentSamples
-        (now (constellation .entry)) (now (svid .entry)) (now (band .entry)) (now («table_time» .entry)) (now («table_metres» .entry)) in
-        let l = lentBlocks
-        (now («block_constellation» .entry)) (now («block_svid» .entry)) (now («block_band» .entry)) (now («block_first» .entry)) (now («block_samples» .entry))
-        (t .times) (t .corrections) in
-        let o = filedOf «table_count» (length (entriesIn l)) t in
-        (r ≡ filingOf o) × (lentBlocks
-        (now («block_constellation» .exit)) (now («block_svid» .exit)) (now («block_band» .exit)) (now («block_first» .exit)) (now («block_samples» .exit))
-        (t .times) (t .corrections) ≡ filedColumns o l)) ⌝ }
+    ensures { λ r. ⌜ (let t = columnsBefore constellation svid band «table_time» «table_metres» in
+        FiledAs «table_count» t (lentDirectory «block_constellation» «block_svid» «block_band» «block_first» «block_samples» t) r) ⌝ }
 {
     let room = lesser(
         entry_room(

@@ -1,12 +1,9 @@
 // The table that a directory stands for.
-ghost use mathlib.Core.Path.{_≡_};
-ghost use Prim.Native.Nat.{_≤_, min};
+ghost use Prim.Native.Nat.{_≤_};
 ghost use lib.ListN.{length};
-ghost use Rattle.corrections_table.specs.Table.{lentSamples};
-ghost use Rattle.corrections_directory.specs.Directory.{lentBlocks};
-ghost use Rattle.corrections_directory.specs.Rearrange.{listedOf, listedColumns};
-ghost use Rattle.corrections_convert.specs.Lent.{listingOf};
-ghost use Rattle.corrections_convert.specs.Steps.{Laid, SignalsHold, Spread, startOf};
+ghost use Rattle.corrections_directory.specs.Read.{readTable};
+ghost use Rattle.corrections_convert.specs.Lent.{ListedAs, lentSignalColumns};
+ghost use Rattle.corrections_convert.specs.Steps.{Lays, SignalsHold, Spreads, startOf};
 use crate::directory_of::lesser;
 use corrections_directory::entry::block_capacity;
 use corrections_directory::sound::is_sound_directory;
@@ -29,9 +26,8 @@ fn list_block(
     v: u16,
     b: u32,
 )
-    requires { ⌜ (first ≤ end) × SignalsHold end (now constellation) (now svid) (now band) ⌝ }
-    ensures { λ _. ⌜ Spread c first end (now (constellation .entry)) (now (constellation .exit))
-        × (Spread v first end (now (svid .entry)) (now (svid .exit)) × Spread b first end (now (band .entry)) (now (band .exit))) ⌝ }
+    requires { ⌜ (first ≤ end) × SignalsHold end constellation svid band ⌝ }
+    ensures { λ _. ⌜ Spreads c first end constellation × (Spreads v first end svid × Spreads b first end band) ⌝ }
 {
     let mut i = first;
     while i < end {
@@ -53,12 +49,10 @@ fn list_all(
     svid: &mut [u16],
     band: &mut [u32],
 )
-    requires { ⌜ SignalsHold blocks (now «block_constellation») (now «block_svid») (now «block_band») × (blocks ≤ length (now «block_samples»)) ⌝ }
-    requires { ⌜ SignalsHold (startOf (now «block_samples») blocks) (now constellation) (now svid) (now band) ⌝ }
-    ensures { λ _. ⌜ (let counts = now («block_samples» .entry) in
-        Laid (now («block_constellation» .entry)) counts blocks (now (constellation .entry)) (now (constellation .exit))
-        × (Laid (now («block_svid» .entry)) counts blocks (now (svid .entry)) (now (svid .exit))
-        × Laid (now («block_band» .entry)) counts blocks (now (band .entry)) (now (band .exit)))) ⌝ }
+    requires { ⌜ SignalsHold blocks «block_constellation» «block_svid» «block_band» × (blocks ≤ length (now «block_samples»)) ⌝ }
+    requires { ⌜ SignalsHold (startOf (now «block_samples») blocks) constellation svid band ⌝ }
+    ensures { λ _. ⌜ Lays «block_constellation» «block_samples» blocks constellation
+        × (Lays «block_svid» «block_samples» blocks svid × Lays «block_band» «block_samples» blocks band) ⌝ }
 {
     let mut place: usize = 0;
     let mut i: usize = 0;
@@ -88,12 +82,9 @@ pub fn signals_of(
     svid: &mut [u16],
     band: &mut [u32],
 ) -> Listing
-    ensures { λ r. ⌜ (let l = lentBlocks
-        (now («block_constellation» .entry)) (now («block_svid» .entry)) (now («block_band» .entry)) (now («block_first» .entry)) (now («block_samples» .entry))
-        (now («table_time» .entry)) (now («table_metres» .entry)) in
-        let t = lentSamples (now (constellation .entry)) (now (svid .entry)) (now (band .entry)) (l .times) (l .corrections) in
-        let o = listedOf blocks «table_count» (min (length (t .constellations)) (min (length (t .svids)) (length (t .bands)))) l in
-        (r ≡ listingOf o) × (lentSamples (now (constellation .exit)) (now (svid .exit)) (now (band .exit)) (l .times) (l .corrections) ≡ listedColumns o t)) ⌝ }
+    ensures { λ r. ⌜ (let table = readTable
+        «block_constellation» «block_svid» «block_band» «block_first» «block_samples» blocks «table_time» «table_metres» «table_count» in
+        ListedAs table (lentSignalColumns constellation svid band table) r) ⌝ }
 {
     let long = lesser(constellation.len(), lesser(svid.len(), band.len()));
     let room = block_capacity(

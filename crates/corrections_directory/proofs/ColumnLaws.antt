@@ -11,9 +11,13 @@ use lib.Ieee.{Float, nan}
 use Rattle.corrections_table.specs.Table.{Columns, beside, lentSamples, rows, tableOf}
 use Rattle.corrections_table.specs.declared.sample.Sample.{Sample}
 use Rattle.corrections_directory.specs.Directory.{Entry, Reading, Directory, Blocks, blocksWith, directoryIn, directoryOf, entriesFrom, entryRows, flat, lentBlocks, readingOf, readingRows, readingsIn, soundDirectory}
-use Rattle.corrections_directory.specs.Steps.{noEntry, noReading}
+use Rattle.corrections_directory.specs.Steps.{noEntry}
 use Rattle.corrections_directory.specs.Rearrange.{entriesWith, signalsWith}
 use Rattle.corrections_directory.proofs.DirectoryLaws.{flat-readings}
+
+-- what a read past the end gives
+abbrev pub noReading : Reading
+noReading = record { time = nan; correction = nan }
 
 -- ---- rows
 both-suc : (a b : ℕ) → min (suc a) (suc b) ≡ suc (min a b)

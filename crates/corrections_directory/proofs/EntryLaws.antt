@@ -10,9 +10,10 @@ use lib.Seq.{getD-append-add, getD-drop, getD-take, length-take-le}
 use Rattle.lists.specs.Walk.{collect}
 use Rattle.corrections_table.specs.Table.{blank}
 use Rattle.corrections_directory.specs.Directory.{Entry, Reading, ascends, block, sampleOf, signalIn, tiles}
-use Rattle.corrections_directory.specs.Steps.{noEntry, noReading}
+use Rattle.corrections_directory.specs.Steps.{noEntry}
 use Rattle.corrections_directory.proofs.DirectoryLaws.{ascends-low, ascends-rest, tiles-start, tiles-rest}
 use Rattle.corrections_directory.proofs.SoundLaws.{tiles-at}
+use Rattle.corrections_directory.proofs.ColumnLaws.{noReading}
 
 pub getD-map-in : {A B : Type 0} (f : A → B) (l : List A) (i : ℕ) (d : A) (z : B) → i < length l → getD (map f l) i z ≡ f (getD l i d)
 getD-map-in f [] i d z h = absurd (not-suc-le-zero h)

@@ -5,6 +5,7 @@ use mathlib.Core.Bool.{Bool, true, false, _&&_, _||_}
 use Prim.Native.Nat.{ℕ, zero, suc, _+_, _%_, _^_, _≤_, _<_}
 use native.Mathlib.Nat.{not-suc-le-zero, le-of-suc-le-suc}
 use native.Mathlib.Omega.{arith}
+use lib.Bits.{bitOr, or-lt, or-add-and, and-le-l, and-le-r}
 use lib.Dec.{T, leb, ltb, eqb}
 use lib.ListN.{length, getD, take, drop, length-map}
 use lib.Seq.{getD-take, length-take-le}
@@ -23,8 +24,8 @@ use Rattle.lists.specs.Walk.{every, places}
 use Rattle.lists.proofs.Walk.{places-ext, places-map, places-take}
 use Rattle.corrections_table.proofs.TableLaws.{and-left, and-right}
 use Rattle.corrections_directory.specs.Directory.{Entry, Reading, blockTimes, columnOf, entryRows, floats, inOrder, inReach, readingRows, tiles, timely}
-use Rattle.corrections_directory.specs.Steps.{noEntry, noReading, timelyBlocks}
-use Rattle.corrections_directory.proofs.ColumnLaws.{entry-at, reading-at, readings-length}
+use Rattle.corrections_directory.specs.Steps.{noEntry, timelyBlocks}
+use Rattle.corrections_directory.proofs.ColumnLaws.{entry-at, noReading, reading-at, readings-length}
 use Rattle.corrections_directory.proofs.SoundLaws.{tile-at, times-at}
 use Rattle.corrections_directory.proofs.EntryLaws.{getD-map-in}
 
@@ -83,6 +84,15 @@ range-pattern b = sum ∙ go (ltb infinity (unsigned b)) refl
     go : (p : Bool) → ltb infinity (unsigned b) ≡ p → leb (unsigned b) limit ≡ inRange (bits b)
     go true e = let h : infinity < unsigned b = ltb-true _ _ e in lt-leb (unsigned b) limit (omega arith) ∙ sym (ap inRange (bits-nan b h) ∙ nan-out)
     go false e = sym (range-numbers b (ltb-false _ _ e))
+
+-- the top bit of numbers taken together by their bits is set where that of one of them is
+pub or-below : (a b : ℕ) → ltb (bitOr a b) (2 ^ 63) ≡ (ltb a (2 ^ 63) && ltb b (2 ^ 63))
+or-below a b = go (ltb a (2 ^ 63)) (ltb b (2 ^ 63)) refl refl
+  where
+    go : (p q : Bool) → ltb a (2 ^ 63) ≡ p → ltb b (2 ^ 63) ≡ q → ltb (bitOr a b) (2 ^ 63) ≡ (p && q)
+    go true true e f = lt-ltb (bitOr a b) (2 ^ 63) (or-lt 63 a b (ltb-true a (2 ^ 63) e) (ltb-true b (2 ^ 63) f))
+    go true false e f = le-ltb (bitOr a b) (2 ^ 63) (omega (arith, ltb-false b (2 ^ 63) f, or-add-and a b, and-le-l a b))
+    go false q e f = le-ltb (bitOr a b) (2 ^ 63) (omega (arith, ltb-false a (2 ^ 63) e, or-add-and a b, and-le-r a b))
 
 -- a pattern in range is no NaN's
 pub in-range-number : (b : ℕ) → inRange (bits b) ≡ true → isNanPattern b ≡ false

@@ -21,9 +21,9 @@ use Rattle.corrections_table.proofs.TableLaws.{and-left, and-right}
 use Rattle.corrections_table.proofs.UnitLaws.{never}
 use Rattle.corrections_table.proofs.Places.{numbers-after}
 use Rattle.corrections_directory.specs.Directory.{Entry, Reading, Blocks, ascends, blockTimes, directoryIn, entriesIn, inOrder, inReach, readingRows, readingsIn, signalIn, soundDirectory, tiles, timely, timelyFrom}
-use Rattle.corrections_directory.specs.Steps.{noEntry, noReading}
+use Rattle.corrections_directory.specs.Steps.{noEntry}
 use Rattle.corrections_directory.proofs.DirectoryLaws.{tiles-le, tiles-start, tiles-count, tiles-rest}
-use Rattle.corrections_directory.proofs.ColumnLaws.{reading-at}
+use Rattle.corrections_directory.proofs.ColumnLaws.{noReading, reading-at}
 
 and-yes : (a : Bool) → (a && true) ≡ a
 and-yes true = refl

@@ -4,3 +4,4 @@ pub mod Faults
 pub mod Rearrange
 pub mod Series
 pub mod Steps
+pub mod Read

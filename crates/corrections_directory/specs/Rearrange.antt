@@ -1,10 +1,11 @@
 -- The two forms of a table, each made of the other (request (ix)): they share times and corrections, so only the directory is written, or only the three columns of signals. Definitions only.
 use Prim.Native.Nat.{ℕ, min}
-use mathlib.Core.Bool.{cond, not, _||_}
-use mathlib.Core.List.{List}
+use mathlib.Core.Bool.{not, _||_}
+use mathlib.Core.List.{List, [], _∷_}
 use lib.Dec.{ltb}
 use lib.ListN.{length}
 use Rattle.numeric.specs.Refusal.{numberOf}
+use Rattle.numeric.specs.Rules.{rule, ruled}
 use Rattle.numeric.specs.declared.refusal.Refusal.{Refusal}
 use Rattle.numeric.specs.declared.refusal.Refusal.the-variants.{TooMany, RecordOutOfRange}
 use Rattle.corrections_table.specs.Table.{Columns, capacity, tableOf, soundTable}
@@ -21,9 +22,11 @@ pub data Filed : Type 0 where
 -- The n samples of a table in lent columns, whose directory goes to columns of that length: numbers 2 and 4, or the entries of its directory.
 unfoldable pub filedOf : ℕ → ℕ → Columns → Filed
 filedOf n long l =
-    cond (ltb (min long (capacity l)) n) (unfiled TooMany)
-    (cond (not (soundTable (tableOf n l))) (unfiled RecordOutOfRange)
-    (entriesAre ((directoryOf (tableOf n l)) .entries)))
+    ruled unfiled
+    (rule TooMany (ltb (min long (capacity l)) n)
+    ∷ rule RecordOutOfRange (not (soundTable (tableOf n l)))
+    ∷ [])
+    (entriesAre ((directoryOf (tableOf n l)) .entries))
 
 -- 0, or the number of the refusal
 abbrev pub filedNumber : Filed → ℕ
@@ -64,9 +67,11 @@ pub data Listed : Type 0 where
 -- Neither count may exceed the capacity. The columns of signals need a place for each sample, however many entries there are.
 unfoldable pub listedOf : ℕ → ℕ → ℕ → Blocks → Listed
 listedOf m n long l =
-    cond ((ltb (blockCapacity l) m || ltb (blockCapacity l) n) || ltb long n) (unlisted TooMany)
-    (cond (not (soundDirectory (directoryIn m n l))) (unlisted RecordOutOfRange)
-    (samplesAre (flat (directoryIn m n l))))
+    ruled unlisted
+    (rule TooMany ((ltb (blockCapacity l) m || ltb (blockCapacity l) n) || ltb long n)
+    ∷ rule RecordOutOfRange (not (soundDirectory (directoryIn m n l)))
+    ∷ [])
+    (samplesAre (flat (directoryIn m n l)))
 
 -- 0, or the number of the refusal
 abbrev pub listedNumber : Listed → ℕ

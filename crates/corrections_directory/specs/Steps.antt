@@ -4,11 +4,14 @@ use mathlib.Core.Path.{_≡_}
 use mathlib.Core.Bool.{Bool, false}
 use mathlib.Core.List.{List}
 use lib.ListN.{length, getD, take, drop}
-use lib.Ieee.{Float, nan}
+use lib.Ieee.{Float}
+use denote.Ref.{now}
+use Rattle.lists.specs.Memory.{before, LentNumbers}
 use Rattle.lists.specs.Walk.{every, places}
 use Rattle.numeric.specs.Order.{isNanPattern}
 use Rattle.signal.specs.Signal.{signal}
-use Rattle.corrections_directory.specs.Directory.{timely, Entry, Reading}
+use Rattle.corrections_directory.specs.Directory.{Entry, Reading, entryRows, floats, readingRows, timely}
+use Rattle.corrections_directory.specs.Lent.{Slice}
 
 -- the place i lies in the three columns of signals
 abbrev pub InSignals : List ℕ → List ℕ → List ℕ → ℕ → Type 0
@@ -43,5 +46,24 @@ timelyBlocks firsts counts ts m = every timely (places (λ (j : ℕ). take (getD
 abbrev pub noEntry : Entry
 noEntry = record { constellation = 0; svid = 0; band = 0; start = 0; count = 0 }
 
-abbrev pub noReading : Reading
-noReading = record { time = nan; correction = nan }
+-- ---- the columns of the contracts
+
+-- the entries in five columns as a step finds them
+abbrev pub rowsNow : Slice → Slice → Slice → Slice → Slice → List Entry
+rowsNow c v b f n = entryRows (now c) (now v) (now b) (now f) (now n)
+
+-- the same before a call
+abbrev pub rowsBefore : LentNumbers → LentNumbers → LentNumbers → LentNumbers → LentNumbers → List Entry
+rowsBefore c v b f n = entryRows (before c) (before v) (before b) (before f) (before n)
+
+-- times and corrections, lent as patterns, as a step finds them
+abbrev pub readingsNow : Slice → Slice → List Reading
+readingsNow t x = readingRows (floats (now t)) (floats (now x))
+
+-- the same before a call
+abbrev pub readingsBefore : LentNumbers → LentNumbers → List Reading
+readingsBefore t x = readingRows (floats (before t)) (floats (before x))
+
+-- count times, lent as patterns, from the place first on, before a call
+abbrev pub timesBefore : LentNumbers → ℕ → ℕ → List Float
+timesBefore t first count = take count (drop first (floats (before t)))

@@ -1,15 +1,18 @@
 // Number 4 of a directory whose times and corrections are lent as 64-bit patterns, and how many samples such columns have room for.
 ghost use mathlib.Core.Path.{_≡_};
 ghost use mathlib.Core.Bool.{true, false};
-ghost use Prim.Native.Nat.{_≤_};
-ghost use lib.ListN.{length, take, drop};
+ghost use Prim.Native.Nat.{_^_, _≤_};
+ghost use lib.Dec.{ltb};
+ghost use lib.ListN.{length, take};
+ghost use Rattle.lists.specs.Memory.{before};
 ghost use Rattle.exact.specs.Float.{bits};
 ghost use Rattle.numeric.specs.Order.{isNanPattern};
 ghost use Rattle.numeric.specs.Real.{inRange};
 ghost use Rattle.lists.specs.Walk.{every};
-ghost use Rattle.corrections_directory.specs.Directory.{lentBlocks, floats, entryRows, readingRows, blockCapacity, directoryIn, inReach, soundDirectory, timely};
-ghost use Rattle.corrections_directory.specs.Steps.{EachBlock, Filled, Timed, timelyBlocks};
-use crate::entry::lesser;
+ghost use Rattle.corrections_directory.specs.Directory.{blockCapacity, directoryIn, floats, inReach, soundDirectory, timely};
+ghost use Rattle.corrections_directory.specs.Lent.{TableIn, lentTable, tableNow};
+ghost use Rattle.corrections_directory.specs.Steps.{EachBlock, Filled, Timed, readingsBefore, readingsNow, timelyBlocks, timesBefore};
+use crate::entry::shortest;
 use crate::sound::is_tiled;
 use corrections_table::sample::is_earlier;
 use numeric::order::float;
@@ -24,22 +27,18 @@ pub fn capacity_of(
     table_time: &[u64],
     table_metres: &[u64],
 ) -> usize
-    ensures { λ r. ⌜ r ≡ blockCapacity (lentBlocks
-        (now («block_constellation» .entry)) (now («block_svid» .entry)) (now («block_band» .entry)) (now («block_first» .entry)) (now («block_samples» .entry))
-        (floats (now («table_time» .entry))) (floats (now («table_metres» .entry)))) ⌝ }
+    ensures { λ r. ⌜ r ≡ blockCapacity (lentTable
+        «block_constellation» «block_svid» «block_band» «block_first» «block_samples» «table_time» «table_metres» .before) ⌝ }
 {
-    let entries = lesser(
+    shortest(
         block_constellation.len(),
-        lesser(
-            block_svid.len(),
-            lesser(
-                block_band.len(),
-                lesser(block_first.len(), block_samples.len()),
-            ),
-        ),
-    );
-    let samples = lesser(table_time.len(), table_metres.len());
-    lesser(2048, lesser(entries, samples))
+        block_svid.len(),
+        block_band.len(),
+        block_first.len(),
+        block_samples.len(),
+        table_time.len(),
+        table_metres.len(),
+    )
 }
 
 // Returns the float of a pattern that is no NaN's.
@@ -50,31 +49,31 @@ pub fn number(pattern: u64) -> f64
     f64::from_bits(pattern)
 }
 
-// Tests by integers whether the float of a pattern is in range: the sum has its top bit set where the magnitude is above that of 1e9.
-fn is_in_range(pattern: u64) -> bool
-    ensures { λ r. ⌜ r ≡ inRange (bits pattern) ⌝ }
+// Returns a sum whose top bit is set exactly where the float of a pattern is out of range: there the magnitude is above that of 1e9.
+fn range_sum(pattern: u64) -> u64
+    ensures { λ r. ⌜ ltb r (2 ^ 63) ≡ inRange (bits pattern) ⌝ }
 {
-    pattern % 0x8000_0000_0000_0000 + 0x3E32_329A_FFFF_FFFF < 0x8000_0000_0000_0000
+    pattern % 0x8000_0000_0000_0000 + 0x3E32_329A_FFFF_FFFF
 }
 
-// Tests whether the first table_count times and corrections are in range. The loop goes on past one that is not, so that several are tested at once.
+// Tests whether the first table_count times and corrections are in range: by the top bit of all their sums together, so that several are tested at once.
 fn all_in_reach(table_time: &[u64], table_metres: &[u64], table_count: usize) -> bool
-    requires { ⌜ «table_count» ≤ length (readingRows (floats (now «table_time»)) (floats (now «table_metres»))) ⌝ }
-    ensures { λ r. ⌜ r ≡ every inReach (take «table_count» (readingRows (floats (now («table_time» .entry))) (floats (now («table_metres» .entry))))) ⌝ }
+    requires { ⌜ «table_count» ≤ length (readingsNow «table_time» «table_metres») ⌝ }
+    ensures { λ r. ⌜ r ≡ every inReach (take «table_count» (readingsBefore «table_time» «table_metres»)) ⌝ }
 {
-    let mut all = true;
+    let mut sums: u64 = 0;
     let mut i: usize = 0;
     while i < table_count {
-        all = all & is_in_range(table_time[i]) & is_in_range(table_metres[i]);
+        sums = sums | range_sum(table_time[i]) | range_sum(table_metres[i]);
         i += 1;
     }
-    all
+    sums < 0x8000_0000_0000_0000
 }
 
 // Tests whether each of count times, from the place first on, is below the next; if so, they are in order. Several are tested at once.
 fn is_rising(table_time: &[u64], first: usize, count: usize) -> bool
     requires { ⌜ Timed (now «table_time») first count ⌝ }
-    ensures { λ r. ⌜ (r ≡ true → true ≡ timely (take count (drop first (floats (now («table_time» .entry)))))) ⌝ }
+    ensures { λ r. ⌜ (r ≡ true → true ≡ timely (timesBefore «table_time» first count)) ⌝ }
 {
     let end = first + count;
     let mut all = true;
@@ -89,7 +88,7 @@ fn is_rising(table_time: &[u64], first: usize, count: usize) -> bool
 // Tests one by one whether count times, from the place first on, are in order.
 fn is_timely(table_time: &[u64], first: usize, count: usize) -> bool
     requires { ⌜ Filled (length (now «table_time»)) first count ⌝ }
-    ensures { λ r. ⌜ r ≡ timely (take count (drop first (floats (now («table_time» .entry))))) ⌝ }
+    ensures { λ r. ⌜ r ≡ timely (timesBefore «table_time» first count) ⌝ }
 {
     let end = first + count;
     let mut i = first + 1;
@@ -105,7 +104,7 @@ fn is_timely(table_time: &[u64], first: usize, count: usize) -> bool
 // Tests the same, faster for a block that has no time twice.
 fn in_turn(table_time: &[u64], first: usize, count: usize) -> bool
     requires { ⌜ Timed (now «table_time») first count ⌝ }
-    ensures { λ r. ⌜ r ≡ timely (take count (drop first (floats (now («table_time» .entry))))) ⌝ }
+    ensures { λ r. ⌜ r ≡ timely (timesBefore «table_time» first count) ⌝ }
 {
     if is_rising(table_time, first, count) {
         return true;
@@ -121,7 +120,7 @@ fn in_order(
     table_time: &[u64],
 ) -> bool
     requires { ⌜ EachBlock (Timed (now «table_time»)) (now «block_first») (now «block_samples») blocks ⌝ }
-    ensures { λ r. ⌜ r ≡ timelyBlocks (now («block_first» .entry)) (now («block_samples» .entry)) (floats (now («table_time» .entry))) blocks ⌝ }
+    ensures { λ r. ⌜ r ≡ timelyBlocks (before «block_first») (before «block_samples») (floats (before «table_time»)) blocks ⌝ }
 {
     let mut i: usize = 0;
     while i < blocks {
@@ -147,12 +146,10 @@ pub fn is_sound(
     table_metres: &[u64],
     table_count: usize,
 ) -> bool
-    requires { ⌜ blocks ≤ length (entryRows
-        (now «block_constellation») (now «block_svid») (now «block_band») (now «block_first») (now «block_samples»)) ⌝ }
-    requires { ⌜ «table_count» ≤ length (readingRows (floats (now «table_time»)) (floats (now «table_metres»))) ⌝ }
-    ensures { λ r. ⌜ r ≡ soundDirectory (directoryIn blocks «table_count» (lentBlocks
-        (now («block_constellation» .entry)) (now («block_svid» .entry)) (now («block_band» .entry)) (now («block_first» .entry)) (now («block_samples» .entry))
-        (floats (now («table_time» .entry))) (floats (now («table_metres» .entry))))) ⌝ }
+    requires { ⌜ TableIn blocks «table_count» (tableNow
+        «block_constellation» «block_svid» «block_band» «block_first» «block_samples» «table_time» «table_metres») ⌝ }
+    ensures { λ r. ⌜ r ≡ soundDirectory (directoryIn blocks «table_count» (lentTable
+        «block_constellation» «block_svid» «block_band» «block_first» «block_samples» «table_time» «table_metres» .before)) ⌝ }
 {
     if !all_in_reach(table_time, table_metres, table_count) {
         return false;

@@ -13,6 +13,7 @@ use lib.Ieee.Scale.{finite}
 use lib.Ieee.Fits.{down-pos}
 use Rattle.exact.specs.Float.{_⊖_}
 use Rattle.lists.specs.Walk.{every, collect, Holds}
+use Rattle.numeric.specs.Rules.{ruled}
 use Rattle.numeric.specs.Real.{abs, inRange}
 use Rattle.numeric.specs.declared.vec3.Vec3.{Vec3}
 use Rattle.numeric.specs.declared.refusal.Refusal.{Refusal}
@@ -137,7 +138,7 @@ told-nothing r m n l ts xs e = rw (← e) (refl, (record { number-is = refl; ent
 
 module _ (m n room : ℕ) (d : Directory) (e : BaseEpoch) (s : States) (base rover : Vec3) (set : Settings) where
   pub placed-refused : (r : Refusal) → Refused r ≡ recordsTest m n room e s base rover set → refusedIn r ≡ epochPlaced m n room d e s base rover set
-  unfolding recordsTest epochPlaced
+  unfolding recordsTest epochPlaced ruled
   placed-refused r q = go (ltb room m || tooMany n room e s) (settingsInRange set) (recordsInRange e s base rover) q
     where
       go : (a b x : Bool) → Refused r ≡ cond a (Refused TooMany) (cond (not b) (Refused SettingOutOfRange) (cond (not x) (Refused RecordOutOfRange) Passed))
@@ -153,7 +154,7 @@ module _ (m n room : ℕ) (d : Directory) (e : BaseEpoch) (s : States) (base rov
 
   module _ (p : PassedRecords m n room e s base rover set) (new : Samples) (h : Holds (new .count) (new .samples) (epochSamples base rover set e s)) where
     pub placed-passed : addIn m n room d new ≡ epochPlaced m n room d e s base rover set
-    unfolding addIn testIn epochPlaced
+    unfolding addIn testIn epochPlaced ruled
     placed-passed =
         rw (le-ltb room m (p .few-entries), le-ltb room n (p .few), le-ltb 64 (new .count) (h .room), counted-ranged m n room e s base rover set p new h, h .all, p .not-many, p .settings, p .records, ← (h .count)) (go (soundDirectory d) (ltb room (n + new .count)))
       where

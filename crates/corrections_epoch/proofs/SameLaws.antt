@@ -8,6 +8,7 @@ use lib.Dec.{ltb}
 use lib.ListN.{length}
 use borrow.Author.Tests.{ltb-true, lt-ltb}
 use Rattle.lists.specs.Walk.{every}
+use Rattle.numeric.specs.Rules.{ruled}
 use Rattle.numeric.specs.declared.vec3.Vec3.{Vec3}
 use Rattle.numeric.specs.declared.refusal.Refusal.the-variants.{TooMany, SettingOutOfRange, RecordOutOfRange, TableFull}
 use Rattle.corrections_table.specs.Table.{sorted, soundTable}
@@ -15,7 +16,8 @@ use Rattle.corrections_table.specs.Add.{added, insertAll, refused}
 use Rattle.corrections_table.specs.declared.sample.Sample.{Sample}
 use Rattle.corrections_table.proofs.Places.{sorted-rises}
 use Rattle.corrections_directory.specs.Directory.{directoryOf}
-use Rattle.corrections_directory.proofs.DirectoryLaws.{flat-directory, narrow, sound-directory}
+use Rattle.corrections_directory.proofs.DirectoryLaws.{flat-directory}
+use Rattle.corrections_directory.proofs.NarrowLaws.{narrow, sound-directory}
 use Rattle.corrections_add.specs.Add.{addedIn, flatOutcome, refusedIn}
 use Rattle.corrections_add.proofs.SameLaws.{few-entries}
 use Rattle.corrections_epoch.specs.Record.{statesCount}
@@ -37,7 +39,7 @@ many-same m n room e s h = go (ltb room m) refl
 -- t the n samples of a sorted table, with svids and bands of their columns' bits
 pub epoch-same : (t : List Sample) (n room : ℕ) (e : BaseEpoch) (s : States) (base rover : Vec3) (set : Settings) → every narrow t ≡ true → sorted t ≡ true → length t ≤ n
     → flatOutcome (epochPlaced (length ((directoryOf t) .entries)) n room (directoryOf t) e s base rover set) ≡ addedOf n room t e s base rover set
-unfolding epochPlaced addedOf
+unfolding epochPlaced addedOf ruled
 epoch-same t n room e s base rover set w r l =
     let new = epochSamples base rover set e s in
     rw (many-same (length ((directoryOf t) .entries)) n room e s (few-entries t l), sound-directory t w (sym (sorted-rises t) ∙ r), flat-directory t)

@@ -8,6 +8,7 @@ use lib.Dec.{ltb}
 use lib.ListN.{take}
 use Rattle.lists.proofs.Walk.{or-no}
 use Rattle.lists.specs.Walk.{every}
+use Rattle.numeric.specs.Rules.{ruled}
 use Rattle.numeric.specs.Real.{inRange}
 use Rattle.numeric.specs.declared.vec3.Vec3.{Vec3}
 use Rattle.numeric.specs.declared.refusal.Refusal.{Refusal}
@@ -26,7 +27,7 @@ module _ (m n room : ℕ) (e : BaseEpoch) (s : States) (base rover : Vec3) (set 
   many = rw ej
 
   pub test-many : (ltb room m || (ltb room n || ltb 64 (e .count) || ltb 64 j)) ≡ true → Refused TooMany ≡ recordsTest m n room e s base rover set
-  unfolding recordsTest
+  unfolding recordsTest ruled
   test-many t = rw (sym many ∙ t)
 
   module _ (few : (ltb room m || (ltb room n || ltb 64 (e .count) || ltb 64 j)) ≡ false) where
@@ -43,12 +44,12 @@ module _ (m n room : ℕ) (e : BaseEpoch) (s : States) (base rover : Vec3) (set 
       settings = rw (ea, eb)
 
       pub test-settings : not (a && b) ≡ true → Refused SettingOutOfRange ≡ recordsTest m n room e s base rover set
-      unfolding recordsTest
+      unfolding recordsTest ruled
       test-settings t = rw (sym many ∙ few, sym settings ∙ not-true (a && b) t)
 
       module _ (good : not (a && b) ≡ false) {u v w : Bool} (eu : u ≡ vectorInRange base) (ev : v ≡ vectorInRange rover) (ew : w ≡ inRange (e .time)) where
         by-records : {r : _} → recordsInRange e s base rover ≡ false → r ≡ RecordOutOfRange → Refused r ≡ recordsTest m n room e s base rover set
-        unfolding recordsTest
+        unfolding recordsTest ruled
         by-records t q = rw (sym many ∙ few, sym settings ∙ not-false (a && b) good, t, q)
 
         pub test-places : not (u && v && w) ≡ true → Refused RecordOutOfRange ≡ recordsTest m n room e s base rover set
@@ -69,7 +70,7 @@ module _ (m n room : ℕ) (e : BaseEpoch) (s : States) (base rover : Vec3) (set 
             test-states t = by-records (rw (← eu, ← ev, ← ew, not-false (u && v && w) placed, sym ex ∙ not-false x ranged, sym states-are ∙ not-true y t)) refl
 
             pub test-passed : not y ≡ false → Passed ≡ recordsTest m n room e s base rover set
-            unfolding recordsTest recordsInRange
+            unfolding recordsTest recordsInRange ruled
             test-passed t = rw (sym many ∙ few, sym settings ∙ not-false (a && b) good, ← eu, ← ev, ← ew, not-false (u && v && w) placed, sym ex ∙ not-false x ranged, sym states-are ∙ not-false y t)
 
 -- ---- what has passed
@@ -93,7 +94,7 @@ counts n room e s t =
     (ltb-false room n (r .0), ltb-false 64 (e .count) (r .1), ltb-false 64 (statesCount s) (p .1))
 
 pub passed-records : (m n room : ℕ) (e : BaseEpoch) (s : States) (base rover : Vec3) (set : Settings) → Passed ≡ recordsTest m n room e s base rover set → PassedRecords m n room e s base rover set
-unfolding recordsTest
+unfolding recordsTest ruled
 passed-records m n room e s base rover set q = go (ltb room m || tooMany n room e s) (settingsInRange set) (recordsInRange e s base rover) refl refl refl (sym q)
   where
     go : (a b x : Bool) → (ltb room m || tooMany n room e s) ≡ a → settingsInRange set ≡ b → recordsInRange e s base rover ≡ x

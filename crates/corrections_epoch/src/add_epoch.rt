@@ -1,9 +1,7 @@
 // One base epoch added to the table, which is a directory beside the columns of times and corrections.
 ghost use mathlib.Core.Path.{_≡_};
-ghost use Rattle.corrections_directory.specs.Directory.{blockCapacity, directoryIn};
 ghost use Rattle.corrections_directory.specs.Lent.{lentTable};
-ghost use Rattle.corrections_add.specs.Add.{AddedBy};
-ghost use Rattle.corrections_epoch.specs.AddEpoch.{epochPlaced};
+ghost use Rattle.corrections_epoch.specs.AddEpoch.{AddsBaseEpoch};
 ghost use Rattle.corrections_epoch.specs.Steps.{recordsTest};
 use crate::raw::raws_of;
 use crate::record::BaseEpoch;
@@ -72,9 +70,8 @@ pub fn add_epoch(
     rover: Vec3,
     settings: Settings,
 ) -> Addition
-    ensures { λ r. ⌜ (let t = lentTable «block_constellation» «block_svid» «block_band» «block_first» «block_samples» «table_time» «table_metres» in
-        let d = directoryIn blocks «table_count» (t .before) in
-        AddedBy (epochPlaced blocks «table_count» (blockCapacity (t .before)) d epoch states base rover settings) r blocks «table_count» t) ⌝ }
+    ensures { λ r. ⌜ AddsBaseEpoch epoch states base rover settings r blocks «table_count» (lentTable
+        «block_constellation» «block_svid» «block_band» «block_first» «block_samples» «table_time» «table_metres») ⌝ }
 {
     let room = capacity_of(
         block_constellation,

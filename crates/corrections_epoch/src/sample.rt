@@ -3,8 +3,8 @@ ghost use mathlib.Core.Path.{_≡_};
 ghost use Prim.Native.Nat.{ℕ, _≤_, _<_};
 ghost use lib.Ieee.{nan};
 ghost use lib.ListN.{take, getD, length};
+ghost use Rattle.lists.specs.Memory.{before};
 ghost use Rattle.lists.specs.Walk.{Holds};
-ghost use Rattle.median.specs.Steps.{Front};
 ghost use Rattle.corrections_epoch.specs.Sample as spec;
 ghost use Rattle.corrections_epoch.specs.Steps.{clockOrNan};
 use crate::raw::Raws;
@@ -16,47 +16,38 @@ use numeric::order::pattern;
 use numeric::real::abs;
 use numeric::real::is_finite;
 
-// Writes the patterns of the values of constellation c to the front of values. Returns how many there are.
-fn values_of(raws: Raws, c: u8, values: &mut [u64; 64]) -> usize
-    requires { ⌜ (raws .count ≤ 64) × (length (now values) ≡ 64) ⌝ }
-    ensures { λ r. ⌜ Front (spec.patternsOf (spec.group c (take (raws .count) (raws .raws)))) r (now (values .exit)) ⌝ }
+// Returns the base receiver's clock by the patterns of a group's values, or a NaN if there are fewer than three.
+fn clock_of(values: &[u64]) -> f64
+    requires { ⌜ length (now values) ≤ 64 ⌝ }
+    ensures { λ r. ⌜ r ≡ clockOrNan (before values) ⌝ }
 {
-    let n = raws.count;
-    let mut k: usize = 0;
-    let mut i: usize = 0;
-    while i < n {
-        let r = raws.raws[i];
-        if r.constellation == c {
-            values[k] = pattern(r.value);
-            k += 1;
-        }
-        i += 1;
-    }
-    k
-}
-
-// Returns the base receiver's clock by the group of constellation c, or a NaN if the group has fewer than three.
-fn clock_of(raws: Raws, c: u8) -> f64
-    requires { ⌜ raws .count ≤ 64 ⌝ }
-    ensures { λ r. ⌜ r ≡ clockOrNan (spec.group c (take (raws .count) (raws .raws))) ⌝ }
-{
-    let mut values = [0u64; 64];
-    let k = values_of(raws, c, &mut values);
-    if k < 3 {
+    if values.len() < 3 {
         return 0.0 / 0.0;
     }
-    float(median(&values[..k]))
+    float(median(values))
 }
 
-// Returns the clocks of the constellations 0 to 7.
+// Returns the clocks of the constellations 0 to 7. Reads the raw corrections where they are: to hand them on would copy them for each constellation.
 fn clocks_of(raws: Raws) -> [f64; 8]
     requires { ⌜ raws .count ≤ 64 ⌝ }
-    ensures { λ r. ⌜ ((c : ℕ) → c < 8 → getD r c nan ≡ clockOrNan (spec.group c (take (raws .count) (raws .raws)))) ⌝ }
+    ensures { λ r. ⌜ ((c : ℕ) → c < 8 → getD r c nan ≡ clockOrNan (spec.patternsOf (spec.group c (take (raws .count) (raws .raws))))) ⌝ }
 {
+    let n = raws.count;
     let mut clocks = [0.0; 8];
+    let mut values = [0u64; 64];
     let mut c: u8 = 0;
     while c < 8 {
-        clocks[c as usize] = clock_of(raws, c);
+        let mut k: usize = 0;
+        let mut i: usize = 0;
+        while i < n {
+            let r = raws.raws[i];
+            if r.constellation == c {
+                values[k] = pattern(r.value);
+                k += 1;
+            }
+            i += 1;
+        }
+        clocks[c as usize] = clock_of(&values[..k]);
         c += 1;
     }
     clocks

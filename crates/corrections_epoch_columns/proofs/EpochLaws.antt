@@ -10,6 +10,7 @@ use lib.Ieee.{Float}
 use Rattle.lists.specs.Walk.{every, places}
 use Rattle.lists.proofs.Walk.{places-all, or-no}
 use Rattle.corrections_table.proofs.UnitLaws.{never}
+use Rattle.numeric.specs.Rules.{ruled}
 use Rattle.numeric.specs.Real.{inRange}
 use Rattle.numeric.specs.declared.vec3.Vec3.{Vec3}
 use Rattle.numeric.specs.declared.refusal.Refusal.the-variants.{TooMany, SettingOutOfRange, RecordOutOfRange, TableFull}
@@ -125,7 +126,7 @@ placedBy m n room d k time ranges j states base rover set =
 
 module _ (m n room : ℕ) (d : Directory) (base rover : Vec3) (set : Settings) where
   placed-by : (e : BaseEpoch) (s : States) → epochPlaced m n room d e s base rover set ≡ placedBy m n room d (e .count) (e .time) (rangesOf e) (statesCount s) (statesOf s) base rover set
-  unfolding epochPlaced placedBy tooMany recordsInRange epochSamples
+  unfolding epochPlaced placedBy tooMany recordsInRange epochSamples ruled
   placed-by e s = refl
 
   placed-same : (e e′ : BaseEpoch) (s s′ : States) → e .count ≡ e′ .count → e .time ≡ e′ .time → rangesOf e ≡ rangesOf e′ → statesCount s ≡ statesCount s′ → statesOf s ≡ statesOf s′
@@ -143,7 +144,7 @@ module _ (m n room : ℕ) (d : Directory) (base rover : Vec3) (set : Settings) w
 module _ (m n : ℕ) (l : Blocks) (ts xs : List ℕ) (time : Float) (k : ℕ) (rc rv rb : List ℕ) (rp : List Float) (present : Bool) (j : ℕ) (sc sv sb : List ℕ) (sf : List Float) (base rover : Vec3) (set : Settings) where
   entry-unreadable : unreadable k rc rv rb rp (cond present j 0) sc sv sb sf ≡ true
       → refusedIn TooMany ≡ entryIn m n (blockCapacity l) (directoryIn m n l) time k rc rv rb rp present j sc sv sb sf base rover set
-  unfolding entryIn epochPlaced tooMany unreadable
+  unfolding entryIn epochPlaced tooMany unreadable ruled
   entry-unreadable h = go (recordsShort k rc rv rb rp (cond present j 0) sc sv sb sf) h
     where
       either : (z a b c : Bool) → (b || c) ≡ true → (z || (a || b || c)) ≡ true

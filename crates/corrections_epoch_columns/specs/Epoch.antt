@@ -5,14 +5,12 @@ use mathlib.Core.List.{List}
 use lib.Dec.{ltb}
 use lib.ListN.{length, getD}
 use lib.Ieee.{Float, nan}
-use denote.Ref.{RefT, now}
-use denote.Triple.Both.{Both}
+use Rattle.lists.specs.Memory.{before, Memory, LentNumbers, LentFloats}
 use Rattle.lists.specs.Walk.{places}
 use Rattle.numeric.specs.Vec3.{vectorAt}
 use Rattle.numeric.specs.declared.vec3.Vec3.{Vec3}
 use Rattle.numeric.specs.declared.refusal.Refusal.the-variants.{TooMany}
 use Rattle.corrections_directory.specs.Directory.{Blocks, Directory, blockCapacity, directoryIn}
-use Rattle.corrections_table.specs.Lent.{LentColumn, LentFloats}
 use Rattle.corrections_add.specs.Add.{Placed, refusedIn}
 use Rattle.corrections_epoch.specs.AddEpoch.{epochPlaced}
 use Rattle.corrections_epoch.specs.declared.record.Range.{Range}
@@ -23,7 +21,7 @@ use Rattle.corrections_epoch.specs.declared.record.Settings.{Settings}
 
 -- one truth value for each constellation, lent
 abbrev pub LentBools : Type 0
-LentBools = Both (RefT (List Bool)) (RefT (List Bool))
+LentBools = Memory (List Bool)
 
 -- ---- an epoch
 
@@ -66,7 +64,7 @@ entryIn m n room d time k rc rv rb rp present j sc sv sb sf base rover set =
     (epochPlaced m n room d (baseEpochOf time k rc rv rb rp) (statesIn present j sc sv sb sf) base rover set)
 
 -- the outcome for columns that a call is lent, added to the m entries and n samples of l
-abbrev pub lentEntry : ℕ → ℕ → Blocks → Float → ℕ → LentColumn → LentColumn → LentColumn → LentFloats → Bool → ℕ → LentColumn → LentColumn → LentColumn → LentFloats → LentFloats → LentFloats → Float → Float → LentBools → Placed
+abbrev pub lentEntry : ℕ → ℕ → Blocks → Float → ℕ → LentNumbers → LentNumbers → LentNumbers → LentFloats → Bool → ℕ → LentNumbers → LentNumbers → LentNumbers → LentFloats → LentFloats → LentFloats → Float → Float → LentBools → Placed
 lentEntry m n l time k rc rv rb rp present j sc sv sb sf base rover gap max on =
-    entryIn m n (blockCapacity l) (directoryIn m n l) time k (now (rc .entry)) (now (rv .entry)) (now (rb .entry)) (now (rp .entry))
-    present j (now (sc .entry)) (now (sv .entry)) (now (sb .entry)) (now (sf .entry)) (vectorAt (now (base .entry)) 0) (vectorAt (now (rover .entry)) 0) (settingsOf gap max (now (on .entry)))
+    entryIn m n (blockCapacity l) (directoryIn m n l) time k (before rc) (before rv) (before rb) (before rp)
+    present j (before sc) (before sv) (before sb) (before sf) (vectorAt (before base) 0) (vectorAt (before rover) 0) (settingsOf gap max (before on))

@@ -1,14 +1,15 @@
 -- What the contracts of the steps say. Definitions only.
-use Prim.Native.Nat.{ℕ, _*_, _≤_}
+use Prim.Native.Nat.{ℕ, _+_, _*_, _≤_, _<_}
 use mathlib.Core.Path.{_≡_}
 use mathlib.Core.Bool.{Bool, _||_}
 use mathlib.Core.List.{List}
 use lib.Dec.{ltb}
 use lib.ListN.{length, take}
 use lib.Ieee.{Float}
-use denote.Ref.{RefT, now}
+use denote.Ref.{now}
+use Rattle.lists.specs.Memory.{before, LentNumbers, LentFloats}
 use Rattle.lists.specs.Walk.{places}
-use Rattle.corrections_table.specs.Lent.{LentColumn, LentFloats}
+use Rattle.corrections_directory.specs.Lent.{FloatSlice, Slice}
 use Rattle.corrections_add.specs.Add.{additionNumber, entriesNow, samplesNow}
 use Rattle.corrections_add.specs.declared.add.Addition.{Addition}
 use Rattle.corrections_epoch.specs.declared.record.Range.{Range}
@@ -23,8 +24,12 @@ use Rattle.corrections_epoch_columns.specs.Epoch.{rangeAt, stateAt}
 unfoldable pub rangesShort : ℕ → List ℕ → List ℕ → List ℕ → List Float → Bool
 rangesShort k rc rv rb rp = ltb 64 k || ltb (length rc) k || ltb (length rv) k || ltb (length rb) k || ltb (length rp) k
 
+-- so for lent columns
+abbrev pub lentRangesShort : ℕ → LentNumbers → LentNumbers → LentNumbers → LentFloats → Bool
+lentRangesShort k c v b p = rangesShort k (before c) (before v) (before b) (before p)
+
 -- the columns have k ranges, at most 64
-abbrev pub RangesIn : ℕ → RefT (List ℕ) → RefT (List ℕ) → RefT (List ℕ) → RefT (List Float) → Type 0
+abbrev pub RangesIn : ℕ → Slice → Slice → Slice → FloatSlice → Type 0
 RangesIn k c v b p = (k ≤ 64) × (((k ≤ length (now c)) × (k ≤ length (now v))) × ((k ≤ length (now b)) × (k ≤ length (now p))))
 
 -- the epoch e has the time and the first k ranges l
@@ -34,8 +39,8 @@ pub record EpochRead (time : Float) (k : ℕ) (l : List Range) (e : BaseEpoch) :
   pub ranges : take k (e .ranges) ≡ l
 
 -- l being those of lent columns
-abbrev pub ReadsEpoch : Float → ℕ → LentColumn → LentColumn → LentColumn → LentFloats → BaseEpoch → Type 0
-ReadsEpoch time k c v b p e = EpochRead time k (places (rangeAt (now (c .entry)) (now (v .entry)) (now (b .entry)) (now (p .entry))) k) e
+abbrev pub ReadsEpoch : Float → ℕ → LentNumbers → LentNumbers → LentNumbers → LentFloats → BaseEpoch → Type 0
+ReadsEpoch time k c v b p e = EpochRead time k (places (rangeAt (before c) (before v) (before b) (before p)) k) e
 
 -- ---- states
 
@@ -43,8 +48,20 @@ ReadsEpoch time k c v b p e = EpochRead time k (places (rangeAt (now (c .entry))
 unfoldable pub statesShort : ℕ → List ℕ → List ℕ → List ℕ → List Float → Bool
 statesShort m sc sv sb sf = ltb 64 m || ltb (length sc) m || ltb (length sv) m || ltb (length sb) m || ltb (length sf) (m * 8)
 
+-- so for lent columns
+abbrev pub lentStatesShort : ℕ → LentNumbers → LentNumbers → LentNumbers → LentFloats → Bool
+lentStatesShort m c v b f = statesShort m (before c) (before v) (before b) (before f)
+
+-- the state i lies in the columns
+abbrev pub StateIn : ℕ → Slice → Slice → Slice → FloatSlice → Type 0
+StateIn i c v b f = ((i < length (now c)) × (i < length (now v))) × ((i < length (now b)) × (i * 8 + 7 < length (now f)))
+
+-- the state at i of lent columns
+abbrev pub lentState : LentNumbers → LentNumbers → LentNumbers → LentFloats → ℕ → State
+lentState c v b f i = stateAt (before c) (before v) (before b) (before f) i
+
 -- the columns have m states, at most 64
-abbrev pub StatesIn : ℕ → RefT (List ℕ) → RefT (List ℕ) → RefT (List ℕ) → RefT (List Float) → Type 0
+abbrev pub StatesIn : ℕ → Slice → Slice → Slice → FloatSlice → Type 0
 StatesIn m c v b f = (m ≤ 64) × (((m ≤ length (now c)) × (m ≤ length (now v))) × ((m ≤ length (now b)) × (m * 8 ≤ length (now f))))
 
 -- the states s have the mark and the first m states l
@@ -54,8 +71,8 @@ pub record StatesRead (present : Bool) (m : ℕ) (l : List State) (s : States) :
   pub states-are : take m (s .states) ≡ l
 
 -- l being those of lent columns
-abbrev pub ReadsStates : Bool → ℕ → LentColumn → LentColumn → LentColumn → LentFloats → States → Type 0
-ReadsStates present m c v b f s = StatesRead present m (places (stateAt (now (c .entry)) (now (v .entry)) (now (b .entry)) (now (f .entry))) m) s
+abbrev pub ReadsStates : Bool → ℕ → LentNumbers → LentNumbers → LentNumbers → LentFloats → States → Type 0
+ReadsStates present m c v b f s = StatesRead present m (places (lentState c v b f) m) s
 
 -- ---- the counts
 

@@ -3,10 +3,7 @@
 // and sf has eight floats for each state: position, velocity, clock, modelled.
 ghost use mathlib.Core.Path.{_≡_};
 ghost use mathlib.Core.Bool.{cond};
-ghost use Prim.Native.Nat.{_+_, _*_, _<_};
-ghost use lib.ListN.{length};
-ghost use Rattle.corrections_epoch_columns.specs.Epoch.{stateAt};
-ghost use Rattle.corrections_epoch_columns.specs.Steps.{RangesIn, ReadsEpoch, ReadsStates, StatesIn, rangesShort, statesShort};
+ghost use Rattle.corrections_epoch_columns.specs.Steps.{RangesIn, ReadsEpoch, ReadsStates, StateIn, StatesIn, lentRangesShort, lentState, lentStatesShort};
 use corrections_epoch::record::BaseEpoch;
 use corrections_epoch::record::Range;
 use corrections_epoch::record::State;
@@ -59,10 +56,8 @@ fn state_at(
     state_floats: &[f64],
     i: usize,
 ) -> State
-    requires { ⌜ (i < length (now «state_constellation»)) × (i < length (now «state_svid»)) ⌝ }
-    requires { ⌜ (i < length (now «state_band»)) × (i * 8 + 7 < length (now «state_floats»)) ⌝ }
-    ensures { λ r. ⌜ r ≡ stateAt (now («state_constellation» .entry)) (now («state_svid» .entry)) (now («state_band» .entry))
-        (now («state_floats» .entry)) i ⌝ }
+    requires { ⌜ StateIn i «state_constellation» «state_svid» «state_band» «state_floats» ⌝ }
+    ensures { λ r. ⌜ r ≡ lentState «state_constellation» «state_svid» «state_band» «state_floats» i ⌝ }
 {
     let at = i * 8;
     let position = vector_at(state_floats, at);
@@ -130,8 +125,7 @@ pub(crate) fn ranges_short(
     range_band: &[u32],
     range_pseudorange: &[f64],
 ) -> bool
-    ensures { λ r. ⌜ r ≡ rangesShort k (now («range_constellation» .entry)) (now («range_svid» .entry)) (now («range_band» .entry))
-        (now («range_pseudorange» .entry)) ⌝ }
+    ensures { λ r. ⌜ r ≡ lentRangesShort k «range_constellation» «range_svid» «range_band» «range_pseudorange» ⌝ }
 {
     (64 < k)
         | (range_constellation.len() < k)
@@ -148,8 +142,7 @@ pub(crate) fn states_short(
     state_band: &[u32],
     state_floats: &[f64],
 ) -> bool
-    ensures { λ r. ⌜ r ≡ statesShort m (now («state_constellation» .entry)) (now («state_svid» .entry)) (now («state_band» .entry))
-        (now («state_floats» .entry)) ⌝ }
+    ensures { λ r. ⌜ r ≡ lentStatesShort m «state_constellation» «state_svid» «state_band» «state_floats» ⌝ }
 {
     if 64 < m {
         return true;

@@ -1,5 +1,6 @@
 // A base epoch of lent columns added to a lent directory, with both counts.
 ghost use mathlib.Core.Path.{_≡_};
+ghost use Rattle.lists.specs.Memory.{before, after};
 ghost use Rattle.corrections_directory.specs.Lent.{lentTable};
 ghost use Rattle.corrections_add.specs.Add.{AddedBy};
 ghost use Rattle.corrections_epoch_columns.specs.Epoch.{lentEntry, settingsOf};
@@ -17,7 +18,7 @@ use numeric::vec3::vector;
 
 // Writes both counts and returns 0. On refusal, returns its number and changes nothing.
 pub fn counts_into(answer: Addition, blocks: &mut usize, table_count: &mut usize) -> u8
-    ensures { λ r. ⌜ CountsWritten answer r (now (blocks .entry)) (now (blocks .exit)) (now («table_count» .entry)) (now («table_count» .exit)) ⌝ }
+    ensures { λ r. ⌜ CountsWritten answer r (before blocks) (after blocks) (before «table_count») (after «table_count») ⌝ }
 {
     match answer {
         Addition::Refused(why) => why.number(),
@@ -31,7 +32,7 @@ pub fn counts_into(answer: Addition, blocks: &mut usize, table_count: &mut usize
 
 // Returns the settings of the greatest gap and correction, and of the constellations in use.
 fn settings_of(max_gap: f64, max_correction: f64, corrected: &[bool; 8]) -> Settings
-    ensures { λ r. ⌜ r ≡ settingsOf «max_gap» «max_correction» (now (corrected .entry)) ⌝ }
+    ensures { λ r. ⌜ r ≡ settingsOf «max_gap» «max_correction» (before corrected) ⌝ }
 {
     Settings {
         max_gap: max_gap,

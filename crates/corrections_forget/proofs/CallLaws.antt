@@ -16,6 +16,7 @@ use Rattle.numeric.specs.Real.{inRange}
 use Rattle.numeric.specs.Refusal.{numberOf}
 use Rattle.numeric.specs.declared.refusal.Refusal.{Refusal}
 use Rattle.numeric.specs.declared.refusal.Refusal.the-variants.{TooMany, RecordOutOfRange, BadDropTime}
+use Rattle.numeric.specs.Rules.{ruled}
 use Rattle.corrections_table.specs.Table.{ranged, soundTable}
 use Rattle.corrections_table.specs.declared.sample.Sample.{Sample}
 use Rattle.corrections_table.proofs.TableLaws.{and-left, and-right}
@@ -37,21 +38,21 @@ use Rattle.corrections_forget.proofs.TrimLaws.{laid-length}
 -- ---- the tests one after the other
 module _ (m n room : ℕ) (d : Directory) (time : Float) {r : ℕ} (is : r ≡ room) where
   pub test-count : (ltb r m || ltb r n) ≡ true → Test.Refused TooMany ≡ testIn m n room d time
-  unfolding testIn
+  unfolding testIn ruled
   test-count h = rw (← is, h)
 
   module _ (h : (ltb r m || ltb r n) ≡ false) {y : Bool} (ey : y ≡ soundDirectory d) where
     pub test-sound : not y ≡ true → Test.Refused RecordOutOfRange ≡ testIn m n room d time
-    unfolding testIn
+    unfolding testIn ruled
     test-sound u = rw (← is, h, ← ey, not-true y u)
 
     module _ (u : not y ≡ false) {f : Bool} (ef : f ≡ finite time) where
       pub test-finite : not f ≡ true → Test.Refused BadDropTime ≡ testIn m n room d time
-      unfolding testIn
+      unfolding testIn ruled
       test-finite w = rw (← is, h, ← ey, not-false y u, ← ef, not-true f w)
 
       pub test-passed : not f ≡ false → Test.Passed ≡ testIn m n room d time
-      unfolding testIn
+      unfolding testIn ruled
       test-passed w = rw (← is, h, ← ey, not-false y u, ← ef, not-false f w)
 
 -- ---- what a passed test says
@@ -66,10 +67,10 @@ pub fit-of : (m n : ℕ) (l : Blocks) (time : Float) → testIn m n (blockCapaci
 fit-of m n l time e = go (ltb (blockCapacity l) m || ltb (blockCapacity l) n) (soundDirectory (directoryIn m n l)) refl refl
   where
     many : (ltb (blockCapacity l) m || ltb (blockCapacity l) n) ≡ true → testIn m n (blockCapacity l) (directoryIn m n l) time ≡ Test.Refused TooMany
-    many p = unfold testIn in rw p
+    many p = unfold testIn ruled in rw p
 
     unsound : (ltb (blockCapacity l) m || ltb (blockCapacity l) n) ≡ false → soundDirectory (directoryIn m n l) ≡ false → testIn m n (blockCapacity l) (directoryIn m n l) time ≡ Test.Refused RecordOutOfRange
-    unsound p q = unfold testIn in rw (p, q)
+    unsound p q = unfold testIn ruled in rw (p, q)
 
     go : (x y : Bool) → (ltb (blockCapacity l) m || ltb (blockCapacity l) n) ≡ x → soundDirectory (directoryIn m n l) ≡ y → Fit m n l
     go true y p q = refused-not TooMany (sym (many p) ∙ e)
@@ -78,7 +79,7 @@ fit-of m n l time e = go (ltb (blockCapacity l) m || ltb (blockCapacity l) n) (s
         let k = or-no (ltb (blockCapacity l) m) (ltb (blockCapacity l) n) p in
         let a = ltb-false (blockCapacity l) m (k .0) in
         let b = ltb-false (blockCapacity l) n (k .1) in
-        record { few-entries = omega arith; few-samples = omega arith; steady = q }
+        record { few-entries = omega arith; few-samples = omega arith; sound = q }
 
 -- ---- what is left
 ranged-readings : (t : List Sample) → every ranged t ≡ true → every inReach (map readingOf t) ≡ true
@@ -116,9 +117,9 @@ module _ (m n : ℕ) (l : Blocks) (time : Float) (ts xs : List ℕ) where
   forget-passed e lt lx ft {k} {l′} ek el ts′ xs′ lt′ lx′ dt dx bt bx =
       let f = fit-of m n l time e in
       let d = directoryIn m n l in
-      let q : directoryOf (forget time (flat d)) ≡ trimmed time d = forget-trimmed time d ft (f .steady) (held-flat m n l (f .few-entries) (f .few-samples) (f .steady) (λ j. rw lt (floats-held ts j))) in
+      let q : directoryOf (forget time (flat d)) ≡ trimmed time d = forget-trimmed time d ft (f .sound) (held-flat m n l (f .few-entries) (f .few-samples) (f .sound) (λ j. rw lt (floats-held ts j))) in
       let o : forgetIn m n (blockCapacity l) d time ≡ leaves (trimmed time d) = outcome q in
-      let r = fields-range (trimmed time d .readings) (reach (f .steady) q) in
+      let r = fields-range (trimmed time d .readings) (reach (f .sound) q) in
       rw o (
         ap Forgetting.Count ek,
         (

@@ -20,7 +20,7 @@ use Rattle.corrections_table.proofs.TableLaws.{and-left, and-right}
 use Rattle.corrections_table.proofs.SeriesLaws.{mine, other, insert-rises}
 use Rattle.corrections_table.proofs.UnitLaws.{never}
 use Rattle.corrections_directory.proofs.DirectoryLaws.{rises-weak}
-use Rattle.corrections_query.specs.Query.{Found, missing, the, near, firstOf, lastOf, before, since, nearOr, spanned, correctionRule, answerIn, answerAt}
+use Rattle.corrections_query.specs.Query.{Found, missing, the, near, firstOf, lastOf, sampleBefore, since, nearOr, spanned, correctionRule, answerIn, answerAt}
 use Rattle.corrections_query.specs.declared.query.Correction.the-variants.{Refused}
 use Rattle.corrections_query.proofs.FoundLaws.{later, earlier-series, later-series}
 use Rattle.corrections_forget.specs.Forget.{earlier, some, forget}
@@ -30,7 +30,7 @@ use Rattle.corrections_forget.proofs.TimeLaws.{lt-through, not-before-n
 pub forget-rises : (time : Float) (p : ℕ) (l : List Sample) → rises p l ≡ true → rises p (forget time l) ≡ true
 unfolding rises forget
 forget-rises time p [] r = refl
-forget-rises time p (s ∷ l) r = go (before time s && some (earlier (signalOf s) time) l) (forget-rises time (placeOf s) l (and-right (leb p (placeOf s)) _ r))
+forget-rises time p (s ∷ l) r = go (sampleBefore time s && some (earlier (signalOf s) time) l) (forget-rises time (placeOf s) l (and-right (leb p (placeOf s)) _ r))
   where
     go : (x : Bool) → rises (placeOf s) (forget time l) ≡ true → rises p (cond x (forget time l) (s ∷ forget time l)) ≡ true
     go true ih = rises-weak p (placeOf s) (forget time l) (leb-true p (placeOf s) (and-left _ _ r)) ih
@@ -39,7 +39,7 @@ forget-rises time p (s ∷ l) r = go (before time s && some (earlier (signalOf s
 pub forget-every : (test : Sample → Bool) (time : Float) (l : List Sample) → every test l ≡ true → every test (forget time l) ≡ true
 unfolding every forget
 forget-every test time [] e = refl
-forget-every test time (s ∷ l) e = go (before time s && some (earlier (signalOf s) time) l) (forget-every test time l (and-right (test s) _ e))
+forget-every test time (s ∷ l) e = go (sampleBefore time s && some (earlier (signalOf s) time) l) (forget-every test time l (and-right (test s) _ e))
   where
     go : (x : Bool) → every test (forget time l) ≡ true → every test (cond x (forget time l) (s ∷ forget time l)) ≡ true
     go true ih = ih
@@ -69,19 +69,19 @@ forget-series g time [] = none g
 forget-series g time (s ∷ l) = go (eqb (signalOf s) g) refl (forget-series g time l)
   where
     go : (x : Bool) → eqb (signalOf s) g ≡ x → seriesOf g (forget time l) ≡ forget time (seriesOf g l)
-        → seriesOf g (cond (before time s && some (earlier (signalOf s) time) l) (forget time l) (s ∷ forget time l)) ≡ forget time (seriesOf g (s ∷ l))
+        → seriesOf g (cond (sampleBefore time s && some (earlier (signalOf s) time) l) (forget time l) (s ∷ forget time l)) ≡ forget time (seriesOf g (s ∷ l))
     go true e ih =
         let same : signalOf s ≡ g = eqb-true (signalOf s) g e in
-        ap (λ (h : ℕ). seriesOf g (cond (before time s && some (earlier h time) l) (forget time l) (s ∷ forget time l))) same
-        ∙ test (before time s && some (earlier g time) l)
-        ∙ ap (λ (x : Bool). cond (before time s && x) (forget time (seriesOf g l)) (s ∷ forget time (seriesOf g l))) (sym (some-series g time l))
-        ∙ ap (λ (h : ℕ). cond (before time s && some (earlier h time) (seriesOf g l)) (forget time (seriesOf g l)) (s ∷ forget time (seriesOf g l))) (sym same)
+        ap (λ (h : ℕ). seriesOf g (cond (sampleBefore time s && some (earlier h time) l) (forget time l) (s ∷ forget time l))) same
+        ∙ test (sampleBefore time s && some (earlier g time) l)
+        ∙ ap (λ (x : Bool). cond (sampleBefore time s && x) (forget time (seriesOf g l)) (s ∷ forget time (seriesOf g l))) (sym (some-series g time l))
+        ∙ ap (λ (h : ℕ). cond (sampleBefore time s && some (earlier h time) (seriesOf g l)) (forget time (seriesOf g l)) (s ∷ forget time (seriesOf g l))) (sym same)
         ∙ sym (ap (forget time) (mine g s l same))
       where
         test : (y : Bool) → seriesOf g (cond y (forget time l) (s ∷ forget time l)) ≡ cond y (forget time (seriesOf g l)) (s ∷ forget time (seriesOf g l))
         test true = ih
         test false = mine g s (forget time l) (eqb-true (signalOf s) g e) ∙ ap (λ (m : List Sample). s ∷ m) ih
-    go false e ih = test (before time s && some (earlier (signalOf s) time) l) ∙ ih ∙ sym (ap (forget time) (other g s l e))
+    go false e ih = test (sampleBefore time s && some (earlier (signalOf s) time) l) ∙ ih ∙ sym (ap (forget time) (other g s l e))
       where
         test : (y : Bool) → seriesOf g (cond y (forget time l) (s ∷ forget time l)) ≡ seriesOf g (forget time l)
         test true = refl
@@ -212,7 +212,7 @@ and-false false y e = refl
 
 pub forget-insert : (time : Float) (s : Sample) (p : ℕ) (t : List Sample) → since time s ≡ true → rises p t ≡ true → forget time (insert s t) ≡ insert s (forget time t)
 unfolding forget insert rises
-forget-insert time s p [] h r = rw (not-true (before time s) h)
+forget-insert time s p [] h r = rw (not-true (sampleBefore time s) h)
 forget-insert time s p (a ∷ t) h r = go (standsBefore s a) refl (forget-insert time s (placeOf a) t h rest)
   where
     rest : rises (placeOf a) t ≡ true
@@ -221,8 +221,8 @@ forget-insert time s p (a ∷ t) h r = go (standsBefore s a) refl (forget-insert
     whole : rises (placeOf a) (a ∷ t) ≡ true
     whole = rw (le-leb (placeOf a) (placeOf a) (le-refl (placeOf a))) rest
 
-    late : before time s ≡ false
-    late = not-true (before time s) h
+    late : sampleBefore time s ≡ false
+    late = not-true (sampleBefore time s) h
 
     go : (x : Bool) → standsBefore s a ≡ x → forget time (insert s t) ≡ insert s (forget time t)
         → forget time (cond x (s ∷ a ∷ t) (a ∷ insert s t)) ≡ insert s (forget time (a ∷ t))
@@ -231,8 +231,8 @@ forget-insert time s p (a ∷ t) h r = go (standsBefore s a) refl (forget-insert
         front : forget time (s ∷ a ∷ t) ≡ s ∷ forget time (a ∷ t)
         front = rw late
     go false e ih =
-        ap (λ (x : Bool). cond (before time a && x) (forget time (insert s t)) (a ∷ forget time (insert s t))) (some-insert (earlier (signalOf a) time) s t (and-false (eqb (signalOf s) (signalOf a)) (before time s) late))
-        ∙ test (before time a && some (earlier (signalOf a) time) t)
+        ap (λ (x : Bool). cond (sampleBefore time a && x) (forget time (insert s t)) (a ∷ forget time (insert s t))) (some-insert (earlier (signalOf a) time) s t (and-false (eqb (signalOf s) (signalOf a)) (sampleBefore time s) late))
+        ∙ test (sampleBefore time a && some (earlier (signalOf a) time) t)
       where
         test : (y : Bool) → cond y (forget time (insert s t)) (a ∷ forget time (insert s t)) ≡ insert s (cond y (forget time t) (a ∷ forget time t))
         test true = ih

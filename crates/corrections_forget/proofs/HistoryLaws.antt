@@ -16,7 +16,7 @@ use Rattle.corrections_table.proofs.Places.{rises, sorted-rises}
 use Rattle.corrections_table.proofs.TableLaws.{and-left, and-right}
 use Rattle.corrections_table.proofs.SeriesLaws.{insertAll-rises}
 use Rattle.corrections_table.proofs.UnitLaws.{never}
-use Rattle.corrections_query.specs.Query.{before, since, answerAt}
+use Rattle.corrections_query.specs.Query.{sampleBefore, since, answerAt}
 use Rattle.corrections_forget.specs.Forget.{earlier, some, forget}
 use Rattle.corrections_forget.specs.History.{Event, add, drop, happen, history, notBefore, allowed, undropped}
 use Rattle.corrections_forget.proofs.TimeLaws.{lt-through, lt-asym, lt-self, not-before-nan}
@@ -50,8 +50,8 @@ module _ (u t : Float) (n : isNan t ≡ false) (h : lt t u ≡ false) where
     where
       stays : forget t (forget u l) ≡ forget t l → forget t (s ∷ forget u l) ≡ forget t (s ∷ l)
       stays ih =
-          ap (λ (x : Bool). cond (before t s && x) (forget t (forget u l)) (s ∷ forget t (forget u l))) (some-forgotten u t n h (signalOf s) l)
-          ∙ ap (λ (m : List Sample). cond (before t s && some (earlier (signalOf s) t) l) m (s ∷ m)) ih
+          ap (λ (x : Bool). cond (sampleBefore t s && x) (forget t (forget u l)) (s ∷ forget t (forget u l))) (some-forgotten u t n h (signalOf s) l)
+          ∙ ap (λ (m : List Sample). cond (sampleBefore t s && some (earlier (signalOf s) t) l) m (s ∷ m)) ih
 
       go : (x y : Bool) → lt (s .time) u ≡ x → some (earlier (signalOf s) u) l ≡ y → forget t (forget u l) ≡ forget t l → forget t (cond (x && y) (forget u l) (s ∷ forget u l)) ≡ forget t (s ∷ l)
       go true true k w ih = ih ∙ sym (gone (lt-through (s .time) u t n k h) (some-later u t n h (signalOf s) l w))
@@ -132,7 +132,7 @@ history-law t (drop time ∷ es) gap c v b q r a =
 pub forget-length : (time : Float) (l : List Sample) → length (forget time l) ≤ length l
 unfolding forget
 forget-length time [] = omega arith
-forget-length time (s ∷ l) = go (before time s && some (earlier (signalOf s) time) l) (forget-length time l)
+forget-length time (s ∷ l) = go (sampleBefore time s && some (earlier (signalOf s) time) l) (forget-length time l)
   where
     go : (x : Bool) → length (forget time l) ≤ length l → length (cond x (forget time l) (s ∷ forget time l)) ≤ suc (length l)
     go true ih = omega arith

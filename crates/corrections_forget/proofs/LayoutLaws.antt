@@ -17,7 +17,7 @@ use Rattle.corrections_directory.specs.Series.{front}
 use Rattle.corrections_directory.proofs.SeriesLaws.{series-above}
 use Rattle.corrections_directory.proofs.DirectoryLaws.{block-keyed, keyed, run, readings-map, sound-parts, sound-flat, tiles-le, tiles-start, tiles-count, tiles-rest, ascends-rest}
 use Rattle.corrections_directory.proofs.BlockLaws.{front-le}
-use Rattle.corrections_query.specs.Query.{before}
+use Rattle.corrections_query.specs.Query.{sampleBefore}
 use Rattle.corrections_query.proofs.QueryLaws.{TimesHeld}
 use Rattle.corrections_forget.specs.Forget.{earlier, some, forget, laid, retained, trimmed}
 use Rattle.corrections_forget.proofs.ForgetLaws.{some-series}
@@ -69,8 +69,8 @@ module _ (time : Float) where
   unfolding forget
   forget-append g [] ys o h = refl
   forget-append g (x ∷ xs) ys o h =
-      ap (λ (b : Bool). cond (before time x && b) (forget time (xs ++ ys)) (x ∷ forget time (xs ++ ys))) (some-append (earlier (signalOf x) time) xs ys none)
-      ∙ go (before time x && some (earlier (signalOf x) time) xs) (forget-append g xs ys (o .1) h)
+      ap (λ (b : Bool). cond (sampleBefore time x && b) (forget time (xs ++ ys)) (x ∷ forget time (xs ++ ys))) (some-append (earlier (signalOf x) time) xs ys none)
+      ∙ go (sampleBefore time x && some (earlier (signalOf x) time) xs) (forget-append g xs ys (o .1) h)
     where
       none : some (earlier (signalOf x) time) ys ≡ false
       none = ap (λ (k : ℕ). some (earlier k time) ys) (o .0) ∙ h

@@ -8,15 +8,16 @@ use lib.ListN.{length, take, drop}
 use lib.Ieee.{Float}
 use lib.Ieee.Scale.{finite}
 use Rattle.numeric.specs.Refusal.{numberOf}
+use Rattle.numeric.specs.Rules.{rule, ruled}
 use Rattle.numeric.specs.declared.refusal.Refusal.{Refusal}
 use Rattle.numeric.specs.declared.refusal.Refusal.the-variants.{TooMany, RecordOutOfRange, BadDropTime}
 use Rattle.corrections_table.specs.Table.{signalOf}
 use Rattle.corrections_table.specs.declared.sample.Sample.{Sample}
 use Rattle.corrections_table.specs.declared.add.Test.{Test}
 use Rattle.corrections_table.specs.declared.add.Test.the-variants as Test
-use Rattle.corrections_directory.specs.Directory.{Directory, Blocks, PatternsWith, blocksWith, directoryOf, flat, soundDirectory, Entry, Reading, block}
+use Rattle.corrections_directory.specs.Directory.{Directory, Blocks, PatternsWith, blockCapacity, blocksWith, directoryIn, directoryOf, flat, soundDirectory, Entry, Reading, block}
 use Rattle.corrections_directory.specs.Lent.{LentTable}
-use Rattle.corrections_query.specs.Query.{before}
+use Rattle.corrections_query.specs.Query.{sampleBefore}
 use Rattle.corrections_forget.specs.declared.forget.Forgetting.{Forgetting}
 use Rattle.corrections_forget.specs.declared.forget.Forgetting.the-variants as Forgetting
 use Rattle.lists.specs.Walk.{collect}
@@ -26,7 +27,7 @@ use Rattle.corrections_directory.specs.Series.{front}
 
 -- a sample of the signal g before the time t; earlier is `<`, as in a query
 abbrev pub earlier : ℕ → Float → Sample → Bool
-earlier g t s = eqb (signalOf s) g && before t s
+earlier g t s = eqb (signalOf s) g && sampleBefore t s
 
 -- whether a sample passes the test
 unfoldable pub some : (Sample → Bool) → List Sample → Bool
@@ -36,17 +37,19 @@ some test (s ∷ ss) = test s || some test ss
 -- of each signal's samples earlier than the time only the last in table order is retained
 unfoldable pub forget : Float → List Sample → List Sample
 forget time [] = []
-forget time (s ∷ ss) = cond (before time s && some (earlier (signalOf s) time) ss) (forget time ss) (s ∷ forget time ss)
+forget time (s ∷ ss) = cond (sampleBefore time s && some (earlier (signalOf s) time) ss) (forget time ss) (s ∷ forget time ss)
 
 -- ---- the call
 
 -- what is tested before a drop from m entries and n samples in columns with that capacity: number 2, number 4, which does not depend on the time, and number 18
 unfoldable pub testIn : ℕ → ℕ → ℕ → Directory → Float → Test
 testIn m n room d time =
-    cond (ltb room m || ltb room n) (Test.Refused TooMany)
-    (cond (not (soundDirectory d)) (Test.Refused RecordOutOfRange)
-    (cond (not (finite time)) (Test.Refused BadDropTime)
-    Test.Passed))
+    ruled Test.Refused
+    (rule TooMany (ltb room m || ltb room n)
+    ∷ rule RecordOutOfRange (not (soundDirectory d))
+    ∷ rule BadDropTime (not (finite time))
+    ∷ [])
+    Test.Passed
 
 -- a refusal, or the directory afterwards
 pub data ForgetOutcome : Type 0 where
@@ -99,9 +102,21 @@ pub record Forgets (o : ForgetOutcome) (number m n n′ : ℕ) (l l′ : Blocks)
   pub count : n′ ≡ countAfter (forgettingOf o) n
   pub columns : l′ ≡ blocksAfter o l
 
--- the number, the count, the columns and the patterns after a call on lent columns are those of the outcome
-abbrev pub ForgetsIn : ForgetOutcome → ℕ → ℕ → ℕ → ℕ → LentTable → Type 0
-ForgetsIn o number m n n′ t = Forgets o number m n n′ (t .before) (t .after) × PatternsAfter o (t .times) (t .corrections) (t .timesAfter) (t .correctionsAfter)
+-- ---- on lent memory
+
+-- a drop from m entries and n samples in lent columns
+abbrev pub lentForget : ℕ → ℕ → LentTable → Float → ForgetOutcome
+lentForget m n t time = forgetIn m n (blockCapacity (t .before)) (directoryIn m n (t .before)) time
+
+-- the number, the count, the columns and the patterns after a call are those of the outcome
+abbrev pub ForgetsIn : ℕ → ℕ → LentTable → Float → ℕ → ℕ → Type 0
+ForgetsIn m n t time number n′ =
+    Forgets (lentForget m n t time) number m n n′ (t .before) (t .after)
+    × PatternsAfter (lentForget m n t time) (t .times) (t .corrections) (t .timesAfter) (t .correctionsAfter)
+
+-- the answer is that of the outcome, and so are the columns
+abbrev pub Forgot : ℕ → ℕ → LentTable → Float → Forgetting → Type 0
+Forgot m n t time a = (a ≡ forgettingOf (lentForget m n t time)) × ForgetsIn m n t time (forgettingNumber a) (countAfter a n)
 
 -- what a drop leaves of an entry's block: of the samples at its front that are before the time all but the last go
 abbrev pub retained : Float → List Reading → Entry → List Reading

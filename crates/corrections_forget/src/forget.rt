@@ -1,8 +1,8 @@
 // Forgetting in a directory, or the refusal.
 ghost use mathlib.Core.Path.{_≡_};
-ghost use Rattle.corrections_directory.specs.Directory.{blockCapacity, directoryIn};
 ghost use Rattle.corrections_directory.specs.Lent.{lentTable};
-ghost use Rattle.corrections_forget.specs.Forget.{ForgetsIn, countAfter, forgetIn, forgettingNumber, forgettingOf, testIn};
+ghost use Rattle.corrections_forget.specs.Forget.{Forgot};
+ghost use Rattle.corrections_forget.specs.Steps.{forgetTest};
 use crate::retain::trim;
 use corrections_directory::patterns::capacity_of;
 use corrections_directory::patterns::is_sound;
@@ -29,8 +29,8 @@ fn tested(
     table_count: usize,
     time: f64,
 ) -> Test
-    ensures { λ r. ⌜ (let l = lentTable «block_constellation» «block_svid» «block_band» «block_first» «block_samples» «table_time» «table_metres» .before in
-        r ≡ testIn blocks «table_count» (blockCapacity l) (directoryIn blocks «table_count» l) time) ⌝ }
+    ensures { λ r. ⌜ r ≡ forgetTest blocks «table_count»
+        (lentTable «block_constellation» «block_svid» «block_band» «block_first» «block_samples» «table_time» «table_metres») time ⌝ }
 {
     let room = capacity_of(
         block_constellation,
@@ -76,9 +76,8 @@ pub fn forget(
     table_count: usize,
     time: f64,
 ) -> Forgetting
-    ensures { λ r. ⌜ (let t = lentTable «block_constellation» «block_svid» «block_band» «block_first» «block_samples» «table_time» «table_metres» in
-        let o = forgetIn blocks «table_count» (blockCapacity (t .before)) (directoryIn blocks «table_count» (t .before)) time in
-        (r ≡ forgettingOf o) × ForgetsIn o (forgettingNumber r) blocks «table_count» (countAfter r «table_count») t) ⌝ }
+    ensures { λ r. ⌜ Forgot blocks «table_count»
+        (lentTable «block_constellation» «block_svid» «block_band» «block_first» «block_samples» «table_time» «table_metres») time r ⌝ }
 {
     let test = tested(
         block_constellation,

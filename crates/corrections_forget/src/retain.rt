@@ -2,6 +2,7 @@
 ghost use mathlib.Core.Path.{_≡_};
 ghost use Prim.Native.Nat.{_+_, _-_, _≤_};
 ghost use lib.ListN.{length};
+ghost use Rattle.lists.specs.Memory.{before};
 ghost use Rattle.corrections_directory.specs.Directory.{floats};
 ghost use Rattle.corrections_directory.specs.Steps.{Timed};
 ghost use Rattle.corrections_forget.specs.Steps.{MovesDown, Outdated, SomeDirectory, Trims};
@@ -10,7 +11,7 @@ use corrections_directory::patterns::number;
 // Counts the samples before the time at the front of the block of count samples from the place first on.
 fn front_of(table_time: &[u64], first: usize, count: usize, time: f64) -> usize
     requires { ⌜ Timed (now «table_time») first count ⌝ }
-    ensures { λ r. ⌜ Outdated (floats (now («table_time» .entry))) first count time r ⌝ }
+    ensures { λ r. ⌜ Outdated (floats (before «table_time»)) first count time r ⌝ }
 {
     let mut k: usize = 0;
     while k < count {

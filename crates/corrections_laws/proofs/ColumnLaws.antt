@@ -13,7 +13,7 @@ use Rattle.corrections_table.specs.Table.{Columns, beside, rows, tableOf}
 use Rattle.corrections_table.specs.declared.sample.Sample.{Sample}
 use Rattle.corrections_directory.specs.Directory.{Blocks, Directory, Entry, Reading, blockCapacity, blocksWith, columnOf, directoryIn, entriesIn, readingsIn}
 use Rattle.corrections_directory.proofs.ColumnLaws.{blocks-hold, entries-length, readings-length}
-use Rattle.corrections_directory.proofs.DirectoryLaws.{narrow}
+use Rattle.corrections_directory.proofs.NarrowLaws.{narrow}
 
 -- ---- the signals of a table
 pub record Signals (n : ℕ) (cs vs bs : List ℕ) (t : List Sample) : Type 0 where

@@ -17,7 +17,8 @@ use Rattle.corrections_table.specs.declared.sample.Sample.{Sample}
 use Rattle.corrections_table.proofs.InsertLaws.{insertAll-length}
 use Rattle.corrections_table.proofs.Places.{sorted-rises}
 use Rattle.corrections_directory.specs.Directory.{directoryOf, readingsIn, soundDirectory}
-use Rattle.corrections_directory.proofs.DirectoryLaws.{narrow, sound-directory, sound-flat}
+use Rattle.corrections_directory.proofs.DirectoryLaws.{sound-flat}
+use Rattle.corrections_directory.proofs.NarrowLaws.{narrow, sound-directory}
 use Rattle.corrections_directory.proofs.ColumnLaws.{flat-length}
 use Rattle.corrections_query.specs.Query.{guarded, patternAfter, queryIn, queryNumber}
 use Rattle.corrections_query.specs.declared.query.Correction.{Correction}
@@ -25,8 +26,8 @@ use Rattle.corrections_forget.specs.History.{Event, add, allowed, drop, happen,
 use Rattle.corrections_forget.proofs.HistoryLaws.{history-law, sorted-of}
 use Rattle.corrections_forget.proofs.ForgetLaws.{forget-every}
 use Rattle.corrections_epoch.specs.AddEpoch.{recordsInRange, settingsInRange}
-use Rattle.corrections_laws.proofs.Hypotheses.{TypedCalls}
-use Rattle.corrections_laws.specs.Calls.{AddsEpoch, Asks, Call, Caller, Does, Drops, Epoch, Query, CallRun, TypedTable, acceptedCalls, adding, answerBy, queryOn, baseEpoch, asBlocks, directory, done, dropping, epochNumbers, epochsOf, heldSamples, newSamples, next, room, shortOf, statesBeside}
+use Rattle.corrections_laws.specs.Typed.{Typed}
+use Rattle.corrections_laws.specs.Calls.{AddsEpoch, Asks, Call, Caller, Does, Drops, Epoch, Query, CallRun, acceptedCalls, adding, answerBy, queryOn, baseEpoch, asBlocks, callColumns, directory, done, dropping, epochNumbers, epochsOf, heldSamples, newSamples, next, room, shortOf, statesBeside, tableColumns}
 use Rattle.corrections_laws.proofs.StepLaws.{Added, Dropped, add-accepted, add-refused, drop-accepted, drop-refused, number-by, same-number, zero-or}
 use Rattle.corrections_laws.proofs.NarrowLaws.{flat-narrow, insertAll-pass, new-narrow}
 use Rattle.corrections_laws.proofs.RunLaws.{none-accepted, run-held}
@@ -37,21 +38,21 @@ record Beside (h g : Caller) : Type 0 where
   fewer : h .samples ≤ g .samples
   entries-same : ltb (room g) (g .entries) ≡ ltb (room h) (h .entries)
   samples-same : ltb (room g) (g .samples) ≡ ltb (room h) (h .samples)
-  steady-same : soundDirectory (directory g) ≡ soundDirectory (directory h)
+  sound-same : soundDirectory (directory g) ≡ soundDirectory (directory h)
   narrow-h : every narrow (heldSamples h) ≡ true
   narrow-g : every narrow (heldSamples g) ≡ true
 
 -- ---- one table after an accepted call
 
 -- the directory of samples in order, in range and of typed columns is sound
-steady-of : (h : Caller) (t : List Sample) → directory h ≡ directoryOf t → every narrow t ≡ true → soundTable t ≡ true → soundDirectory (directory h) ≡ true
-steady-of h t e w s = ap soundDirectory e ∙ sound-directory t w (sorted-of t s) ∙ s
+sound-of : (h : Caller) (t : List Sample) → directory h ≡ directoryOf t → every narrow t ≡ true → soundTable t ≡ true → soundDirectory (directory h) ≡ true
+sound-of h t e w s = ap soundDirectory e ∙ sound-directory t w (sorted-of t s) ∙ s
 
-added-steady : (h : Caller) (e : Epoch) (h′ : Caller) → Added h e h′ → every narrow (heldSamples h′) ≡ true → soundDirectory (directory h′) ≡ true
-added-steady h e h′ a w = steady-of h′ (heldSamples h′) (a .now-is ∙ ap directoryOf (sym (a .now-held))) w (a .steady)
+added-sound : (h : Caller) (e : Epoch) (h′ : Caller) → Added h e h′ → every narrow (heldSamples h′) ≡ true → soundDirectory (directory h′) ≡ true
+added-sound h e h′ a w = sound-of h′ (heldSamples h′) (a .now-is ∙ ap directoryOf (sym (a .now-held))) w (a .sound)
 
-dropped-steady : (h : Caller) (time : Float) (h′ : Caller) → Dropped h time h′ → every narrow (heldSamples h′) ≡ true → soundDirectory (directory h′) ≡ true
-dropped-steady h time h′ a w = steady-of h′ (heldSamples h′) (a .now-is ∙ ap directoryOf (sym (a .now-held))) w (a .still-steady)
+dropped-sound : (h : Caller) (time : Float) (h′ : Caller) → Dropped h time h′ → every narrow (heldSamples h′) ≡ true → soundDirectory (directory h′) ≡ true
+dropped-sound h time h′ a w = sound-of h′ (heldSamples h′) (a .now-is ∙ ap directoryOf (sym (a .now-held))) w (a .still-sound)
 
 both : {x y : Bool} → x ≡ true → y ≡ true → x ≡ y
 both p q = p ∙ sym q
@@ -68,7 +69,7 @@ added-beside h g e h′ g′ w b a c =
       fewer = omega (arith, a .count, c .count, b .fewer);
       entries-same = neither (le-ltb (room g′) (g′ .entries) (omega (arith, c .few, c .count, c .fit, c .same-room))) (le-ltb (room h′) (h′ .entries) (omega (arith, a .few, a .count, a .fit, a .same-room)));
       samples-same = neither (le-ltb (room g′) (g′ .samples) (omega (arith, c .count, c .fit, c .same-room))) (le-ltb (room h′) (h′ .samples) (omega (arith, a .count, a .fit, a .same-room)));
-      steady-same = both (added-steady g e g′ c wg) (added-steady h e h′ a wh);
+      sound-same = both (added-sound g e g′ c wg) (added-sound h e h′ a wh);
       narrow-h = wh;
       narrow-g = wg;
     }
@@ -81,7 +82,7 @@ dropped-beside h g time h′ b a =
       fewer = omega (arith, a .count, b .fewer);
       entries-same = b .entries-same ∙ le-ltb (room h) (h .entries) (a .few-entries) ∙ sym (le-ltb (room h′) (h′ .entries) (omega (arith, a .entries, a .few-entries, a .same-room)));
       samples-same = b .samples-same ∙ le-ltb (room h) (h .samples) (a .few-samples) ∙ sym (le-ltb (room h′) (h′ .samples) (omega (arith, a .count, a .few-samples, a .same-room)));
-      steady-same = b .steady-same ∙ a .steady ∙ sym (dropped-steady h time h′ a wh);
+      sound-same = b .sound-same ∙ a .sound ∙ sym (dropped-sound h time h′ a wh);
       narrow-h = wh;
       narrow-g = b .narrow-g;
     }
@@ -131,7 +132,7 @@ module _ (h g : Caller) (b : Beside h g) (e : Epoch) (k : ℕ) (h′ : Caller) (
   roomy z l =
       let s = add-accepted h e h′ (subst (λ (i : ℕ). AddsEpoch h e i h′) z a) in
       let few : g .samples ≤ room g = ltb-false (room g) (g .samples) (b .samples-same ∙ le-ltb (room h) (h .samples) (s .passes .few-samples)) in
-      let many : length (heldSamples g) ≡ g .samples = flat-length (directory g) (b .steady-same ∙ s .passes .steady) ∙ length-take-le (g .samples) (readingsIn (asBlocks g)) (omega arith) in
+      let many : length (heldSamples g) ≡ g .samples = flat-length (directory g) (b .sound-same ∙ s .passes .sound) ∙ length-take-le (g .samples) (readingsIn (asBlocks g)) (omega arith) in
       le-ltb (room g) (g .samples + length (newSamples e)) (omega (arith, insertAll-length (heldSamples g) (newSamples e)))
 
   overfilled : ltb (room h) (h .samples + length (newSamples e)) ≡ true → ltb (room g) (g .samples + length (newSamples e)) ≡ true
@@ -140,7 +141,7 @@ module _ (h g : Caller) (b : Beside h g) (e : Epoch) (k : ℕ) (h′ : Caller) (
   one-number : (j : ℕ) (g′ : Caller) → AddsEpoch g e j g′ → (k ≡ 0 → length (insertAll (heldSamples g) (newSamples e)) ≤ room g) → j ≡ k
   one-number j g′ c fit =
       number-by g e j g′ c
-      ∙ rw (b .entries-same, b .samples-same, b .steady-same)
+      ∙ rw (b .entries-same, b .samples-same, b .sound-same)
       (same-number (shortOf e) (ltb (room h) (h .entries)) (ltb (room h) (h .samples)) (ltb 64 (e .ranges)) (ltb 64 (cond (e .present) (e .states) 0)) (settingsInRange (e .settings))
       (recordsInRange (baseEpoch e) (statesBeside e) (e .base) (e .rover)) (soundDirectory (directory h)) (ltb (room h) (h .samples + length (newSamples e))) (ltb (room g) (g .samples + length (newSamples e)))
       overfilled (λ z. let y : k ≡ 0 = number-by h e k h′ a ∙ z in roomy y (fit y)))
@@ -159,7 +160,7 @@ numbers-drop : (time : Float) (cs : List Call) (k : ℕ) (ks : List ℕ) → epo
 unfolding epochNumbers
 numbers-drop time cs k ks = refl
 
-without : {h h′ : Caller} {cs : List Call} {ks : List ℕ} → CallRun h cs ks h′ → (g g′ : Caller) (js : List ℕ) → CallRun g (epochsOf cs) js g′ → TypedCalls cs → Beside h g
+without : {h h′ : Caller} {cs : List Call} {ks : List ℕ} → CallRun h cs ks h′ → (g g′ : Caller) (js : List ℕ) → CallRun g (epochsOf cs) js g′ → Typed (callColumns cs) → Beside h g
     → length (history (heldSamples g) (undropped (acceptedCalls cs ks))) ≤ room g → SameNumbers cs ks js h′ g′
 unfolding epochsOf
 without {h} done g g′ js r w b l =
@@ -176,18 +177,18 @@ without (next {h = h} {h′ = h′} {h″ = h″} {c = adding e} {cs = cs} {k = 
     let c = add-accepted g e (p .mid) (subst (λ (i : ℕ). AddsEpoch g e i (p .mid)) (same ∙ z) (p .does)) in
     let m : length (history (heldSamples (p .mid)) (undropped (acceptedCalls cs ks))) ≤ room (p .mid) =
     rw (c .same-room, c .now-held) (subst (λ (t : List Sample). length t ≤ room g) (epoch-more e cs k ks (heldSamples g) z) l) in
-    without r (p .mid) g′ (p .others) (p .rest) (w .1) (added-beside h g e h′ (p .mid) (new-narrow e (w .0)) b a c) m)
+    without r (p .mid) g′ (p .others) (p .rest) (w .1 .1) (added-beside h g e h′ (p .mid) (new-narrow e (w .0, (w .1 .0, tt))) b a c) m)
     (λ (n : k ≡ 0 → ⊥).
     let eh : h′ ≡ h = add-refused h e k h′ d n in
     let eg : p .mid ≡ g = add-refused g e (p .number) (p .mid) (p .does) (λ z. n (sym same ∙ z)) in
-    without r (p .mid) g′ (p .others) (p .rest) (w .1) (rw (eh, eg) b) (rw eg (subst (λ (t : List Sample). length t ≤ room g) (epoch-less (adding e) cs k ks (heldSamples g) n) l))) in
+    without r (p .mid) g′ (p .others) (p .rest) (w .1 .1) (rw (eh, eg) b) (rw eg (subst (λ (t : List Sample). length t ≤ room g) (epoch-less (adding e) cs k ks (heldSamples g) n) l))) in
     record { numbers = p .numbers ∙ ap (λ (i : ℕ). i ∷ p .others) same ∙ ap (λ (i : List ℕ). k ∷ i) (goes .numbers) ∙ sym (numbers-epoch e cs k ks); beside = goes .beside }
 without (next {h = h} {h′ = h′} {h″ = h″} {c = dropping time} {cs = cs} {k = k} {ks = ks} d r) g g′ js s w b l =
     let m : length (history (heldSamples g) (undropped (acceptedCalls cs ks))) ≤ room g = subst (λ (t : List Sample). length t ≤ room g) (drop-less time cs k ks (heldSamples g)) l in
     let goes : SameNumbers cs ks js h″ g′ =
     zero-or k
-    (λ (z : k ≡ 0). without r g g′ js s (w .1) (dropped-beside h g time h′ b (drop-accepted h time h′ (subst (λ (i : ℕ). Drops h time i h′) z d))) m)
-    (λ (n : k ≡ 0 → ⊥). without r g g′ js s (w .1) (rw (drop-refused h time k h′ d n) b) m) in
+    (λ (z : k ≡ 0). without r g g′ js s w (dropped-beside h g time h′ b (drop-accepted h time h′ (subst (λ (i : ℕ). Drops h time i h′) z d))) m)
+    (λ (n : k ≡ 0 → ⊥). without r g g′ js s w (rw (drop-refused h time k h′ d n) b) m) in
     record { numbers = goes .numbers ∙ sym (numbers-drop time cs k ks); beside = goes .beside }
 
 accepted-epochs : (cs : List Call) (ks : List ℕ) → acceptedCalls (epochsOf cs) (epochNumbers cs ks) ≡ undropped (acceptedCalls cs ks)
@@ -212,43 +213,43 @@ accepted-epochs (dropping time ∷ cs) (k ∷ ks) = go (eqb k 0) (accepted-epoch
     go false i = i
 
 -- For every list of calls from any columns and counts, where the capacity holds the samples held at the start and all that accepted calls added:
-module _ (h h′ g′ : Caller) (cs : List Call) (ks js : List ℕ) (run : CallRun h cs ks h′) (bare : CallRun h (epochsOf cs) js g′) (table : TypedTable h) (calls : TypedCalls cs)
-    (fits : length (history (heldSamples h) (undropped (acceptedCalls cs ks))) ≤ room h) where
-  start : Beside h h
-  start =
-      let w = flat-narrow (h .entries) (h .samples) (asBlocks h) (table .signals) in
-      record { same-room = refl; fewer = omega arith; entries-same = refl; samples-same = refl; steady-same = refl; narrow-h = w; narrow-g = w }
+module _ (h h′ g′ : Caller) (cs : List Call) (ks js : List ℕ) (run : CallRun h cs ks h′) (bare : CallRun h (epochsOf cs) js g′) where
+  start : Typed (tableColumns h) → Beside h h
+  start table =
+      let w = flat-narrow (h .entries) (h .samples) (asBlocks h) (table .0, (table .1 .0, tt)) in
+      record { same-room = refl; fewer = omega arith; entries-same = refl; samples-same = refl; sound-same = refl; narrow-h = w; narrow-g = w }
 
-  all : SameNumbers cs ks js h′ g′
-  all = without run h g′ js bare calls start fits
+  every-call : Typed (tableColumns h) → Typed (callColumns cs) → length (history (heldSamples h) (undropped (acceptedCalls cs ks))) ≤ room h → SameNumbers cs ks js h′ g′
+  every-call table calls fits = without run h g′ js bare calls (start table) fits
 
   -- the calls without the drops give each epoch the number that it had among them
-  pub same-numbers : js ≡ epochNumbers cs ks
-  same-numbers = all .numbers
+  pub same-numbers : Typed (tableColumns h) → Typed (callColumns cs) → length (history (heldSamples h) (undropped (acceptedCalls cs ks))) ≤ room h → js ≡ epochNumbers cs ks
+  same-numbers table calls fits = every-call table calls fits .numbers
 
-  -- so they accept the same epochs
-  pub same-accepted : acceptedCalls (epochsOf cs) js ≡ undropped (acceptedCalls cs ks)
-  same-accepted = ap (acceptedCalls (epochsOf cs)) same-numbers ∙ accepted-epochs cs ks
+  module _ (table : Typed (tableColumns h)) (calls : Typed (callColumns cs)) (fits : length (history (heldSamples h) (undropped (acceptedCalls cs ks))) ≤ room h) where
+    -- so they accept the same epochs
+    pub same-accepted : acceptedCalls (epochsOf cs) js ≡ undropped (acceptedCalls cs ks)
+    same-accepted = ap (acceptedCalls (epochsOf cs)) (same-numbers table calls fits) ∙ accepted-epochs cs ks
 
-  -- and a query not before any accepted drop, where no accepted epoch is earlier than a drop before it, answers the same, refusals too
-  pub same-query : (q : Query) → allowed (q .time) (acceptedCalls cs ks) ≡ true → queryOn h′ q ≡ queryOn g′ q
-  unfolding queryIn
-  same-query q al =
-      let b = all .beside in
-      rw (b .entries-same, b .samples-same, b .steady-same) (ap (guarded (ltb (room h′) (h′ .entries) || ltb (room h′) (h′ .samples)) (soundDirectory (directory h′)) (q .gap) (q .time)) answers)
-    where
-      same : (x : Bool) → soundDirectory (directory h) ≡ x → answerBy (history (heldSamples h) (acceptedCalls cs ks)) q ≡ answerBy (history (heldSamples h) (undropped (acceptedCalls cs ks))) q
-      same true s = history-law (heldSamples h) (acceptedCalls cs ks) (q .gap) (q .constellation) (q .svid) (q .band) (q .time) (sorted-rises (heldSamples h) ∙ sorted-of (heldSamples h) (sound-flat (directory h) s)) al
-      same false s = nothing (acceptedCalls cs ks) (none-accepted run s)
-        where
-          nothing : (es : List Event) → es ≡ [] → answerBy (history (heldSamples h) es) q ≡ answerBy (history (heldSamples h) (undropped es)) q
-          nothing es e = unfold undropped in rw e
+    -- and a query not before any accepted drop, where no accepted epoch is earlier than a drop before it, answers the same, refusals too
+    pub same-query : (q : Query) → allowed (q .time) (acceptedCalls cs ks) ≡ true → queryOn h′ q ≡ queryOn g′ q
+    unfolding queryIn
+    same-query q al =
+        let b = every-call table calls fits .beside in
+        rw (b .entries-same, b .samples-same, b .sound-same) (ap (guarded (ltb (room h′) (h′ .entries) || ltb (room h′) (h′ .samples)) (soundDirectory (directory h′)) (q .gap) (q .time)) answers)
+      where
+        same : (x : Bool) → soundDirectory (directory h) ≡ x → answerBy (history (heldSamples h) (acceptedCalls cs ks)) q ≡ answerBy (history (heldSamples h) (undropped (acceptedCalls cs ks))) q
+        same true s = history-law (heldSamples h) (acceptedCalls cs ks) (q .gap) (q .constellation) (q .svid) (q .band) (q .time) (sorted-rises (heldSamples h) ∙ sorted-of (heldSamples h) (sound-flat (directory h) s)) al
+        same false s = nothing (acceptedCalls cs ks) (none-accepted run s)
+          where
+            nothing : (es : List Event) → es ≡ [] → answerBy (history (heldSamples h) es) q ≡ answerBy (history (heldSamples h) (undropped es)) q
+            nothing es e = unfold undropped in rw e
 
-      answers : answerBy (heldSamples h′) q ≡ answerBy (heldSamples g′) q
-      answers = ap (λ (t : List Sample). answerBy t q) (run-held run) ∙ same (soundDirectory (directory h)) refl ∙ ap (λ (es : List Event). answerBy (history (heldSamples h) es) q) (sym same-accepted) ∙ ap (λ (t : List Sample). answerBy t q) (sym (run-held bare))
+        answers : answerBy (heldSamples h′) q ≡ answerBy (heldSamples g′) q
+        answers = ap (λ (t : List Sample). answerBy t q) (run-held run) ∙ same (soundDirectory (directory h)) refl ∙ ap (λ (es : List Event). answerBy (history (heldSamples h) es) q) (sym same-accepted) ∙ ap (λ (t : List Sample). answerBy t q) (sym (run-held bare))
 
-  pub same-answer : (q : Query) → allowed (q .time) (acceptedCalls cs ks) ≡ true → (number other metres metres′ metres″ : ℕ) → Asks h′ q number metres metres′ → Asks g′ q other metres metres″
-      → (number ≡ other) × (metres′ ≡ metres″)
-  same-answer q al number other metres metres′ metres″ a b =
-      let e = same-query q al in
-      (a .number-is ∙ ap queryNumber e ∙ sym (b .number-is), a .metres-are ∙ ap (λ (c : Correction). patternAfter c metres) e ∙ sym (b .metres-are))
+    pub same-answer : (q : Query) → allowed (q .time) (acceptedCalls cs ks) ≡ true → (number other metres metres′ metres″ : ℕ) → Asks h′ q number metres metres′ → Asks g′ q other metres metres″
+        → (number ≡ other) × (metres′ ≡ metres″)
+    same-answer q al number other metres metres′ metres″ a b =
+        let e = same-query q al in
+        (a .number-is ∙ ap queryNumber e ∙ sym (b .number-is), a .metres-are ∙ ap (λ (c : Correction). patternAfter c metres) e ∙ sym (b .metres-are))

@@ -1,6 +1,6 @@
 -- Request (ix): each form of a table is recovered from the other, by the contracts of the two rearrangements. Assumes nothing.
 use mathlib.Core.Path.{_≡_, refl, sym, ap, _∙_}
-use mathlib.Core.List.{List, _++_}
+use mathlib.Core.List.{List, [], _∷_, _++_}
 use mathlib.Core.Bool.{Bool, true, false, cond, not, _||_}
 use Prim.Native.Nat.{ℕ, min, _≤_}
 use native.Mathlib.Omega.{arith}
@@ -11,19 +11,21 @@ use borrow.Author.Tests.{ltb-false, le-ltb}
 use lib.Ieee.{Float}
 use Rattle.lists.proofs.Walk.{or-no}
 use Rattle.numeric.specs.declared.refusal.Refusal.the-variants.{TooMany, RecordOutOfRange}
+use Rattle.numeric.specs.Rules.{ruled}
+use Rattle.numeric.proofs.RefusalLaws.{not-zero}
 use Rattle.corrections_table.specs.Table.{Columns, capacity, lentSamples, rows, soundTable, tableOf}
 use Rattle.corrections_table.specs.declared.sample.Sample.{Sample}
 use Rattle.corrections_table.proofs.ColumnLaws.{rows-length}
 use Rattle.corrections_directory.specs.Directory.{Blocks, Directory, Entry, blockCapacity, directoryIn, directoryOf, entriesFrom, entriesIn, entryRows, flat, lentBlocks, readingsIn, readingRows, soundDirectory}
 use Rattle.corrections_directory.specs.Rearrange.{entriesAre, entriesWith, filedNumber, filedOf, listedNumber, listedOf, samplesAre, signalsWith, unfiled, unlisted}
-use Rattle.corrections_directory.proofs.DirectoryLaws.{directory-flat, flat-directory, sound-directory, sound-flat}
+use Rattle.corrections_directory.proofs.DirectoryLaws.{directory-flat, flat-directory, sound-flat}
+use Rattle.corrections_directory.proofs.NarrowLaws.{sound-directory}
 use Rattle.corrections_directory.proofs.ColumnLaws.{entries-length, readings-length, flat-length, rearranged, restored}
 use Rattle.corrections_forget.proofs.HistoryLaws.{sorted-of}
 use Rattle.corrections_add.proofs.CountLaws.{fields-of}
 use Rattle.corrections_add.proofs.PlaceLaws.{entries-fewer}
 use Rattle.corrections_convert.specs.Lent.{Files, Lists}
-use Rattle.corrections_laws.specs.Typed.{Typed}
-use Rattle.corrections_laws.proofs.NumberLaws.{not-zero}
+use Rattle.corrections_laws.specs.Typed.{Typed, u16, u32}
 use Rattle.corrections_laws.proofs.ColumnLaws.{column-length, signals-of, table-narrow}
 
 -- ---- what an answer of 0 says
@@ -32,23 +34,23 @@ record Filing (n long : ℕ) (l : Columns) : Type 0 where
   few : n ≤ 2048
   in-long : n ≤ long
   in-rows : n ≤ length (rows l)
-  steady : soundTable (tableOf n l) ≡ true
+  sound : soundTable (tableOf n l) ≡ true
   is : filedOf n long l ≡ entriesAre (entriesFrom 0 (tableOf n l))
 
 filing : (n long : ℕ) (l : Columns) → 0 ≡ filedNumber (filedOf n long l) → Filing n long l
-unfolding filedOf directoryOf
+unfolding filedOf directoryOf ruled
 filing n long l e = go (ltb (min long (capacity l)) n) (soundTable (tableOf n l)) refl refl e
   where
     go : (x y : Bool) → ltb (min long (capacity l)) n ≡ x → soundTable (tableOf n l) ≡ y
         → 0 ≡ filedNumber (cond x (unfiled TooMany) (cond (not y) (unfiled RecordOutOfRange) (entriesAre (entriesFrom 0 (tableOf n l))))) → Filing n long l
-    go true y p q z = absurd (not-zero TooMany z)
-    go false false p q z = absurd (not-zero RecordOutOfRange z)
+    go true y p q z = absurd (not-zero TooMany (sym z))
+    go false false p q z = absurd (not-zero RecordOutOfRange (sym z))
     go false true p q z =
         let k = ltb-false (min long (capacity l)) n p in
-        record { few = omega arith; in-long = omega arith; in-rows = omega arith; steady = q; is = rw (p, q) }
+        record { few = omega arith; in-long = omega arith; in-rows = omega arith; sound = q; is = rw (p, q) }
 
 filed : (n long : ℕ) (l : Columns) → n ≤ 2048 → n ≤ long → n ≤ length (rows l) → soundTable (tableOf n l) ≡ true → filedOf n long l ≡ entriesAre (entriesFrom 0 (tableOf n l))
-unfolding filedOf directoryOf
+unfolding filedOf directoryOf ruled
 filed n long l a b c s = let k : n ≤ min long (capacity l) = omega arith in rw (le-ltb (min long (capacity l)) n k, s)
 
 record Listing (m n long : ℕ) (l : Blocks) : Type 0 where
@@ -56,27 +58,27 @@ record Listing (m n long : ℕ) (l : Blocks) : Type 0 where
   in-long : n ≤ long
   in-entries : m ≤ length (entriesIn l)
   in-readings : n ≤ length (readingsIn l)
-  steady : soundDirectory (directoryIn m n l) ≡ true
+  sound : soundDirectory (directoryIn m n l) ≡ true
   is : listedOf m n long l ≡ samplesAre (flat (directoryIn m n l))
 
 listing : (m n long : ℕ) (l : Blocks) → 0 ≡ listedNumber (listedOf m n long l) → Listing m n long l
-unfolding listedOf
+unfolding listedOf ruled
 listing m n long l e = go ((ltb (blockCapacity l) m || ltb (blockCapacity l) n) || ltb long n) (soundDirectory (directoryIn m n l)) refl refl e
   where
     go : (x y : Bool) → ((ltb (blockCapacity l) m || ltb (blockCapacity l) n) || ltb long n) ≡ x → soundDirectory (directoryIn m n l) ≡ y
         → 0 ≡ listedNumber (cond x (unlisted TooMany) (cond (not y) (unlisted RecordOutOfRange) (samplesAre (flat (directoryIn m n l))))) → Listing m n long l
-    go true y p q z = absurd (not-zero TooMany z)
-    go false false p q z = absurd (not-zero RecordOutOfRange z)
+    go true y p q z = absurd (not-zero TooMany (sym z))
+    go false false p q z = absurd (not-zero RecordOutOfRange (sym z))
     go false true p q z =
         let j = or-no (ltb (blockCapacity l) m || ltb (blockCapacity l) n) (ltb long n) p in
         let k = or-no (ltb (blockCapacity l) m) (ltb (blockCapacity l) n) (j .0) in
         let a = ltb-false (blockCapacity l) m (k .0) in
         let b = ltb-false (blockCapacity l) n (k .1) in
-        record { few = omega arith; in-long = ltb-false long n (j .1); in-entries = omega arith; in-readings = omega arith; steady = q; is = rw (p, q) }
+        record { few = omega arith; in-long = ltb-false long n (j .1); in-entries = omega arith; in-readings = omega arith; sound = q; is = rw (p, q) }
 
 listed : (m n long : ℕ) (l : Blocks) → m ≤ n → n ≤ 2048 → n ≤ long → n ≤ length (entriesIn l) → n ≤ length (readingsIn l) → soundDirectory (directoryIn m n l) ≡ true
     → listedOf m n long l ≡ samplesAre (flat (directoryIn m n l))
-unfolding listedOf
+unfolding listedOf ruled
 listed m n long l a b c e f s =
     let k : n ≤ blockCapacity l = omega arith in
     rw (le-ltb (blockCapacity l) m (omega arith), le-ltb (blockCapacity l) n k, le-ltb long n c, s)
@@ -126,23 +128,23 @@ module _ (n m m′ : ℕ) (l : Columns) (dc dv db df dn : List ℕ) (l′ : Bloc
   samples = ap flat files-hold ∙ flat-directory (tableOf n l)
 
   -- the table is sound, and its samples lie within its capacity
-  pub files-steady : soundTable (tableOf n l) ≡ true
-  files-steady = f .steady
+  pub files-sound : soundTable (tableOf n l) ≡ true
+  files-sound = f .sound
 
   pub files-fit : n ≤ capacity l
   files-fit = omega (arith, f .few, f .in-rows)
 
-  module _ (typed : Typed (l .svids) (l .bands)) (us ws ys : List ℕ) (in-us : n ≤ length us) (in-ws : n ≤ length ws) (in-ys : n ≤ length ys) (number : ℕ) (t′ : Columns)
+  module _ (typed : Typed (u16 (l .svids) ∷ u32 (l .bands) ∷ [])) (us ws ys : List ℕ) (in-us : n ≤ length us) (in-ws : n ≤ length ws) (in-ys : n ≤ length ys) (number : ℕ) (t′ : Columns)
       (lists : Lists (listedOf m′ n (min (length us) (min (length ws) (length ys))) l′) number (lentSamples us ws ys (l .times) (l .corrections)) t′) where
-    steady : soundDirectory (directoryIn m′ n l′) ≡ true
-    steady = ap soundDirectory files-hold ∙ sound-directory (tableOf n l) (table-narrow n l (typed .svid) (typed .band)) (sorted-of (tableOf n l) (f .steady)) ∙ f .steady
+    sound : soundDirectory (directoryIn m′ n l′) ≡ true
+    sound = ap soundDirectory files-hold ∙ sound-directory (tableOf n l) (table-narrow n l (typed .0) (typed .1 .0)) (sorted-of (tableOf n l) (f .sound)) ∙ f .sound
 
     answer : listedOf m′ n (min (length us) (min (length ws) (length ys))) l′ ≡ samplesAre (tableOf n l)
     answer =
         let e : length (entriesIn l′) ≡ length (entryRows dc dv db df dn) = rw left (entries-room (entriesFrom 0 (tableOf n l)) dc dv db df dn (l .times) (l .corrections) (omega (arith, few, f .in-long))) in
         let r : length (readingsIn l′) ≡ length (readingRows (l .times) (l .corrections)) = rw left in
         let k : n ≤ length (readingRows (l .times) (l .corrections)) = omega (arith, f .in-rows, rows-length l, readings-length (l .times) (l .corrections)) in
-        listed m′ n (min (length us) (min (length ws) (length ys))) l′ (omega (arith, few, files-count)) (f .few) (omega arith) (omega (arith, f .in-long)) (omega arith) steady
+        listed m′ n (min (length us) (min (length ws) (length ys))) l′ (omega (arith, few, files-count)) (f .few) (omega arith) (omega (arith, f .in-long)) (omega arith) sound
         ∙ ap samplesAre samples
 
     -- the way back answers 0
@@ -166,10 +168,10 @@ module _ (m n : ℕ) (l : Blocks) (us ws ys : List ℕ) (t′ : Columns) (lists 
   given = rw (g .is) at (lists .columns)
 
   table : tableOf n t′ ≡ flat (directoryIn m n l)
-  table = rw given (restored m n l us ws ys (g .in-readings) (g .steady))
+  table = rw given (restored m n l us ws ys (g .in-readings) (g .sound))
 
   wide : length (flat (directoryIn m n l)) ≡ n
-  wide = flat-length (directoryIn m n l) (g .steady) ∙ length-take-le n (readingsIn l) (g .in-readings)
+  wide = flat-length (directoryIn m n l) (g .sound) ∙ length-take-le n (readingsIn l) (g .in-readings)
 
   in-rows : n ≤ length (rows t′)
   in-rows =
@@ -182,8 +184,8 @@ module _ (m n : ℕ) (l : Blocks) (us ws ys : List ℕ) (t′ : Columns) (lists 
 
   again : filedOf n (length (entryRows dc dv db df dn)) t′ ≡ entriesAre (take m (entriesIn l))
   again =
-      filed n (length (entryRows dc dv db df dn)) t′ (g .few) room in-rows (ap soundTable table ∙ sound-flat (directoryIn m n l) (g .steady))
-      ∙ ap entriesAre (ap (entriesFrom 0) table ∙ sym (same-entries (flat (directoryIn m n l))) ∙ ap (λ (x : Directory). x .entries) (directory-flat (directoryIn m n l) (g .steady)))
+      filed n (length (entryRows dc dv db df dn)) t′ (g .few) room in-rows (ap soundTable table ∙ sound-flat (directoryIn m n l) (g .sound))
+      ∙ ap entriesAre (ap (entriesFrom 0) table ∙ sym (same-entries (flat (directoryIn m n l))) ∙ ap (λ (x : Directory). x .entries) (directory-flat (directoryIn m n l) (g .sound)))
 
   -- the way back answers 0, with the same count
   pub directory-answer : number ≡ 0

@@ -1,5 +1,4 @@
 -- The laws of the calls.
-pub mod NumberLaws
 pub mod ColumnLaws
 pub mod FormLaws
 pub mod StepLaws
@@ -11,4 +10,3 @@ pub mod BuildLaws
 pub mod MarkLaws
 pub mod SameLaws
 pub mod WidenLaws
-pub mod Hypotheses

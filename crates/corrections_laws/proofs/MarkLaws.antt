@@ -20,7 +20,8 @@ use Rattle.corrections_epoch.specs.Raw.{enabled, firstRaw, rawAt, rawsOf}
 use Rattle.corrections_epoch.specs.Sample.{epochSamples, samplesOf}
 use Rattle.corrections_epoch.specs.declared.record.Range.{Range}
 use Rattle.corrections_epoch.specs.declared.record.Settings.{Settings}
-use Rattle.corrections_laws.specs.Calls.{AddsEpoch, Caller, Epoch, TypedTable, asBlocks, directory, heldSamples, newSamples}
+use Rattle.corrections_laws.specs.Calls.{AddsEpoch, Caller, Epoch, asBlocks, directory, heldSamples, newSamples, tableColumns}
+use Rattle.corrections_laws.specs.Typed.{Typed}
 use Rattle.corrections_directory.proofs.PatternLaws.{floats-length, map-of, numbers-in, numbers-of, patterns-back}
 use Rattle.corrections_laws.proofs.StepLaws.{Added, add-accepted, add-refused, same-caller, zero-or}
 
@@ -68,9 +69,9 @@ blocks-same m n l h k =
     )
 
 -- patterns of a sound directory, read and written back
-module _ (h : Caller) (typed : TypedTable h) (few : h .samples ≤ length (readingsIn (asBlocks h))) (steady : soundDirectory (directory h) ≡ true) where
+module _ (h : Caller) (typed : Typed (tableColumns h)) (few : h .samples ≤ length (readingsIn (asBlocks h))) (sound : soundDirectory (directory h) ≡ true) where
   reach : every inReach (take (h .samples) (readingRows (floats (h .times)) (floats (h .corrections)))) ≡ true
-  reach = sound-parts (directory h) steady .in-reach
+  reach = sound-parts (directory h) sound .in-reach
 
   within : (h .samples ≤ length (h .times)) × (h .samples ≤ length (h .corrections))
   within = (omega (arith, readings-length (floats (h .times)) (floats (h .corrections)), floats-length (h .times)), omega (arith, readings-length (floats (h .times)) (floats (h .corrections)), floats-length (h .corrections)))
@@ -80,7 +81,7 @@ module _ (h : Caller) (typed : TypedTable h) (few : h .samples ≤ length (readi
       column-same (λ (r : Reading). patternOf (r .time)) (directory h .readings) (h .samples) (h .times)
       (map-of patternOf (λ (r : Reading). r .time) (directory h .readings)
       ∙ ap (map patternOf) (readings-fields (h .samples) (floats (h .times)) (floats (h .corrections)) few .0)
-      ∙ patterns-back (h .times) (h .samples) (within .0) (typed .time) (λ x l. numbers-in (h .times) (h .corrections) (h .samples) few reach x l))
+      ∙ patterns-back (h .times) (h .samples) (within .0) (typed .1 .1 .0) (λ x l. numbers-in (h .times) (h .corrections) (h .samples) few reach x l))
       (length-take-le (h .samples) (readingsIn (asBlocks h)) few)
 
   pub corrections-same : columnOf (λ (r : Reading). patternOf (r .correction)) (directory h .readings) (h .corrections) ≡ h .corrections
@@ -88,22 +89,22 @@ module _ (h : Caller) (typed : TypedTable h) (few : h .samples ≤ length (readi
       column-same (λ (r : Reading). patternOf (r .correction)) (directory h .readings) (h .samples) (h .corrections)
       (map-of patternOf (λ (r : Reading). r .correction) (directory h .readings)
       ∙ ap (map patternOf) (readings-fields (h .samples) (floats (h .times)) (floats (h .corrections)) few .1)
-      ∙ patterns-back (h .corrections) (h .samples) (within .1) (typed .correction) (λ x l. numbers-of (h .times) (h .corrections) (h .samples) few reach x l))
+      ∙ patterns-back (h .corrections) (h .samples) (within .1) (typed .1 .1 .1 .0) (λ x l. numbers-of (h .times) (h .corrections) (h .samples) few reach x l))
       (length-take-le (h .samples) (readingsIn (asBlocks h)) few)
 
 -- ---- the call: accepted or not, it leaves every bit of every column, and both counts
-pub marked : (h : Caller) (e : Epoch) (number : ℕ) (h′ : Caller) → AddsEpoch h e number h′ → TypedTable h → e .present ≡ false → h′ ≡ h
+pub marked : (h : Caller) (e : Epoch) (number : ℕ) (h′ : Caller) → AddsEpoch h e number h′ → Typed (tableColumns h) → e .present ≡ false → h′ ≡ h
 marked h e number h′ a typed p = zero-or number (λ (z : number ≡ 0). accepted (add-accepted h e h′ (subst (λ (i : ℕ). AddsEpoch h e i h′) z a))) (λ (n : number ≡ 0 → ⊥). add-refused h e number h′ a n)
   where
     accepted : Added h e h′ → h′ ≡ h
     accepted s =
         let none : insertAll (heldSamples h) (newSamples e) ≡ heldSamples h = ap (insertAll (heldSamples h)) (none-new e p) ∙ (unfold insertAll in refl) in
-        let is : directoryOf (insertAll (heldSamples h) (newSamples e)) ≡ directory h = ap directoryOf none ∙ directory-flat (directory h) (s .passes .steady) in
+        let is : directoryOf (insertAll (heldSamples h) (newSamples e)) ≡ directory h = ap directoryOf none ∙ directory-flat (directory h) (s .passes .sound) in
         let me : h .entries ≤ length (entriesIn (asBlocks h)) = omega (arith, s .passes .few-entries) in
         let ne : h .samples ≤ length (readingsIn (asBlocks h)) = omega (arith, s .passes .few-samples) in
         same-caller h h′
         (s .entries ∙ ap (λ (d : Directory). length (d .entries)) is ∙ length-take-le (h .entries) (entriesIn (asBlocks h)) me)
         (s .count ∙ rw (none-new e p) (omega arith))
         (s .columns-are ∙ ap (λ (d : Directory). blocksWith d (asBlocks h)) is ∙ blocks-same (h .entries) (h .samples) (asBlocks h) me ne)
-        (s .patterns .times ∙ ap (λ (d : Directory). columnOf (λ (r : Reading). patternOf (r .time)) (d .readings) (h .times)) is ∙ times-same h typed ne (s .passes .steady))
-        (s .patterns .corrections ∙ ap (λ (d : Directory). columnOf (λ (r : Reading). patternOf (r .correction)) (d .readings) (h .corrections)) is ∙ corrections-same h typed ne (s .passes .steady))
+        (s .patterns .times ∙ ap (λ (d : Directory). columnOf (λ (r : Reading). patternOf (r .time)) (d .readings) (h .times)) is ∙ times-same h typed ne (s .passes .sound))
+        (s .patterns .corrections ∙ ap (λ (d : Directory). columnOf (λ (r : Reading). patternOf (r .correction)) (d .readings) (h .corrections)) is ∙ corrections-same h typed ne (s .passes .sound))

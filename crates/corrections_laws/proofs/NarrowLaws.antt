@@ -15,7 +15,7 @@ use Rattle.corrections_table.specs.Add.{insert, insertAll}
 use Rattle.corrections_table.specs.declared.sample.Sample.{Sample}
 use Rattle.corrections_table.proofs.TableLaws.{and-left, and-right}
 use Rattle.corrections_directory.specs.Directory.{Blocks, Entry, Reading, block, directoryIn, entriesIn, entryRows, flat, readingsIn, sampleOf}
-use Rattle.corrections_directory.proofs.DirectoryLaws.{narrow}
+use Rattle.corrections_directory.proofs.NarrowLaws.{narrow}
 use Rattle.corrections_epoch.specs.Raw.{enabled, firstRaw, rawAt, rawOf, rawsOf, isStateOf}
 use Rattle.corrections_epoch.specs.Sample as Samples
 use Rattle.corrections_epoch.specs.Sample.{clockOf, corrected, epochSamples, group, kept, sampleAt, samplesOf}
@@ -24,9 +24,8 @@ use Rattle.corrections_epoch.specs.declared.record.Range.{Range}
 use Rattle.corrections_epoch.specs.declared.record.Settings.{Settings}
 use Rattle.corrections_epoch.specs.declared.record.State.{State}
 use Rattle.corrections_epoch_columns.specs.Epoch.{rangeAt}
-use Rattle.corrections_laws.proofs.Hypotheses.{TypedEpoch}
 use Rattle.corrections_laws.specs.Calls.{Epoch, newSamples}
-use Rattle.corrections_laws.specs.Typed.{Typed}
+use Rattle.corrections_laws.specs.Typed.{Typed, u16, u32}
 
 every-append : {A : Type 0} (p : A → Bool) (xs ys : List A) → every p xs ≡ true → every p ys ≡ true → every p (xs ++ ys) ≡ true
 unfolding every
@@ -58,10 +57,10 @@ unfolding every narrow narrowEntry
 block-narrow e [] h = refl
 block-narrow e (r ∷ rs) h = rw h (block-narrow e rs h)
 
-pub flat-narrow : (m n : ℕ) (l : Blocks) → Typed (l .svids) (l .bands) → every narrow (flat (directoryIn m n l)) ≡ true
+pub flat-narrow : (m n : ℕ) (l : Blocks) → Typed (u16 (l .svids) ∷ u32 (l .bands) ∷ []) → every narrow (flat (directoryIn m n l)) ≡ true
 unfolding flat block
 flat-narrow m n l t =
-    every-collect narrow narrowEntry _ (take m (entriesIn l)) (λ e h. block-narrow e (take (e .count) (drop (e .start) (take n (readingsIn l)))) h) (entries-narrow m (l .constellations) (l .svids) (l .bands) (l .firsts) (l .counts) (t .svid) (t .band))
+    every-collect narrow narrowEntry _ (take m (entriesIn l)) (λ e h. block-narrow e (take (e .count) (drop (e .start) (take n (readingsIn l)))) h) (entries-narrow m (l .constellations) (l .svids) (l .bands) (l .firsts) (l .counts) (t .0) (t .1 .0))
 
 taken : {A : Type 0} (p : A → Bool) (i : ℕ) (l : List A) → every p l ≡ true → every p (take i l) ≡ true
 unfolding every
@@ -120,9 +119,9 @@ module _ (test : ℕ → ℕ → Bool) where
       (taken byRange (e .ranges) (places (rangeAt (e .range-constellations) (e .range-svids) (e .range-bands) (e .pseudoranges)) (e .ranges))
       (ranges-pass (e .ranges) (e .range-constellations) (e .range-svids) (e .range-bands) (e .pseudoranges) t)))
 
-pub new-narrow : (e : Epoch) → TypedEpoch e → every narrow (newSamples e) ≡ true
+pub new-narrow : (e : Epoch) → Typed (u16 (e .range-svids) ∷ u32 (e .range-bands) ∷ []) → every narrow (newSamples e) ≡ true
 unfolding narrow
-new-narrow e t = new-pass (λ v b. ltb v (2 ^ 16) && ltb b (2 ^ 32)) e (λ i. rw (lt-ltb (getD (e .range-svids) i 0) (2 ^ 16) (t .svid i), lt-ltb (getD (e .range-bands) i 0) (2 ^ 32) (t .band i)))
+new-narrow e t = new-pass (λ v b. ltb v (2 ^ 16) && ltb b (2 ^ 32)) e (λ i. rw (lt-ltb (getD (e .range-svids) i 0) (2 ^ 16) (t .0 i), lt-ltb (getD (e .range-bands) i 0) (2 ^ 32) (t .1 .0 i)))
 
 -- ---- samples put into a table
 insert-pass : (p : Sample → Bool) (s : Sample) (t : List Sample) → p s ≡ true → every p t ≡ true → every p (insert s t) ≡ true

@@ -25,14 +25,14 @@ call-refused h (dropping time) k h′ a n = drop-refused h time k h′ a n
 
 -- what an accepted call leaves
 pub record Accepted (h : Caller) (c : Call) (h′ : Caller) : Type 0 where
-  pub steady : soundDirectory (directory h) ≡ true
+  pub sound : soundDirectory (directory h) ≡ true
   pub now-held : heldSamples h′ ≡ happen (heldSamples h) (eventOf c)
   pub same-room : room h′ ≡ room h
 
 pub call-accepted : (h : Caller) (c : Call) (h′ : Caller) → Does h c 0 h′ → Accepted h c h′
 unfolding happen
-call-accepted h (adding e) h′ a = let s = add-accepted h e h′ a in record { steady = s .passes .steady; now-held = s .now-held; same-room = s .same-room }
-call-accepted h (dropping time) h′ a = let s = drop-accepted h time h′ a in record { steady = s .steady; now-held = s .now-held; same-room = s .same-room }
+call-accepted h (adding e) h′ a = let s = add-accepted h e h′ a in record { sound = s .passes .sound; now-held = s .now-held; same-room = s .same-room }
+call-accepted h (dropping time) h′ a = let s = drop-accepted h time h′ a in record { sound = s .sound; now-held = s .now-held; same-room = s .same-room }
 
 accepted-more : (c : Call) (cs : List Call) (k : ℕ) (ks : List ℕ) → k ≡ 0 → acceptedCalls (c ∷ cs) (k ∷ ks) ≡ eventOf c ∷ acceptedCalls cs ks
 unfolding acceptedCalls
@@ -66,7 +66,7 @@ unfolding acceptedCalls
 none-accepted done s = refl
 none-accepted (next {h} {h′} {h″} {c} {cs} {k} {ks} d r) s =
     zero-or k
-    (λ (e : k ≡ 0). absurd (let q : true ≡ false = sym (call-accepted h c h′ (subst (λ (i : ℕ). Does h c i h′) e d) .steady) ∙ s in let z : _≡_ {A = ℕ} 0 1 = cc in omega arith))
+    (λ (e : k ≡ 0). absurd (let q : true ≡ false = sym (call-accepted h c h′ (subst (λ (i : ℕ). Does h c i h′) e d) .sound) ∙ s in let z : _≡_ {A = ℕ} 0 1 = cc in omega arith))
     (λ (n : k ≡ 0 → ⊥). refused-more c cs k ks n ∙ none-accepted r (ap (λ (g : Caller). soundDirectory (directory g)) (call-refused h c k h′ d n) ∙ s))
 
 -- ---- a query after them, once 2 to 4 pass

@@ -21,7 +21,8 @@ use Rattle.corrections_table.proofs.InsertLaws.{insertAll-length}
 use Rattle.corrections_table.proofs.Places.{sorted-rises}
 use Rattle.corrections_table.proofs.SeriesLaws.{insertAll-rises}
 use Rattle.corrections_directory.specs.Directory.{Blocks, columnOf, Directory, directoryOf, entriesFrom, flat, floats, Reading, readingOf}
-use Rattle.corrections_directory.proofs.DirectoryLaws.{flat-directory, narrow}
+use Rattle.corrections_directory.proofs.DirectoryLaws.{flat-directory}
+use Rattle.corrections_directory.proofs.NarrowLaws.{narrow}
 use Rattle.corrections_add.specs.Add as Add
 use Rattle.corrections_add.specs.Add.{Placed, addedIn, directoryWith, flatOutcome, refusedIn}
 use Rattle.corrections_query.specs.Query.{patternAfter, queryIn, queryNumber, queryOf}
@@ -33,10 +34,9 @@ use Rattle.corrections_epoch.specs.declared.record.Settings.{Settings}
 use Rattle.corrections_epoch.specs.declared.record.States.{States}
 use Rattle.corrections_epoch.proofs.SameLaws.{epoch-same}
 use Rattle.corrections_epoch_columns.specs.Epoch.{entryIn}
-use Rattle.corrections_laws.proofs.Hypotheses.{BlockRun, TypedSteps, asked, done, entered}
 use Rattle.corrections_laws.specs.Typed.{Typed}
 use Rattle.corrections_laws.specs.Calls.{AddsEpoch, Caller, Epoch, Query, addingOf, queryOn, baseEpoch, directory, heldSamples, newSamples, room, shortOf, statesBeside}
-use Rattle.corrections_laws.specs.Flat.{BothForms, Step, Table, Told, answered, fiveColumns, flatAddition, flatAnswer, flatEnd, flatNumber, flatTells, numbered, roomIn, samplesIn, tableAfter, tableWith}
+use Rattle.corrections_laws.specs.Flat.{BothForms, Step, Table, Told, answered, fiveColumns, flatAddition, flatAnswer, flatEnd, flatNumber, flatTells, numbered, roomIn, samplesIn, tableAfter, tableWith, BlockRun, asked, done, entered, flatColumns, stepColumns}
 use Rattle.corrections_directory.proofs.PatternLaws.{floats-length, map-of}
 use Rattle.corrections_laws.proofs.ColumnLaws.{column-length, table-narrow}
 use Rattle.corrections_laws.proofs.NarrowLaws.{insertAll-pass, new-narrow}
@@ -224,7 +224,7 @@ module _ (o : Table) (h : Caller) (b : Both o h) (e : Epoch) (h′ : Caller) (a 
       }
 
 -- ---- the whole list
-steps : (o : Table) {h h′ : Caller} {ss : List Step} {ts : List Told} → BlockRun h ss ts h′ → Both o h → TypedSteps ss → (ts ≡ flatTells o ss) × Both (flatEnd o ss) h′
+steps : (o : Table) {h h′ : Caller} {ss : List Step} {ts : List Told} → BlockRun h ss ts h′ → Both o h → Typed (stepColumns ss) → (ts ≡ flatTells o ss) × Both (flatEnd o ss) h′
 unfolding flatTells fold
 steps o done b w = (refl, b)
 steps o (asked {h = h} {h′ = h′} {q = q} {metres = metres} {number = number} {metres′ = metres′} {ss = ss} {ts = ts} a r) b w =
@@ -240,25 +240,25 @@ steps o (entered {h = h} {h′ = h′} {h″ = h″} {e = e} {number = number} {
     zero-or number
     (λ (z : number ≡ 0).
     let s = add-accepted h e h′ (subst (λ (i : ℕ). AddsEpoch h e i h′) z a) in
-    subst (λ (x : AddOutcome). Both (tableAfter x o) h′) (sym (flat-added o h b e h′ s (new-narrow e (w .0)))) (both-added o h b e h′ s (new-narrow e (w .0))))
+    subst (λ (x : AddOutcome). Both (tableAfter x o) h′) (sym (flat-added o h b e h′ s (new-narrow e (w .0, (w .1 .0, tt))))) (both-added o h b e h′ s (new-narrow e (w .0, (w .1 .0, tt)))))
     (λ (n : number ≡ 0 → ⊥).
     subst (λ (x : Table). Both x h′) (sym (ap (λ (x : AddOutcome). tableAfter x o) (sym (epoch-both o h b e)) ∙ flat-kept (addingOf h e) o (λ z. n (a .places .number-is ∙ z))))
     (subst (λ (x : Caller). Both o x) (sym (add-refused h e number h′ a n)) b)) in
-    let goes = steps (tableAfter (flatAddition o e) o) r next (w .1) in
+    let goes = steps (tableAfter (flatAddition o e) o) r next (w .1 .1) in
     (told k (goes .0), goes .1)
   where
     told : {i j : ℕ} {l m : List Told} → i ≡ j → l ≡ m → numbered i ∷ l ≡ numbered j ∷ m
     told p r = rw (p, r)
 
 -- For every sorted table of typed columns in both forms and every list of queries and added epochs:
-module _ (o : Table) (h h′ : Caller) (ss : List Step) (ts : List Told) (run : BlockRun h ss ts h′) (forms : BothForms o h) (table : Typed (o .svids) (o .bands)) (typed : TypedSteps ss) where
-  start : Both o h
-  start = record { forms = forms; narrowed = table-narrow (o .samples) (fiveColumns o) (table .svid) (table .band) }
+module _ (o : Table) (h h′ : Caller) (ss : List Step) (ts : List Told) where
+  start : BothForms o h → Typed (flatColumns o) → Both o h
+  start forms table = record { forms = forms; narrowed = table-narrow (o .samples) (fiveColumns o) (table .0) (table .1 .0) }
 
   -- both forms give the same numbers and metres at every step
-  pub same-told : ts ≡ flatTells o ss
-  same-told = steps o run start typed .0
+  pub same-told : BlockRun h ss ts h′ → BothForms o h → Typed (flatColumns o) → Typed (stepColumns ss) → ts ≡ flatTells o ss
+  same-told run forms table typed = steps o run (start forms table) typed .0
 
   -- and afterwards the second still holds the directory of the first, with times and corrections equal to the columns' ends
-  pub same-left : BothForms (flatEnd o ss) h′
-  same-left = steps o run start typed .1 .forms
+  pub same-left : BlockRun h ss ts h′ → BothForms o h → Typed (flatColumns o) → Typed (stepColumns ss) → BothForms (flatEnd o ss) h′
+  same-left run forms table typed = steps o run (start forms table) typed .1 .forms

@@ -1,5 +1,5 @@
 -- One call on a caller's table: what a refusal and what an accepted call leave, and when an epoch meets 11. Assumes nothing.
-use mathlib.Core.Path.{_≡_, refl, ap, _∙_}
+use mathlib.Core.Path.{_≡_, refl, sym, ap, _∙_}
 use mathlib.Core.List.{List}
 use mathlib.Core.Bool.{Bool, true, false, cond, not, _&&_, _||_}
 use Prim.Native.Nat.{ℕ, _+_, _≤_, _<_}
@@ -11,10 +11,12 @@ use borrow.Author.Tests.{eqb-true, eqb-false, ltb-false, lt-ltb, le-ltb}
 use lib.Ieee.{Float}
 use lib.Ieee.Scale.{finite}
 use Rattle.lists.specs.Walk.{every}
+use Rattle.numeric.specs.Rules.{ruled}
 use Rattle.numeric.specs.Refusal.{numberOf}
 use Rattle.numeric.specs.Real.{inRange}
 use Rattle.numeric.specs.declared.refusal.Refusal.{Refusal}
 use Rattle.numeric.specs.declared.refusal.Refusal.the-variants.{TooMany, SettingOutOfRange, RecordOutOfRange, TableFull, BadDropTime}
+use Rattle.numeric.proofs.RefusalLaws.{not-zero}
 use Rattle.corrections_table.specs.Table.{ranged, soundTable}
 use Rattle.corrections_table.specs.Add.{insertAll}
 use Rattle.corrections_table.specs.declared.sample.Sample.{Sample}
@@ -35,10 +37,8 @@ use Rattle.corrections_epoch.specs.AddEpoch.{epochPlaced, recordsInRange, setti
 use Rattle.corrections_epoch.specs.Sample.{epochSamples}
 use Rattle.corrections_epoch.proofs.EpochLaws.{samples-ranged, time-in-range}
 use Rattle.corrections_epoch_columns.specs.Epoch.{entryIn}
-use Rattle.corrections_laws.proofs.Hypotheses.{EpochPasses}
-use Rattle.corrections_laws.specs.Calls.{Caller, Epoch, AddsEpoch, Drops, addingOf, baseEpoch, asBlocks, directory, droppingOf, heldSamples, newSamples, room, shortOf, statesBeside}
+use Rattle.corrections_laws.specs.Calls.{Caller, Epoch, AddsEpoch, Drops, addingOf, baseEpoch, asBlocks, directory, droppingOf, heldSamples, newSamples, room, shortOf, statesBeside, EpochPasses}
 use Rattle.corrections_forget.specs.Forget as Forgetting
-use Rattle.corrections_laws.proofs.NumberLaws.{not-zero}
 use Rattle.corrections_laws.proofs.ColumnLaws.{same-capacity, with-holds}
 
 never : {A : Type 0} {r : Refusal} {d : Directory} → refusedIn r ≡ addedIn d → A
@@ -54,7 +54,7 @@ pub record Turned (o : Placed) : Type 0 where
 
 module _ (h : Caller) (e : Epoch) where
   pub passed : EpochPasses h e → addingOf h e ≡ cond (ltb (room h) (h .samples + length (newSamples e))) (refusedIn TableFull) (addedIn (directoryWith (directory h) (newSamples e)))
-  unfolding entryIn epochPlaced tooMany
+  unfolding entryIn epochPlaced tooMany ruled
   passed p =
       rw (
         p .long-columns,
@@ -64,12 +64,12 @@ module _ (h : Caller) (e : Epoch) where
         le-ltb 64 (cond (e .present) (e .states) 0) (p .few-states),
         p .settings-in-range,
         p .records-in-range,
-        p .steady,
+        p .sound,
       )
 
   -- either 2 to 4 let it pass, or one of them turns it away
   pub decide : {A : Type 0} → (EpochPasses h e → A) → (Turned (addingOf h e) → A) → A
-  unfolding entryIn epochPlaced tooMany
+  unfolding entryIn epochPlaced tooMany ruled
   decide {A} good bad =
       go (shortOf e) (ltb (room h) (h .entries)) (ltb (room h) (h .samples)) (ltb 64 (e .ranges)) (ltb 64 (cond (e .present) (e .states) 0)) (settingsInRange (e .settings))
       (recordsInRange (baseEpoch e) (statesBeside e) (e .base) (e .rover)) (soundDirectory (directory h)) refl refl refl refl refl refl refl refl bad
@@ -96,31 +96,31 @@ module _ (h : Caller) (e : Epoch) where
             long-columns = p;
             settings-in-range = u;
             records-in-range = v;
-            steady = w;
+            sound = w;
           })
 
 -- ---- 11 is met exactly when the samples held and the new ones together exceed the capacity
 abbrev Cond : Bool → Directory → Placed
 Cond x d = cond x (refusedIn TableFull) (addedIn d)
 
-module _ (h : Caller) (e : Epoch) (number : ℕ) (h′ : Caller) (a : AddsEpoch h e number h′) (p : EpochPasses h e) where
-  holds-all : length (heldSamples h) ≡ h .samples
-  holds-all =
+module _ (h : Caller) (e : Epoch) (number : ℕ) (h′ : Caller) (a : AddsEpoch h e number h′) where
+  holds-all : EpochPasses h e → length (heldSamples h) ≡ h .samples
+  holds-all p =
       let k : h .samples ≤ length (readingsIn (asBlocks h)) = omega (arith, p .few-samples) in
-      flat-length (directory h) (p .steady) ∙ length-take-le (h .samples) (readingsIn (asBlocks h)) k
+      flat-length (directory h) (p .sound) ∙ length-take-le (h .samples) (readingsIn (asBlocks h)) k
 
-  number-is : number ≡ cond (ltb (room h) (length (heldSamples h) + length (newSamples e))) 11 0
-  number-is = a .places .number-is ∙ rw (passed h e p, holds-all) (go (ltb (room h) (h .samples + length (newSamples e))))
+  number-is : EpochPasses h e → number ≡ cond (ltb (room h) (length (heldSamples h) + length (newSamples e))) 11 0
+  number-is p = a .places .number-is ∙ rw (passed h e p, holds-all p) (go (ltb (room h) (h .samples + length (newSamples e))))
     where
       go : (x : Bool) → additionNumber (Add.additionOf (Cond x (directoryWith (directory h) (newSamples e)))) ≡ cond x 11 0
       go true = refl
       go false = refl
 
-  pub full : room h < length (heldSamples h) + length (newSamples e) → number ≡ 11
-  full k = number-is ∙ rw (lt-ltb (room h) (length (heldSamples h) + length (newSamples e)) k)
+  pub full : EpochPasses h e → room h < length (heldSamples h) + length (newSamples e) → number ≡ 11
+  full p k = number-is p ∙ rw (lt-ltb (room h) (length (heldSamples h) + length (newSamples e)) k)
 
-  pub not-full : length (heldSamples h) + length (newSamples e) ≤ room h → number ≡ 0
-  not-full k = number-is ∙ rw (le-ltb (room h) (length (heldSamples h) + length (newSamples e)) k)
+  pub not-full : EpochPasses h e → length (heldSamples h) + length (newSamples e) ≤ room h → number ≡ 0
+  not-full p k = number-is p ∙ rw (le-ltb (room h) (length (heldSamples h) + length (newSamples e)) k)
 
 -- ---- what is left
 pub same-caller : (h h′ : Caller) → h′ .entries ≡ h .entries → h′ .samples ≡ h .samples → asBlocks h′ ≡ asBlocks h → h′ .times ≡ h .times → h′ .corrections ≡ h .corrections → h′ ≡ h
@@ -157,7 +157,7 @@ pub record Added (h : Caller) (e : Epoch) (h′ : Caller) : Type 0 where
   pub columns-are : asBlocks h′ ≡ blocksWith (directoryOf (insertAll (heldSamples h) (newSamples e))) (asBlocks h)
   pub patterns : PatternsWith (directoryOf (insertAll (heldSamples h) (newSamples e))) (h .times) (h .corrections) (h′ .times) (h′ .corrections)
   pub same-room : room h′ ≡ room h
-  pub steady : soundTable (heldSamples h′) ≡ true
+  pub sound : soundTable (heldSamples h′) ≡ true
 
 -- the samples of an epoch that 2 to 4 let pass are in range
 pub new-ranged : (h : Caller) (e : Epoch) → EpochPasses h e → every ranged (newSamples e) ≡ true
@@ -171,7 +171,7 @@ unfolding directoryOf
 readings-many t = length-map t readingOf
 
 pub add-accepted : (h : Caller) (e : Epoch) (h′ : Caller) → AddsEpoch h e 0 h′ → Added h e h′
-add-accepted h e h′ a = decide h e accepts (λ (t : Turned (addingOf h e)). absurd (not-zero (t .why) (rw (t .is) at (a .places .number-is))))
+add-accepted h e h′ a = decide h e accepts (λ (t : Turned (addingOf h e)). absurd (not-zero (t .why) (sym (rw (t .is) at (a .places .number-is)))))
   where
     new : List Sample
     new = newSamples e
@@ -181,7 +181,7 @@ add-accepted h e h′ a = decide h e accepts (λ (t : Turned (addingOf h e)). ab
       where
         go : (x : Bool) → ltb (room h) (h .samples + length (newSamples e)) ≡ x → Places (Cond x (directoryWith (directory h) (newSamples e))) 0 (h .entries) (h′ .entries) (h .samples) (h′ .samples) (asBlocks h) (asBlocks h′)
             → PatternsAfter (Cond x (directoryWith (directory h) (newSamples e))) (h .times) (h .corrections) (h′ .times) (h′ .corrections) → Added h e h′
-        go true k b q = absurd (not-zero TableFull (b .number-is))
+        go true k b q = absurd (not-zero TableFull (sym (b .number-is)))
         go false k b q =
             let t = insertAll (heldSamples h) (newSamples e) in
             let d = directoryOf t in
@@ -203,7 +203,7 @@ add-accepted h e h′ a = decide h e accepts (λ (t : Turned (addingOf h e)). ab
               columns-are = b .columns;
               patterns = q;
               same-room = ap blockCapacity (b .columns) ∙ same-capacity d (asBlocks h) (omega arith) (omega arith);
-              steady = ap soundTable hd ∙ insertAll-sound (heldSamples h) (newSamples e) (new-ranged h e p) (sound-flat (directory h) (p .steady));
+              sound = ap soundTable hd ∙ insertAll-sound (heldSamples h) (newSamples e) (new-ranged h e p) (sound-flat (directory h) (p .sound));
             }
 
 -- ---- a drop
@@ -217,7 +217,7 @@ drop-refused h time number h′ a n = go (droppingOf h time) (a .forgets) (a .pa
 pub record Dropped (h : Caller) (time : Float) (h′ : Caller) : Type 0 where
   pub few-entries : h .entries ≤ room h
   pub few-samples : h .samples ≤ room h
-  pub steady : soundDirectory (directory h) ≡ true
+  pub sound : soundDirectory (directory h) ≡ true
   pub is-finite : finite time ≡ true
   pub now-is : directory h′ ≡ directoryOf (forget time (heldSamples h))
   pub now-held : heldSamples h′ ≡ forget time (heldSamples h)
@@ -226,27 +226,27 @@ pub record Dropped (h : Caller) (time : Float) (h′ : Caller) : Type 0 where
   pub columns-are : asBlocks h′ ≡ blocksWith (directoryOf (forget time (heldSamples h))) (asBlocks h)
   pub patterns : PatternsWith (directoryOf (forget time (heldSamples h))) (h .times) (h .corrections) (h′ .times) (h′ .corrections)
   pub same-room : room h′ ≡ room h
-  pub still-steady : soundTable (heldSamples h′) ≡ true
+  pub still-sound : soundTable (heldSamples h′) ≡ true
 
 record DropPasses (h : Caller) (time : Float) : Type 0 where
   few-entries : h .entries ≤ room h
   few-samples : h .samples ≤ room h
-  steady : soundDirectory (directory h) ≡ true
+  sound : soundDirectory (directory h) ≡ true
   is-finite : finite time ≡ true
   is : droppingOf h time ≡ leaves (directoryOf (forget time (heldSamples h)))
 
 drop-passes : (h : Caller) (time : Float) → 0 ≡ forgettingNumber (forgettingOf (droppingOf h time)) → DropPasses h time
-unfolding forgetIn testIn
+unfolding forgetIn testIn ruled
 drop-passes h time e = go (ltb (room h) (h .entries)) (ltb (room h) (h .samples)) (soundDirectory (directory h)) (finite time) refl refl refl refl e
   where
     go : (a b c d : Bool) → ltb (room h) (h .entries) ≡ a → ltb (room h) (h .samples) ≡ b → soundDirectory (directory h) ≡ c → finite time ≡ d
         → 0 ≡ forgettingNumber (forgettingOf (outcomeOf (cond (a || b) (Test.Refused TooMany) (cond (not c) (Test.Refused RecordOutOfRange) (cond (not d) (Test.Refused BadDropTime) Test.Passed))) (directoryOf (forget time (heldSamples h))))) → DropPasses h time
-    go true b c d p q r s z = absurd (not-zero TooMany z)
-    go false true c d p q r s z = absurd (not-zero TooMany z)
-    go false false false d p q r s z = absurd (not-zero RecordOutOfRange z)
-    go false false true false p q r s z = absurd (not-zero BadDropTime z)
+    go true b c d p q r s z = absurd (not-zero TooMany (sym z))
+    go false true c d p q r s z = absurd (not-zero TooMany (sym z))
+    go false false false d p q r s z = absurd (not-zero RecordOutOfRange (sym z))
+    go false false true false p q r s z = absurd (not-zero BadDropTime (sym z))
     go false false true true p q r s z =
-        record { few-entries = ltb-false (room h) (h .entries) p; few-samples = ltb-false (room h) (h .samples) q; steady = r; is-finite = s; is = rw (p, q, r, s) }
+        record { few-entries = ltb-false (room h) (h .entries) p; few-samples = ltb-false (room h) (h .samples) q; sound = r; is-finite = s; is = rw (p, q, r, s) }
 
 pub drop-accepted : (h : Caller) (time : Float) (h′ : Caller) → Drops h time 0 h′ → Dropped h time h′
 drop-accepted h time h′ a =
@@ -254,7 +254,7 @@ drop-accepted h time h′ a =
     let t = forget time (heldSamples h) in
     let d = directoryOf t in
     let b : Forgets (leaves d) 0 (h .entries) (h .samples) (h′ .samples) (asBlocks h) (asBlocks h′) = rw (p .is) at (a .forgets) in
-    let many : length (heldSamples h) ≡ h .samples = flat-length (directory h) (p .steady) ∙ length-take-le (h .samples) (readingsIn (asBlocks h)) (omega (arith, p .few-samples)) in
+    let many : length (heldSamples h) ≡ h .samples = flat-length (directory h) (p .sound) ∙ length-take-le (h .samples) (readingsIn (asBlocks h)) (omega (arith, p .few-samples)) in
     let fewer : length t ≤ length (heldSamples h) = forget-length time (heldSamples h) in
     let rd : length (d .readings) ≡ length t = readings-many t in
     let es : h .entries ≡ length (d .entries) = b .entries-stay in
@@ -263,7 +263,7 @@ drop-accepted h time h′ a =
     record {
       few-entries = p .few-entries;
       few-samples = p .few-samples;
-      steady = p .steady;
+      sound = p .sound;
       is-finite = p .is-finite;
       now-is = is;
       now-held = hd;
@@ -272,7 +272,7 @@ drop-accepted h time h′ a =
       columns-are = b .columns;
       patterns = rw (p .is) at (a .patterns);
       same-room = ap blockCapacity (b .columns) ∙ same-capacity d (asBlocks h) (omega (arith, p .few-entries)) (omega (arith, p .few-samples));
-      still-steady = ap soundTable hd ∙ forget-sound time (heldSamples h) (sound-flat (directory h) (p .steady));
+      still-sound = ap soundTable hd ∙ forget-sound time (heldSamples h) (sound-flat (directory h) (p .sound));
     }
 
 -- a number is 0, or it is not
@@ -290,7 +290,7 @@ numberBy a b c d f g i j x = cond a 2 (cond (b || (c || d || f)) 2 (cond (not g)
 pub number-by : (h : Caller) (e : Epoch) (number : ℕ) (h′ : Caller) → AddsEpoch h e number h′
     → number ≡ numberBy (shortOf e) (ltb (room h) (h .entries)) (ltb (room h) (h .samples)) (ltb 64 (e .ranges)) (ltb 64 (cond (e .present) (e .states) 0)) (settingsInRange (e .settings))
     (recordsInRange (baseEpoch e) (statesBeside e) (e .base) (e .rover)) (soundDirectory (directory h)) (ltb (room h) (h .samples + length (newSamples e)))
-unfolding entryIn epochPlaced tooMany
+unfolding entryIn epochPlaced tooMany ruled
 number-by h e number h′ s =
     s .places .number-is
     ∙ go (shortOf e) (ltb (room h) (h .entries)) (ltb (room h) (h .samples)) (ltb 64 (e .ranges)) (ltb 64 (cond (e .present) (e .states) 0)) (settingsInRange (e .settings))

@@ -8,8 +8,10 @@ use borrow.Author.Tests.{lt-ltb, ltb-true}
 use lib.ListN.{length, getD, take, drop}
 use lib.Ieee.{Float}
 use Rattle.lists.specs.Walk.{every, fold}
+use Rattle.numeric.specs.Rules.{ruled}
 use Rattle.numeric.specs.declared.refusal.Refusal.{Refusal}
 use Rattle.numeric.specs.declared.refusal.Refusal.the-variants.{TooMany, SettingOutOfRange, RecordOutOfRange, TableFull}
+use Rattle.numeric.proofs.RefusalLaws.{not-zero}
 use Rattle.corrections_table.specs.Table.{beside, capacity, lentSamples, rows, soundTable, tableOf}
 use Rattle.corrections_table.specs.Add.{AddOutcome, added, insertAll, refused}
 use Rattle.corrections_table.specs.Widen.{bandsAfter, bandsShort, widenOf, widened, wideningNumber}
@@ -23,12 +25,10 @@ use Rattle.corrections_directory.specs.Rearrange.{filedOf}
 use Rattle.corrections_forget.proofs.HistoryLaws.{sorted-of}
 use Rattle.corrections_epoch.specs.AddEpoch.{addedOf, recordsInRange, settingsInRange, tooMany}
 use Rattle.corrections_convert.specs.Lent.{Files}
-use Rattle.corrections_laws.proofs.Hypotheses.{BlockRun, TypedSteps}
 use Rattle.corrections_laws.specs.Typed.{Typed}
 use Rattle.corrections_laws.specs.Calls.{Caller, Epoch, baseEpoch, asBlocks, newSamples, room, shortOf, statesBeside}
-use Rattle.corrections_laws.specs.Flat.{BothForms, ByteSteps, InBytes, Step, Table, Told, ask, flatAddition, flatEnd, flatTells, roomIn, samplesIn, tableAfter, enter}
-use Rattle.corrections_laws.proofs.NumberLaws.{not-zero}
-use Rattle.corrections_laws.proofs.FormLaws.{files-count, files-fit, files-hold, files-steady}
+use Rattle.corrections_laws.specs.Flat.{BothForms, ByteSteps, InBytes, Step, Table, Told, ask, flatAddition, flatEnd, flatTells, roomIn, samplesIn, tableAfter, enter, BlockRun, flatColumns, stepColumns}
+use Rattle.corrections_laws.proofs.FormLaws.{files-count, files-fit, files-hold, files-sound}
 use Rattle.corrections_laws.proofs.NarrowLaws.{insertAll-pass, new-pass}
 use Rattle.corrections_laws.proofs.SameLaws.{same-entries, same-left, same-told}
 
@@ -42,7 +42,7 @@ unfolding widenOf bandsShort
 widens n narrow wide e = go (ltb 2048 n || ltb (length narrow) n || ltb (length wide) n) refl e
   where
     go : (x : Bool) → (ltb 2048 n || ltb (length narrow) n || ltb (length wide) n) ≡ x → 0 ≡ wideningNumber (cond x (Refused TooMany) Widened) → Widens n narrow wide
-    go true p z = absurd (not-zero TooMany z)
+    go true p z = absurd (not-zero TooMany (sym z))
     go false p z = record { is = rw p; fits = not-short n narrow wide p }
 
 -- `zaqnuti_widen_bands` and `zaqnuti_directory_of` answer 0, the wide column is as long as the narrow one, and the capacity is the old one
@@ -64,10 +64,10 @@ module _ (o : Table) (wide wide′ : List ℕ) (widening : (0 ≡ wideningNumber
   forms =
       let l = lentSamples (o .constellations) (o .svids) wide′ (floats (o .times)) (floats (o .corrections)) in
       let hold = files-hold (o .samples) m (h .entries) l dc dv db df dn (asBlocks h) files in
-      let steady : soundTable (samplesIn o) ≡ true = ap soundTable (sym table-same) ∙ files-steady (o .samples) m (h .entries) l dc dv db df dn (asBlocks h) files in
+      let sound : soundTable (samplesIn o) ≡ true = ap soundTable (sym table-same) ∙ files-sound (o .samples) m (h .entries) l dc dv db df dn (asBlocks h) files in
       let cap : capacity l ≡ roomIn o = ap (λ (b : List ℕ). capacity (lentSamples (o .constellations) (o .svids) b (floats (o .times)) (floats (o .corrections)))) wide-is ∙ capacity-widened (o .samples) (o .constellations) (o .svids) (o .bands) wide (floats (o .times)) (floats (o .corrections)) (w .fits) as-long in
       record {
-        in-order = sorted-rises (samplesIn o) ∙ sorted-of (samplesIn o) steady;
+        in-order = sorted-rises (samplesIn o) ∙ sorted-of (samplesIn o) sound;
         within = subst (λ (k : ℕ). o .samples ≤ k) cap (files-fit (o .samples) m (h .entries) l dc dv db df dn (asBlocks h) files);
         holds = ap (λ (n : ℕ). directoryIn (h .entries) n (asBlocks h)) samples-are ∙ hold ∙ ap directoryOf table-same;
         entries-are = files-count (o .samples) m (h .entries) l dc dv db df dn (asBlocks h) files ∙ ap (λ (t : List Sample). length (entriesFrom 0 t)) table-same ∙ sym (same-entries (samplesIn o));
@@ -78,7 +78,7 @@ module _ (o : Table) (wide wide′ : List ℕ) (widening : (0 ≡ wideningNumber
       }
 
   -- then queries and epochs get the numbers and metres that the old table gives, and the directory stays that of the old table
-  module _ (h′ : Caller) (ss : List Step) (ts : List Told) (run : BlockRun h ss ts h′) (table : Typed (o .svids) (o .bands)) (typed : TypedSteps ss) where
+  module _ (h′ : Caller) (ss : List Step) (ts : List Told) (run : BlockRun h ss ts h′) (table : Typed (flatColumns o)) (typed : Typed (stepColumns ss)) where
     pub widened-told : ts ≡ flatTells o ss
     widened-told = same-told o h h′ ss ts run forms table typed
 
@@ -121,7 +121,7 @@ column-bytes (s ∷ t) column e k (suc i) =
 
 -- an epoch is refused, or the table has its samples
 flat-cases : (o : Table) (e : Epoch) {A : Type 0} → (flatAddition o e ≡ added (insertAll (samplesIn o) (newSamples e)) → A) → ((r : Refusal) → flatAddition o e ≡ refused r → A) → A
-unfolding flatAddition addedOf
+unfolding flatAddition addedOf ruled
 flat-cases o e {A} good bad = go (shortOf e) (tooMany (o .samples) (roomIn o) (baseEpoch e) (statesBeside e)) (settingsInRange (e .settings)) (recordsInRange (baseEpoch e) (statesBeside e) (e .base) (e .rover) && soundTable (samplesIn o)) (ltb (roomIn o) (o .samples + length (newSamples e))) good bad
   where
     go : (a b c d f : Bool)

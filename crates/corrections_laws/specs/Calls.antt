@@ -1,19 +1,20 @@
 -- The calls on one caller's table, by the contracts' own statements, and lists of them, each call on what the last one left. Definitions only.
-use Prim.Native.Nat.{ℕ, _^_, _<_}
+use Prim.Native.Nat.{ℕ, _≤_}
 use mathlib.Core.Path.{_≡_}
-use mathlib.Core.Bool.{Bool, cond}
+use mathlib.Core.Bool.{Bool, true, false, cond}
 use mathlib.Core.List.{List, [], _∷_}
 use lib.Dec.{eqb}
-use lib.ListN.{length, getD}
+use lib.ListN.{length}
 use lib.Ieee.{Float}
 use Rattle.numeric.specs.declared.vec3.Vec3.{Vec3}
 use Rattle.corrections_table.specs.declared.sample.Sample.{Sample}
-use Rattle.corrections_directory.specs.Directory.{blockCapacity, Blocks, blocksWith, Directory, directoryIn, directoryOf, flat, floats, lentBlocks, PatternsWith}
+use Rattle.corrections_directory.specs.Directory.{blockCapacity, Blocks, blocksWith, Directory, directoryIn, directoryOf, flat, floats, lentBlocks, PatternsWith, soundDirectory}
 use Rattle.corrections_add.specs.Add.{PatternsAfter, Placed, Places}
 use Rattle.corrections_query.specs.Query.{answerAt, Answers, queryIn}
 use Rattle.corrections_query.specs.declared.query.Correction.{Correction}
 use Rattle.corrections_forget.specs.Forget.{ForgetOutcome, Forgets, forgetIn}
 use Rattle.corrections_forget.specs.History.{Event, add, drop}
+use Rattle.corrections_epoch.specs.AddEpoch.{recordsInRange, settingsInRange}
 use Rattle.corrections_epoch.specs.Sample.{epochSamples}
 use Rattle.corrections_epoch.specs.Build.{EpochInput}
 use Rattle.corrections_epoch.specs.declared.record.BaseEpoch.{BaseEpoch}
@@ -21,7 +22,7 @@ use Rattle.corrections_epoch.specs.declared.record.States.{States}
 use Rattle.corrections_epoch.specs.declared.record.Settings.{Settings}
 use Rattle.corrections_epoch_columns.specs.Epoch.{entryIn, baseEpochOf, recordsShort, statesIn}
 use Rattle.corrections_forget.specs.Forget as Forgetting
-use Rattle.corrections_laws.specs.Typed.{Typed}
+use Rattle.corrections_laws.specs.Typed.{TypedColumn, u16, u32, u64}
 
 -- ---- what a caller hands over
 
@@ -170,13 +171,27 @@ epochNumbers (c ∷ cs) [] = []
 epochNumbers (adding e ∷ cs) (k ∷ ks) = k ∷ epochNumbers cs ks
 epochNumbers (dropping time ∷ cs) (k ∷ ks) = epochNumbers cs ks
 
--- ---- what the types of the lent columns guarantee
+-- ---- what the laws assume
 
--- svids, bands and 64-bit patterns of a table
-pub record TypedTable (h : Caller) : Type 0 where
-  pub signals : Typed (h .svids) (h .bands)
-  pub time : (i : ℕ) → getD (h .times) i 0 < 2 ^ 64
-  pub correction : (i : ℕ) → getD (h .corrections) i 0 < 2 ^ 64
+-- the columns of a table whose types they use, and those of the epochs of a list of calls
+abbrev pub tableColumns : Caller → List TypedColumn
+tableColumns h = u16 (h .svids) ∷ u32 (h .bands) ∷ u64 (h .times) ∷ u64 (h .corrections) ∷ []
+
+abbrev pub callColumns : List Call → List TypedColumn
+callColumns [] = []
+callColumns (adding e ∷ cs) = u16 (e .range-svids) ∷ u32 (e .range-bands) ∷ callColumns cs
+callColumns (dropping time ∷ cs) = callColumns cs
+
+-- numbers 2 to 4 let an epoch pass
+pub record EpochPasses (h : Caller) (e : Epoch) : Type 0 where
+  pub few-entries : h .entries ≤ room h
+  pub few-samples : h .samples ≤ room h
+  pub few-ranges : e .ranges ≤ 64
+  pub few-states : cond (e .present) (e .states) 0 ≤ 64
+  pub long-columns : shortOf e ≡ false
+  pub settings-in-range : settingsInRange (e .settings) ≡ true
+  pub records-in-range : recordsInRange (baseEpoch e) (statesBeside e) (e .base) (e .rover) ≡ true
+  pub sound : soundDirectory (directory h) ≡ true
 
 -- ---- `build`: epochs with the same base, rover and settings
 abbrev pub AllBy : Vec3 → Vec3 → Settings → List Call → Type 0

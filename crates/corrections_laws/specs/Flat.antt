@@ -15,7 +15,8 @@ use Rattle.corrections_directory.specs.Directory.{columnOf, directoryOf, floats
 use Rattle.corrections_query.specs.Query.{patternAfter, queryNumber, queryOf}
 use Rattle.corrections_query.specs.declared.query.Correction.{Correction}
 use Rattle.corrections_epoch.specs.AddEpoch.{addedOf}
-use Rattle.corrections_laws.specs.Calls.{Caller, Epoch, Query, baseEpoch, directory, room, shortOf, statesBeside}
+use Rattle.corrections_laws.specs.Calls.{AddsEpoch, Asks, Caller, Epoch, Query, baseEpoch, directory, room, shortOf, statesBeside}
+use Rattle.corrections_laws.specs.Typed.{TypedColumn, u16, u32}
 
 -- ---- the old form
 
@@ -100,6 +101,14 @@ flatTells o (s ∷ ss) = flatTold o s ∷ flatTells (flatLeft o s) ss
 abbrev pub flatEnd : Table → List Step → Table
 flatEnd o ss = fold flatLeft o ss
 
+-- steps on the second form, by the contracts of its calls
+pub data BlockRun : Caller → List Step → List Told → Caller → Type 0 where
+  done : {h : Caller} → BlockRun h [] [] h
+  asked : {h h′ : Caller} {q : Query} {metres number metres′ : ℕ} {ss : List Step} {ts : List Told} → Asks h q number metres metres′ → BlockRun h ss ts h′
+      → BlockRun h (ask q metres ∷ ss) (answered number metres′ ∷ ts) h′
+  entered : {h h′ h″ : Caller} {e : Epoch} {number : ℕ} {ss : List Step} {ts : List Told} → AddsEpoch h e number h′ → BlockRun h′ ss ts h″
+      → BlockRun h (enter e ∷ ss) (numbered number ∷ ts) h″
+
 -- ---- one table in both forms
 
 -- a sorted table within its capacity, and columns that hold its directory; times and corrections are equal to the columns' ends, and so are the capacities
@@ -112,6 +121,15 @@ pub record BothForms (o : Table) (h : Caller) : Type 0 where
   pub same-times : h .times ≡ o .times
   pub same-corrections : h .corrections ≡ o .corrections
   pub same-capacity : room h ≡ roomIn o
+
+-- the columns of a table of the old form whose types the laws use, and those of the epochs of a list of steps
+abbrev pub flatColumns : Table → List TypedColumn
+flatColumns o = u16 (o .svids) ∷ u32 (o .bands) ∷ []
+
+abbrev pub stepColumns : List Step → List TypedColumn
+stepColumns [] = []
+stepColumns (ask q metres ∷ ss) = stepColumns ss
+stepColumns (enter e ∷ ss) = u16 (e .range-svids) ∷ u32 (e .range-bands) ∷ stepColumns ss
 
 -- ---- bands up to 255, as a table of before request (ii) holds them
 abbrev pub InBytes : List ℕ → Type 0

@@ -1,15 +1,25 @@
--- What the types of lent columns guarantee. Definitions only.
+-- What the types of lent columns guarantee, which is all that the laws assume of a caller's memory. Definitions only.
 use Prim.Native.Nat.{ℕ, _^_, _<_}
-use mathlib.Core.List.{List}
+use mathlib.Core.List.{List, [], _∷_}
 use lib.Dec.{T}
 use lib.ListN.{getD}
 use lib.Ieee.{Float, nan, fits, binary64}
 
--- svids of 16 bits and bands of 32; what a read past the end gives is so too
-pub record Typed (svids bands : List ℕ) : Type 0 where
-  pub svid : (i : ℕ) → getD svids i 0 < 2 ^ 16
-  pub band : (i : ℕ) → getD bands i 0 < 2 ^ 32
+-- a lent column, by the type of its places
+pub data TypedColumn : Type 0 where
+  u16 : List ℕ → TypedColumn
+  u32 : List ℕ → TypedColumn
+  u64 : List ℕ → TypedColumn
+  f64 : List Float → TypedColumn
 
--- floats of the format
-abbrev pub InFormat : List Float → Type 0
-InFormat column = (i : ℕ) → T (fits binary64 (getD column i nan))
+-- each place holds a value of the type, and so does what a read past the end gives
+abbrev pub OfType : TypedColumn → Type 0
+OfType (u16 column) = (i : ℕ) → getD column i 0 < 2 ^ 16
+OfType (u32 column) = (i : ℕ) → getD column i 0 < 2 ^ 32
+OfType (u64 column) = (i : ℕ) → getD column i 0 < 2 ^ 64
+OfType (f64 column) = (i : ℕ) → T (fits binary64 (getD column i nan))
+
+-- each of these columns is of its type
+abbrev pub Typed : List TypedColumn → Type 0
+Typed [] = Unit {0}
+Typed (c ∷ cs) = OfType c × Typed cs

@@ -14,13 +14,14 @@ use Rattle.lists.proofs.Walk.{places-length, places-at, or-no}
 use Rattle.numeric.specs.Real.{inRange}
 use Rattle.numeric.specs.declared.refusal.Refusal.{Refusal}
 use Rattle.numeric.specs.declared.refusal.Refusal.the-variants.{TooMany, SettingOutOfRange, RecordOutOfRange}
+use Rattle.numeric.specs.Rules.{ruled}
 use Rattle.corrections_table.specs.declared.add.Test.the-variants as Test
 use Rattle.corrections_directory.specs.Directory.{Directory, soundDirectory}
 use Rattle.corrections_query.specs.Query.{queryNumber, patternAfter, tableTest, GivesFinite, PassedQuery}
 use Rattle.corrections_query.specs.declared.query.Correction.{Correction}
 use Rattle.corrections_query.specs.declared.query.Correction.the-variants as Correction
 use Rattle.corrections_queries.specs.declared.queries.Asking.the-variants.{Refused, Answered}
-use Rattle.corrections_queries.specs.Queries.{Reply, refusal, answers, placesShort, queryAt, queriesIn, askingOf, askingNumber, withAnswers, numberAfter, EachFinite, Replies}
+use Rattle.corrections_queries.specs.Queries.{Asked, Reply, refusal, answers, placesShort, queryAt, queriesIn, askingOf, askingNumber, withAnswers, numberAfter, EachFinite, Replies}
 
 -- ---- a column with answers withAnswers to it
 module _ {A : Type 0} (f : Correction → A → A) where
@@ -100,29 +101,29 @@ module _ (a : ℕ → Correction) (count : ℕ) (numbers₀ : List ℕ) (metres�
         rw (← z) (record { number-is = refl; numbers-after = s .numbers-so-far; metres-after = s .metres-so-far; all-finite = s .finite-so-far })
 
 -- ---- columns that are long enough
-pub record Long (count : ℕ) (c v b : List ℕ) (t : List Float) (numbers : List ℕ) (metres : List ℕ) : Type 0 where
-  pub in-c : count ≤ length c
-  pub in-v : count ≤ length v
-  pub in-b : count ≤ length b
-  pub in-t : count ≤ length t
-  pub in-numbers : count ≤ length numbers
-  pub in-metres : count ≤ length metres
+pub record Long (q : Asked) (numbers metres : List ℕ) : Type 0 where
+  pub in-c : q .count ≤ length (q .constellations)
+  pub in-v : q .count ≤ length (q .svids)
+  pub in-b : q .count ≤ length (q .bands)
+  pub in-t : q .count ≤ length (q .times)
+  pub in-numbers : q .count ≤ length numbers
+  pub in-metres : q .count ≤ length metres
 
-pub not-short : (count : ℕ) (c v b : List ℕ) (t : List Float) (numbers : List ℕ) (metres : List ℕ) → placesShort count c v b t numbers metres ≡ false → Long count c v b t numbers metres
+pub not-short : (q : Asked) (numbers metres : List ℕ) → placesShort q numbers metres ≡ false → Long q numbers metres
 unfolding placesShort
-not-short count c v b t numbers metres e =
-    let h = or-no _ (ltb (length metres) count) e in
-    let g = or-no _ (ltb (length numbers) count) (h .0) in
-    let f = or-no _ (ltb (length t) count) (g .0) in
-    let d = or-no _ (ltb (length b) count) (f .0) in
-    let a = or-no (ltb (length c) count) (ltb (length v) count) (d .0) in
+not-short q numbers metres e =
+    let h = or-no _ (ltb (length metres) (q .count)) e in
+    let g = or-no _ (ltb (length numbers) (q .count)) (h .0) in
+    let f = or-no _ (ltb (length (q .times)) (q .count)) (g .0) in
+    let d = or-no _ (ltb (length (q .bands)) (q .count)) (f .0) in
+    let a = or-no (ltb (length (q .constellations)) (q .count)) (ltb (length (q .svids)) (q .count)) (d .0) in
     record {
-      in-c = ltb-false (length c) count (a .0);
-      in-v = ltb-false (length v) count (a .1);
-      in-b = ltb-false (length b) count (d .1);
-      in-t = ltb-false (length t) count (f .1);
-      in-numbers = ltb-false (length numbers) count (g .1);
-      in-metres = ltb-false (length metres) count (h .1);
+      in-c = ltb-false (length (q .constellations)) (q .count) (a .0);
+      in-v = ltb-false (length (q .svids)) (q .count) (a .1);
+      in-b = ltb-false (length (q .bands)) (q .count) (d .1);
+      in-t = ltb-false (length (q .times)) (q .count) (f .1);
+      in-numbers = ltb-false (length numbers) (q .count) (g .1);
+      in-metres = ltb-false (length metres) (q .count) (h .1);
     }
 
 -- ---- the reply, way by way
@@ -136,20 +137,20 @@ pub answered-reply : {o : Reply} {l : List Correction} {numbers : List ℕ} {met
     → (Answered ≡ askingOf o) × Replies o (askingNumber Answered) numbers metres numbers′ metres′
 answered-reply e h = rw e (refl, h)
 
-module _ (m n room : ℕ) (d : Directory) (gap : Float) (c v b : List ℕ) (t : List Float) (count : ℕ) (numbers : List ℕ) (metres : List ℕ) where
-  pub short-lent : placesShort count c v b t numbers metres ≡ true → queriesIn m n room d gap c v b t count numbers metres ≡ refusal TooMany
-  unfolding queriesIn
+module _ (m n room : ℕ) (d : Directory) (gap : Float) (q : Asked) (numbers metres : List ℕ) where
+  pub short-lent : placesShort q numbers metres ≡ true → queriesIn m n room d gap q numbers metres ≡ refusal TooMany
+  unfolding queriesIn ruled
   short-lent h = rw (h, either (ltb room m || ltb room n))
     where
       either : (w : Bool) → (w || true) ≡ true
       either true = refl
       either false = refl
 
-  module _ (h : placesShort count c v b t numbers metres ≡ false) where
+  module _ (h : placesShort q numbers metres ≡ false) where
     -- where a test of the table refuses
-    pub table-refused : (r : Refusal) → Test.Refused r ≡ tableTest m n room d gap → queriesIn m n room d gap c v b t count numbers metres ≡ refusal r
-    unfolding queriesIn tableTest
-    table-refused r e = rw h (go (places (queryAt m n room d gap c v b t) count) (ltb room m || ltb room n) (inRange gap) (soundDirectory d) e)
+    pub table-refused : (r : Refusal) → Test.Refused r ≡ tableTest m n room d gap → queriesIn m n room d gap q numbers metres ≡ refusal r
+    unfolding queriesIn tableTest ruled
+    table-refused r e = rw h (go (places (queryAt m n room d gap q) (q .count)) (ltb room m || ltb room n) (inRange gap) (soundDirectory d) e)
       where
         go : (x : List Correction) (w y s : Bool)
             → Test.Refused r ≡ cond w (Test.Refused TooMany) (cond (not y) (Test.Refused SettingOutOfRange) (cond (not s) (Test.Refused RecordOutOfRange) Test.Passed))
@@ -160,20 +161,20 @@ module _ (m n room : ℕ) (d : Directory) (gap : Float) (c v b : List ℕ) (t : 
         go x false true true e = absurd (let z : _≡_ {A = ℕ} 0 1 = cc in omega arith)
 
     -- where they all pass
-    pub all-answered : PassedQuery m n room d gap → queriesIn m n room d gap c v b t count numbers metres ≡ answers (places (queryAt m n room d gap c v b t) count)
-    unfolding queriesIn
-    all-answered p = rw (h, le-ltb room m (p .few-entries), le-ltb room n (p .few-samples), p .in-range, p .steady)
+    pub all-answered : PassedQuery m n room d gap → queriesIn m n room d gap q numbers metres ≡ answers (places (queryAt m n room d gap q) (q .count))
+    unfolding queriesIn ruled
+    all-answered p = rw (h, le-ltb room m (p .few-entries), le-ltb room n (p .few-samples), p .in-range, p .sound)
 
 -- ---- one call gives what as many single queries give
-module _ (m n room : ℕ) (d : Directory) (gap : Float) (c v b : List ℕ) (t : List Float) (count : ℕ) (numbers : List ℕ) (metres : List ℕ) where
+module _ (m n room : ℕ) (d : Directory) (gap : Float) (q : Asked) (numbers metres : List ℕ) where
   -- where the call answers, its columns are long enough and its reply has the query at each place
-  answering : askingOf (queriesIn m n room d gap c v b t count numbers metres) ≡ Answered
-      → (placesShort count c v b t numbers metres ≡ false) × (queriesIn m n room d gap c v b t count numbers metres ≡ answers (places (queryAt m n room d gap c v b t) count))
-  unfolding queriesIn
-  answering = go (ltb room m || ltb room n) (placesShort count c v b t numbers metres) (not (inRange gap)) (not (soundDirectory d))
+  answering : askingOf (queriesIn m n room d gap q numbers metres) ≡ Answered
+      → (placesShort q numbers metres ≡ false) × (queriesIn m n room d gap q numbers metres ≡ answers (places (queryAt m n room d gap q) (q .count)))
+  unfolding queriesIn ruled
+  answering = go (ltb room m || ltb room n) (placesShort q numbers metres) (not (inRange gap)) (not (soundDirectory d))
     where
       all : Reply
-      all = answers (places (queryAt m n room d gap c v b t) count)
+      all = answers (places (queryAt m n room d gap q) (q .count))
 
       go : (w x y z : Bool) → askingOf (cond (w || x) (refusal TooMany) (cond y (refusal SettingOutOfRange) (cond z (refusal RecordOutOfRange) all))) ≡ Answered
           → (x ≡ false) × (cond (w || x) (refusal TooMany) (cond y (refusal SettingOutOfRange) (cond z (refusal RecordOutOfRange) all)) ≡ all)
@@ -183,33 +184,33 @@ module _ (m n room : ℕ) (d : Directory) (gap : Float) (c v b : List ℕ) (t : 
       go false false false true e = absurd (let q : _≡_ {A = ℕ} 0 1 = cc in omega arith)
       go false false false false e = (refl, refl)
 
-  module _ (numbers′ : List ℕ) (metres′ : List ℕ) (e : Answered ≡ askingOf (queriesIn m n room d gap c v b t count numbers metres)) (h : Replies (queriesIn m n room d gap c v b t count numbers metres) 0 numbers metres numbers′ metres′) (i : ℕ) (k : i < count) where
-    is : Replies (answers (places (queryAt m n room d gap c v b t) count)) 0 numbers metres numbers′ metres′
+  module _ (numbers′ : List ℕ) (metres′ : List ℕ) (e : Answered ≡ askingOf (queriesIn m n room d gap q numbers metres)) (h : Replies (queriesIn m n room d gap q numbers metres) 0 numbers metres numbers′ metres′) (i : ℕ) (k : i < q .count) where
+    is : Replies (answers (places (queryAt m n room d gap q) (q .count))) 0 numbers metres numbers′ metres′
     is = same-reply (sym (answering (sym e) .1)) h
 
-    long : Long count c v b t numbers metres
-    long = not-short count c v b t numbers metres (answering (sym e) .0)
+    long : Long q numbers metres
+    long = not-short q numbers metres (answering (sym e) .0)
 
-    answer : (x : Correction) → getD (places (queryAt m n room d gap c v b t) count) i x ≡ queryAt m n room d gap c v b t i
-    answer x = places-at (queryAt m n room d gap c v b t) count i x k
+    answer : (x : Correction) → getD (places (queryAt m n room d gap q) (q .count)) i x ≡ queryAt m n room d gap q i
+    answer x = places-at (queryAt m n room d gap q) (q .count) i x k
 
     nothing : Correction
     nothing = Correction.Refused TooMany
 
-    inside : i < length (places (queryAt m n room d gap c v b t) count)
-    inside = omega (arith, places-length (queryAt m n room d gap c v b t) count)
+    inside : i < length (places (queryAt m n room d gap q) (q .count))
+    inside = omega (arith, places-length (queryAt m n room d gap q) (q .count))
 
     -- the number of each place is that of the query there
-    pub number-at : getD numbers′ i 0 ≡ queryNumber (queryAt m n room d gap c v b t i)
+    pub number-at : getD numbers′ i 0 ≡ queryNumber (queryAt m n room d gap q i)
     number-at =
-        ap (λ (x : List ℕ). getD x i 0) (is .numbers-after) ∙ written-at numberAfter (places (queryAt m n room d gap c v b t) count) numbers i nothing 0 inside (omega (arith, long .in-numbers)) ∙ ap queryNumber (answer nothing)
+        ap (λ (x : List ℕ). getD x i 0) (is .numbers-after) ∙ written-at numberAfter (places (queryAt m n room d gap q) (q .count)) numbers i nothing 0 inside (omega (arith, long .in-numbers)) ∙ ap queryNumber (answer nothing)
 
     -- the pattern of its metres is that of the query there, and as they were where that is refused
-    pub metres-at : getD metres′ i 0 ≡ patternAfter (queryAt m n room d gap c v b t i) (getD metres i 0)
+    pub metres-at : getD metres′ i 0 ≡ patternAfter (queryAt m n room d gap q i) (getD metres i 0)
     metres-at =
-        ap (λ (x : List ℕ). getD x i 0) (is .metres-after) ∙ written-at patternAfter (places (queryAt m n room d gap c v b t) count) metres i nothing 0 inside (omega (arith, long .in-metres))
+        ap (λ (x : List ℕ). getD x i 0) (is .metres-after) ∙ written-at patternAfter (places (queryAt m n room d gap q) (q .count)) metres i nothing 0 inside (omega (arith, long .in-metres))
         ∙ ap (λ (a : Correction). patternAfter a (getD metres i 0)) (answer nothing)
 
     -- and every correction given is finite
-    pub finite-there : GivesFinite (queryAt m n room d gap c v b t i)
-    finite-there = subst GivesFinite (answer nothing) (finite-at (places (queryAt m n room d gap c v b t) count) i nothing inside (is .all-finite))
+    pub finite-there : GivesFinite (queryAt m n room d gap q i)
+    finite-there = subst GivesFinite (answer nothing) (finite-at (places (queryAt m n room d gap q) (q .count)) i nothing inside (is .all-finite))

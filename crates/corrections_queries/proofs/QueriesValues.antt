@@ -8,6 +8,7 @@ use Rattle.exact.specs.Pattern.{sign}
 use Rattle.numeric.specs.Order.{totalOrder, patternOf}
 use Rattle.numeric.specs.Real.{abs, inRange}
 use Rattle.numeric.specs.declared.refusal.Refusal.the-variants.{TooMany}
+use Rattle.numeric.specs.Rules.{ruled}
 use Rattle.corrections_table.specs.Table.{timeBefore}
 use Rattle.corrections_directory.specs.Directory.{Directory, ascends, tiles, timely, timelyFrom, blockTimes, inReach, soundDirectory, block, flat}
 use Rattle.corrections_query.specs.Query.{near, firstOf, lastOf, through, nearOr, spanned, correctionRule, answerIn, answerAt, guarded, queryIn, patternAfter}
@@ -23,17 +24,19 @@ one-block =
 
 -- three queries in one call, at 15 s, past the end and above 1e9: each place has its number, and metres only where there are some
 abbrev three : Reply
-three = queriesIn 1 2 2048 one-block (whole 90) (1 ∷ 1 ∷ 1 ∷ []) (5 ∷ 5 ∷ 5 ∷ []) (1 ∷ 1 ∷ 1 ∷ []) (whole 15 ∷ whole 21 ∷ whole 2000000000 ∷ []) 3 (7 ∷ 7 ∷ 7 ∷ 7 ∷ []) (8 ∷ 8 ∷ 8 ∷ [])
+three =
+    queriesIn 1 2 2048 one-block (whole 90)
+    (record { constellations = 1 ∷ 1 ∷ 1 ∷ []; svids = 5 ∷ 5 ∷ 5 ∷ []; bands = 1 ∷ 1 ∷ 1 ∷ []; times = whole 15 ∷ whole 21 ∷ whole 2000000000 ∷ []; count = 3 }) (7 ∷ 7 ∷ 7 ∷ 7 ∷ []) (8 ∷ 8 ∷ 8 ∷ [])
 
 pub three-numbers : placesAfter numberAfter three (7 ∷ 7 ∷ 7 ∷ 7 ∷ []) ≡ 0 ∷ 12 ∷ 4 ∷ 7 ∷ []
-unfolding queriesIn placesShort places withAnswers queryIn guarded soundDirectory inReach ascends tiles timely timelyFrom blockTimes flat block answerAt answerIn collect correctionRule nearOr spanned through near firstOf lastOf inRange abs timeBefore totalOrder sign patternOf every lt le eq add sub mul div ofBits ofInt toBits isNan
+unfolding queriesIn placesShort places withAnswers queryIn guarded soundDirectory inReach ascends tiles timely timelyFrom blockTimes flat block answerAt answerIn collect correctionRule nearOr spanned through near firstOf lastOf inRange abs timeBefore totalOrder sign patternOf every lt le eq add sub mul div ofBits ofInt toBits isNan ruled
 three-numbers = refl
 
 pub three-metres : placesAfter patternAfter three (8 ∷ 8 ∷ 8 ∷ []) ≡ 0x4000_0000_0000_0000 ∷ 8 ∷ 8 ∷ []
-unfolding queriesIn placesShort places withAnswers queryIn guarded soundDirectory inReach ascends tiles timely timelyFrom blockTimes flat block answerAt answerIn collect correctionRule nearOr spanned through near firstOf lastOf inRange abs timeBefore totalOrder sign patternOf every lt le eq add sub mul div ofBits ofInt toBits isNan
+unfolding queriesIn placesShort places withAnswers queryIn guarded soundDirectory inReach ascends tiles timely timelyFrom blockTimes flat block answerAt answerIn collect correctionRule nearOr spanned through near firstOf lastOf inRange abs timeBefore totalOrder sign patternOf every lt le eq add sub mul div ofBits ofInt toBits isNan ruled
 three-metres = refl
 
 -- a lent column that is too short is 2
-pub short-column : queriesIn 1 2 2048 one-block (whole 90) (1 ∷ []) (5 ∷ []) (1 ∷ []) (whole 15 ∷ []) 1 [] (8 ∷ []) ≡ refusal TooMany
-unfolding queriesIn placesShort
+pub short-column : queriesIn 1 2 2048 one-block (whole 90) (record { constellations = 1 ∷ []; svids = 5 ∷ []; bands = 1 ∷ []; times = whole 15 ∷ []; count = 1 }) [] (8 ∷ []) ≡ refusal TooMany
+unfolding queriesIn placesShort ruled
 short-column = refl

@@ -1,17 +1,20 @@
 -- Many queries of one directory, which is tested once; each of the answers is that of one query (docs/SCOPE.md, "Corrections"). Definitions only.
 use Prim.Native.Nat.{ℕ}
 use mathlib.Core.Path.{_≡_}
-use mathlib.Core.Bool.{Bool, cond, not, _||_}
+use mathlib.Core.Bool.{Bool, not, _||_}
 use mathlib.Core.List.{List, [], _∷_}
 use lib.ListN.{length, getD}
 use lib.Dec.{ltb}
 use lib.Ieee.{Float, nan}
+use Rattle.lists.specs.Memory.{before, after, LentNumbers, LentFloats}
 use Rattle.lists.specs.Walk.{places}
 use Rattle.numeric.specs.Real.{inRange}
 use Rattle.numeric.specs.Refusal.{numberOf}
+use Rattle.numeric.specs.Rules.{rule, ruled}
 use Rattle.numeric.specs.declared.refusal.Refusal.{Refusal}
 use Rattle.numeric.specs.declared.refusal.Refusal.the-variants.{TooMany, SettingOutOfRange, RecordOutOfRange}
-use Rattle.corrections_directory.specs.Directory.{Directory, soundDirectory}
+use Rattle.corrections_directory.specs.Directory.{Directory, blockCapacity, directoryIn, soundDirectory}
+use Rattle.corrections_directory.specs.Read.{ReadTable}
 use Rattle.corrections_query.specs.Query.{queryIn, queryNumber, patternAfter, GivesFinite}
 use Rattle.corrections_query.specs.declared.query.Correction.{Correction}
 use Rattle.corrections_queries.specs.declared.queries.Asking.{Asking}
@@ -24,22 +27,37 @@ pub data Reply : Type 0 where
   refusal : Refusal → Reply
   answers : List Correction → Reply
 
+-- what is asked: columns of constellations, svids, bands and times, and how many of their places count
+pub record Asked : Type 0 where
+  pub constellations : List ℕ
+  pub svids : List ℕ
+  pub bands : List ℕ
+  pub times : List Float
+  pub count : ℕ
+
 -- number 2: a lent column is shorter than the count of places
-unfoldable pub placesShort : ℕ → List ℕ → List ℕ → List ℕ → List Float → List ℕ → List ℕ → Bool
-placesShort count c v b t numbers metres =
-    ltb (length c) count || ltb (length v) count || ltb (length b) count || ltb (length t) count || ltb (length numbers) count || ltb (length metres) count
+unfoldable pub placesShort : Asked → List ℕ → List ℕ → Bool
+placesShort q numbers metres =
+    ltb (length (q .constellations)) (q .count)
+    || ltb (length (q .svids)) (q .count)
+    || ltb (length (q .bands)) (q .count)
+    || ltb (length (q .times)) (q .count)
+    || ltb (length numbers) (q .count)
+    || ltb (length metres) (q .count)
 
--- the query at the place i of columns of constellations, svids, bands and times
-abbrev pub queryAt : ℕ → ℕ → ℕ → Directory → Float → List ℕ → List ℕ → List ℕ → List Float → ℕ → Correction
-queryAt m n room d gap c v b t i = queryIn m n room d gap (getD c i 0) (getD v i 0) (getD b i 0) (getD t i nan)
+-- the query at the place i
+abbrev pub queryAt : ℕ → ℕ → ℕ → Directory → Float → Asked → ℕ → Correction
+queryAt m n room d gap q i = queryIn m n room d gap (getD (q .constellations) i 0) (getD (q .svids) i 0) (getD (q .bands) i 0) (getD (q .times) i nan)
 
--- queries of m entries and n samples in columns with that capacity: numbers 2, 3 and 4 for the whole call, and then the query at each of the first count places
-unfoldable pub queriesIn : ℕ → ℕ → ℕ → Directory → Float → List ℕ → List ℕ → List ℕ → List Float → ℕ → List ℕ → List ℕ → Reply
-queriesIn m n room d gap c v b t count numbers metres =
-    cond ((ltb room m || ltb room n) || placesShort count c v b t numbers metres) (refusal TooMany)
-    (cond (not (inRange gap)) (refusal SettingOutOfRange)
-    (cond (not (soundDirectory d)) (refusal RecordOutOfRange)
-    (answers (places (queryAt m n room d gap c v b t) count))))
+-- queries of m entries and n samples in columns with that capacity: numbers 2, 3 and 4 for the whole call, and then the query at each place that counts
+unfoldable pub queriesIn : ℕ → ℕ → ℕ → Directory → Float → Asked → List ℕ → List ℕ → Reply
+queriesIn m n room d gap q numbers metres =
+    ruled refusal
+    (rule TooMany ((ltb room m || ltb room n) || placesShort q numbers metres)
+    ∷ rule SettingOutOfRange (not (inRange gap))
+    ∷ rule RecordOutOfRange (not (soundDirectory d))
+    ∷ [])
+    (answers (places (queryAt m n room d gap q) (q .count)))
 
 -- ---- what a call leaves
 
@@ -83,3 +101,24 @@ pub record Replies (o : Reply) (number : ℕ) (numbers metres numbers′ metres�
   pub numbers-after : numbers′ ≡ placesAfter numberAfter o numbers
   pub metres-after : metres′ ≡ placesAfter patternAfter o metres
   pub all-finite : ReplyFinite o
+
+-- ---- on lent memory
+
+-- what a call is asked
+abbrev pub asked : LentNumbers → LentNumbers → LentNumbers → LentFloats → ℕ → Asked
+asked c v b t count = record { constellations = before c; svids = before v; bands = before b; times = before t; count = count }
+
+-- the reply to queries of a table in lent columns
+abbrev pub lentQueries : ReadTable → Float → Asked → LentNumbers → LentNumbers → Reply
+lentQueries table gap q numbers metres =
+    queriesIn (table .entries) (table .samples) (blockCapacity (table .columns)) (directoryIn (table .entries) (table .samples) (table .columns)) gap q
+    (before numbers) (before metres)
+
+-- the number and the two columns after a call are those of the reply
+abbrev pub RepliesTo : ReadTable → Float → Asked → ℕ → LentNumbers → LentNumbers → Type 0
+RepliesTo table gap q number numbers metres =
+    Replies (lentQueries table gap q numbers metres) number (before numbers) (before metres) (after numbers) (after metres)
+
+-- the answer is that of the reply, and so are the two columns
+abbrev pub Replied : ReadTable → Float → Asked → Asking → LentNumbers → LentNumbers → Type 0
+Replied table gap q a numbers metres = (a ≡ askingOf (lentQueries table gap q numbers metres)) × RepliesTo table gap q (askingNumber a) numbers metres

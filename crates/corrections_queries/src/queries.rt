@@ -1,13 +1,13 @@
 // Many queries of one table, which is tested once.
 ghost use mathlib.Core.Path.{_≡_};
-ghost use Rattle.corrections_directory.specs.Directory.{lentBlocks, blockCapacity, directoryIn};
-ghost use Rattle.corrections_query.specs.Query.{queryIn, queryNumber, patternAfter, Answers};
-ghost use Rattle.corrections_queries.specs.Queries.{placesShort, queriesIn, askingOf, askingNumber, Replies};
+ghost use Rattle.lists.specs.Memory.{before};
+ghost use Rattle.corrections_directory.specs.Read.{readTable};
+ghost use Rattle.corrections_query.specs.Query.{lentQuery, queryNumber, patternAfter, Answers, GivesFinite};
+ghost use Rattle.corrections_queries.specs.Queries.{Replied, asked, askingNumber, placesShort};
 use corrections_query::query::Correction;
 use corrections_query::query::answer_of;
 use corrections_query::query::tested;
 use corrections_table::add::Test;
-use numeric::order::pattern;
 use numeric::refusal::Refusal;
 use signal::signal::signal_of;
 
@@ -33,13 +33,14 @@ fn number_of(a: Correction) -> u8
     }
 }
 
-// Returns the pattern of the correction, or the old one where there is none.
+// Returns the pattern of the correction, which is finite, or the old one where there is none.
 fn pattern_of(a: Correction, old: u64) -> u64
+    requires { ⌜ GivesFinite a ⌝ }
     ensures { λ r. ⌜ r ≡ patternAfter a old ⌝ }
 {
     match a {
         Correction::Refused(_) => old,
-        Correction::Metres(x) => pattern(x),
+        Correction::Metres(x) => f64::to_bits(x),
     }
 }
 
@@ -63,8 +64,7 @@ fn is_short(
     numbers: &[u8],
     metres: &[u64],
 ) -> bool
-    ensures { λ r. ⌜ r ≡ placesShort count
-        (now (constellation .entry)) (now (svid .entry)) (now (band .entry)) (now (time .entry)) (now (numbers .entry)) (now (metres .entry)) ⌝ }
+    ensures { λ r. ⌜ r ≡ placesShort (asked constellation svid band time count) (before numbers) (before metres) ⌝ }
 {
     (constellation.len() < count)
         | (svid.len() < count)
@@ -95,12 +95,9 @@ pub fn queries(
     numbers: &mut [u8],
     metres: &mut [u64],
 ) -> Asking
-    ensures { λ r. ⌜ (let l = lentBlocks
-        (now («block_constellation» .entry)) (now («block_svid» .entry)) (now («block_band» .entry)) (now («block_first» .entry)) (now («block_samples» .entry))
-        (now («table_time» .entry)) (now («table_metres» .entry)) in
-        let o = queriesIn blocks «table_count» (blockCapacity l) (directoryIn blocks «table_count» l) «max_gap»
-        (now (constellation .entry)) (now (svid .entry)) (now (band .entry)) (now (time .entry)) count (now (numbers .entry)) (now (metres .entry)) in
-        (r ≡ askingOf o) × Replies o (askingNumber r) (now (numbers .entry)) (now (metres .entry)) (now (numbers .exit)) (now (metres .exit))) ⌝ }
+    ensures { λ r. ⌜ Replied
+        (readTable «block_constellation» «block_svid» «block_band» «block_first» «block_samples» blocks «table_time» «table_metres» «table_count») «max_gap»
+        (asked constellation svid band time count) r numbers metres ⌝ }
 {
     if is_short(count, constellation, svid, band, time, numbers, metres) {
         return Asking::Refused(Refusal::TooMany);
@@ -161,11 +158,9 @@ pub fn one_query(
     time: f64,
     old: u64,
 ) -> OneAnswer
-    ensures { λ r. ⌜ (let l = lentBlocks
-        (now («block_constellation» .entry)) (now («block_svid» .entry)) (now («block_band» .entry)) (now («block_first» .entry)) (now («block_samples» .entry))
-        (now («table_time» .entry)) (now («table_metres» .entry)) in
-        let q = queryIn blocks «table_count» (blockCapacity l) (directoryIn blocks «table_count» l) «max_gap» constellation svid band time in
-        Answers q (r .number) old (r .metres)) ⌝ }
+    ensures { λ r. ⌜ Answers (lentQuery
+        (readTable «block_constellation» «block_svid» «block_band» «block_first» «block_samples» blocks «table_time» «table_metres» «table_count») «max_gap»
+        constellation svid band time) (r .number) old (r .metres) ⌝ }
 {
     let constellations = [constellation; 1];
     let svids = [svid; 1];

@@ -18,14 +18,14 @@ use Rattle.corrections_table.proofs.UnitLaws.{never}
 use Rattle.corrections_directory.specs.Directory.{Directory, flat, soundDirectory}
 use Rattle.corrections_directory.proofs.DirectoryLaws.{sound-parts}
 use Rattle.corrections_directory.proofs.SeriesLaws.{block-series, blockOf}
-use Rattle.corrections_query.specs.Query.{missing, the, near, firstOf, lastOf, before, since, lastBefore, firstSince, through, line, nearOr, spanned, correctionRule, answerIn}
+use Rattle.corrections_query.specs.Query.{missing, the, near, firstOf, lastOf, sampleBefore, since, lastBefore, firstSince, through, line, nearOr, spanned, correctionRule, answerIn}
 use Rattle.corrections_query.specs.Steps.{Split, isBefore}
 use Rattle.corrections_query.specs.declared.query.Correction.the-variants.{Refused, Metres}
 use Rattle.corrections_query.proofs.FoundLaws.{first-at, first-none, last-at, last-none}
 use Rattle.corrections_query.proofs.PlaceLaws.{Lies}
 
 -- ---- what is found in a list whose samples before the time are the first r
-module _ (t : Float) (l : List Sample) (r : ℕ) (s : Split (λ j. before t (getD l j blank)) 0 (length l) r) where
+module _ (t : Float) (l : List Sample) (r : ℕ) (s : Split (λ j. sampleBefore t (getD l j blank)) 0 (length l) r) where
   since-at : firstSince t l ≡ cond (ltb r (length l)) (the (getD l r blank)) missing
   since-at = go (ltb r (length l)) refl
     where
@@ -39,8 +39,8 @@ module _ (t : Float) (l : List Sample) (r : ℕ) (s : Split (λ j. before t (get
       go : (x : Bool) → ltb 0 r ≡ x → lastBefore t l ≡ cond x (the (getD l (r - 1) blank)) missing
       go true e =
           let h : 0 < r = ltb-true 0 r e in
-          last-at (before t) missing l (r - 1) (omega (arith, s .within)) (s .front (r - 1) (omega arith) (omega arith)) (λ j k w. s .back j (omega arith) w)
-      go false e = let h : r ≤ 0 = ltb-false 0 r e in last-none (before t) missing l (λ j k. s .back j (omega arith) k)
+          last-at (sampleBefore t) missing l (r - 1) (omega (arith, s .within)) (s .front (r - 1) (omega arith) (omega arith)) (λ j k w. s .back j (omega arith) w)
+      go false e = let h : r ≤ 0 = ltb-false 0 r e in last-none (sampleBefore t) missing l (λ j k. s .back j (omega arith) k)
 
 -- ---- the rule, by whether there is a sample b at or after the time (x), and a sample a before it (y)
 module _ (gap t : Float) (a b : Sample) where
@@ -78,7 +78,7 @@ module _ (gap t : Float) (a b : Sample) where
 
 -- ---- what the code answers of a block in the columns, way by way
 module _ (l : List Sample) (ts xs : List Float) (start count : ℕ) (h : Lies l ts xs start count) (gap t : Float) (r : ℕ) (s : Split (isBefore ts t) start (start + count) r) where
-  own : Split (λ j. before t (getD l j blank)) 0 (length l) (r - start)
+  own : Split (λ j. sampleBefore t (getD l j blank)) 0 (length l) (r - start)
   own =
       rw (h .long)
       (record {

@@ -13,9 +13,8 @@ use lib.ListN.{length, getD}
 use lib.Ieee.{Float, nan, inf, fin, lt, le, below, fits, binary64, up, down, round, sum, sub}
 use lib.Ieee.Fits.{down-pos}
 use lib.Ieee.Order.{round-mono}
-use lib.Ieee.Scale.{round-same}
+use lib.Ieee.Scale.{round-same, finite}
 use lib.Ieee.Positive.{positive, above, above-of-le, le→cross}
-use lib.Ieee.Scale.{finite}
 use Rattle.exact.specs.Float.{_⊖_, _⊗_, _⊘_}
 use Rattle.numeric.specs.Real.{inRange}
 use Rattle.numeric.specs.declared.refusal.Refusal.the-variants.{NoCorrection}

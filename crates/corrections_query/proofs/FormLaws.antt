@@ -14,7 +14,8 @@ use Rattle.corrections_table.specs.Table.{sorted}
 use Rattle.corrections_table.specs.declared.sample.Sample.{Sample}
 use Rattle.corrections_table.proofs.Places.{sorted-rises}
 use Rattle.corrections_directory.specs.Directory.{Entry, Directory, directoryOf, entriesFrom, entryOf, flat, isMine, joined, soundDirectory}
-use Rattle.corrections_directory.proofs.DirectoryLaws.{narrow, flat-directory, sound-directory, sound-flat}
+use Rattle.corrections_directory.proofs.DirectoryLaws.{flat-directory, sound-flat}
+use Rattle.corrections_directory.proofs.NarrowLaws.{narrow, sound-directory}
 use Rattle.corrections_query.specs.Query.{queryIn, queryOf}
 
 -- for every sound directory of so many entries as there is room for

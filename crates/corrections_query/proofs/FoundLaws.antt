@@ -11,7 +11,7 @@ use lib.Ieee.{Float, lt}
 use Rattle.lists.specs.Walk.{collect}
 use Rattle.corrections_table.specs.Table.{blank, signalOf, seriesOf}
 use Rattle.corrections_table.specs.declared.sample.Sample.{Sample}
-use Rattle.corrections_query.specs.Query.{Found, missing, the, firstOf, lastOf, before, since, lastBefore, firstSince}
+use Rattle.corrections_query.specs.Query.{Found, missing, the, firstOf, lastOf, sampleBefore, since, lastBefore, firstSince}
 
 -- ---- by their places
 pub first-at : (q : Sample → Bool) (l : List Sample) (i : ℕ) → i < length l → ((j : ℕ) → j < i → q (getD l j blank) ≡ false) → q (getD l i blank) ≡ true → firstOf q l ≡ the (getD l i blank)
@@ -69,7 +69,7 @@ abbrev pub later : ℕ → Float → Sample → Bool
 later g t s = eqb (signalOf s) g && not (lt (s .time) t)
 
 pub earlier-series : (g : ℕ) (t : Float) (l : List Sample) → lastBefore t (seriesOf g l) ≡ lastOf (earlier g t) missing l
-earlier-series g t l = sym (last-series (before t) g missing l)
+earlier-series g t l = sym (last-series (sampleBefore t) g missing l)
 
 pub later-series : (g : ℕ) (t : Float) (l : List Sample) → firstSince t (seriesOf g l) ≡ firstOf (later g t) l
 later-series g t l = sym (first-series (since t) g l)

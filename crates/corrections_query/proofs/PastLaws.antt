@@ -15,6 +15,7 @@ use Rattle.numeric.specs.Real.{abs, inRange}
 use Rattle.numeric.proofs.RealLaws.{in-range-finite}
 use Rattle.numeric.specs.declared.refusal.Refusal.the-variants.{TooMany, SettingOutOfRange, RecordOutOfRange, NoCorrection}
 use Rattle.signal.specs.Signal.{signal}
+use Rattle.numeric.specs.Rules.{ruled}
 use Rattle.corrections_table.specs.Table.{blank, seriesOf, signalOf, soundTable}
 use Rattle.corrections_table.specs.declared.sample.Sample.{Sample}
 use Rattle.corrections_table.proofs.Places.{placeOf, timeKey}
@@ -23,7 +24,7 @@ use Rattle.corrections_table.proofs.UnitLaws.{earlier-of, never}
 use Rattle.corrections_directory.specs.Directory.{Directory, flat, soundDirectory}
 use Rattle.corrections_directory.proofs.DirectoryLaws.{sound-flat}
 use Rattle.corrections_query.specs.Query.{Found, missing, the, near, firstOf, lastOf, lastBefore, firstSince, nearOr, spanned, correctionRule, answerIn, answerAt, guarded, queryIn, PassedQuery, Passes}
-use Rattle.corrections_query.specs.Past.{bridged, between, formerAnswer, queryBefore, isOf, JustPast}
+use Rattle.corrections_query.specs.Past.{formerRule, formerAnswer, queryBefore, isOf, JustPast}
 use Rattle.corrections_query.specs.declared.query.Correction.{Correction}
 use Rattle.corrections_query.specs.declared.query.Correction.the-variants.{Refused, Metres}
 use Rattle.corrections_query.proofs.FoundLaws.{earlier, later, earlier-series, later-series, first-none, last-none}
@@ -32,14 +33,14 @@ use Rattle.corrections_query.proofs.QueryLaws.{TimesHeld}
 -- ---- the two rules, by what was found before the time and from it on
 module _ (gap t : Float) where
   -- where there is a sample at or after the time, they agree
-  with-since : (f : Found) (b : Sample) → correctionRule gap t f (the b) ≡ between gap t f (the b)
-  unfolding correctionRule nearOr spanned between bridged
+  with-since : (f : Found) (b : Sample) → correctionRule gap t f (the b) ≡ formerRule gap t f (the b)
+  unfolding correctionRule nearOr spanned formerRule
   with-since missing b = refl
   with-since (the a) b = refl
 
   -- where there is none, the old one refuses, and the new one gives the sample before where that is near
-  alone : (f : Found) → between gap t f missing ≡ Refused NoCorrection
-  unfolding between
+  alone : (f : Found) → formerRule gap t f missing ≡ Refused NoCorrection
+  unfolding formerRule
   alone f = refl
 
   close-by : (a : Sample) → near (a .time) t ≡ true → correctionRule gap t (the a) missing ≡ Metres (a .correction)
@@ -182,12 +183,12 @@ module _ (ss : List Sample) (gap : Float) (c v b : ℕ) (t : Float) where
   unfolding answerAt answerIn formerAnswer
   answer-kept nay = go (lastBefore t (seriesOf (signal c v b) ss)) (firstSince t (seriesOf (signal c v b) ss)) refl refl
     where
-      go : (f h : Found) → lastBefore t (seriesOf (signal c v b) ss) ≡ f → firstSince t (seriesOf (signal c v b) ss) ≡ h → correctionRule gap t f h ≡ between gap t f h
+      go : (f h : Found) → lastBefore t (seriesOf (signal c v b) ss) ≡ f → firstSince t (seriesOf (signal c v b) ss) ≡ h → correctionRule gap t f h ≡ formerRule gap t f h
       go f (the x) e k = with-since gap t f x
       go missing missing e k = empty gap t ∙ sym (alone gap t missing)
       go (the a) missing e k = test (near (a .time) t) refl
         where
-          test : (x : Bool) → near (a .time) t ≡ x → correctionRule gap t (the a) missing ≡ between gap t (the a) missing
+          test : (x : Bool) → near (a .time) t ≡ x → correctionRule gap t (the a) missing ≡ formerRule gap t (the a) missing
           test true q = absurd (nay a (passed-last ss (signal c v b) t a record { none-since = k; last-before = e; close = q }))
           test false q = far-off gap t a q ∙ sym (alone gap t (the a))
 
@@ -203,12 +204,12 @@ module _ (ss : List Sample) (gap : Float) (c v b : ℕ) (t : Float) where
 module _ (m n room : ℕ) (d : Directory) (gap : Float) (c v b : ℕ) (t : Float) where
   -- what is asked of a query that 2 to 4 let pass
   passes-through : Passes m n room d gap t → (a : Correction) → guarded (ltb room m || ltb room n) (soundDirectory d) gap t a ≡ a
-  unfolding guarded
-  passes-through p a = rw (le-ltb room m (p .table .few-entries), le-ltb room n (p .table .few-samples), p .table .in-range, p .table .steady, p .time)
+  unfolding guarded ruled
+  passes-through p a = rw (le-ltb room m (p .table .few-entries), le-ltb room n (p .table .few-samples), p .table .in-range, p .table .sound, p .time)
 
   -- of one that they turn away nothing is asked
   turned-away : (Passes m n room d gap t → ⊥) → (x y : Correction) → guarded (ltb room m || ltb room n) (soundDirectory d) gap t x ≡ guarded (ltb room m || ltb room n) (soundDirectory d) gap t y
-  unfolding guarded
+  unfolding guarded ruled
   turned-away nay x y = go (ltb room m || ltb room n) (inRange gap) (soundDirectory d) (inRange t || not (finite t)) refl refl refl refl
     where
       go : (e f g h : Bool) → (ltb room m || ltb room n) ≡ e → inRange gap ≡ f → soundDirectory d ≡ g → (inRange t || not (finite t)) ≡ h
@@ -223,7 +224,7 @@ module _ (m n room : ℕ) (d : Directory) (gap : Float) (c v b : ℕ) (t : Float
           absurd
           (nay
           (record {
-            table = record { few-entries = ltb-false room m (k .0); few-samples = ltb-false room n (k .1); in-range = q; steady = r };
+            table = record { few-entries = ltb-false room m (k .0); few-samples = ltb-false room n (k .1); in-range = q; sound = r };
             time = s;
           }))
 
@@ -247,7 +248,7 @@ module _ (m n room : ℕ) (d : Directory) (gap : Float) (c v b : ℕ) (t : Float
       → (queryBefore m n room d gap c v b t ≡ Refused NoCorrection) × (queryIn m n room d gap c v b t ≡ Metres (a .correction))
   unfolding queryIn queryBefore
   query-changed p ft w a j =
-      let k = answer-changed (flat d) gap c v b t ft (sound-flat d (p .table .steady)) w a j in
+      let k = answer-changed (flat d) gap c v b t ft (sound-flat d (p .table .sound)) w a j in
       (passes-through p (formerAnswer (flat d) gap c v b t) ∙ k .0, passes-through p (answerAt (flat d) gap c v b t) ∙ k .1)
 
 -- ---- a time that is not finite
@@ -323,4 +324,4 @@ answer-timeless ss gap c v b t s n =
 -- the call: 12 once 2 to 4 pass
 pub query-timeless : (m n room : ℕ) (d : Directory) (gap : Float) (c v b : ℕ) (t : Float) → PassedQuery m n room d gap → finite t ≡ false → queryIn m n room d gap c v b t ≡ Refused NoCorrection
 query-timeless m n room d gap c v b t p e =
-    query-passed m n room d gap c v b t (record { table = p; time = rw e (or-true (inRange t)) }) ∙ answer-timeless (flat d) gap c v b t (sound-flat d (p .steady)) e
+    query-passed m n room d gap c v b t (record { table = p; time = rw e (or-true (inRange t)) }) ∙ answer-timeless (flat d) gap c v b t (sound-flat d (p .sound)) e

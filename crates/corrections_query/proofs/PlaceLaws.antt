@@ -19,12 +19,12 @@ use Rattle.corrections_table.proofs.Places.{timeKey}
 use Rattle.corrections_table.proofs.TableLaws.{and-left, and-right}
 use Rattle.corrections_table.proofs.UnitLaws.{earlier-of}
 use Rattle.corrections_directory.specs.Directory.{Entry, Reading, Blocks, block, blockTimes, directoryIn, entriesIn, flat, inReach, readingOf, readingRows, readingsIn, sampleOf, signalIn, soundDirectory, timely}
-use Rattle.corrections_directory.specs.Steps.{noEntry, noReading}
+use Rattle.corrections_directory.specs.Steps.{noEntry}
 use Rattle.corrections_directory.proofs.DirectoryLaws.{sound-parts, flat-readings, keyed, block-keyed}
 use Rattle.corrections_directory.proofs.SeriesLaws.{blockOf}
 use Rattle.corrections_directory.proofs.SoundLaws.{part-is, tiles-at}
 use Rattle.corrections_directory.proofs.EntryLaws.{ascends-at, block-length, block-at}
-use Rattle.corrections_directory.proofs.ColumnLaws.{entry-at, reading-at}
+use Rattle.corrections_directory.proofs.ColumnLaws.{entry-at, noReading, reading-at}
 use Rattle.corrections_query.specs.Steps.{Split, Falling, isUpTo, isBefore}
 use Rattle.corrections_query.proofs.QueryLaws.{TimesHeld}
 

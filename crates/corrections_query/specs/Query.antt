@@ -10,23 +10,25 @@ use Rattle.exact.specs.Float.{_⊕_, _⊖_, _⊗_, _⊘_, bits}
 use Rattle.numeric.specs.Order.{patternOf}
 use Rattle.numeric.specs.Real.{abs, inRange}
 use Rattle.numeric.specs.Refusal.{numberOf}
+use Rattle.numeric.specs.Rules.{rule, ruled}
 use Rattle.numeric.specs.declared.refusal.Refusal.the-variants.{TooMany, SettingOutOfRange, RecordOutOfRange, NoCorrection}
 use Rattle.signal.specs.Signal.{signal}
 use Rattle.corrections_table.specs.Table.{seriesOf, soundTable}
 use Rattle.corrections_table.specs.declared.add.Test.{Test}
 use Rattle.corrections_table.specs.declared.add.Test.the-variants as Test
 use Rattle.corrections_table.specs.declared.sample.Sample.{Sample}
-use Rattle.corrections_directory.specs.Directory.{Directory, flat, soundDirectory}
+use Rattle.corrections_directory.specs.Directory.{Directory, blockCapacity, directoryIn, flat, soundDirectory}
+use Rattle.corrections_directory.specs.Read.{ReadTable}
 use Rattle.corrections_query.specs.declared.query.Correction.{Correction}
 use Rattle.corrections_query.specs.declared.query.Correction.the-variants.{Refused, Metres}
 
 -- 1e-6
-abbrev pub exact : Float
-exact = bits 0x3EB0_C6F7_A0B5_ED8D
+abbrev pub nearLimit : Float
+nearLimit = bits 0x3EB0_C6F7_A0B5_ED8D
 
 -- less than 1e-6 s away
 unfoldable pub near : Float → Float → Bool
-near x t = lt (abs (x ⊖ t)) exact
+near x t = lt (abs (x ⊖ t)) nearLimit
 
 pub data Found : Type 0 where
   missing : Found
@@ -43,8 +45,8 @@ lastOf test f [] = f
 lastOf test f (s ∷ ss) = lastOf test (cond (test s) (the s) f) ss
 
 -- a sample before the time t
-abbrev pub before : Float → Sample → Bool
-before t s = lt (s .time) t
+abbrev pub sampleBefore : Float → Sample → Bool
+sampleBefore t s = lt (s .time) t
 
 -- a sample at or after the time t
 abbrev pub since : Float → Sample → Bool
@@ -52,7 +54,7 @@ since t s = not (lt (s .time) t)
 
 -- the last sample of a series before t
 abbrev pub lastBefore : Float → List Sample → Found
-lastBefore t l = lastOf (before t) missing l
+lastBefore t l = lastOf (sampleBefore t) missing l
 
 -- the first sample of a series at or after t
 abbrev pub firstSince : Float → List Sample → Found
@@ -89,13 +91,15 @@ answerIn l gap t = correctionRule gap t (lastBefore t l) (firstSince t l)
 unfoldable pub answerAt : List Sample → Float → ℕ → ℕ → ℕ → Float → Correction
 answerAt ss gap c v b t = answerIn (seriesOf (signal c v b) ss) gap t
 
--- numbers 2, 3 and 4 of a query, and then the answer: whether the counts are above the capacity, whether the table is sound; a time that is not finite passes 4
+-- the answer once numbers 2, 3 and 4 pass, by whether the counts are above the capacity and whether the table is sound; a time that is not finite passes 4
 unfoldable pub guarded : Bool → Bool → Float → Float → Correction → Correction
-guarded many steady gap t answer =
-    cond many (Refused TooMany)
-    (cond (not (inRange gap)) (Refused SettingOutOfRange)
-    (cond (not (steady && (inRange t || not (finite t)))) (Refused RecordOutOfRange)
-    answer))
+guarded many sound gap t answer =
+    ruled Refused
+    (rule TooMany many
+    ∷ rule SettingOutOfRange (not (inRange gap))
+    ∷ rule RecordOutOfRange (not (sound && (inRange t || not (finite t))))
+    ∷ [])
+    answer
 
 -- a query of n samples with that capacity
 unfoldable pub queryOf : ℕ → ℕ → List Sample → Float → ℕ → ℕ → ℕ → Float → Correction
@@ -105,16 +109,24 @@ queryOf n room ss gap c v b t = guarded (ltb room n) (soundTable ss) gap t (answ
 unfoldable pub queryIn : ℕ → ℕ → ℕ → Directory → Float → ℕ → ℕ → ℕ → Float → Correction
 queryIn m n room d gap c v b t = guarded (ltb room m || ltb room n) (soundDirectory d) gap t (answerAt (flat d) gap c v b t)
 
--- `queryIn` of a signal that is given as one number
-unfoldable pub signalQuery : ℕ → ℕ → ℕ → Directory → Float → ℕ → Float → Correction
-signalQuery m n room d gap g t = guarded (ltb room m || ltb room n) (soundDirectory d) gap t (answerIn (seriesOf g (flat d)) gap t)
+-- a query of a table in lent columns
+abbrev pub lentQuery : ReadTable → Float → ℕ → ℕ → ℕ → Float → Correction
+lentQuery table gap c v b t =
+    queryIn (table .entries) (table .samples) (blockCapacity (table .columns)) (directoryIn (table .entries) (table .samples) (table .columns)) gap c v b t
 
 -- numbers 2 to 4 of a table of m entries and n samples and of a gap
 unfoldable pub tableTest : ℕ → ℕ → ℕ → Directory → Float → Test
 tableTest m n room d gap =
-    cond (ltb room m || ltb room n) (Test.Refused TooMany)
-    (cond (not (inRange gap)) (Test.Refused SettingOutOfRange)
-    (cond (not (soundDirectory d)) (Test.Refused RecordOutOfRange) Test.Passed))
+    ruled Test.Refused
+    (rule TooMany (ltb room m || ltb room n)
+    ∷ rule SettingOutOfRange (not (inRange gap))
+    ∷ rule RecordOutOfRange (not (soundDirectory d))
+    ∷ [])
+    Test.Passed
+
+-- numbers 2 to 4 of a table in lent columns and of a gap
+abbrev pub lentTest : ReadTable → Float → Test
+lentTest table gap = tableTest (table .entries) (table .samples) (blockCapacity (table .columns)) (directoryIn (table .entries) (table .samples) (table .columns)) gap
 
 -- 0, or the number of the refusal
 abbrev pub queryNumber : Correction → ℕ
@@ -144,7 +156,7 @@ pub record PassedQuery (m n room : ℕ) (d : Directory) (gap : Float) : Type 0 w
   pub few-entries : m ≤ room
   pub few-samples : n ≤ room
   pub in-range : inRange gap ≡ true
-  pub steady : soundDirectory d ≡ true
+  pub sound : soundDirectory d ≡ true
 
 -- rules 2 to 4 let the query pass: its time too is in range, or not finite
 pub record Passes (m n room : ℕ) (d : Directory) (gap t : Float) : Type 0 where

@@ -1,18 +1,19 @@
 -- What the contracts of inner functions say: no promise of a call for users reaches these. Definitions only.
 use Prim.Native.Nat.{ℕ, _+_, _-_, _≤_, _<_}
 use mathlib.Core.Path.{_≡_}
-use mathlib.Core.Bool.{Bool, true, false, cond, not, _||_}
+use mathlib.Core.Bool.{Bool, true, false, not, _||_}
 use mathlib.Core.List.{List, [], _∷_}
 use lib.ListN.{length, getD, take}
 use lib.Dec.{leb}
 use lib.Ieee.{Float, nan, lt}
 use lib.Ieee.Scale.{finite}
 use Rattle.numeric.specs.Real.{inRange}
+use Rattle.numeric.specs.Rules.{rule, ruled}
 use Rattle.numeric.specs.declared.refusal.Refusal.the-variants.{RecordOutOfRange}
 use Rattle.corrections_table.specs.Table.{seriesOf}
 use Rattle.corrections_directory.specs.Directory.{Entry, Reading, Blocks, Directory, block, directoryIn, entriesIn, flat, readingsIn, soundDirectory}
 use Rattle.corrections_directory.specs.Steps.{InSignals, signalAt}
-use Rattle.corrections_query.specs.Query.{answerIn}
+use Rattle.corrections_query.specs.Query.{answerIn, GivesFinite}
 use Rattle.corrections_query.specs.declared.query.Correction.{Correction}
 use Rattle.corrections_query.specs.declared.query.Correction.the-variants.{Refused}
 
@@ -80,8 +81,12 @@ directoryFor m l = directoryIn m (samplesOf (take m (entriesIn l))) l
 pub record Answerable (m : ℕ) (l : Blocks) : Type 0 where
   pub few-entries : m ≤ length (entriesIn l)
   pub few-samples : samplesOf (take m (entriesIn l)) ≤ length (readingsIn l)
-  pub steady : soundDirectory (directoryFor m l) ≡ true
+  pub sound : soundDirectory (directoryFor m l) ≡ true
 
 -- the answer of the signal g at the time t, which number 4 tests too
 unfoldable pub answerFor : ℕ → Blocks → Float → ℕ → Float → Correction
-answerFor m l gap g t = cond (not (inRange t || not (finite t))) (Refused RecordOutOfRange) (answerIn (seriesOf g (flat (directoryFor m l))) gap t)
+answerFor m l gap g t = ruled Refused (rule RecordOutOfRange (not (inRange t || not (finite t))) ∷ []) (answerIn (seriesOf g (flat (directoryFor m l))) gap t)
+
+-- r is that answer, and finite where it is a correction
+abbrev pub AnswersFor : ℕ → Blocks → Float → ℕ → Float → Correction → Type 0
+AnswersFor m l gap g t r = (r ≡ answerFor m l gap g t) × GivesFinite r

@@ -5,10 +5,13 @@ ghost use Prim.Native.Nat.{_+_, _-_, _≤_};
 ghost use lib.ListN.{length, getD};
 ghost use lib.Dec.{ltb};
 ghost use lib.Ieee.{nan};
-ghost use Rattle.corrections_directory.specs.Directory.{lentBlocks, readingRows, blockCapacity, directoryIn};
+ghost use Rattle.lists.specs.Memory.{before};
+ghost use Rattle.corrections_directory.specs.Directory.{readingRows};
+ghost use Rattle.corrections_directory.specs.Lent.{blocksNow};
+ghost use Rattle.corrections_directory.specs.Read.{blocksBefore, readTable};
 ghost use Rattle.corrections_directory.specs.Steps.{Filled};
-ghost use Rattle.corrections_query.specs.Query.{near, through, GivesFinite, signalQuery, tableTest};
-ghost use Rattle.corrections_query.specs.Steps.{Falling, isBefore, BlockAnswer, Answerable, answerFor};
+ghost use Rattle.corrections_query.specs.Query.{near, through, lentTest};
+ghost use Rattle.corrections_query.specs.Steps.{Falling, isBefore, BlockAnswer, Answerable, AnswersFor};
 use crate::search::entry_of;
 use crate::search::front_of;
 use corrections_directory::entry::block_capacity;
@@ -36,7 +39,7 @@ fn is_near(x: f64, t: f64) -> bool
 // Tests whether the place lies before the end of a block, and its time is near.
 fn near_since(table_time: &[f64], place: usize, end: usize, time: f64) -> bool
     requires { ⌜ end ≤ length (now «table_time») ⌝ }
-    ensures { λ r. ⌜ r ≡ (ltb place end && near (getD (now («table_time» .entry)) place nan) time) ⌝ }
+    ensures { λ r. ⌜ r ≡ (ltb place end && near (getD (before «table_time») place nan) time) ⌝ }
 {
     if place < end {
         return is_near(table_time[place], time);
@@ -47,7 +50,7 @@ fn near_since(table_time: &[f64], place: usize, end: usize, time: f64) -> bool
 // Tests whether the place before this one lies in a block from first on, and its time is near.
 fn near_before(table_time: &[f64], first: usize, place: usize, time: f64) -> bool
     requires { ⌜ place ≤ length (now «table_time») ⌝ }
-    ensures { λ r. ⌜ r ≡ (ltb first place && near (getD (now («table_time» .entry)) (place - 1) nan) time) ⌝ }
+    ensures { λ r. ⌜ r ≡ (ltb first place && near (getD (before «table_time») (place - 1) nan) time) ⌝ }
 {
     if first < place {
         return is_near(table_time[place - 1], time);
@@ -73,7 +76,7 @@ fn answer_in(
 ) -> Correction
     requires { ⌜ Filled (length (readingRows (now «table_time») (now «table_metres»))) first count ⌝ }
     requires { ⌜ Falling (isBefore (now «table_time») time) first (first + count) ⌝ }
-    ensures { λ r. ⌜ BlockAnswer (readingRows (now («table_time» .entry)) (now («table_metres» .entry))) first count «max_gap» time r ⌝ }
+    ensures { λ r. ⌜ BlockAnswer (readingRows (before «table_time») (before «table_metres»)) first count «max_gap» time r ⌝ }
 {
     let end = first + count;
     let place = front_of(table_time, first, end, time);
@@ -112,11 +115,9 @@ pub fn answer_of(
     signal: u64,
     time: f64,
 ) -> Correction
-    requires { ⌜ Answerable blocks (lentBlocks
-        (now «block_constellation») (now «block_svid») (now «block_band») (now «block_first») (now «block_samples») (now «table_time») (now «table_metres»)) ⌝ }
-    ensures { λ r. ⌜ (r ≡ answerFor blocks (lentBlocks
-        (now («block_constellation» .entry)) (now («block_svid» .entry)) (now («block_band» .entry)) (now («block_first» .entry)) (now («block_samples» .entry))
-        (now («table_time» .entry)) (now («table_metres» .entry))) «max_gap» signal time) × GivesFinite r ⌝ }
+    requires { ⌜ Answerable blocks (blocksNow «block_constellation» «block_svid» «block_band» «block_first» «block_samples» «table_time» «table_metres») ⌝ }
+    ensures { λ r. ⌜ AnswersFor blocks
+        (blocksBefore «block_constellation» «block_svid» «block_band» «block_first» «block_samples» «table_time» «table_metres») «max_gap» signal time r ⌝ }
 {
     if !(in_range(time) | !is_finite(time)) {
         return Correction::Refused(Refusal::RecordOutOfRange);
@@ -147,10 +148,8 @@ pub fn tested(
     table_count: usize,
     max_gap: f64,
 ) -> Test
-    ensures { λ r. ⌜ (let l = lentBlocks
-        (now («block_constellation» .entry)) (now («block_svid» .entry)) (now («block_band» .entry)) (now («block_first» .entry)) (now («block_samples» .entry))
-        (now («table_time» .entry)) (now («table_metres» .entry)) in
-        r ≡ tableTest blocks «table_count» (blockCapacity l) (directoryIn blocks «table_count» l) «max_gap») ⌝ }
+    ensures { λ r. ⌜ r ≡ lentTest
+        (readTable «block_constellation» «block_svid» «block_band» «block_first» «block_samples» blocks «table_time» «table_metres» «table_count») «max_gap» ⌝ }
 {
     let room = block_capacity(
         block_constellation,
@@ -181,54 +180,4 @@ pub fn tested(
         return Test::Refused(Refusal::RecordOutOfRange);
     }
     Test::Passed
-}
-
-// Returns the correction of a signal at a time, or the refusal. Every correction given is finite.
-pub fn query(
-    block_constellation: &[u8],
-    block_svid: &[u16],
-    block_band: &[u32],
-    block_first: &[usize],
-    block_samples: &[usize],
-    blocks: usize,
-    table_time: &[f64],
-    table_metres: &[f64],
-    table_count: usize,
-    max_gap: f64,
-    signal: u64,
-    time: f64,
-) -> Correction
-    ensures { λ r. ⌜ (let l = lentBlocks
-        (now («block_constellation» .entry)) (now («block_svid» .entry)) (now («block_band» .entry)) (now («block_first» .entry)) (now («block_samples» .entry))
-        (now («table_time» .entry)) (now («table_metres» .entry)) in
-        (r ≡ signalQuery blocks «table_count» (blockCapacity l) (directoryIn blocks «table_count» l) «max_gap» signal time) × GivesFinite r) ⌝ }
-{
-    let test = tested(
-        block_constellation,
-        block_svid,
-        block_band,
-        block_first,
-        block_samples,
-        blocks,
-        table_time,
-        table_metres,
-        table_count,
-        max_gap,
-    );
-    match test {
-        Test::Refused(why) => Correction::Refused(why),
-        Test::Passed => answer_of(
-            block_constellation,
-            block_svid,
-            block_band,
-            block_first,
-            block_samples,
-            blocks,
-            table_time,
-            table_metres,
-            max_gap,
-            signal,
-            time,
-        ),
-    }
 }

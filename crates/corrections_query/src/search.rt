@@ -5,6 +5,7 @@ ghost use mathlib.Core.Bool.{cond};
 ghost use Prim.Native.Nat.{_+_, _≤_};
 ghost use lib.Dec.{leb};
 ghost use lib.Ieee.{lt};
+ghost use Rattle.lists.specs.Memory.{before};
 ghost use Rattle.corrections_query.specs.Steps.{Split, isBefore, SignalsSplit, LastUpTo, TimesSplit};
 use corrections_directory::entry::signal_at;
 
@@ -36,7 +37,7 @@ fn entry_within(
     requires { ⌜ size ≤ 32 ⌝ }
     requires { ⌜ SignalsSplit (now «block_constellation») (now «block_svid») (now «block_band») signal from (from + size) ⌝ }
     ensures { λ r. ⌜ LastUpTo
-        (now («block_constellation» .entry)) (now («block_svid» .entry)) (now («block_band» .entry)) signal from (from + size) r ⌝ }
+        (before «block_constellation») (before «block_svid») (before «block_band») signal from (from + size) r ⌝ }
 {
     let mut lo = from;
     let mut len = size;
@@ -61,7 +62,7 @@ pub(crate) fn entry_of(
     signal: u64,
 ) -> usize
     requires { ⌜ SignalsSplit (now «block_constellation») (now «block_svid») (now «block_band») signal 0 blocks ⌝ }
-    ensures { λ r. ⌜ LastUpTo (now («block_constellation» .entry)) (now («block_svid» .entry)) (now («block_band» .entry)) signal 0 blocks r ⌝ }
+    ensures { λ r. ⌜ LastUpTo (before «block_constellation») (before «block_svid») (before «block_band») signal 0 blocks r ⌝ }
 {
     let mut lo: usize = 0;
     let mut len = blocks;
@@ -79,7 +80,7 @@ pub(crate) fn entry_of(
 fn front_within(table_time: &[f64], time: f64, from: usize, size: usize) -> usize
     requires { ⌜ size ≤ 64 ⌝ }
     requires { ⌜ TimesSplit (now «table_time») time from (from + size) ⌝ }
-    ensures { λ r. ⌜ Split (isBefore (now («table_time» .entry)) time) from (from + size) r ⌝ }
+    ensures { λ r. ⌜ Split (isBefore (before «table_time») time) from (from + size) r ⌝ }
 {
     let mut lo = from;
     let mut len = size;
@@ -99,7 +100,7 @@ fn front_within(table_time: &[f64], time: f64, from: usize, size: usize) -> usiz
 // Returns the first place of a block, from first up to end, whose time is not before `time`, or its end.
 pub(crate) fn front_of(table_time: &[f64], first: usize, end: usize, time: f64) -> usize
     requires { ⌜ TimesSplit (now «table_time») time first end ⌝ }
-    ensures { λ r. ⌜ Split (isBefore (now («table_time» .entry)) time) first end r ⌝ }
+    ensures { λ r. ⌜ Split (isBefore (before «table_time») time) first end r ⌝ }
 {
     let mut lo = first;
     let mut len = end - first;

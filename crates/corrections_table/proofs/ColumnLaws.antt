@@ -11,7 +11,7 @@ use lib.Seq.{drop-drop, getD-set-other}
 use lib.Ieee.{Float, nan}
 use Rattle.corrections_table.specs.Table.{Columns, beside, blank, standsBefore, rows, tableOf}
 use Rattle.corrections_table.specs.Add.{insert, insertAll}
-use Rattle.corrections_table.specs.Steps.{Inserted, opened, past, pushed, spotOf}
+use Rattle.corrections_table.specs.Steps.{InsertedAll, opened, past, pushed, spotOf}
 use Rattle.corrections_table.specs.declared.sample.Sample.{Sample}
 
 -- ---- rows
@@ -275,6 +275,10 @@ rest-opened p n s l b =
       past-opened p n (s .time) (l .times) b,
       past-opened p n (s .correction) (l .corrections) b,
     )
+
+-- the sample s was put into the n samples of the table
+abbrev pub Inserted : ℕ → Sample → Columns → Columns → Type 0
+Inserted n s = InsertedAll n 1 (s ∷ [])
 
 pub inserted : (n p : ℕ) (s : Sample) (l : Columns) → n < length (rows l) → p ≡ spotOf s (tableOf n l) → Inserted n s l (openedAll p (n - p) s l)
 unfolding insertAll

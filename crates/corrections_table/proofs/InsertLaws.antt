@@ -10,11 +10,11 @@ use lib.Seq.{take-suc, drop-drop}
 use Rattle.lists.specs.Walk.{every}
 use Rattle.corrections_table.specs.Table.{Columns, blank, standsBefore, ranged, rows, soundTable, tableOf}
 use Rattle.corrections_table.specs.Add.{insert, insertAll}
-use Rattle.corrections_table.specs.Steps.{Inserted, InsertedAll, past}
+use Rattle.corrections_table.specs.Steps.{InsertedAll, past}
 use Rattle.corrections_table.specs.declared.sample.Sample.{Sample}
 use Rattle.corrections_table.proofs.Places.{sorted-rises}
 use Rattle.corrections_table.proofs.TableLaws.{and-left, and-right, every-at}
-use Rattle.corrections_table.proofs.ColumnLaws.{Alike, alike-same, alike-next, rows-alike}
+use Rattle.corrections_table.proofs.ColumnLaws.{Inserted, Alike, alike-same, alike-next, rows-alike}
 use Rattle.corrections_table.proofs.SeriesLaws.{insert-rises, insertAll-append}
 
 every-insert : (s : Sample) (t : List Sample) → ranged s ≡ true → every ranged t ≡ true → every ranged (insert s t) ≡ true

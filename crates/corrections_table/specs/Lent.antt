@@ -3,20 +3,12 @@ use Prim.Native.Nat.{ℕ}
 use mathlib.Core.List.{List}
 use lib.Ieee.{Float}
 use denote.Ref.{RefT, now}
-use denote.Triple.Both.{Both}
+use Rattle.lists.specs.Memory.{before, LentNumbers, LentFloats}
 use Rattle.corrections_table.specs.Table.{Columns, lentSamples}
 
--- a column of numbers, before a call and after it
-abbrev pub LentColumn : Type 0
-LentColumn = Both (RefT (List ℕ)) (RefT (List ℕ))
-
--- a column of floats
-abbrev pub LentFloats : Type 0
-LentFloats = Both (RefT (List Float)) (RefT (List Float))
-
 -- the columns of a table before a call
-abbrev pub columnsBefore : LentColumn → LentColumn → LentColumn → LentFloats → LentFloats → Columns
-columnsBefore c v b t x = lentSamples (now (c .entry)) (now (v .entry)) (now (b .entry)) (now (t .entry)) (now (x .entry))
+abbrev pub columnsBefore : LentNumbers → LentNumbers → LentNumbers → LentFloats → LentFloats → Columns
+columnsBefore c v b t x = lentSamples (before c) (before v) (before b) (before t) (before x)
 
 -- the same columns in a condition on the caller
 abbrev pub columnsNow : RefT (List ℕ) → RefT (List ℕ) → RefT (List ℕ) → RefT (List Float) → RefT (List Float) → Columns

@@ -4,11 +4,11 @@ use mathlib.Core.Path.{_≡_}
 use mathlib.Core.Bool.{true, cond}
 use mathlib.Core.List.{List, [], _∷_}
 use lib.ListN.{length, take, drop}
-use denote.Ref.{now}
+use Rattle.lists.specs.Memory.{after, LentNumbers, LentFloats}
 use Rattle.lists.specs.Walk.{every}
 use Rattle.corrections_table.specs.Table.{Columns, lentSamples, ranged, rows, soundTable, standsBefore, tableOf}
 use Rattle.corrections_table.specs.Add.{insertAll}
-use Rattle.corrections_table.specs.Lent.{LentColumn, LentFloats, columnsBefore}
+use Rattle.corrections_table.specs.Lent.{columnsBefore}
 use Rattle.corrections_table.specs.declared.sample.Sample.{Sample}
 
 -- how many samples at the front of the table the sample s does not precede
@@ -44,15 +44,11 @@ pub record InsertedAll (n k : ℕ) (ss : List Sample) (l l′ : Columns) : Type 
   pub table : tableOf (n + k) l′ ≡ insertAll (tableOf n l) ss
   pub rest : past (n + k) l′ ≡ past (n + k) l
 
--- the same for one sample
-abbrev pub Inserted : ℕ → Sample → Columns → Columns → Type 0
-Inserted n s = InsertedAll n 1 (s ∷ [])
-
 -- ---- the columns of the contracts
 
 -- the columns of a table after a call
-abbrev pub columnsAfter : LentColumn → LentColumn → LentColumn → LentFloats → LentFloats → Columns
-columnsAfter c v b t x = lentSamples (now (c .exit)) (now (v .exit)) (now (b .exit)) (now (t .exit)) (now (x .exit))
+abbrev pub columnsAfter : LentNumbers → LentNumbers → LentNumbers → LentFloats → LentFloats → Columns
+columnsAfter c v b t x = lentSamples (after c) (after v) (after b) (after t) (after x)
 
 -- the columns have a sound table of n samples
 abbrev pub SoundRows : ℕ → Columns → Type 0
@@ -67,5 +63,5 @@ abbrev pub RoomForAll : ℕ → List Sample → ℕ → Columns → Type 0
 RoomForAll n new m l = (m ≤ 64) × ((n + m ≤ length (rows l)) × ((soundTable (tableOf n l) ≡ true) × (every ranged (take m new) ≡ true)))
 
 -- the columns have k samples more
-abbrev pub Inserts : ℕ → ℕ → List Sample → LentColumn → LentColumn → LentColumn → LentFloats → LentFloats → Type 0
+abbrev pub Inserts : ℕ → ℕ → List Sample → LentNumbers → LentNumbers → LentNumbers → LentFloats → LentFloats → Type 0
 Inserts n k ss c v b t x = InsertedAll n k ss (columnsBefore c v b t x) (columnsAfter c v b t x)

@@ -3,6 +3,7 @@ ghost use mathlib.Core.Path.{_≡_};
 ghost use mathlib.Core.List.{[], _∷_};
 ghost use Prim.Native.Nat.{_-_, _≤_, _<_};
 ghost use lib.ListN.{length, take};
+ghost use Rattle.lists.specs.Memory.{before, after};
 ghost use Rattle.lists.specs.Walk.{every};
 ghost use Rattle.corrections_table.specs.Table.{ranged, tableOf};
 ghost use Rattle.corrections_table.specs.Add.{countedSamples};
@@ -45,7 +46,7 @@ fn spot_of(cs: &[u8], vs: &[u16], bs: &[u32], ts: &[f64], xs: &[f64], n: usize, 
 // Inserts x at the place p of a column with n places in use, moving those from p on up by one.
 fn open_u8(d: &mut [u8], p: usize, n: usize, x: u8)
     requires { ⌜ (p ≤ n) × (n < length (now d)) ⌝ }
-    ensures { λ _. ⌜ now (d .exit) ≡ opened p (n - p) x (now (d .entry)) ⌝ }
+    ensures { λ _. ⌜ after d ≡ opened p (n - p) x (before d) ⌝ }
 {
     let mut i = n;
     while i > p {
@@ -58,7 +59,7 @@ fn open_u8(d: &mut [u8], p: usize, n: usize, x: u8)
 // Inserts a 16-bit number likewise.
 fn open_u16(d: &mut [u16], p: usize, n: usize, x: u16)
     requires { ⌜ (p ≤ n) × (n < length (now d)) ⌝ }
-    ensures { λ _. ⌜ now (d .exit) ≡ opened p (n - p) x (now (d .entry)) ⌝ }
+    ensures { λ _. ⌜ after d ≡ opened p (n - p) x (before d) ⌝ }
 {
     let mut i = n;
     while i > p {
@@ -71,7 +72,7 @@ fn open_u16(d: &mut [u16], p: usize, n: usize, x: u16)
 // Inserts a 32-bit number likewise.
 fn open_u32(d: &mut [u32], p: usize, n: usize, x: u32)
     requires { ⌜ (p ≤ n) × (n < length (now d)) ⌝ }
-    ensures { λ _. ⌜ now (d .exit) ≡ opened p (n - p) x (now (d .entry)) ⌝ }
+    ensures { λ _. ⌜ after d ≡ opened p (n - p) x (before d) ⌝ }
 {
     let mut i = n;
     while i > p {
@@ -84,7 +85,7 @@ fn open_u32(d: &mut [u32], p: usize, n: usize, x: u32)
 // Inserts a float likewise.
 fn open_f64(d: &mut [f64], p: usize, n: usize, x: f64)
     requires { ⌜ (p ≤ n) × (n < length (now d)) ⌝ }
-    ensures { λ _. ⌜ now (d .exit) ≡ opened p (n - p) x (now (d .entry)) ⌝ }
+    ensures { λ _. ⌜ after d ≡ opened p (n - p) x (before d) ⌝ }
 {
     let mut i = n;
     while i > p {

@@ -2,6 +2,7 @@
 ghost use mathlib.Core.Path.{_≡_};
 ghost use Prim.Native.Nat.{_≤_};
 ghost use lib.ListN.{length};
+ghost use Rattle.lists.specs.Memory.{before, after};
 ghost use Rattle.corrections_table.specs.Widen.{widened, widenOf, bandsAfter};
 use numeric::refusal::Refusal;
 
@@ -14,7 +15,7 @@ pub enum Widening {
 // Writes the first n bands.
 fn widen_all(narrow: &[u8], n: usize, wide: &mut [u32])
     requires { ⌜ (n ≤ length (now narrow)) × (n ≤ length (now wide)) ⌝ }
-    ensures { λ _. ⌜ now (wide .exit) ≡ widened n (now (narrow .entry)) (now (wide .entry)) ⌝ }
+    ensures { λ _. ⌜ after wide ≡ widened n (before narrow) (before wide) ⌝ }
 {
     let mut i: usize = 0;
     while i < n {
@@ -25,8 +26,8 @@ fn widen_all(narrow: &[u8], n: usize, wide: &mut [u32])
 
 // Writes the first n bands of narrow to the front of wide. On refusal, returns it and changes nothing.
 pub fn widen_bands(narrow: &[u8], n: usize, wide: &mut [u32]) -> Widening
-    ensures { λ r. ⌜ (let old = now (narrow .entry) in
-        (r ≡ widenOf n old (now (wide .entry))) × (now (wide .exit) ≡ bandsAfter r n old (now (wide .entry)))) ⌝ }
+    ensures { λ r. ⌜ (let old = before narrow in
+        (r ≡ widenOf n old (before wide)) × (after wide ≡ bandsAfter r n old (before wide))) ⌝ }
 {
     if (2048 < n) | (narrow.len() < n) | (wide.len() < n) {
         return Widening::Refused(Refusal::TooMany);

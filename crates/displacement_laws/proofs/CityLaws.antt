@@ -10,15 +10,17 @@ use Rattle.numeric.specs.declared.vec3.Vec3.{Vec3}
 use Rattle.numeric.specs.declared.refusal.Refusal.{Refusal}
 use Rattle.numeric.specs.declared.refusal.Refusal.the-variants.{TooMany, NotCertified}
 use Rattle.records.specs.Record.{countedCarriers}
-use Rattle.records.specs.Carriers.{CarrierColumns, carrierAt, carriersOf, epochOf, epochFits}
+use Rattle.lists.specs.Memory.{before, after, LentNumbers}
+use Rattle.records.specs.Carriers.{CarrierColumns, carrierAt, carriersOf, epochOf}
 use Rattle.records.specs.City.{certifiedOf}
 use Rattle.records.specs.declared.record.Carrier.{Carrier}
 use Rattle.records.specs.declared.record.Epoch.{Epoch}
 use Rattle.records.specs.declared.pair.Profile.the-variants.{General, City}
-use Rattle.estimate_rounds.specs.Rules.{Rule}
+use Rattle.numeric.specs.Rules.{Rule}
 use Rattle.estimate_rounds.specs.declared.rules.Check.{Check}
 use Rattle.estimate_rounds.specs.declared.rules.Check.the-variants.{Refused as Stops, Passed}
-use Rattle.estimate_rounds.proofs.RulesLaws.{checked, ruled-append, passed-by, refused-by}
+use Rattle.numeric.proofs.RulesLaws.{ruled-append}
+use Rattle.estimate_rounds.proofs.RulesLaws.{checked, passed-by, refused-by}
 use Rattle.tdcp.specs.Valid.{epochRules, intervalRules}
 use Rattle.tdcp.specs.City.{inCity, certifiedEpoch, left}
 use Rattle.tdcp.specs.Displacement.{Input, input, pairs, displacementOf, displacementNumber}
@@ -27,15 +29,10 @@ use Rattle.tdcp.specs.declared.displacement.Interval.the-variants.{Seconds}
 use Rattle.tdcp.specs.declared.displacement.Displacement.{Displacement}
 use Rattle.tdcp.specs.declared.displacement.Displacement.the-variants.{Refused}
 use Rattle.tdcp.proofs.CityLaws.{rules-left, left-passed, earlier, lacks, city-twenty, city-general, city-earlier}
-use Rattle.tdcp_columns.specs.Displacement.{Lent, lent, lentInput, isFit, columnsDisplaced, deltaAfter, countsAfter, DisplacementAnswers}
-use Rattle.tdcp_columns.proofs.CallLaws.{Alike}
+use Rattle.tdcp_columns.specs.Displacement.{Lent, lent, lentInput, isFit, columnsDisplaced, deltaAfter, countsAfter, DisplacementAnswers, Alike}
+use Rattle.tdcp_columns.proofs.CallLaws.{alike}
 use Rattle.displacement_laws.proofs.NeverLaws.{never-twenty}
-use Rattle.displacement_laws.specs.City.{rulesBeforeTwenty, lacking, isPassed, isTwenty}
-
--- columns that hold just the certified carriers of others, in their order
-pub record Certified (band : ℕ) (c : CarrierColumns) (n : ℕ) (c′ : CarrierColumns) (n′ : ℕ) : Type 0 where
-  pub fits : epochFits c′ n′ ≡ true
-  pub carriers : carriersOf c′ n′ ≡ certifiedOf band (carriersOf c n)
+use Rattle.displacement_laws.specs.City.{Certified, rulesBeforeTwenty, lacking, isPassed, isTwenty}
 
 abbrev epoch : ℕ → List Carrier → Epoch
 epoch n xs = record { count = n; carriers = xs }
@@ -88,29 +85,25 @@ module _ (previous : CarrierColumns) (m : ℕ) (current : CarrierColumns) (n : �
     city-alone : displacementOf (lentInput city) ≡ cond (isTwenty (lentInput alone)) (Refused NotCertified) (displacementOf (lentInput alone))
     city-alone = subst (λ (j : Input). displacementOf (lentInput city) ≡ cond (isTwenty j) (Refused NotCertified) (displacementOf j)) (sym left-is) (city-left band (lentInput city) passed)
 
-    pub city-is : columnsDisplaced city ≡ cond (isTwenty (lentInput alone)) (Refused NotCertified) (columnsDisplaced alone)
+    alone-is : columnsDisplaced city ≡ cond (isTwenty (lentInput alone)) (Refused NotCertified) (columnsDisplaced alone)
     unfolding columnsDisplaced
-    city-is = rw (fit, p .fits, c .fits) city-alone
+    alone-is = rw (fit, p .fits, c .fits) city-alone
 
-    module _ {number : ℕ} {delta₀ delta counts₀ counts : List ℕ} (answers : DisplacementAnswers city number delta₀ delta counts₀ counts) where
+    module _ {number : ℕ} {delta counts : LentNumbers} (answers : DisplacementAnswers city number delta counts) where
       -- 20, with nothing written, where those rules let the columns pass and the kept pairs lack constellation 1 or 6
-      pub city-refused : isTwenty (lentInput alone) ≡ true → (number ≡ 20) × (delta ≡ delta₀) × (counts ≡ counts₀)
+      pub city-refused : isTwenty (lentInput alone) ≡ true → (number ≡ 20) × (after delta ≡ before delta) × (after counts ≡ before counts)
       city-refused e =
-          let is : columnsDisplaced city ≡ Refused NotCertified = city-is ∙ rw e in (
+          let is : columnsDisplaced city ≡ Refused NotCertified = alone-is ∙ rw e in (
             answers .leaves .number-is ∙ ap displacementNumber is,
-            answers .leaves .delta-is ∙ ap (λ (d : Displacement). deltaAfter d delta₀) is,
-            answers .leaves .counts-are ∙ ap (λ (d : Displacement). countsAfter d counts₀) is,
+            answers .leaves .delta-is ∙ ap (λ (d : Displacement). deltaAfter d (before delta)) is,
+            answers .leaves .counts-are ∙ ap (λ (d : Displacement). countsAfter d (before counts)) is,
           )
 
       -- otherwise the call on those columns
-      pub city-same : isTwenty (lentInput alone) ≡ false → {number′ : ℕ} {delta′ counts′ : List ℕ} → DisplacementAnswers alone number′ delta₀ delta′ counts₀ counts′ → Alike number number′ delta delta′ counts counts′
+      pub city-same : isTwenty (lentInput alone) ≡ false → {number′ : ℕ} {delta′ counts′ : LentNumbers} → DisplacementAnswers alone number′ delta′ counts′ → Alike number number′ delta delta′ counts counts′
       city-same e b =
-          let is : columnsDisplaced city ≡ columnsDisplaced alone = city-is ∙ rw e in
-          record {
-            numbers = answers .leaves .number-is ∙ ap displacementNumber is ∙ sym (b .leaves .number-is);
-            deltas = answers .leaves .delta-is ∙ ap (λ (d : Displacement). deltaAfter d delta₀) is ∙ sym (b .leaves .delta-is);
-            counted = answers .leaves .counts-are ∙ ap (λ (d : Displacement). countsAfter d counts₀) is ∙ sym (b .leaves .counts-are);
-          }
+          let is : columnsDisplaced city ≡ columnsDisplaced alone = alone-is ∙ rw e in
+          alike city alone is answers b
 
       -- and 20 nowhere else
       pub city-exactly : number ≡ 20 → isTwenty (lentInput alone) ≡ true
@@ -123,5 +116,11 @@ module _ (previous : CarrierColumns) (m : ℕ) (current : CarrierColumns) (n : �
           decide : (b : Bool) → isTwenty (lentInput alone) ≡ b → b ≡ true
           decide true e = refl
           decide false e =
-              let general : columnsDisplaced city ≡ displacementOf (lentInput alone) = city-is ∙ rw (e, p .fits, c .fits) in
+              let general : columnsDisplaced city ≡ displacementOf (lentInput alone) = alone-is ∙ rw (e, p .fits, c .fits) in
               absurd (never-twenty (lentInput alone) refl (sym (ap displacementNumber general) ∙ is-twenty))
+
+  -- in one: behind 2 to 4, with any columns that hold just the certified carriers
+  pub city-is : isFit city ≡ true → Passed ≡ checked given → {previous′ : CarrierColumns} {m′ : ℕ} {current′ : CarrierColumns} {n′ : ℕ}
+      → Certified band previous m previous′ m′ → Certified band current n current′ n′
+      → (let l = lent previous′ m′ current′ n′ (Seconds dt) receiver settings General in columnsDisplaced city ≡ cond (isTwenty (lentInput l)) (Refused NotCertified) (columnsDisplaced l))
+  city-is fit passed p c = alone-is fit passed p c

@@ -1,48 +1,34 @@
 -- The line that answers a text, beside the call on columns that hold its carriers. Assumes nothing.
 use mathlib.Core.Path.{_≡_, refl, sym, ap, _∙_}
-use mathlib.Core.Bool.{Bool, true, false, cond, _&&_, _||_}
+use mathlib.Core.Bool.{Bool, true, false, _&&_, _||_}
 use mathlib.Core.List.{List, [], _∷_}
 use Prim.Native.Nat.{ℕ, _≤_, _<_}
 use borrow.Author.Tests.{lt-leb, ne-eqb, ltb-true, ltb-false}
-use lib.Dec.{ltb, eqb}
-use lib.ListN.{getD}
+use lib.Dec.{ltb}
 use Rattle.lists.proofs.Walk.{places-all}
 use Rattle.numeric.specs.Refusal.{numberOf}
+use Rattle.numeric.proofs.RefusalLaws.{not-zero}
 use Rattle.numeric.proofs.OrderLaws.{pattern-bits}
-use Rattle.records.specs.Record.{countedCarriers}
-use Rattle.records.specs.Carriers.{CarrierColumns, carrierAt, carriersOf, epochOf, epochFits}
-use Rattle.records.specs.declared.record.Epoch.{Epoch}
+use Rattle.lists.specs.Memory.{before, after, LentNumbers}
+use Rattle.records.specs.Carriers.{CarrierColumns, carrierAt, epochOf, epochFits}
 use Rattle.records.specs.declared.pair.Profile.the-variants.{General}
-use Rattle.estimate_rounds.specs.Rules.{ruled}
+use Rattle.numeric.specs.Rules.{ruled}
 use Rattle.tdcp.specs.Valid.{epochRules}
 use Rattle.tdcp.specs.Displacement.{Input, displacementOf, displacementNumber}
 use Rattle.tdcp.proofs.CountedLaws.{displacement-counted}
 use Rattle.tdcp.specs.declared.displacement.Displacement.{Displacement}
 use Rattle.tdcp.specs.declared.displacement.Displacement.the-variants.{Refused, Moved}
 use Rattle.line_form.specs.Text.{isText, textInput, displacementIn}
-use Rattle.line_form.specs.Print.{digitsText, digitCount, decimalText, hexText, lineText, answerText}
+use Rattle.line_form.specs.Print.{digitsText, digitCount, answerText}
 use Rattle.line_form.specs.Answer.{answerLine}
 use Rattle.tdcp_columns.specs.Displacement.{Lent, lent, isFit, columnsDisplaced, deltaAfter, countsAfter, DisplacementAnswers}
+use Rattle.displacement_laws.specs.Line.{Columned, lineBy}
 use Rattle.displacement_laws.proofs.NeverLaws.{never-one}
-use Rattle.displacement_laws.proofs.RecordLaws.{not-zero}
 
 -- R,1 where the text is too long or breaks the form
 pub line-broken : (text : List ℕ) → isText text ≡ false → answerLine text ≡ 82 ∷ 44 ∷ 49 ∷ 10 ∷ []
 unfolding answerLine displacementIn digitsText digitCount
 line-broken text e = rw e
-
--- columns that hold the carriers of an epoch: as many as it counts, and up to 64 of them
-pub record Columned (e : Epoch) (c : CarrierColumns) (n : ℕ) : Type 0 where
-  pub count : n ≡ e .count
-  pub fits : n ≤ 64 → epochFits c n ≡ true
-  pub carriers : n ≤ 64 → carriersOf c n ≡ countedCarriers e
-
--- the line of a call's number, counts and patterns
-abbrev pub lineBy : ℕ → List ℕ → List ℕ → List ℕ
-lineBy number counts delta =
-    cond (eqb number 0)
-    (lineText (65 ∷ []) (decimalText (getD counts 0 0) ∷ decimalText (getD counts 1 0) ∷ hexText (getD delta 0 0) ∷ hexText (getD delta 1 0) ∷ hexText (getD delta 2 0) ∷ []))
-    (lineText (82 ∷ []) (decimalText number ∷ []))
 
 line-by : (x : Displacement) (delta₀ counts₀ : List ℕ) {number : ℕ} {delta counts : List ℕ} → number ≡ displacementNumber x → delta ≡ deltaAfter x delta₀ → counts ≡ countsAfter x counts₀
     → answerText x ≡ lineBy number counts delta
@@ -89,11 +75,16 @@ module _ (text : List ℕ) (formed : isText text ≡ true) {previous : CarrierCo
   unfolding answerLine displacementIn
   line-is = rw formed (ap answerText (sym same))
 
-  module _ {number : ℕ} {delta₀ delta counts₀ counts : List ℕ} (answers : DisplacementAnswers asked number delta₀ delta counts₀ counts) where
-    -- otherwise the printed line of the call on its columns
-    pub line-columns : answerLine text ≡ lineBy number counts delta
-    line-columns = line-is ∙ line-by (columnsDisplaced asked) delta₀ counts₀ (answers .leaves .number-is) (answers .leaves .delta-is) (answers .leaves .counts-are)
+  module _ {number : ℕ} {delta counts : LentNumbers} (answers : DisplacementAnswers asked number delta counts) where
+    columns-line : answerLine text ≡ lineBy number (after counts) (after delta)
+    columns-line = line-is ∙ line-by (columnsDisplaced asked) (before delta) (before counts) (answers .leaves .number-is) (answers .leaves .delta-is) (answers .leaves .counts-are)
 
-    -- which is never refused by 1
+    -- the call is never refused by 1
     pub line-not-one : number ≡ 1 → ⊥
     line-not-one e = never-one i (ap displacementNumber (sym same) ∙ sym (answers .leaves .number-is) ∙ e)
+
+-- otherwise the printed line of the call on columns that hold its carriers, with the numbers of its first line
+pub line-columns : (text : List ℕ) → isText text ≡ true → {previous : CarrierColumns} {m : ℕ} {current : CarrierColumns} {n : ℕ}
+    → Columned (textInput text .previous) previous m → Columned (textInput text .current) current n → {number : ℕ} {delta counts : LentNumbers}
+    → (let i = textInput text in DisplacementAnswers (lent previous m current n (i .since) (i .receiver) (i .settings) General) number delta counts) → answerLine text ≡ lineBy number (after counts) (after delta)
+line-columns text formed p c answers = columns-line text formed p c answers

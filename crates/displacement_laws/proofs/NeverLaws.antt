@@ -15,7 +15,8 @@ use Rattle.cholesky.specs.Factor.{Factored, Refused as NoFactor, Lower, factorO
 use Rattle.clocks.specs.declared.clocks.Clocks.{Clocks}
 use Rattle.normal_equations.specs.declared.row.Row.{Row}
 use Rattle.robust.specs.Round.{RoundOutcome, Refused as Fails, Solved, solved, roundBy, roundOf}
-use Rattle.estimate_rounds.specs.Rules.{Rule, ruled, rowRules}
+use Rattle.numeric.specs.Rules.{Rule, ruled}
+use Rattle.estimate_rounds.specs.Rules.{rowRules}
 use Rattle.estimate_rounds.specs.Rounds.{End, Stopped, Reached, moved, shortStep, reachedAt, afterRound, fitFrom, concluded}
 use Rattle.records.specs.City.{isCity}
 use Rattle.records.specs.Screen.{keptOf}

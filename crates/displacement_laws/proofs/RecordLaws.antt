@@ -10,10 +10,9 @@ use lib.Ieee.{Float}
 use Rattle.exact.specs.Float.{bits}
 use Rattle.lists.specs.Walk.{collect}
 use Rattle.lists.proofs.Walk.{places-length}
-use Rattle.numeric.specs.Refusal.{numberOf}
+use Rattle.numeric.proofs.RefusalLaws.{not-zero}
 use Rattle.numeric.specs.declared.vec3.Vec3.{Vec3}
-use Rattle.numeric.specs.declared.refusal.Refusal.{Refusal}
-use Rattle.numeric.specs.declared.refusal.Refusal.the-variants as Refusal
+use Rattle.lists.specs.Memory.{before, after, LentNumbers}
 use Rattle.records.specs.Carriers.{epochFits}
 use Rattle.records.specs.declared.pair.Profile.the-variants.{General}
 use Rattle.tdcp.specs.Displacement.{displacementNumber}
@@ -42,9 +41,9 @@ module _ {s : List ℕ} {c₀ c : RecordColumns} {count₀ count : ℕ} (read : 
   few : count ≤ 64
   few = omega (arith, columns-room c₀ (countIn s) (had-room read) .few, read .count-is)
 
-  numbers-long : {A : Type 0} (f : CarrierRecord → A) (xs before : List A) → xs ≡ over (map f (recordsOf s)) before → count ≤ length xs
-  numbers-long f xs before e =
-      omega (arith, many, ap length e, length-map (recordsOf s) f, length-append (map f (recordsOf s)) (drop (length (map f (recordsOf s))) before))
+  numbers-long : {A : Type 0} (f : CarrierRecord → A) (xs old : List A) → xs ≡ over (map f (recordsOf s)) old → count ≤ length xs
+  numbers-long f xs old e =
+      omega (arith, many, ap length e, length-map (recordsOf s) f, length-append (map f (recordsOf s)) (drop (length (map f (recordsOf s))) old))
 
   floats-long : 6 * count ≤ length (map bits (c .floats))
   floats-long =
@@ -64,35 +63,12 @@ module _ {s : List ℕ} {c₀ c : RecordColumns} {count₀ count : ℕ} (read : 
 
 -- ---- both calls
 
-pub not-zero : (r : Refusal) → numberOf r ≡ 0 → ⊥
-not-zero Refusal.BrokenForm e = omega arith
-not-zero Refusal.TooMany e = omega arith
-not-zero Refusal.SettingOutOfRange e = omega arith
-not-zero Refusal.RecordOutOfRange e = omega arith
-not-zero Refusal.BadInterval e = omega arith
-not-zero Refusal.BadTrack e = omega arith
-not-zero Refusal.TooFewPairs e = omega arith
-not-zero Refusal.TooFewRows e = omega arith
-not-zero Refusal.TooManySlots e = omega arith
-not-zero Refusal.FitFailed e = omega arith
-not-zero Refusal.TableFull e = omega arith
-not-zero Refusal.NoCorrection e = omega arith
-not-zero Refusal.BadTime e = omega arith
-not-zero Refusal.QualityNotFinite e = omega arith
-not-zero Refusal.OnReceiver e = omega arith
-not-zero Refusal.BadTrip e = omega arith
-not-zero Refusal.NoDistance e = omega arith
-not-zero Refusal.BadDropTime e = omega arith
-not-zero Refusal.NotTurned e = omega arith
-not-zero Refusal.NotCertified e = omega arith
-not-zero Refusal.BrokenRecords e = omega arith
-
 beside : (x : Displacement) (delta₀ counts₀ : List ℕ) {number number′ : ℕ} {delta counts out out′ : List ℕ} → number ≡ displacementNumber x → out′ ≡ bytesAfter x out
     → number′ ≡ displacementNumber x → delta ≡ deltaAfter x delta₀ → counts ≡ countsAfter x counts₀ → Beside number number′ delta counts out out′
 beside (Refused r) delta₀ counts₀ n o n′ d c = record { numbers = n ∙ sym n′; accepted = λ z. absurd (not-zero r (sym n ∙ z)); refused = λ z. o }
 beside (Moved v) delta₀ counts₀ n o n′ d c = record { numbers = n ∙ sym n′; accepted = λ z. rw (d, c) o; refused = λ z. absurd (z n) }
 
-module _ {p : List ℕ} {d₀ d : RecordColumns} {m₀ m : ℕ} (before : ReadAnswers p 0 d₀ d m₀ m) {c : List ℕ} {e₀ e : RecordColumns} {n₀ n : ℕ} (now : ReadAnswers c 0 e₀ e n₀ n)
+module _ {p : List ℕ} {d₀ d : RecordColumns} {m₀ m : ℕ} (then : ReadAnswers p 0 d₀ d m₀ m) {c : List ℕ} {e₀ e : RecordColumns} {n₀ n : ℕ} (present : ReadAnswers c 0 e₀ e n₀ n)
     (dt : Float) (receiver : Vec3) (settings : Settings) where
   -- the columns read
   abbrev pub columns : Lent
@@ -100,14 +76,14 @@ module _ {p : List ℕ} {d₀ d : RecordColumns} {m₀ m : ℕ} (before : ReadAn
 
   same : (out : List ℕ) → 40 ≤ length out → recordsDisplaced (handed p c dt receiver settings) out ≡ columnsDisplaced columns
   unfolding columnsDisplaced
-  same out room = rw (read-fits before, read-fits now) (same-displacement before now dt receiver settings out room)
+  same out room = rw (read-fits then, read-fits present) (same-displacement then present dt receiver settings out room)
 
   -- two slices that reading accepts, and room for the result: the call on the columns read, its counts and patterns being the 40 bytes
-  pub records-columns : {number number′ : ℕ} {delta₀ delta counts₀ counts out out′ : List ℕ} → 40 ≤ length out
-      → RecordAnswers (handed p c dt receiver settings) number out out′ → DisplacementAnswers columns number′ delta₀ delta counts₀ counts → Beside number number′ delta counts out out′
-  records-columns {delta₀ = delta₀} {counts₀ = counts₀} {out = out} room a b =
+  pub records-columns : {number number′ : ℕ} {delta counts : LentNumbers} {out out′ : List ℕ} → 40 ≤ length out
+      → RecordAnswers (handed p c dt receiver settings) number out out′ → DisplacementAnswers columns number′ delta counts → Beside number number′ (after delta) (after counts) out out′
+  records-columns {delta = delta} {counts = counts} {out = out} room a b =
       let is = same out room in
-      beside (columnsDisplaced columns) delta₀ counts₀
+      beside (columnsDisplaced columns) (before delta) (before counts)
       (a .number-is ∙ ap displacementNumber is)
       (a .result-is ∙ ap (λ (x : Displacement). bytesAfter x out) is)
       (b .leaves .number-is)

@@ -1,14 +1,23 @@
 -- When a city displacement is 20, said of the columns that hold the certified carriers alone. Definitions only.
+use Prim.Native.Nat.{ℕ}
+use mathlib.Core.Path.{_≡_}
 use mathlib.Core.Bool.{Bool, true, false, not, _&&_}
 use mathlib.Core.List.{List, _++_}
 use Rattle.clocks.specs.Clocks.{has}
+use Rattle.records.specs.Carriers.{CarrierColumns, carriersOf, epochFits}
+use Rattle.records.specs.City.{certifiedOf}
 use Rattle.records.specs.Screen.{constellations}
-use Rattle.estimate_rounds.specs.Rules.{Rule, ruled}
+use Rattle.numeric.specs.Rules.{Rule, ruled}
 use Rattle.estimate_rounds.specs.declared.rules.Check.{Check}
 use Rattle.estimate_rounds.specs.declared.rules.Check.the-variants.{Refused as Stops, Passed}
 use Rattle.tdcp.specs.Valid.{epochRules, intervalRules}
 use Rattle.tdcp.specs.Front.{sightRules, countRules}
 use Rattle.tdcp.specs.Displacement.{Input, pairs, keptPairs}
+
+-- columns that hold just the certified carriers of others, in their order
+pub record Certified (band : ℕ) (c : CarrierColumns) (n : ℕ) (c′ : CarrierColumns) (n′ : ℕ) : Type 0 where
+  pub fits : epochFits c′ n′ ≡ true
+  pub carriers : carriersOf c′ n′ ≡ certifiedOf band (carriersOf c n)
 
 -- 2 to 5, 15 and 7 to 9 of a call
 abbrev pub rulesBeforeTwenty : Input → List Rule

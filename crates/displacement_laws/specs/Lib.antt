@@ -1,2 +1,3 @@
 pub mod City
 pub mod Records
+pub mod Line

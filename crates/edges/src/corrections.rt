@@ -7,9 +7,8 @@ use corrections_epoch::record::Range;
 use corrections_epoch::record::Settings;
 use corrections_epoch::record::State;
 use corrections_epoch::record::States;
-use corrections_query::query::query;
+use corrections_queries::queries::one_query;
 use numeric::vec3::Vec3;
-use signal::signal::signal_of;
 
 // Returns the range to satellite `svid`, 20,000 km away.
 fn range(svid: u16, pseudorange: f64) -> Range {
@@ -102,16 +101,31 @@ fn five_metres(name: &[u8], maximum: f64) {
 
 // Reports the correction at 15 s from samples of 1 m at 10 s and 3 m at 20 s.
 fn half_way(name: &[u8], gap: f64) {
-    let dc = [1u8; 2];
-    let dv = [5u16; 2];
-    let db = [1u32; 2];
-    let df = [0usize; 2];
-    let dn = [2usize; 2];
-    let ts = [10.0, 20.0];
-    let xs = [1.0, 3.0];
-    let signal = signal_of(1, 5, 1);
-    let a = query(&dc, &dv, &db, &df, &dn, 1, &ts, &xs, 2, gap, signal, 15.0);
-    correction(name, a);
+    let block_constellation = [1u8; 2];
+    let block_svid = [5u16; 2];
+    let block_band = [1u32; 2];
+    let block_first = [0usize; 2];
+    let block_samples = [2usize; 2];
+    let table_time = [10.0, 20.0];
+    let table_metres = [1.0, 3.0];
+    let answer = one_query(
+        &block_constellation,
+        &block_svid,
+        &block_band,
+        &block_first,
+        &block_samples,
+        1,
+        &table_time,
+        &table_metres,
+        2,
+        gap,
+        1,
+        5,
+        1,
+        15.0,
+        0,
+    );
+    correction(name, answer);
 }
 
 pub fn run() {

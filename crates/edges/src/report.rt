@@ -1,6 +1,6 @@
 // Writes a line for each trial: its name and its answer.
 use corrections_add::add::Addition;
-use corrections_query::query::Correction;
+use corrections_queries::queries::OneAnswer;
 use libc::STDOUT_FILENO;
 use numeric::order::pattern;
 use numeric::refusal::Refusal;
@@ -75,14 +75,14 @@ pub fn adding(name: &[u8], a: Addition) {
     text(b"\n");
 }
 
-pub fn correction(name: &[u8], c: Correction) {
+pub fn correction(name: &[u8], a: OneAnswer) {
     text(name);
-    match c {
-        Correction::Metres(x) => {
-            text(b": metres");
-            float(x);
-        }
-        Correction::Refused(r) => refused(r),
+    if a.number == 0 {
+        text(b": metres ");
+        io::print_hex(STDOUT_FILENO, a.metres, 16);
+    } else {
+        text(b": refused by ");
+        number(a.number as u64);
     }
     text(b"\n");
 }

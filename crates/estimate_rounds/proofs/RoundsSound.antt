@@ -21,7 +21,7 @@ use Rattle.normal_equations.specs.Nine.{nine}
 use Rattle.robust.specs.Round.{Round, RoundOutcome, Refused, Solved}
 use Rattle.normal_equations.specs.declared.row.Row.{Row}
 use Rattle.normal_equations.proofs.NineLaws.{nine-at}
-use Rattle.estimate_rounds.specs.Rules.{Rule}
+use Rattle.numeric.specs.Rules.{Rule}
 use Rattle.estimate_rounds.specs.Rounds.{End, Stopped, Reached, Fit, moved, shortStep, reachedAt, begun, afterRound, fitFrom, lastRows, finiteAt, concluded}
 use Rattle.median.specs.Sorted.{Each}
 use Rattle.estimate_rounds.specs.declared.rules.Check.the-variants.{Passed}

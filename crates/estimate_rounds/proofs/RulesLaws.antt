@@ -6,7 +6,8 @@ use Prim.Native.Nat.{ℕ, _+_, _≤_}
 use native.Mathlib.Omega.{arith}
 use borrow.Author.Tests.{ltb-false}
 use Rattle.numeric.specs.declared.refusal.Refusal.{Refusal}
-use Rattle.estimate_rounds.specs.Rules.{Rule, ruled, rowRules}
+use Rattle.numeric.specs.Rules.{Rule, ruled}
+use Rattle.estimate_rounds.specs.Rules.{rowRules}
 use Rattle.estimate_rounds.specs.declared.rules.Check.{Check}
 use Rattle.estimate_rounds.specs.declared.rules.Check.the-variants.{Refused, Passed}
 
@@ -15,12 +16,6 @@ abbrev pub checked : List Rule → Check
 checked rs = ruled Refused rs Passed
 
 module _ {A : Type 0} (f : Refusal → A) (a : A) where
-  -- rules are tested in parts
-  pub ruled-append : (rs ss : List Rule) → ruled f (rs ++ ss) a ≡ ruled f rs (ruled f ss a)
-  unfolding ruled
-  ruled-append [] ss = refl
-  ruled-append (r ∷ rs) ss = ap (λ x. cond (r .applies) (f (r .refusal)) x) (ruled-append rs ss)
-
   -- what a call answers after a check
   answer : Check → A
   answer (Refused r) = f r
@@ -50,16 +45,6 @@ module _ {A : Type 0} (f : Refusal → A) (a : A) where
       go : (v : Check) → checked rs ≡ v → Passed ≡ v
       go (Refused r) e = absurd (ne r (refused-by rs (sym e) ∙ h))
       go Passed e = refl
-
--- what g makes of a call's answers is the answer of a call that gives those
-pub ruled-map : {A B : Type 0} (g : A → B) (f : Refusal → A) (a : A) (rs : List Rule) → g (ruled f rs a) ≡ ruled (λ r. g (f r)) rs (g a)
-unfolding ruled
-ruled-map g f a [] = refl
-ruled-map g f a (r ∷ rs) = go (r .applies) (ruled-map g f a rs)
-  where
-    go : (b : Bool) → g (ruled f rs a) ≡ ruled (λ r. g (f r)) rs (g a) → g (cond b (f (r .refusal)) (ruled f rs a)) ≡ cond b (g (f (r .refusal))) (ruled (λ r. g (f r)) rs (g a))
-    go true ih = refl
-    go false ih = ih
 
 -- ---- what has been passed
 

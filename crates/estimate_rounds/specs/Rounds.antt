@@ -15,7 +15,7 @@ use Rattle.numeric.specs.declared.refusal.Refusal.{Refusal}
 use Rattle.normal_equations.specs.Nine.{nine}
 use Rattle.robust.specs.Round.{Round, RoundOutcome, Refused, Solved}
 use Rattle.normal_equations.specs.declared.row.Row.{Row}
-use Rattle.estimate_rounds.specs.Rules.{Rule, ruled}
+use Rattle.numeric.specs.Rules.{Rule, ruled}
 
 -- where the rounds end: in a refused round, or at the state x
 pub data End : Type 0 where

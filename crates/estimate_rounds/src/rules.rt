@@ -1,6 +1,7 @@
 // What a check finds, and the rules that a fix and a displacement share.
 ghost use mathlib.Core.Path.{_≡_};
-ghost use Rattle.estimate_rounds.specs.Rules as spec;
+ghost use Rattle.numeric.specs.Rules.{ruled};
+ghost use Rattle.estimate_rounds.specs.Rules.{rowRules};
 use numeric::refusal::Refusal;
 
 // The result of rules or rounds: the first refusal, or none.
@@ -11,7 +12,7 @@ pub enum Check {
 
 // Checks rules 8 and 9.
 pub fn check_rows(rows: usize, slots: usize) -> Check
-    ensures { λ r. ⌜ r ≡ spec.ruled Check.Refused (spec.rowRules rows slots) Check.Passed ⌝ }
+    ensures { λ r. ⌜ r ≡ ruled Check.Refused (rowRules rows slots) Check.Passed ⌝ }
 {
     if rows < 4 {
         return Check::Refused(Refusal::TooFewRows);

@@ -9,7 +9,8 @@ use lib.Ieee.{ofInt, ofBits, toBits, neg, le, lt, isNan}
 use Rattle.exact.specs.Float.{+0, bits}
 use Rattle.lists.specs.Walk.{every, collect, fold}
 use Rattle.numeric.specs.Real.{abs, inRange}
-use Rattle.estimate_rounds.specs.Rules.{ruled, rowRules}
+use Rattle.numeric.specs.Rules.{ruled}
+use Rattle.estimate_rounds.specs.Rules.{rowRules}
 use Rattle.records.specs.Record.{placeable}
 use Rattle.records.specs.Pair.{pairsOf}
 use Rattle.tdcp.specs.Valid.{settingsPass, badInterval, epochRules, intervalRules, fewRules}

@@ -20,7 +20,7 @@ digitsText b (suc k) n = digitsText b k (n / b) ++ (glyph (n % b) ∷ [])
 -- how many decimal digits n has, if it is below 10 ^ (f + 1)
 unfoldable pub digitCount : ℕ → ℕ → ℕ
 digitCount zero n = 1
-digitCount (suc f) n = let p = digitCount f (n / 10) in cond (ltb n 10) 1 (suc p)
+digitCount (suc f) n = cond (ltb n 10) 1 (suc (digitCount f (n / 10)))
 
 -- a number of 64 bits in decimal
 abbrev pub decimalText : ℕ → List ℕ

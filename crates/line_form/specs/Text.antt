@@ -43,21 +43,22 @@ isText s = not (ltb 32768 (length s)) && linesForm (split 10 s)
 
 -- ---- what it says
 
-abbrev pub noCarrier : Carrier
-noCarrier =
-    record {
-      constellation = 0;
-      svid = 0;
-      band = 0;
-      adr = +0;
-      state = pos 0;
-      satellite = record { x = +0; y = +0; z = +0 };
-      elevation = +0;
-      rate = +0;
-    }
-
+-- no carrier: none is counted
 unfoldable pub noCarriers : Epoch
-noCarriers = record { count = 0; carriers = replicate 64 noCarrier }
+noCarriers =
+    record {
+      count = 0;
+      carriers = replicate 64 (record {
+        constellation = 0;
+        svid = 0;
+        band = 0;
+        adr = +0;
+        state = pos 0;
+        satellite = record { x = +0; y = +0; z = +0 };
+        elevation = +0;
+        rate = +0;
+      });
+    }
 
 -- one carrier more; past the 64th it is only counted
 unfoldable pub withCarrier : Epoch → Carrier → Epoch

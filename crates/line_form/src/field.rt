@@ -3,6 +3,7 @@ ghost use mathlib.Core.Path.{_≡_};
 ghost use mathlib.Core.Bool.{true};
 ghost use Prim.Native.Nat.{_≤_, _<_, _^_};
 ghost use lib.IntN.{pos, negℤ};
+ghost use Rattle.lists.specs.Memory.{before};
 ghost use Rattle.line_form.specs.Field.{plain, isHexDigit, hexValue};
 ghost use Rattle.line_form.specs.Steps.{ReadsNumber, ReadsState, ReadsPattern, ReadsFloat};
 use numeric::order::float;
@@ -25,7 +26,7 @@ pub(crate) struct Real {
 
 // Checks that a field is not empty and has no leading zero.
 fn is_plain(s: &[u8]) -> bool
-    ensures { λ r. ⌜ r ≡ plain (now (s .entry)) ⌝ }
+    ensures { λ r. ⌜ r ≡ plain (before s) ⌝ }
 {
     let n = s.len();
     if n == 0 {
@@ -41,7 +42,7 @@ fn is_plain(s: &[u8]) -> bool
 pub(crate) fn number_of(s: &[u8], limit: u64) -> Number
     requires { ⌜ 0 < limit ⌝ }
     requires { ⌜ limit ≤ 2 ^ 32 ⌝ }
-    ensures { λ r. ⌜ ReadsNumber limit (now (s .entry)) r ⌝ }
+    ensures { λ r. ⌜ ReadsNumber limit (before s) r ⌝ }
 {
     if !is_plain(s) {
         return Number {
@@ -93,7 +94,7 @@ fn negated(n: u64) -> i32
 
 // Reads a signed number of 32 bits.
 pub(crate) fn state_of(s: &[u8]) -> Signed
-    ensures { λ r. ⌜ ReadsState (now (s .entry)) r ⌝ }
+    ensures { λ r. ⌜ ReadsState (before s) r ⌝ }
 {
     if s.len() == 0 {
         return Signed {
@@ -135,7 +136,7 @@ fn hex_value(b: u8) -> u64
 
 // Reads sixteen hexadecimal digits.
 pub(crate) fn pattern_of(s: &[u8]) -> Number
-    ensures { λ r. ⌜ ReadsPattern (now (s .entry)) r ⌝ }
+    ensures { λ r. ⌜ ReadsPattern (before s) r ⌝ }
 {
     if s.len() != 16 {
         return Number {
@@ -164,7 +165,7 @@ pub(crate) fn pattern_of(s: &[u8]) -> Number
 
 // Reads a float by its pattern.
 pub(crate) fn float_of(s: &[u8]) -> Real
-    ensures { λ r. ⌜ ReadsFloat (now (s .entry)) r ⌝ }
+    ensures { λ r. ⌜ ReadsFloat (before s) r ⌝ }
 {
     let p = pattern_of(s);
     let x = float(p.value);

@@ -5,6 +5,7 @@ mod print;
 mod split;
 mod text;
 
+ghost use Rattle.lists.specs.Memory.{before, after};
 ghost use Rattle.line_form.specs.Answer.{LineAnswered};
 use crate::print::print_to;
 use crate::text::displacement_in;
@@ -18,7 +19,7 @@ pub enum Printed {
 
 // Writes the line that answers `text` to the start of `line` and returns its length. On refusal, changes nothing.
 pub fn answer(text: &[u8], line: &mut [u8]) -> Printed
-    ensures { λ r. ⌜ LineAnswered (now (text .entry)) (now (line .entry)) (now (line .exit)) r ⌝ }
+    ensures { λ r. ⌜ LineAnswered (before text) (before line) (after line) r ⌝ }
 {
     let d = displacement_in(text);
     let mut out = [0u8; 128];

@@ -2,6 +2,7 @@
 ghost use mathlib.Core.Path.{_≡_};
 ghost use Prim.Native.Nat.{_≤_};
 ghost use lib.ListN.{length};
+ghost use Rattle.lists.specs.Memory.{before};
 ghost use Rattle.line_form.specs.Line.{letter, lineOf};
 ghost use Rattle.line_form.specs.Steps.{firstLine, Parted, ReadsPlace, ReadsCarrier, ReadsGiven};
 use crate::field::float_of;
@@ -49,7 +50,7 @@ pub(crate) enum Line {
 
 // Returns the byte of a field of one byte, and 0 for any other field.
 fn letter_of(s: &[u8]) -> u8
-    ensures { λ r. ⌜ r ≡ letter (now (s .entry)) ⌝ }
+    ensures { λ r. ⌜ r ≡ letter (before s) ⌝ }
 {
     if s.len() == 1 { s[0] } else { 0 }
 }
@@ -58,7 +59,7 @@ fn letter_of(s: &[u8]) -> u8
 fn place_of(line: &[u8], from: [usize; 12], k: usize) -> Place
     requires { ⌜ Parted (now line) from ⌝ }
     requires { ⌜ k ≤ 8 ⌝ }
-    ensures { λ r. ⌜ ReadsPlace (now (line .entry)) k r ⌝ }
+    ensures { λ r. ⌜ ReadsPlace (before line) k r ⌝ }
 {
     let x = float_of(field_at(line, from, k));
     let y = float_of(field_at(line, from, k + 1));
@@ -76,7 +77,7 @@ fn place_of(line: &[u8], from: [usize; 12], k: usize) -> Place
 // Reads the ten fields of a carrier.
 fn carrier_of(line: &[u8], from: [usize; 12]) -> Carried
     requires { ⌜ Parted (now line) from ⌝ }
-    ensures { λ r. ⌜ ReadsCarrier (now (line .entry)) r ⌝ }
+    ensures { λ r. ⌜ ReadsCarrier (before line) r ⌝ }
 {
     let constellation = number_of(field_at(line, from, 1), 256);
     let svid = number_of(field_at(line, from, 2), 65536);
@@ -111,7 +112,7 @@ fn carrier_of(line: &[u8], from: [usize; 12]) -> Carried
 
 pub(crate) fn line_of(line: &[u8]) -> Line
     requires { ⌜ length (now line) ≤ 32768 ⌝ }
-    ensures { λ r. ⌜ r ≡ lineOf (now (line .entry)) ⌝ }
+    ensures { λ r. ⌜ r ≡ lineOf (before line) ⌝ }
 {
     let fields = fields_of(line);
     if !fields.eleven {
@@ -136,7 +137,7 @@ pub(crate) fn line_of(line: &[u8]) -> Line
 // Reads the ten fields of the first line.
 fn given_of(line: &[u8], from: [usize; 12]) -> Giving
     requires { ⌜ Parted (now line) from ⌝ }
-    ensures { λ r. ⌜ ReadsGiven (now (line .entry)) r ⌝ }
+    ensures { λ r. ⌜ ReadsGiven (before line) r ⌝ }
 {
     let dt = float_of(field_at(line, from, 1));
     let receiver = place_of(line, from, 2);
@@ -174,7 +175,7 @@ fn given_of(line: &[u8], from: [usize; 12]) -> Giving
 
 pub(crate) fn first_of(line: &[u8]) -> First
     requires { ⌜ length (now line) ≤ 32768 ⌝ }
-    ensures { λ r. ⌜ r ≡ firstLine (now (line .entry)) ⌝ }
+    ensures { λ r. ⌜ r ≡ firstLine (before line) ⌝ }
 {
     let fields = fields_of(line);
     if !fields.eleven {

@@ -3,6 +3,7 @@ ghost use mathlib.Core.Path.{_≡_};
 ghost use mathlib.Core.List.{[], _∷_, _++_};
 ghost use Prim.Native.Nat.{_+_, _≤_, _<_};
 ghost use lib.ListN.{length};
+ghost use Rattle.lists.specs.Memory.{before, after};
 ghost use Rattle.line_form.specs.Print.{glyph, digitsText, digitCount, decimalText, hexText, answerText};
 ghost use Rattle.line_form.specs.Steps.{Numbers, Printable, vectorText, overwritten, PutBytes};
 use numeric::vec3::Vec3;
@@ -20,7 +21,7 @@ fn spell(out: &mut [u8], at: usize, k: usize, base: u64, n: u64)
     requires { ⌜ 0 < base ⌝ }
     requires { ⌜ base ≤ 16 ⌝ }
     requires { ⌜ at + k ≤ length (now out) ⌝ }
-    ensures { λ _. ⌜ now (out .exit) ≡ overwritten (now (out .entry)) at (digitsText base k n) ⌝ }
+    ensures { λ _. ⌜ after out ≡ overwritten (before out) at (digitsText base k n) ⌝ }
 {
     let mut i = k;
     let mut rest = n;
@@ -48,7 +49,7 @@ fn places_of(n: u64) -> usize
 // Writes a number in decimal and one more byte, and returns the next place.
 fn put_decimal(out: &mut [u8], at: usize, n: u64, end: u8) -> usize
     requires { ⌜ at + 22 ≤ length (now out) ⌝ }
-    ensures { λ r. ⌜ PutBytes (now (out .entry)) (now (out .exit)) at (decimalText n ++ (end ∷ [])) r ⌝ }
+    ensures { λ r. ⌜ PutBytes (before out) (after out) at (decimalText n ++ (end ∷ [])) r ⌝ }
     ensures { λ r. ⌜ r ≤ at + 22 ⌝ }
 {
     let k = places_of(n);
@@ -60,7 +61,7 @@ fn put_decimal(out: &mut [u8], at: usize, n: u64, end: u8) -> usize
 // Writes 64 bits in hexadecimal and one more byte, and returns the next place.
 fn put_hex(out: &mut [u8], at: usize, p: u64, end: u8) -> usize
     requires { ⌜ at + 17 ≤ length (now out) ⌝ }
-    ensures { λ r. ⌜ PutBytes (now (out .entry)) (now (out .exit)) at (hexText p ++ (end ∷ [])) r ⌝ }
+    ensures { λ r. ⌜ PutBytes (before out) (after out) at (hexText p ++ (end ∷ [])) r ⌝ }
     ensures { λ r. ⌜ r ≤ at + 17 ⌝ }
 {
     spell(out, at, 16, 16, p);
@@ -71,7 +72,7 @@ fn put_hex(out: &mut [u8], at: usize, p: u64, end: u8) -> usize
 // Writes a letter and a comma at the start, and returns the next place.
 fn put_letter(out: &mut [u8], b: u8) -> usize
     requires { ⌜ 2 ≤ length (now out) ⌝ }
-    ensures { λ r. ⌜ PutBytes (now (out .entry)) (now (out .exit)) 0 (b ∷ 44 ∷ []) r ⌝ }
+    ensures { λ r. ⌜ PutBytes (before out) (after out) 0 (b ∷ 44 ∷ []) r ⌝ }
     ensures { λ r. ⌜ r ≤ 2 ⌝ }
 {
     out[0] = b;
@@ -83,7 +84,7 @@ fn put_letter(out: &mut [u8], b: u8) -> usize
 fn put_vector(out: &mut [u8], at: usize, v: Vec3) -> usize
     requires { ⌜ at + 51 ≤ length (now out) ⌝ }
     requires { ⌜ Numbers v ⌝ }
-    ensures { λ r. ⌜ PutBytes (now (out .entry)) (now (out .exit)) at (vectorText v) r ⌝ }
+    ensures { λ r. ⌜ PutBytes (before out) (after out) at (vectorText v) r ⌝ }
 {
     let a = put_hex(out, at, f64::to_bits(v.x), 44);
     let b = put_hex(out, a, f64::to_bits(v.y), 44);
@@ -94,7 +95,7 @@ fn put_vector(out: &mut [u8], at: usize, v: Vec3) -> usize
 pub(crate) fn print_to(out: &mut [u8], d: Displacement) -> usize
     requires { ⌜ 128 ≤ length (now out) ⌝ }
     requires { ⌜ Printable d ⌝ }
-    ensures { λ r. ⌜ PutBytes (now (out .entry)) (now (out .exit)) 0 (answerText d) r ⌝ }
+    ensures { λ r. ⌜ PutBytes (before out) (after out) 0 (answerText d) r ⌝ }
 {
     match d {
         Displacement::Refused(r) => {

@@ -2,13 +2,14 @@
 ghost use mathlib.Core.Path.{_≡_};
 ghost use Prim.Native.Nat.{_+_, _≤_};
 ghost use lib.ListN.{length, drop};
+ghost use Rattle.lists.specs.Memory.{before};
 ghost use Rattle.line_form.specs.Split.{field};
 ghost use Rattle.line_form.specs.Steps.{countBefore, FieldsOf, Parted};
 
 // Returns the place of the first byte c at or after `at`, or the length where there is none.
 pub(crate) fn find(s: &[u8], at: usize, c: u8) -> usize
     requires { ⌜ at ≤ length (now s) ⌝ }
-    ensures { λ r. ⌜ r ≡ at + countBefore c (drop at (now (s .entry))) ⌝ }
+    ensures { λ r. ⌜ r ≡ at + countBefore c (drop at (before s)) ⌝ }
 {
     let mut i = at;
     while i < s.len() {
@@ -28,7 +29,7 @@ pub(crate) struct Fields {
 
 pub(crate) fn fields_of(line: &[u8]) -> Fields
     requires { ⌜ length (now line) ≤ 32768 ⌝ }
-    ensures { λ r. ⌜ FieldsOf (now (line .entry)) r ⌝ }
+    ensures { λ r. ⌜ FieldsOf (before line) r ⌝ }
 {
     let mut from = [0usize; 12];
     let mut at: usize = 0;
@@ -57,7 +58,7 @@ pub(crate) fn fields_of(line: &[u8]) -> Fields
 pub(crate) fn field_at(line: &[u8], from: [usize; 12], k: usize) -> &[u8]
     requires { ⌜ Parted (now line) from ⌝ }
     requires { ⌜ k ≤ 10 ⌝ }
-    ensures { λ r. ⌜ now r ≡ field (now (line .entry)) k ⌝ }
+    ensures { λ r. ⌜ now r ≡ field (before line) k ⌝ }
 {
     let a = from[k];
     let e = from[k + 1] - 1;

@@ -2,6 +2,7 @@
 ghost use mathlib.Core.Path.{_≡_};
 ghost use Prim.Native.Nat.{_<_, _≤_};
 ghost use lib.ListN.{length, drop};
+ghost use Rattle.lists.specs.Memory.{before, after};
 ghost use Rattle.line_form.specs.Steps.{Displaces, LinesDisplace, Keeps, ReadsNext};
 use crate::line::First;
 use crate::line::Line;
@@ -17,6 +18,7 @@ use tdcp::displacement::Displacement;
 use tdcp::displacement::Interval;
 use tdcp::displacement::Settings;
 use tdcp::displacement::displaced;
+use tdcp::displacement::plain;
 
 // A line, and the place after its LF; a last line without one is broken.
 struct Next {
@@ -27,7 +29,7 @@ struct Next {
 // Reads the line that begins at this place.
 fn next_line(text: &[u8], at: usize) -> Next
     requires { ⌜ (at < length (now text)) × (length (now text) ≤ 32768) ⌝ }
-    ensures { λ r. ⌜ ReadsNext (now (text .entry)) at r ⌝ }
+    ensures { λ r. ⌜ ReadsNext (before text) at r ⌝ }
 {
     let n = text.len();
     let e = find(text, at, 10);
@@ -53,8 +55,8 @@ fn keep(
     floats: &mut [f64; 384],
 ) -> usize
     requires { ⌜ (n ≤ 32768) × (length (now signals) ≡ 64) × (length (now states) ≡ 64) × (length (now floats) ≡ 384) ⌝ }
-    ensures { λ r. ⌜ Keeps c n r (now (signals .entry)) (now (states .entry)) (now (floats .entry))
-        (now (signals .exit)) (now (states .exit)) (now (floats .exit)) ⌝ }
+    ensures { λ r. ⌜ Keeps c n r (before signals) (before states) (before floats)
+        (after signals) (after states) (after floats) ⌝ }
 {
     if n < 64 {
         put_carrier(c, n, signals, states, floats);
@@ -71,7 +73,7 @@ fn displacement_after(
     settings: Settings,
 ) -> Displacement
     requires { ⌜ (from ≤ length (now text)) × (length (now text) ≤ 32768) ⌝ }
-    ensures { λ r. ⌜ LinesDisplace (drop from (now (text .entry))) dt receiver settings r ⌝ }
+    ensures { λ r. ⌜ LinesDisplace (drop from (before text)) dt receiver settings r ⌝ }
 {
     let mut then_signals = [0u64; 64];
     let mut then_states = [0i32; 64];
@@ -93,15 +95,13 @@ fn displacement_after(
             Line::Current(c) => {
                 n = keep(c, n, &mut now_signals, &mut now_states, &mut now_floats);
             }
-            Line::Broken => {
-                return Displacement::Refused(Refusal::BrokenForm);
-            }
+            Line::Broken => return Displacement::Refused(Refusal::BrokenForm),
         }
     }
     if (64 < m) | (64 < n) {
         return Displacement::Refused(Refusal::TooMany);
     }
-    displaced(
+    let answer = displaced(
         &then_signals[..m],
         &then_states,
         &then_floats,
@@ -112,12 +112,14 @@ fn displacement_after(
         receiver,
         settings,
         Profile::General,
-    )
+        false,
+    );
+    plain(answer)
 }
 
 // Returns the displacement that the text asks for.
 pub(crate) fn displacement_in(text: &[u8]) -> Displacement
-    ensures { λ r. ⌜ Displaces (now (text .entry)) r ⌝ }
+    ensures { λ r. ⌜ Displaces (before text) r ⌝ }
 {
     let n = text.len();
     if n > 32768 {

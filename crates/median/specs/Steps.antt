@@ -5,6 +5,7 @@ use mathlib.Core.Bool.{Bool, true, false, Bool·beq}
 use mathlib.Core.List.{List, [], _∷_}
 use lib.ListN.{getD, take, length}
 use lib.Dec.{leb, ltb}
+use Rattle.lists.specs.Memory.{before, after, LentNumbers}
 use Rattle.exact.specs.Pattern.{sign}
 use Rattle.median.specs.Sorted.{sortedBy, inTotalOrder, Each}
 
@@ -45,6 +46,27 @@ Unsigned xs = Each (λ (x : ℕ). x < 2 ^ 63) xs
 unfoldable pub ofSign : Bool → List ℕ → List ℕ
 ofSign s [] = []
 ofSign s (x ∷ xs) = inFront (Bool·beq (sign x) s) (withoutSign x) (ofSign s xs)
+
+-- ---- the first n numbers of the array k of 64
+
+abbrev pub Room : ℕ → List ℕ → Type 0
+Room n k = (n ≤ 64) × (length k ≡ 64)
+
+-- place m is one of the first n, whose signs are clear
+abbrev pub Among : ℕ → ℕ → List ℕ → Type 0
+Among m n k = (m < n) × (n ≤ 64) × (length k ≡ 64) × Unsigned (take n k)
+
+-- it is one of the four at an end
+abbrev pub AmongFour : ℕ → ℕ → List ℕ → Type 0
+AmongFour m n k = (m < n) × (m < 4) × (n ≤ 64) × (length k ≡ 64) × Unsigned (take n k)
+
+-- the element at place m of the first n, by what `place` says; the array stays one of 64
+abbrev pub FoundBy : (ℕ → List ℕ → ℕ) → ℕ → ℕ → (k : LentNumbers) → ℕ → Type 0
+FoundBy place m n k r = (r ≡ place m (take n (before k))) × (length (after k) ≡ 64)
+
+-- one to 64 patterns
+abbrev pub OneTo64 : List ℕ → Type 0
+OneTo64 ps = (0 < length ps) × (length ps ≤ 64)
 
 -- the first r numbers of the array k of 64 are l
 pub record Front (l : List ℕ) (r : ℕ) (k : List ℕ) : Type 0 where

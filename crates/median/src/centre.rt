@@ -1,8 +1,8 @@
 // The centre of residuals and their scale.
 ghost use mathlib.Core.Path.{_≡_};
-ghost use Prim.Native.Nat.{_≤_};
 ghost use lib.ListN.{length};
-ghost use Rattle.median.specs.Steps.{Front};
+ghost use Rattle.lists.specs.Memory.{before, after};
+ghost use Rattle.median.specs.Steps.{Front, Room};
 ghost use Rattle.median.specs.Centre.{deviationsOf, centreNumber, Centred};
 use crate::median::middle;
 use crate::median::of_like_sign;
@@ -37,8 +37,8 @@ impl Centre {
 
 // Writes the absolute deviations of the residuals from the centre to the front of k. Their signs are clear.
 fn deviations(residuals: &[u64], centre: f64, k: &mut [u64; 64])
-    requires { ⌜ (length (now residuals) ≤ 64) × (length (now k) ≡ 64) ⌝ }
-    ensures { λ r. ⌜ Front (deviationsOf centre (now (residuals .entry))) (length (now (residuals .entry))) (now (k .exit)) ⌝ }
+    requires { ⌜ Room (length (now residuals)) (now k) ⌝ }
+    ensures { λ r. ⌜ Front (deviationsOf centre (before residuals)) (length (before residuals)) (after k) ⌝ }
 {
     let n = residuals.len();
     for i in 0..n {
@@ -50,7 +50,7 @@ fn deviations(residuals: &[u64], centre: f64, k: &mut [u64; 64])
 
 // Returns the residual at place len/2 in order, and as scale 1.4826 times the deviation at that place plus 1e-6. Refuses more than 64 residuals by 2.
 pub fn centre_scale(residuals: &[u64]) -> Centre
-    ensures { λ r. ⌜ Centred (now (residuals .entry)) r ⌝ }
+    ensures { λ r. ⌜ Centred (before residuals) r ⌝ }
 {
     let n = residuals.len();
     if 64 < n {

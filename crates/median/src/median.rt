@@ -5,8 +5,9 @@ ghost use mathlib.Core.Path.{_≡_};
 ghost use mathlib.Core.List.{[], _∷_};
 ghost use Prim.Native.Nat.{_-_, _≤_, _<_, min, max};
 ghost use lib.ListN.{getD, take, length};
+ghost use Rattle.lists.specs.Memory.{before, after};
 ghost use Rattle.median.specs.Sorted.{medianOf, occurrences};
-ghost use Rattle.median.specs.Steps.{Unsigned, patternAt, numberAt, lows, highs, ofSign, Front};
+ghost use Rattle.median.specs.Steps.{patternAt, numberAt, lows, highs, ofSign, Front, Room, Among, AmongFour, FoundBy, OneTo64};
 
 // Returns the lesser of a and b.
 fn lesser(a: u64, b: u64) -> u64
@@ -25,7 +26,7 @@ fn greater(a: u64, b: u64) -> u64
 // Returns one of the first n numbers of k: the median of the first, the middle and the last of them.
 fn pivot(k: &[u64; 64], n: usize) -> u64
     requires { ⌜ (0 < n) × (n ≤ 64) × (length (now k) ≡ 64) ⌝ }
-    ensures { λ r. ⌜ 1 ≤ occurrences r (take n (now (k .entry))) ⌝ }
+    ensures { λ r. ⌜ 1 ≤ occurrences r (take n (before k)) ⌝ }
 {
     let a = k[0];
     let b = k[n / 2];
@@ -37,8 +38,8 @@ fn pivot(k: &[u64; 64], n: usize) -> u64
 
 // Counts those of the first n numbers of k that are below p.
 fn count_low(k: &[u64; 64], n: usize, p: u64) -> usize
-    requires { ⌜ (n ≤ 64) × (length (now k) ≡ 64) ⌝ }
-    ensures { λ r. ⌜ r ≡ length (lows p (take n (now (k .entry)))) ⌝ }
+    requires { ⌜ Room n (now k) ⌝ }
+    ensures { λ r. ⌜ r ≡ length (lows p (take n (before k))) ⌝ }
 {
     let mut w = 0usize;
     for j in 0..n {
@@ -51,8 +52,8 @@ fn count_low(k: &[u64; 64], n: usize, p: u64) -> usize
 
 // Moves those of the first n numbers of k that are below p to the front, and returns their count.
 fn keep_low(k: &mut [u64; 64], n: usize, p: u64) -> usize
-    requires { ⌜ (n ≤ 64) × (length (now k) ≡ 64) ⌝ }
-    ensures { λ r. ⌜ Front (lows p (take n (now (k .entry)))) r (now (k .exit)) ⌝ }
+    requires { ⌜ Room n (now k) ⌝ }
+    ensures { λ r. ⌜ Front (lows p (take n (before k))) r (after k) ⌝ }
 {
     let mut w = 0usize;
     for j in 0..n {
@@ -67,8 +68,8 @@ fn keep_low(k: &mut [u64; 64], n: usize, p: u64) -> usize
 
 // Moves those of the first n numbers of k that are above p to the front, and returns their count.
 fn keep_high(k: &mut [u64; 64], n: usize, p: u64) -> usize
-    requires { ⌜ (n ≤ 64) × (length (now k) ≡ 64) ⌝ }
-    ensures { λ r. ⌜ Front (highs p (take n (now (k .entry)))) r (now (k .exit)) ⌝ }
+    requires { ⌜ Room n (now k) ⌝ }
+    ensures { λ r. ⌜ Front (highs p (take n (before k))) r (after k) ⌝ }
 {
     let mut w = 0usize;
     for j in 0..n {
@@ -95,8 +96,8 @@ fn one_of(a: u64, b: u64, c: u64, d: u64, m: usize) -> u64
 // Returns the number at place m, one of the four lowest, of the first n patterns of k, whose signs are clear. a, b, c, d are the four lowest so far, in
 // ascending order, filled up with the highest such pattern: no branch depends on the numbers.
 fn of_lowest(k: &[u64; 64], n: usize, m: usize) -> u64
-    requires { ⌜ (m < n) × (m < 4) × (n ≤ 64) × (length (now k) ≡ 64) × Unsigned (take n (now k)) ⌝ }
-    ensures { λ r. ⌜ r ≡ numberAt m (take n (now (k .entry))) ⌝ }
+    requires { ⌜ AmongFour m n (now k) ⌝ }
+    ensures { λ r. ⌜ r ≡ numberAt m (take n (before k)) ⌝ }
 {
     let mut a = 0x7FFF_FFFF_FFFF_FFFFu64;
     let mut b = 0x7FFF_FFFF_FFFF_FFFFu64;
@@ -116,8 +117,8 @@ fn of_lowest(k: &[u64; 64], n: usize, m: usize) -> u64
 
 // Returns the number m places below the highest, one of the four highest. a, b, c, d are the four highest so far, filled up with 0.
 fn of_highest(k: &[u64; 64], n: usize, m: usize) -> u64
-    requires { ⌜ (m < n) × (m < 4) × (n ≤ 64) × (length (now k) ≡ 64) × Unsigned (take n (now k)) ⌝ }
-    ensures { λ r. ⌜ r ≡ numberAt (n - 1 - m) (take n (now (k .entry))) ⌝ }
+    requires { ⌜ AmongFour m n (now k) ⌝ }
+    ensures { λ r. ⌜ r ≡ numberAt (n - 1 - m) (take n (before k)) ⌝ }
 {
     let mut a = 0u64;
     let mut b = 0u64;
@@ -139,8 +140,8 @@ fn of_highest(k: &[u64; 64], n: usize, m: usize) -> u64
 // For patterns whose signs are clear this is the order of magnitudes, since the exponent field is above the digits; for NaNs it is the order of their digits:
 // the first tells signaling from quiet, the others are the payload.
 fn select(k: &mut [u64; 64], n: usize, m: usize) -> u64
-    requires { ⌜ (m < n) × (n ≤ 64) × (length (now k) ≡ 64) × Unsigned (take n (now k)) ⌝ }
-    ensures { λ r. ⌜ (r ≡ numberAt m (take n (now (k .entry)))) × (length (now (k .exit)) ≡ 64) ⌝ }
+    requires { ⌜ Among m n (now k) ⌝ }
+    ensures { λ r. ⌜ FoundBy numberAt m n k r ⌝ }
 {
     let mut len = n;
     let mut at = m;
@@ -172,8 +173,8 @@ fn select(k: &mut [u64; 64], n: usize, m: usize) -> u64
 
 // Writes the patterns of one sign, without it, to the front of k, and returns their count.
 fn part(patterns: &[u64], negative: bool, k: &mut [u64; 64]) -> usize
-    requires { ⌜ (length (now patterns) ≤ 64) × (length (now k) ≡ 64) ⌝ }
-    ensures { λ r. ⌜ Front (ofSign negative (now (patterns .entry))) r (now (k .exit)) ⌝ }
+    requires { ⌜ Room (length (now patterns)) (now k) ⌝ }
+    ensures { λ r. ⌜ Front (ofSign negative (before patterns)) r (after k) ⌝ }
 {
     let n = patterns.len();
     let mut w = 0usize;
@@ -190,8 +191,8 @@ fn part(patterns: &[u64], negative: bool, k: &mut [u64; 64]) -> usize
 
 // Returns the pattern at place m, in totalOrder, of the first n patterns of k, whose signs are clear, and overwrites k.
 pub(crate) fn of_like_sign(k: &mut [u64; 64], n: usize, m: usize) -> u64
-    requires { ⌜ (m < n) × (n ≤ 64) × (length (now k) ≡ 64) × Unsigned (take n (now k)) ⌝ }
-    ensures { λ r. ⌜ (r ≡ patternAt m (take n (now (k .entry)))) × (length (now (k .exit)) ≡ 64) ⌝ }
+    requires { ⌜ Among m n (now k) ⌝ }
+    ensures { λ r. ⌜ FoundBy patternAt m n k r ⌝ }
 {
     let numbers = count_low(k, n, 0x7FF0_0000_0000_0000);
     // numbers alone, zeros among them: by magnitude (a, b, c 3)
@@ -216,7 +217,7 @@ pub(crate) fn of_like_sign(k: &mut [u64; 64], n: usize, m: usize) -> u64
 // Returns the median of one to 64 patterns, and overwrites k.
 pub(crate) fn middle(patterns: &[u64], k: &mut [u64; 64]) -> u64
     requires { ⌜ (0 < length (now patterns)) × (length (now patterns) ≤ 64) × (length (now k) ≡ 64) ⌝ }
-    ensures { λ r. ⌜ (r ≡ medianOf (now (patterns .entry))) × (length (now (k .exit)) ≡ 64) ⌝ }
+    ensures { λ r. ⌜ (r ≡ medianOf (before patterns)) × (length (after k) ≡ 64) ⌝ }
 {
     let n = patterns.len();
     let at = n / 2;
@@ -234,8 +235,8 @@ pub(crate) fn middle(patterns: &[u64], k: &mut [u64; 64]) -> u64
 
 // Returns the median of one to 64 patterns.
 fn median_of(patterns: &[u64]) -> u64
-    requires { ⌜ (0 < length (now patterns)) × (length (now patterns) ≤ 64) ⌝ }
-    ensures { λ r. ⌜ r ≡ medianOf (now (patterns .entry)) ⌝ }
+    requires { ⌜ OneTo64 (now patterns) ⌝ }
+    ensures { λ r. ⌜ r ≡ medianOf (before patterns) ⌝ }
 {
     let mut k = [0u64; 64];
     middle(patterns, &mut k)
@@ -243,7 +244,7 @@ fn median_of(patterns: &[u64]) -> u64
 
 // Returns the median of the patterns. Of more than 64 only the first 64 count; no caller here has more.
 pub fn median(patterns: &[u64]) -> u64
-    ensures { λ r. ⌜ r ≡ medianOf (take 64 (now (patterns .entry))) ⌝ }
+    ensures { λ r. ⌜ r ≡ medianOf (take 64 (before patterns)) ⌝ }
 {
     let n = patterns.len();
     if n == 0 {

@@ -3,7 +3,7 @@ ghost use mathlib.Core.Path.{_≡_};
 ghost use mathlib.Core.Bool.{true, false, cond};
 ghost use Prim.Native.Nat.{_≤_, _<_};
 ghost use Rattle.mileage.specs.Mileage as spec;
-ghost use Rattle.mileage.specs.Steps.{wayFor};
+ghost use Rattle.mileage.specs.Steps.{GrowsBy, wayFor};
 use crate::rated::is_rated;
 use numeric::real::in_range;
 use numeric::refusal::Refusal;
@@ -119,32 +119,22 @@ impl Mileage {
         Step::Refused(Refusal::SettingOutOfRange)
     }
 
-    // Checks rule 16 of a mileage handed in. Each test keeps the next from overflowing, and none fails in a drive, so that branches cost least.
+    // Checks rule 16 of a mileage handed in. The first test keeps the sums of the second from overflowing. None fails in a drive, so that two branches cost least.
     pub fn is_sound(self) -> bool
         ensures { λ r. ⌜ r ≡ spec.soundMileage self ⌝ }
     {
         let epochs = self.epochs;
-        if 65535 < epochs {
+        if !((epochs <= 65535)
+            & (self.refused <= 65535)
+            & (self.aside <= 65535)
+            & (self.counted <= 0xFFFF_FFFF_FFFF)
+            & (self.standing <= 0xFFFF_FFFF_FFFF)
+            & (self.waiting <= 0xFFFF_FFFF_FFFF)) {
             return false;
         }
-        if epochs < self.refused {
-            return false;
-        }
-        if epochs - self.refused < self.aside {
-            return false;
-        }
-        let far = 1000000 * epochs;
-        if far < self.counted {
-            return false;
-        }
-        let rest = far - self.counted;
-        if rest < self.standing {
-            return false;
-        }
-        if rest - self.standing < self.waiting {
-            return false;
-        }
-        (self.pulses <= 65535 * epochs)
+        (self.refused + self.aside <= epochs)
+            & (self.counted + self.standing + self.waiting <= 1000000 * epochs)
+            & (self.pulses <= 65535 * epochs)
             & (self.covered <= self.pulses)
             & (self.moved <= 1)
             & in_range(self.limit)
@@ -152,7 +142,7 @@ impl Mileage {
 
     // The mileage after an epoch that is refused or not, of use or not, of so many millimetres and pulses.
     pub(crate) fn grown(self, refused: bool, usable: bool, millimetres: u64, pulses: u64) -> Mileage
-        requires { ⌜ (spec.soundMileage self ≡ true) × (self .epochs < 65535) × (millimetres ≤ 1000000) × (pulses ≤ 65535) ⌝ }
+        requires { ⌜ GrowsBy self millimetres pulses ⌝ }
         ensures { λ r. ⌜ r ≡ spec.grown self refused usable millimetres pulses ⌝ }
     {
         let moves = 0 < pulses;
@@ -174,7 +164,7 @@ impl Mileage {
 
     // Returns the mileage after an epoch of so many millimetres and pulses that counts, as most do.
     pub(crate) fn driven(self, millimetres: u64, more: u64) -> Mileage
-        requires { ⌜ (spec.soundMileage self ≡ true) × (self .epochs < 65535) × (millimetres ≤ 1000000) × (0 < more) × (more ≤ 65535) ⌝ }
+        requires { ⌜ GrowsBy self millimetres more × (0 < more) ⌝ }
         ensures { λ r. ⌜ r ≡ spec.grown self false true millimetres more ⌝ }
     {
         Mileage {

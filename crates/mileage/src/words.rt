@@ -1,7 +1,7 @@
 // A mileage that the caller holds as ten words: the limit's bits, epochs, refused, set aside, counted millimetres, counted pulses, standing millimetres, all
 // pulses, whether the last epoch had a pulse, and the last epoch's millimetres where it stands so far.
 ghost use mathlib.Core.Path.{_≡_};
-ghost use Rattle.mileage.specs.Mileage.{mileageStarted};
+ghost use Rattle.lists.specs.Memory.{before};
 ghost use Rattle.mileage.specs.Words as spec;
 use crate::mileage::Distance;
 use crate::mileage::Epoch;
@@ -52,30 +52,15 @@ pub fn words(m: Mileage) -> [u64; 10]
     ]
 }
 
-// Starts a mileage in the lent words and returns 0. On refusal, returns 3 and changes nothing.
-pub fn start_in(limit: f64, mileage: &mut [u64; 10]) -> u8
-    ensures { λ r. ⌜ (let s = mileageStarted limit in (r ≡ spec.mileageNumber s) × (now (mileage .exit) ≡ spec.mileageAfter s (now (mileage .entry)))) ⌝ }
-{
-    let answer = Mileage::start(limit);
-    match answer {
-        Step::Refused(r) => r.number(),
-        Step::Goes(m) => {
-            *mileage = words(m);
-            0
-        }
-    }
-}
-
-// Adds an epoch to the mileage in the lent words and returns 0. On refusal, returns 16 and changes nothing.
-pub fn add_in(
-    mileage: &mut [u64; 10],
+// Adds an epoch to the mileage that the lent words hold.
+pub fn add_held(
+    mileage: &[u64; 10],
     refused_by: u8,
     delta: &[f64; 3],
     quality: &[f64; 2],
     pulses: u16,
-) -> u8
-    ensures { λ r. ⌜ (let s = spec.mileageAddedWords (now (mileage .entry)) (spec.lentEpoch «refused_by» (now (delta .entry)) (now (quality .entry)) pulses) in
-        (r ≡ spec.mileageNumber s) × (now (mileage .exit) ≡ spec.mileageAfter s (now (mileage .entry)))) ⌝ }
+) -> Step
+    ensures { λ r. ⌜ r ≡ spec.mileageAddedWords (before mileage) (spec.lentEpoch «refused_by» delta quality pulses) ⌝ }
 {
     let displacement = Vec3 {
         x: delta[0],
@@ -92,8 +77,14 @@ pub fn add_in(
         pulses,
     };
     let w = *mileage;
-    let answer = held(w).add_way(way, e);
-    match answer {
+    held(w).add_way(way, e)
+}
+
+// Writes the mileage of a step to the lent words and returns 0. On refusal, returns its number and changes nothing.
+pub fn put_step(step: Step, mileage: &mut [u64; 10]) -> u8
+    ensures { λ r. ⌜ spec.MileageAnswers step r mileage ⌝ }
+{
+    match step {
         Step::Refused(r) => r.number(),
         Step::Goes(m) => {
             *mileage = words(m);
@@ -102,14 +93,11 @@ pub fn add_in(
     }
 }
 
-// Writes the report of the mileage in the lent words to `report` and returns 0. On refusal, returns 16 and changes nothing.
-pub fn report_in(mileage: &[u64; 10], report: &mut [u64; 7]) -> u8
-    ensures { λ r. ⌜ (let q = spec.mileageReportedWords (now (mileage .entry)) in
-        (r ≡ spec.mileageReportNumber q) × (now (report .exit) ≡ spec.mileageReportAfter q (now (report .entry)))) ⌝ }
+// Writes a report to the lent words and returns 0. On refusal, returns its number and changes nothing.
+pub fn put_report(reported: Reported, report: &mut [u64; 7]) -> u8
+    ensures { λ r. ⌜ spec.MileageReportAnswers reported r report ⌝ }
 {
-    let w = *mileage;
-    let answer = held(w).report();
-    match answer {
+    match reported {
         Reported::Refused(r) => r.number(),
         Reported::Totals(p) => {
             *report = [
@@ -126,14 +114,11 @@ pub fn report_in(mileage: &[u64; 10], report: &mut [u64; 7]) -> u8
     }
 }
 
-// Writes the distance in millimetres to the lent number and returns 0. On refusal, returns 16 or 17 and changes nothing.
-pub fn distance_in(mileage: &[u64; 10], millimetres: &mut u64) -> u8
-    ensures { λ r. ⌜ (let d = spec.distanceWords (now (mileage .entry)) in
-        (r ≡ spec.distanceNumber d) × (now (millimetres .exit) ≡ spec.distanceAfter d (now (millimetres .entry)))) ⌝ }
+// Writes a distance in millimetres to the lent number and returns 0. On refusal, returns its number and changes nothing.
+pub fn put_distance(distance: Distance, millimetres: &mut u64) -> u8
+    ensures { λ r. ⌜ spec.DistanceAnswers distance r millimetres ⌝ }
 {
-    let w = *mileage;
-    let answer = held(w).distance();
-    match answer {
+    match distance {
         Distance::Refused(r) => r.number(),
         Distance::Millimetres(d) => {
             *millimetres = d;
@@ -142,14 +127,11 @@ pub fn distance_in(mileage: &[u64; 10], millimetres: &mut u64) -> u8
     }
 }
 
-// Writes the millilitres for a kilometre to the lent number and returns 0. On refusal, returns 16 or 17 and changes nothing.
-pub fn fuel_in(mileage: &[u64; 10], millilitres: u32, per_km: &mut u64) -> u8
-    ensures { λ r. ⌜ (let f = spec.mileageFuelledWords (now (mileage .entry)) millilitres in
-        (r ≡ spec.mileageFuelNumber f) × (now («per_km» .exit) ≡ spec.mileageFuelAfter f (now («per_km» .entry)))) ⌝ }
+// Writes the millilitres for a kilometre to the lent number and returns 0. On refusal, returns its number and changes nothing.
+pub fn put_fuel(fuel: Fuel, per_km: &mut u64) -> u8
+    ensures { λ r. ⌜ spec.MileageFuelAnswers fuel r «per_km» ⌝ }
 {
-    let w = *mileage;
-    let answer = held(w).fuel(millilitres);
-    match answer {
+    match fuel {
         Fuel::Refused(r) => r.number(),
         Fuel::PerKilometre(m) => {
             *per_km = m;

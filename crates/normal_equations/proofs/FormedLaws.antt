@@ -25,6 +25,10 @@ module _ (f : Row → ℕ → ℕ → Float) (rows : ℕ → Row) where
   pub sums : ℕ → ℕ → ℕ → Float
   sums k p q = sumTo (λ k. f (rows k) p q) k
 
+  pub sums-is : (k p q : ℕ) → sums k p q ≡ sumTo (λ k. f (rows k) p q) k
+  unfolding sums
+  sums-is k p q = refl
+
   pub sums-zero : (p q : ℕ) → sums 0 p q ≡ +0
   unfolding sums
   sums-zero p q = sumTo-zero _
@@ -47,10 +51,6 @@ module _ (c : CentreScale) (huber : Float) (rows : ℕ → Row) where
 
   pub sides : ℕ → ℕ → Float
   sides k p = sumTo (λ k. weight c huber (rows k) ⊗ at (wide (rows k)) p ⊗ bits (rows k .residual)) k
-
-  pub cells-sum : (k p q : ℕ) → cells k p q ≡ sumTo (λ k. weighted (rows k) p q) k
-  unfolding sums
-  cells-sum k p q = refl
 
   pub sides-sum : (k p : ℕ) → sides k p ≡ sumTo (λ k. weight c huber (rows k) ⊗ at (wide (rows k)) p ⊗ bits (rows k .residual)) k
   unfolding sides

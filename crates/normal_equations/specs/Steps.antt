@@ -15,6 +15,7 @@ use Rattle.normal_equations.specs.Equations.{matrixOf, rightOf}
 use Rattle.normal_equations.specs.declared.row.Row.{Row}
 use Rattle.normal_equations.specs.declared.equations.Corner.{Corner}
 use Rattle.lists.specs.Walk.{places}
+use Rattle.lists.specs.Memory.{before, LentNumbers, LentFloats}
 
 -- the matrix of n unknowns before any row is added: 1 on the diagonal of the unused ones
 unfoldable pub unused : ℕ → List (List Float)
@@ -45,40 +46,41 @@ triangleAdded n t e a = nine (λ p. nine (λ q. cond (ltb p n && leb q p) (cell 
 -- ---- over the places of a row that are not 0
 
 abbrev pub noCorner : Corner
-noCorner = record { xx = +0; yx = +0; yy = +0; zx = +0; zy = +0; zz = +0; x = +0; y = +0; z = +0 }
+noCorner = record { xx = +0; yx = +0; yy = +0; zx = +0; zy = +0; zz = +0 }
 
--- one row more, by its weight, its line of sight and its residual
-abbrev pub cornerAdded : Corner → Float → Vec3 → Float → Corner
-cornerAdded s w u d =
+-- one row more, by its line of sight u, and t, the line of sight times the weight
+abbrev pub cornerAdded : Corner → Vec3 → Vec3 → Corner
+cornerAdded s t u =
     record {
-      xx = s .xx ⊕ w ⊗ u .x ⊗ u .x;
-      yx = s .yx ⊕ w ⊗ u .y ⊗ u .x;
-      yy = s .yy ⊕ w ⊗ u .y ⊗ u .y;
-      zx = s .zx ⊕ w ⊗ u .z ⊗ u .x;
-      zy = s .zy ⊕ w ⊗ u .z ⊗ u .y;
-      zz = s .zz ⊕ w ⊗ u .z ⊗ u .z;
-      x = s .x ⊕ w ⊗ u .x ⊗ d;
-      y = s .y ⊕ w ⊗ u .y ⊗ d;
-      z = s .z ⊕ w ⊗ u .z ⊗ d;
+      xx = s .xx ⊕ t .x ⊗ u .x;
+      yx = s .yx ⊕ t .y ⊗ u .x;
+      yy = s .yy ⊕ t .y ⊗ u .y;
+      zx = s .zx ⊕ t .z ⊗ u .x;
+      zy = s .zy ⊕ t .z ⊗ u .y;
+      zz = s .zz ⊕ t .z ⊗ u .z;
     }
+
+abbrev pub vectorTimes : Float → Vec3 → Vec3
+vectorTimes w u = record { x = w ⊗ u .x; y = w ⊗ u .y; z = w ⊗ u .z }
+
+-- t times the residual d, added to v
+abbrev pub vectorAdded : Vec3 → Vec3 → Float → Vec3
+vectorAdded v t d = record { x = v .x ⊕ t .x ⊗ d; y = v .y ⊕ t .y ⊗ d; z = v .z ⊕ t .z ⊗ d }
 
 -- v added in row i and column j
 abbrev pub raiseCell : List (List Float) → ℕ → ℕ → Float → List (List Float)
 raiseCell a i j v = store a i j (cell a i j ⊕ v)
 
--- a row's products at its clock i, by t, the weight there: in the clock's row of the matrix, and in its place of the right side
+-- a row's products at its clock i, by t, the weight there, in the clock's row of the matrix
 abbrev pub clockAdded : ℕ → Float → Vec3 → List (List Float) → List (List Float)
 clockAdded i t u a = raiseCell (raiseCell (raiseCell (raiseCell a i 0 (t ⊗ u .x)) i 1 (t ⊗ u .y)) i 2 (t ⊗ u .z)) i i (t ⊗ 1·0)
-
-abbrev pub clockSide : ℕ → Float → Float → List Float → List Float
-clockSide i t d b = set b i (at b i ⊕ t ⊗ d)
 
 -- the sums over the first three places, where they belong
 abbrev pub cornerPut : Corner → List (List Float) → List (List Float)
 cornerPut s a = store (store (store (store (store (store a 0 0 (s .xx)) 1 0 (s .yx)) 1 1 (s .yy)) 2 0 (s .zx)) 2 1 (s .zy)) 2 2 (s .zz)
 
-abbrev pub cornerSides : Corner → List Float → List Float
-cornerSides s b = set (set (set b 0 (s .x)) 1 (s .y)) 2 (s .z)
+abbrev pub cornerSides : Vec3 → List Float → List Float
+cornerSides v b = set (set (set b 0 (v .x)) 1 (v .y)) 2 (v .z)
 
 -- the coordinates of the lines of sight, and the rows' other numbers
 pub record RoundColumns : Type 0 where
@@ -105,3 +107,10 @@ rowIn c k =
 -- as many rows as there are residuals
 abbrev pub rowsIn : RoundColumns → List Row
 rowsIn c = places (rowIn c) (length (c .residual))
+
+-- the columns that a call is lent, and their rows
+abbrev pub lentColumns : LentFloats → LentFloats → LentFloats → LentNumbers → LentFloats → LentNumbers → RoundColumns
+lentColumns x y z clock sigma residual = columns (before x) (before y) (before z) (before clock) (before sigma) (before residual)
+
+abbrev pub lentRows : LentFloats → LentFloats → LentFloats → LentNumbers → LentFloats → LentNumbers → List Row
+lentRows x y z clock sigma residual = rowsIn (lentColumns x y z clock sigma residual)

@@ -1,5 +1,6 @@
 // The rows of a round.
 ghost use mathlib.Core.Path.{_≡_};
+ghost use Rattle.lists.specs.Memory.{after};
 ghost use Rattle.normal_equations.specs.Equations as spec;
 use numeric::vec3::Vec3;
 
@@ -19,7 +20,7 @@ pub struct Rows {
 
 // Writes the row nine wide to e: the line of sight, and 1 in the column of the clock.
 pub fn wide(r: Row, e: &mut [f64; 9])
-    ensures { λ _. ⌜ now (e .exit) ≡ spec.wide r ⌝ }
+    ensures { λ _. ⌜ after e ≡ spec.wide r ⌝ }
 {
     *e = [0.0; 9];
     e[0] = r.unit.x;

@@ -1,4 +1,6 @@
 -- What the proofs of more than one function use, and the theorems.
+pub mod RefusalLaws
+pub mod RulesLaws
 pub mod RealLaws
 pub mod RealValues
 pub mod OrderMagnitude

@@ -1,4 +1,5 @@
 pub mod Refusal
+pub mod Rules
 pub mod Real
 pub mod Vec3
 pub mod Sight

@@ -2,6 +2,7 @@
 ghost use mathlib.Core.Path.{_≡_};
 ghost use Prim.Native.Nat.{_+_, _<_};
 ghost use lib.ListN.{length};
+ghost use Rattle.lists.specs.Memory.{before};
 ghost use Rattle.numeric.specs.Vec3 as spec;
 use root::sqrt::sqrt;
 use root::sqrt::sqrt_beside;
@@ -53,7 +54,7 @@ impl Vec3 {
 // The vector of the three floats from k on.
 pub fn vector_at(v: &[f64], k: usize) -> Vec3
     requires { ⌜ k + 2 < length (now v) ⌝ }
-    ensures { λ r. ⌜ r ≡ spec.vectorAt (now (v .entry)) k ⌝ }
+    ensures { λ r. ⌜ r ≡ spec.vectorAt (before v) k ⌝ }
 {
     Vec3 {
         x: v[k],
@@ -64,7 +65,7 @@ pub fn vector_at(v: &[f64], k: usize) -> Vec3
 
 // Three floats as a vector.
 pub fn vector(v: &[f64; 3]) -> Vec3
-    ensures { λ r. ⌜ r ≡ spec.vectorAt (now (v .entry)) 0 ⌝ }
+    ensures { λ r. ⌜ r ≡ spec.vectorAt (before v) 0 ⌝ }
 {
     Vec3 {
         x: v[0],

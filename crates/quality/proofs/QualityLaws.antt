@@ -10,32 +10,45 @@ use borrow.Author.Tests.{eq-eqb, ne-eqb}
 use lib.ListN.{getD, length, set, length-set, getD-replicate}
 use lib.Seq.{getD-set-same, getD-set-other}
 use lib.Ieee.{Float, nan, ofInt, ofBits}
+use lib.Ieee.Fits.{and-l, and-r}
 use lib.Ieee.Scale.{finite}
 use Rattle.lists.proofs.Walk.{places-length}
 use Rattle.exact.specs.Float.{_⊕_, _⊗_, _⊘_, +0, 1·0, bits, whole}
-use Rattle.cholesky.specs.Factor.{at, zeros, solutionOf, factorOf, Unused, UnusedPlaces, Factored, Lower, Refused as NoFactor}
+use Rattle.cholesky.specs.Factor.{at, zeros, forwardTo, solutionOf, factorOf, Unused, UnusedPlaces, Factored, Lower, Refused as NoFactor}
 use Rattle.cholesky.specs.Answer.{rowsAfter}
 use Rattle.cholesky.specs.Answer as factor
+use Rattle.cholesky.proofs.SolveUsed.{forward-places, forward-fits}
 use Rattle.numeric.specs.Real.{square}
 use Rattle.numeric.specs.declared.refusal.Refusal.{Refusal}
 use Rattle.numeric.specs.declared.refusal.Refusal.the-variants.{FitFailed, QualityNotFinite}
 use Rattle.root.specs.Root.{rootOf}
 use Rattle.normal_equations.specs.Nine.{nine}
 use Rattle.normal_equations.specs.Equations.{wide, total, triangleOf}
-use Rattle.normal_equations.specs.Steps.{RoundColumns, rowIn, rowsIn, unused, triangleAdded}
+use Rattle.normal_equations.specs.Steps.{RoundColumns, rowIn, rowsIn, unused, triangleAdded, cornerAdded, clockAdded, cornerPut}
 use Rattle.normal_equations.specs.declared.row.Row.{Row}
+use Rattle.normal_equations.specs.declared.equations.Corner.{Corner}
+use Rattle.numeric.proofs.Zeros.{isZero, +0-is-zero, one-finite}
 use Rattle.normal_equations.proofs.NineLaws.{nine-is}
 use Rattle.normal_equations.proofs.Sums.{sumTo, sumTo-zero, sumTo-next, sum-places}
 use Rattle.normal_equations.proofs.AddedLaws.{triangle-zero, triangle-more}
 use Rattle.normal_equations.proofs.FormedLaws.{sums, sums-zero, sums-next, sums-triangle, triangle-unused}
-use Rattle.estimate_rounds.specs.Rules.{ruled}
+use Rattle.normal_equations.proofs.Places.{wide-x, wide-y, wide-z, wide-clock, wide-none, PlacedCells, cells-next}
+use Rattle.normal_equations.proofs.AllPlaces.{entry-finite, matrix-stored}
+use Rattle.numeric.specs.Rules.{ruled}
 use Rattle.quality.specs.Quality.{freedomOf, chiOf, unweightedMatrix, pdopOf, dilutionOf, figureRules, qualityOf}
-use Rattle.quality.specs.Steps.{dilutionFound, dilutionNumber, dilutionFloats, Diluted, qualityNumber, qualityFloats, Qualified}
+use Rattle.quality.specs.Steps.{Forwarded, dilutionFound, dilutionNumber, dilutionFloats, Diluted, qualityNumber, qualityFloats, Qualified}
 use Rattle.quality.specs.declared.figures.Figures.{Figures}
 use Rattle.quality.specs.declared.figures.Dilution.{Dilution}
 use Rattle.quality.specs.declared.figures.Dilution.the-variants as Dilution
 use Rattle.quality.specs.declared.figures.Quality.{Quality}
 use Rattle.quality.specs.declared.figures.Quality.the-variants.{Refused, Rated}
+
+-- three tests that all pass
+pub passed : (p q r : Bool) → (p && q && r) ≡ true → T p × T q × T r
+passed p q r e =
+    let t : T (p && q && r) = subst T (sym e) tt in
+    let u = and-l (p && q) r t in
+    (and-l p q u, and-r p q u, and-r (p && q) r t)
 
 -- ---- the degrees of freedom
 
@@ -94,6 +107,33 @@ pub plain-end : (c : RoundColumns) (n k : ℕ) (a : List (List Float)) → k ≡
 unfolding unweightedMatrix
 plain-end c n k a e h = h ∙ ap (λ (z : ℕ). triangleOf n (plain c z)) e ∙ sums-triangle (λ r p q. at (wide r) p ⊗ at (wide r) q) (rowIn c) (length (c .residual)) n
 
+-- ---- over the places of a row that are not 0
+
+-- place p of a row, as it stands on the left of a product
+abbrev pub bare : Row → ℕ → Float
+bare r p = at (wide r) p
+
+-- one row more, by a row r that the code has read
+pub bare-row : (c : RoundColumns) (n : ℕ) → n ≤ 9 → (k : ℕ) (r : Row) → r ≡ rowIn c k → 3 ≤ r .clock → r .clock < n → {s s′ : Corner} {a a′ : List (List Float)}
+    → s′ ≡ cornerAdded s (r .unit) (r .unit) → a′ ≡ clockAdded (r .clock) 1·0 (r .unit) a → PlacedCells bare (rowIn c) n k s a → PlacedCells bare (rowIn c) n (k + 1) s′ a′
+bare-row c n few k r e low high {s = s} {a = a} s-is a-is h =
+    rw (s-is, a-is)
+    (subst (λ (z : Row). 3 ≤ z .clock → z .clock < n → PlacedCells bare (rowIn c) n (k + 1) (cornerAdded s (z .unit) (z .unit)) (clockAdded (z .clock) 1·0 (z .unit) a)) (sym e)
+    (λ low high. cells-next bare (rowIn c) n few k low high (rowIn c k .unit) 1·0 (wide-x (rowIn c k) low) (wide-y (rowIn c k) low) (wide-z (rowIn c k) low) (wide-clock (rowIn c k) (omega arith)) h) low high)
+
+pub bare-end : (c : RoundColumns) (n m : ℕ) → n ≤ 9 → 3 ≤ n → m ≡ length (c .residual) → {s : Corner} {a a′ : List (List Float)} → PlacedCells bare (rowIn c) n m s a
+    → T (finite (s .xx)) → T (finite (s .yy)) → T (finite (s .zz)) → a′ ≡ cornerPut s a → a′ ≡ unweightedMatrix n (rowsIn c)
+bare-end c n m few three e {a′ = a′} h fx fy fz a-is = plain-end c n m a′ e (a-is ∙ matrix-stored bare rows n few three m h (entry-finite bare rows n few m h fx fy fz) clock-finite beside)
+  where
+    rows : ℕ → Row
+    rows = rowIn c
+
+    clock-finite : (k : ℕ) → k < m → T (finite (bare (rows k) (rows k .clock)))
+    clock-finite k kb = subst (λ (z : Float). T (finite z)) (wide-clock (rows k) (omega (arith, h .clocks k kb .1))) one-finite
+
+    beside : (k : ℕ) → k < m → (p : ℕ) → 3 ≤ p → p < 9 → (p ≡ rows k .clock → ⊥) → T (isZero (bare (rows k) p))
+    beside k kb p low pb i = subst (λ (z : Float). T (isZero z)) (wide-none (rows k) p low pb i) +0-is-zero
+
 -- the unknowns from n on are unused in it
 pub unweighted-unused : (n : ℕ) (rows : List Row) → Unused n (unweightedMatrix n rows)
 unfolding unweightedMatrix
@@ -121,6 +161,10 @@ pdop-is l u v w r u-is v-is w-is r-is =
 -- a column of zeros with 1 at a place below n has no unused place that is not 0
 pub column-unused : (n i : ℕ) → i < n → UnusedPlaces n (set zeros i 1·0)
 column-unused n i h = record { zero-at = λ k nk kb. getD-set-other zeros i k 1·0 nan (λ q. omega arith) ∙ getD-replicate 9 k +0 nan kb }
+
+-- a column of n unknowns after the forward substitution
+pub forwarded : (n : ℕ) (l : List (List Float)) (b x : List Float) → 0 < n → UnusedPlaces n b → x ≡ forwardTo n l b → Forwarded n x
+forwarded n l b x p u e = rw e record { places = forward-places n l b u; last-fits = forward-fits n l b p }
 
 -- ---- the answers
 

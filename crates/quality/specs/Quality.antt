@@ -16,7 +16,7 @@ use Rattle.numeric.specs.declared.refusal.Refusal.the-variants.{FitFailed, Qual
 use Rattle.normal_equations.specs.Nine.{nine}
 use Rattle.normal_equations.specs.Equations.{wide, total, triangleOf}
 use Rattle.normal_equations.specs.declared.row.Row.{Row}
-use Rattle.estimate_rounds.specs.Rules.{Rule, rule, ruled}
+use Rattle.numeric.specs.Rules.{Rule, rule, ruled}
 use Rattle.quality.specs.declared.figures.Quality.{Quality}
 use Rattle.quality.specs.declared.figures.Quality.the-variants.{Refused, Rated}
 

@@ -6,4 +6,5 @@ pub mod Mask
 pub mod Kept
 pub mod Carriers
 pub mod Signals
+pub mod Lent
 pub mod Steps

@@ -2,6 +2,7 @@
 use mathlib.Core.Path.{_≡_}
 use mathlib.Core.Bool.{Bool, not, cond, _&&_}
 use mathlib.Core.List.{List, [], _∷_}
+use lib.ListN.{take}
 use lib.Ieee.{Float, le}
 use Rattle.exact.specs.Float.{_⊕_, _⊖_, _⊗_, bits}
 use Rattle.lists.specs.Walk.{every, first, collect, Holds}
@@ -48,6 +49,10 @@ pairsOf receiver mask dt previous current = collect (pairAt receiver mask dt pre
 -- 15 lets a pair pass: neither of its ranges is zero or not finite
 unfoldable pub seen : Pair → Bool
 seen q = not (onReceiver (q .range)) && not (onReceiver (q .«previous_range»))
+
+-- the counted pairs
+abbrev pub countedPairs : Pairs → List Pair
+countedPairs p = take (p .count) (p .pair)
 
 -- what the code has of the pairs ps: they are the first of its array, and whether 15 lets each pass
 pub record Paired (r : Pairs) (ps : List Pair) : Type 0 where

@@ -1,8 +1,10 @@
 -- What only contracts of inner functions cite. Definitions only.
-use Prim.Native.Nat.{ℕ, _^_, _<_}
+use Prim.Native.Nat.{ℕ, _+_, _*_, _^_, _<_}
 use mathlib.Core.Bool.{Bool, true, cond}
 use mathlib.Core.List.{List, [], _∷_}
 use lib.Dec.{ltb}
+use denote.Ref.{RefT, now}
+use Rattle.lists.specs.Memory.{before, Memory, LentNumbers, LentFloats}
 use Rattle.lists.specs.Walk.{places}
 use Rattle.records.specs.declared.record.Carrier.{Carrier}
 use Rattle.records.specs.declared.pair.Profile.{Profile}
@@ -39,6 +41,22 @@ pairIn x y z constellation elevation observed i =
 -- as many pairs as there are observed numbers
 abbrev pub pairsIn : List Float → List Float → List Float → List ℕ → List Float → List Float → List Pair
 pairsIn x y z constellation elevation observed = places (pairIn x y z constellation elevation observed) (length observed)
+
+-- the pairs of lent columns
+abbrev pub lentPairs : LentFloats → LentFloats → LentFloats → LentNumbers → LentFloats → LentFloats → List Pair
+lentPairs x y z constellation elevation observed = pairsIn (before x) (before y) (before z) (before constellation) (before elevation) (before observed)
+
+-- carrier i of lent signals, states and floats
+abbrev pub lentCarrier : LentNumbers → Memory (List ℤ) → LentFloats → ℕ → Carrier
+lentCarrier ss ts fs i = carrierIn (before ss) (before ts) (before fs) i
+
+-- the condition that they hold it
+abbrev pub HasCarrier : RefT (List ℕ) → RefT (List ℤ) → RefT (List Float) → ℕ → Type 0
+HasCarrier ss ts fs i = (i < length (now ss)) × (getD (now ss) i 0 < 2 ^ 56) × (i < length (now ts)) × (6 * i + 5 < length (now fs))
+
+-- room for the signals, states and floats of 64 carriers
+abbrev pub HasRoom : RefT (List ℕ) → RefT (List ℤ) → RefT (List Float) → Type 0
+HasRoom ss ts fs = (length (now ss) ≡ 64) × (length (now ts) ≡ 64) × (length (now fs) ≡ 384)
 
 -- r is where the first previous carrier stands that is usable and of the signal g, or past the last
 pub record Finds (g : ℕ) (ss : List ℕ) (ts : List ℤ) (fs : List Float) (r : ℕ) : Type 0 where

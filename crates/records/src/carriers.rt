@@ -1,11 +1,12 @@
 // The carriers of an epoch as signals, states and floats: one signal and one state for each carrier, and six floats.
 ghost use mathlib.Core.Path.{_≡_};
-ghost use Prim.Native.Nat.{_+_, _*_, _^_, _<_, _≤_};
-ghost use lib.ListN.{getD, length};
+ghost use Prim.Native.Nat.{_<_, _≤_};
+ghost use lib.ListN.{length};
+ghost use Rattle.lists.specs.Memory.{before, after};
 ghost use Rattle.lists.specs.Walk.{every};
 ghost use Rattle.records.specs.Record.{soundCarrier};
-ghost use Rattle.records.specs.Signals as spec;
-ghost use Rattle.records.specs.Steps.{Signalled, Put, Laid};
+ghost use Rattle.records.specs.Lent.{lentCarriers, SignalsLent};
+ghost use Rattle.records.specs.Steps.{lentCarrier, HasCarrier, HasRoom, Signalled, Put, Laid};
 use crate::record::Carrier;
 use crate::record::Epoch;
 use crate::record::is_sound;
@@ -24,7 +25,7 @@ pub fn signals_into(
     signals: &mut [u64; 64],
 )
     requires { ⌜ (n ≤ 64) × (n ≤ length (now constellation)) × (n ≤ length (now svid)) × (n ≤ length (now band)) × (length (now signals) ≡ 64) ⌝ }
-    ensures { λ _. ⌜ Signalled (now (constellation .entry)) (now (svid .entry)) (now (band .entry)) n (now (signals .exit)) ⌝ }
+    ensures { λ _. ⌜ Signalled (before constellation) (before svid) (before band) n (after signals) ⌝ }
 {
     let mut i: usize = 0;
     while i < n {
@@ -35,8 +36,8 @@ pub fn signals_into(
 
 // Carrier i.
 pub(crate) fn carrier_in(signals: &[u64], states: &[i32], floats: &[f64], i: usize) -> Carrier
-    requires { ⌜ (i < length (now signals)) × (getD (now signals) i 0 < 2 ^ 56) × (i < length (now states)) × (6 * i + 5 < length (now floats)) ⌝ }
-    ensures { λ r. ⌜ r ≡ spec.carrierIn (now (signals .entry)) (now (states .entry)) (now (floats .entry)) i ⌝ }
+    requires { ⌜ HasCarrier signals states floats i ⌝ }
+    ensures { λ r. ⌜ r ≡ lentCarrier signals states floats i ⌝ }
 {
     let s = signals[i];
     let constellation = constellation_in(s);
@@ -59,8 +60,8 @@ pub(crate) fn carrier_in(signals: &[u64], states: &[i32], floats: &[f64], i: usi
 
 // Whether rule 4 lets each of the carriers pass.
 pub fn sound_in(signals: &[u64], states: &[i32], floats: &[f64]) -> bool
-    requires { ⌜ spec.SignalsFit (now signals) (now states) (now floats) ⌝ }
-    ensures { λ r. ⌜ r ≡ every soundCarrier (spec.carriersIn (now (signals .entry)) (now (states .entry)) (now (floats .entry))) ⌝ }
+    requires { ⌜ SignalsLent signals states floats ⌝ }
+    ensures { λ r. ⌜ r ≡ every soundCarrier (lentCarriers signals states floats) ⌝ }
 {
     let n = signals.len();
     let mut i: usize = 0;
@@ -82,9 +83,9 @@ pub fn put_carrier(
     states: &mut [i32; 64],
     floats: &mut [f64; 384],
 )
-    requires { ⌜ (i < 64) × (length (now signals) ≡ 64) × (length (now states) ≡ 64) × (length (now floats) ≡ 384) ⌝ }
-    ensures { λ _. ⌜ Put c i (now (signals .entry)) (now (states .entry)) (now (floats .entry))
-        (now (signals .exit)) (now (states .exit)) (now (floats .exit)) ⌝ }
+    requires { ⌜ (i < 64) × HasRoom signals states floats ⌝ }
+    ensures { λ _. ⌜ Put c i (before signals) (before states) (before floats)
+        (after signals) (after states) (after floats) ⌝ }
 {
     let v = c.satellite;
     let bits = c.state;
@@ -106,8 +107,8 @@ pub fn epoch_into(
     states: &mut [i32; 64],
     floats: &mut [f64; 384],
 )
-    requires { ⌜ (e .count ≤ 64) × (length (now signals) ≡ 64) × (length (now states) ≡ 64) × (length (now floats) ≡ 384) ⌝ }
-    ensures { λ _. ⌜ Laid (e .carriers) (e .count) (now (signals .exit)) (now (states .exit)) (now (floats .exit)) ⌝ }
+    requires { ⌜ (e .count ≤ 64) × HasRoom signals states floats ⌝ }
+    ensures { λ _. ⌜ Laid (e .carriers) (e .count) (after signals) (after states) (after floats) ⌝ }
 {
     let n = e.count;
     let mut i: usize = 0;

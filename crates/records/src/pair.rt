@@ -1,14 +1,14 @@
 // The carrier pairs of two epochs.
 ghost use mathlib.Core.Path.{_≡_};
 ghost use mathlib.Core.Bool.{true, _&&_};
-ghost use Prim.Native.Nat.{_+_, _*_, _^_, _<_};
 ghost use lib.Dec.{eqb};
-ghost use lib.ListN.{getD, length};
+ghost use lib.ListN.{getD};
 ghost use lib.Ieee.{le};
+ghost use Rattle.lists.specs.Memory.{before};
 ghost use Rattle.records.specs.Record.{usable};
-ghost use Rattle.records.specs.Signals.{carrierIn, carriersIn, SignalsFit};
+ghost use Rattle.records.specs.Lent.{lentCarriers, SignalsLent};
 ghost use Rattle.records.specs.City.{looked};
-ghost use Rattle.records.specs.Steps.{lookedAt, Finds};
+ghost use Rattle.records.specs.Steps.{lookedAt, lentCarrier, HasCarrier, Finds};
 ghost use Rattle.records.specs.Pair as spec;
 use crate::carriers::carrier_in;
 use crate::record::Carrier;
@@ -90,9 +90,8 @@ pub fn is_wanted(c: Carrier, mask: f64, profile: Profile) -> bool
 
 // Whether previous carrier j has this signal and is usable. Most have another signal, so that is asked first.
 fn is_partner(signal: u64, signals: &[u64], states: &[i32], floats: &[f64], j: usize) -> bool
-    requires { ⌜ (j < length (now signals)) × (getD (now signals) j 0 < 2 ^ 56) × (j < length (now states)) × (6 * j + 5 < length (now floats)) ⌝ }
-    ensures { λ r. ⌜ r ≡ (eqb (getD (now (signals .entry)) j 0) signal
-        && usable (carrierIn (now (signals .entry)) (now (states .entry)) (now (floats .entry)) j)) ⌝ }
+    requires { ⌜ HasCarrier signals states floats j ⌝ }
+    ensures { λ r. ⌜ r ≡ (eqb (getD (before signals) j 0) signal && usable (lentCarrier signals states floats j)) ⌝ }
 {
     if signals[j] != signal {
         return false;
@@ -103,8 +102,8 @@ fn is_partner(signal: u64, signals: &[u64], states: &[i32], floats: &[f64], j: u
 
 // Where the first of them stands, or past the last.
 fn partner_in(signal: u64, signals: &[u64], states: &[i32], floats: &[f64]) -> usize
-    requires { ⌜ SignalsFit (now signals) (now states) (now floats) ⌝ }
-    ensures { λ r. ⌜ Finds signal (now (signals .entry)) (now (states .entry)) (now (floats .entry)) r ⌝ }
+    requires { ⌜ SignalsLent signals states floats ⌝ }
+    ensures { λ r. ⌜ Finds signal (before signals) (before states) (before floats) r ⌝ }
 {
     let n = signals.len();
     let mut j: usize = 0;
@@ -161,11 +160,11 @@ pub fn pairs_in(
     dt: f64,
     profile: Profile,
 ) -> Pairs
-    requires { ⌜ SignalsFit (now «previous_signals») (now «previous_states») (now «previous_floats») ⌝ }
-    requires { ⌜ SignalsFit (now «current_signals») (now «current_states») (now «current_floats») ⌝ }
+    requires { ⌜ SignalsLent «previous_signals» «previous_states» «previous_floats» ⌝ }
+    requires { ⌜ SignalsLent «current_signals» «current_states» «current_floats» ⌝ }
     ensures { λ r. ⌜ spec.Paired r (spec.pairsOf receiver mask dt
-        (carriersIn (now («previous_signals» .entry)) (now («previous_states» .entry)) (now («previous_floats» .entry)))
-        (looked profile (carriersIn (now («current_signals» .entry)) (now («current_states» .entry)) (now («current_floats» .entry))))) ⌝ }
+        (lentCarriers «previous_signals» «previous_states» «previous_floats»)
+        (looked profile (lentCarriers «current_signals» «current_states» «current_floats»))) ⌝ }
 {
     let n = current_signals.len();
     let mut out = no_pairs();

@@ -1,9 +1,10 @@
 // The pairs that the screen keeps, and their clocks.
 ghost use mathlib.Core.Path.{_≡_};
-ghost use lib.ListN.{take};
 ghost use Prim.Native.Nat.{_≤_};
+ghost use Rattle.lists.specs.Memory.{before, after};
 ghost use Rattle.clocks.specs.Clocks.{clocksOf};
 ghost use Rattle.records.specs.Kept.{Kept};
+ghost use Rattle.records.specs.Pair.{countedPairs};
 ghost use Rattle.records.specs.Screen as spec;
 use crate::pair::Pairs;
 use clocks::clocks::Clocks;
@@ -24,8 +25,8 @@ pub fn keep_into(
     observed: &mut [f64; 64],
 ) -> usize
     requires { ⌜ p .count ≤ 64 ⌝ }
-    ensures { λ r. ⌜ Kept (spec.keptOf screen (take (p .count) (p .pair))) r
-        (now (x .exit)) (now (y .exit)) (now (z .exit)) (now (constellation .exit)) (now (elevation .exit)) (now (observed .exit)) ⌝ }
+    ensures { λ r. ⌜ Kept (spec.keptOf screen (countedPairs p)) r
+        (after x) (after y) (after z) (after constellation) (after elevation) (after observed) ⌝ }
 {
     let n = p.count;
     let mut d = [0u64; 64];
@@ -62,7 +63,7 @@ pub fn keep_into(
 
 // The clocks of these constellations.
 pub fn clocks_of(constellation: &[u8]) -> Clocks
-    ensures { λ r. ⌜ r ≡ clocksOf (now (constellation .entry)) ⌝ }
+    ensures { λ r. ⌜ r ≡ clocksOf (before constellation) ⌝ }
 {
     let mut k = Clocks::new();
     let n = constellation.len();

@@ -2,9 +2,10 @@
 ghost use mathlib.Core.Path.{_≡_};
 ghost use Prim.Native.Nat.{_≤_, _<_};
 ghost use lib.ListN.{length};
+ghost use Rattle.lists.specs.Memory.{before, after};
 ghost use Rattle.robust.specs.Round as spec;
 ghost use Rattle.robust.specs.Steps.{Solving};
-ghost use Rattle.normal_equations.specs.Steps.{columns, rowsIn};
+ghost use Rattle.normal_equations.specs.Steps.{lentRows};
 ghost use Rattle.robust.specs.Step.{paddedStep, steppingNumber, stepOf, StepPromised};
 use cholesky::factor::factor_used;
 use cholesky::factor::solve_used;
@@ -56,8 +57,7 @@ pub fn round_step(
     dx: &mut [f64; 9],
 ) -> Stepping
     requires { ⌜ (length (now residual) ≤ 64) × (n ≤ 9) ⌝ }
-    ensures { λ r. ⌜ (let rows = columns (now (x .entry)) (now (y .entry)) (now (z .entry)) (now (clock .entry)) (now (sigma .entry)) (now (residual .entry)) in
-        Solving (spec.roundOf (rowsIn rows) n huber) r (now (dx .entry)) (now (dx .exit))) ⌝ }
+    ensures { λ r. ⌜ Solving (spec.roundOf (lentRows x y z clock sigma residual) n huber) r (before dx) (after dx) ⌝ }
 {
     let Centre::Of(c) = centre_scale(residual) else {
         return Stepping::Refused(Refusal::TooMany);
@@ -90,7 +90,7 @@ fn first_of(n: usize, step: [f64; 9]) -> [f64; 9]
 
 // Runs one round by itself. Returns `Done` and writes the step to dx, zeros beyond the unknowns; refused by 2, 4 or 10, leaves dx unchanged.
 pub fn step(rows: Rows, n: usize, huber: f64, dx: &mut [f64; 9]) -> Stepping
-    ensures { λ r. ⌜ StepPromised (stepOf rows n huber (now (dx .entry))) r (now (dx .exit)) ⌝ }
+    ensures { λ r. ⌜ StepPromised (stepOf rows n huber (before dx)) r (after dx) ⌝ }
 {
     if rows.count > 64 {
         return Stepping::Refused(Refusal::TooMany);
@@ -118,17 +118,8 @@ pub fn step(rows: Rows, n: usize, huber: f64, dx: &mut [f64; 9]) -> Stepping
         residual[k] = r.residual;
     }
     let mut t = [0.0; 9];
-    let made = round_step(
-        &x,
-        &y,
-        &z,
-        &clock,
-        &sigma,
-        &residual[..count],
-        n,
-        huber,
-        &mut t,
-    );
+    let used = &residual[..count];
+    let made = round_step(&x, &y, &z, &clock, &sigma, used, n, huber, &mut t);
     if let Stepping::Refused(r) = made {
         return Stepping::Refused(r);
     }

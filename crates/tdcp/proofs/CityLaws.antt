@@ -20,10 +20,11 @@ use Rattle.records.specs.Pair.{pairsOf}
 use Rattle.records.specs.Screen.{keptOf, constellations}
 use Rattle.records.specs.declared.record.Epoch.{Epoch}
 use Rattle.records.specs.declared.pair.Pair.{Pair}
-use Rattle.estimate_rounds.specs.Rules.{Rule, ruled}
+use Rattle.numeric.specs.Rules.{Rule, ruled}
 use Rattle.estimate_rounds.specs.Rounds.{concluded}
 use Rattle.estimate_rounds.specs.declared.rules.Check.the-variants.{Refused as Stops, Passed}
-use Rattle.estimate_rounds.proofs.RulesLaws.{checked, ruled-append, passed-by, head-passed, refused-by}
+use Rattle.numeric.proofs.RulesLaws.{ruled-append}
+use Rattle.estimate_rounds.proofs.RulesLaws.{checked, passed-by, head-passed, refused-by}
 use Rattle.tdcp.specs.Valid.{dtOf, settingsPass, epochRules, intervalRules}
 use Rattle.tdcp.specs.Front.{sightRules, countRules, cityRules, pairRules}
 use Rattle.tdcp.specs.Displacement.{Input, fitBy, pairs, deltaAt, endRules, movedBy, displacementOf}

@@ -9,7 +9,7 @@ use Rattle.numeric.specs.declared.refusal.Refusal.the-variants.{TooMany, Settin
 use Rattle.records.specs.Record.{countedCarriers}
 use Rattle.records.specs.declared.record.Epoch.{Epoch}
 use Rattle.records.specs.declared.pair.Profile.{Profile}
-use Rattle.estimate_rounds.specs.Rules.{ruled}
+use Rattle.numeric.specs.Rules.{ruled}
 use Rattle.tdcp.specs.Valid.{settingsPass, epochRules}
 use Rattle.tdcp.specs.Displacement.{Input, input, callFit, displacementOf}
 use Rattle.tdcp.specs.Rated.{quality, answeredBy, answeredOf}

@@ -21,7 +21,7 @@ use Rattle.clocks.specs.Clocks.{has, clocksOf}
 use Rattle.records.specs.Screen.{keptOf, constellations}
 use Rattle.records.specs.Kept.{Kept}
 use Rattle.records.specs.Steps.{pairIn, pairsIn}
-use Rattle.estimate_rounds.specs.Rules.{Rule, rule, ruled}
+use Rattle.numeric.specs.Rules.{Rule, rule, ruled}
 use Rattle.tdcp.specs.Valid.{dtOf, epochRules, fewRules}
 use Rattle.tdcp.specs.Front.{sightRules, countRules, cityRules, pairRules}
 use Rattle.estimate_rounds.specs.Rounds.{End, Stopped, Reached, Fit, concluded, stateAfter}
@@ -40,7 +40,8 @@ use Rattle.tdcp.specs.declared.displacement.Displacement.{Displacement}
 use Rattle.tdcp.specs.declared.displacement.Displacement.the-variants.{Refused, Moved}
 use Rattle.estimate_rounds.specs.declared.rules.Check.{Check}
 use Rattle.estimate_rounds.specs.declared.rules.Check.the-variants.{Refused as Stops, Passed}
-use Rattle.estimate_rounds.proofs.RulesLaws.{checked, ruled-append, ruled-map, append-first, refused-by, passed-by}
+use Rattle.numeric.proofs.RulesLaws.{ruled-append, ruled-map}
+use Rattle.estimate_rounds.proofs.RulesLaws.{checked, append-first, refused-by, passed-by}
 use Rattle.tdcp.proofs.DisplacementLaws.{fit-same, rows-same}
 use Rattle.tdcp.proofs.FrontLaws.{counts-passed, kept-few}
 use Rattle.tdcp.proofs.FilterLaws.{looked-alone}

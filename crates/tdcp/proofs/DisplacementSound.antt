@@ -80,7 +80,7 @@ module _ (city : Bool) (settings : Settings) (ps : List Pair) (d : Delta) (e : m
         rounds-each P (roundAt settings k kept) (3 + k .count) stopLimit (omega arith) (one k kept) (settings .rounds) zeros (ended .x) (ended .end-is) (place .first)
 
 -- all that a displacement has which its pairs and its rounds let pass, in the city profile or not
-pub by-accepted : (city : Bool) (i : Input) (d : Delta) → movedBy city (i .settings) (pairs i) ≡ Moved d → Accepted i d
+by-accepted : (city : Bool) (i : Input) (d : Delta) → movedBy city (i .settings) (pairs i) ≡ Moved d → Accepted i d
 unfolding roundsOf callFit
 by-accepted city i d m =
     let s = i .settings in
@@ -104,7 +104,7 @@ unfolding displacementOf
 displacement-accepted i d e =
     let rules = epochRules (i .previous) (i .current) (i .receiver) (i .settings) ++ intervalRules (i .since) in
     let m = movedBy (isCity (i .profile)) (i .settings) (pairs i) in
-    by-accepted (isCity (i .profile)) i d (sym (passed-by Refused m rules (passed-of Refused m rules e (never d))) ∙ e)
+    let moved = sym (passed-by Refused m rules (passed-of Refused m rules e (never d))) ∙ e in by-accepted (isCity (i .profile)) i d moved
 
 -- what it gives out is finite
 pub given-finite : (i : Input) (r : Displacement) → ((d : Delta) → r ≡ Moved d → Accepted i d) → every finite (displacementFloats r) ≡ true

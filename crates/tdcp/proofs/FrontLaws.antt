@@ -10,7 +10,8 @@ use lib.Seq.{drop-cons}
 use borrow.Author.Tests.{ltb-false}
 use Rattle.numeric.specs.declared.refusal.Refusal.{Refusal}
 use Rattle.numeric.specs.declared.refusal.Refusal.the-variants.{TooFewPairs, NotCertified}
-use Rattle.estimate_rounds.specs.Rules.{Rule, rule, ruled, rowRules}
+use Rattle.numeric.specs.Rules.{Rule, rule, ruled}
+use Rattle.estimate_rounds.specs.Rules.{rowRules}
 use Rattle.tdcp.specs.Valid.{fewRules}
 use Rattle.estimate_rounds.specs.declared.rules.Check.the-variants.{Refused as Stops, Passed}
 use lib.ListN.{length, getD, drop, drop-of-length-le}
@@ -21,7 +22,8 @@ use Rattle.tdcp.specs.Front.{sightRules, countRules, pairRules}
 use Rattle.records.specs.declared.pair.Pair.{Pair}
 use Rattle.tdcp.specs.declared.displacement.Settings.{Settings}
 use Rattle.records.proofs.KeepLaws.{keep-few}
-use Rattle.estimate_rounds.proofs.RulesLaws.{checked, ruled-append, refused-by, passed-by, head-passed, append-passed, append-first, Enough, rows-passed}
+use Rattle.numeric.proofs.RulesLaws.{ruled-append}
+use Rattle.estimate_rounds.proofs.RulesLaws.{checked, refused-by, passed-by, head-passed, append-passed, append-first, Enough, rows-passed}
 
 pub counts-passed : (pairs kept slots : ℕ) → Passed ≡ checked (fewRules pairs kept slots) → (6 ≤ pairs) × Enough kept slots
 unfolding fewRules rowRules
@@ -75,11 +77,7 @@ pub pairs-enough : (city : Bool) (settings : Settings) (ps : List Pair) → Pass
 unfolding pairRules countRules
 pairs-enough city settings ps e = counts-passed _ _ _ (append-first (countRules settings ps) _ (append-passed (sightRules ps) _ e)) .1
 
--- ---- 20, of the city profile: the code's two ways
-pub uncertified-no : (city b : Bool) → not city ≡ true → false ≡ (city && b)
-uncertified-no true b e = absurd (let z : _≡_ {A = ℕ} 0 1 = cc in omega arith)
-uncertified-no false b e = refl
-
+-- ---- 20, of the city profile
 pub uncertified-is : (city : Bool) {a b x y : Bool} → not city ≡ false → a ≡ x → b ≡ y → not (a && b) ≡ (city && not (x && y))
 uncertified-is true e g h = ap₂ (λ (p q : Bool). not (p && q)) g h
 uncertified-is false e g h = absurd (let z : _≡_ {A = ℕ} 0 1 = cc in omega arith)

@@ -16,7 +16,8 @@ use Rattle.numeric.specs.declared.vec3.Vec3.{Vec3}
 use Rattle.numeric.specs.declared.refusal.Refusal.the-variants.{TooMany, SettingOutOfRange, RecordOutOfRange, BadInterval, TooFewPairs, TooFewRows, TooManySlots, OnReceiver}
 use Rattle.median.specs.Sorted.{insertBy, sortedBy, medianOf}
 use Rattle.median.specs.Centre.{centreOf}
-use Rattle.estimate_rounds.specs.Rules.{ruled, rowRules}
+use Rattle.numeric.specs.Rules.{ruled}
+use Rattle.estimate_rounds.specs.Rules.{rowRules}
 use Rattle.records.specs.Record.{placeable, isElevation, soundCarrier, unsigned, bitSet, usable, same}
 use Rattle.clocks.specs.Clocks.{none, given, slot, has, appearing, slotFrom, clocksIn, clocksOf}
 use Rattle.records.specs.Pair.{pairOf, firstPair, pairAt, pairsOf}

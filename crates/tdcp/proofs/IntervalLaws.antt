@@ -14,7 +14,7 @@ use Rattle.time.specs.declared.time.Seconds.{Seconds}
 use Rattle.time.specs.declared.time.Seconds.the-variants.{Refused as NoSeconds, Since}
 use Rattle.records.specs.declared.record.Epoch.{Epoch}
 use Rattle.records.specs.declared.pair.Profile.{Profile}
-use Rattle.estimate_rounds.specs.Rules.{rule, ruled}
+use Rattle.numeric.specs.Rules.{rule, ruled}
 use Rattle.tdcp.specs.Valid.{settingsPass, dtOf, isTimed, badInterval, intervalRules}
 use Rattle.tdcp.specs.Displacement.{input, displacementOf}
 use Rattle.tdcp.specs.declared.displacement.Settings.{Settings}

@@ -17,11 +17,12 @@ use Rattle.quality.specs.declared.figures.Figures.{Figures}
 use Rattle.quality.specs.declared.figures.Quality.{Quality}
 use Rattle.quality.specs.declared.figures.Quality.the-variants as Quality
 use Rattle.tdcp.specs.Displacement.{Input, rowAt, fitOver, displacementOf}
-use Rattle.tdcp.specs.Rated.{qualityAt, quality, rate, ratedWith, ratedOf, ratedNumber, ratedFloats, ratedFigures, ratedCounts, RatedAccepted, RatedPromised, unrated, plainOf, answeredBy, answeredOf}
+use Rattle.tdcp.specs.Rated.{qualityAt, quality, rate, ratedWith, ratedOf, ratedNumber, ratedFloats, ratedFigures, ratedCounts, RatedAccepted, RatedPromised, Answered, unrated, plainOf, answeredBy, answeredOf}
 use Rattle.lists.specs.Walk.{every}
 use lib.Ieee.Scale.{finite}
 use native.Mathlib.Omega.{arith}
 use lib.Ieee.Bits.{is-true}
+use Rattle.cholesky.proofs.FactorFinite.{zero-finite}
 use Rattle.quality.proofs.QualityLaws.{quality-finite}
 use Rattle.tdcp.proofs.DisplacementSound.{displacement-accepted}
 use Rattle.tdcp.specs.Steps.{qualityOver}
@@ -89,6 +90,10 @@ module _ (i : Input) where
   rated-of (Moved m) (Quality.Refused r) d e = absurd (let z : _≡_ {A = ℕ} 0 1 = cc in omega arith)
   rated-of (Moved m) (Quality.Rated f) d e = (let h : d ≡ record { moved = m; chi = f .chi; pdop = f .pdop } = cc in rw h, let h : d ≡ record { moved = m; chi = f .chi; pdop = f .pdop } = cc in rw h)
 
+  plain-of : (m : Displacement) (d : RatedDelta) → Rated.Moved d ≡ unrated m → (Moved (d .moved) ≡ m) × (d .chi ≡ +0) × (d .pdop ≡ +0)
+  plain-of (Refused r) d e = absurd (let z : _≡_ {A = ℕ} 0 1 = cc in omega arith)
+  plain-of (Moved m) d e = let h : d ≡ record { moved = m; chi = +0; pdop = +0 } = cc in (rw h, rw h, rw h)
+
   pub rated-accepted : (d : RatedDelta) → ratedOf i ≡ Rated.Moved d → RatedAccepted i d
   unfolding ratedOf quality qualityAt
   rated-accepted d e =
@@ -96,7 +101,7 @@ module _ (i : Input) where
       let f = quality-finite _ _ (record { chi = d .chi; pdop = d .pdop }) (h .1) in
       record { moved = displacement-accepted i (d .moved) (sym (h .0)); chi-finite = f .0; pdop-finite = f .1 }
 
-  rated-finite : (r : Rated) → ((d : RatedDelta) → r ≡ Rated.Moved d → RatedAccepted i d) → every finite (ratedFloats r ++ ratedFigures r) ≡ true
+  pub rated-finite : (r : Rated) → ((d : RatedDelta) → r ≡ Rated.Moved d → RatedAccepted i d) → every finite (ratedFloats r ++ ratedFigures r) ≡ true
   unfolding every
   rated-finite (Rated.Refused r) h = refl
   rated-finite (Rated.Moved d) h =
@@ -109,6 +114,23 @@ module _ (i : Input) where
   pub rated-is : answeredOf true i ≡ ratedOf i
   unfolding answeredOf ratedOf
   rated-is = refl
+
+  plain-accepted : (d : RatedDelta) → answeredOf false i ≡ Rated.Moved d → RatedAccepted i d
+  unfolding answeredOf
+  plain-accepted d e =
+      let h = plain-of (displacementOf i) d (sym e) in
+      record { moved = displacement-accepted i (d .moved) (sym (h .0)); chi-finite = rw (h .1) zero-finite; pdop-finite = rw (h .2) zero-finite }
+
+  -- every answer has the whole promise
+  pub answered-promised : (wanted : Bool) {r : Rated} → r ≡ answeredOf wanted i → Answered wanted i r
+  answered-promised wanted {r} e = record { answer = e; given-finite = rated-finite r accepted; accepted = accepted }
+    where
+      by : (w : Bool) (d : RatedDelta) → answeredOf w i ≡ Rated.Moved d → RatedAccepted i d
+      by true d q = rated-accepted d (sym rated-is ∙ q)
+      by false d q = plain-accepted d q
+
+      accepted : (d : RatedDelta) → r ≡ Rated.Moved d → RatedAccepted i d
+      accepted d q = by wanted d (sym e ∙ q)
 
   pub rated-promised : (r : Rated) → r ≡ answeredOf true i → RatedPromised i r
   unfolding answeredOf ratedOf

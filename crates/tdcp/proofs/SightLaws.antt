@@ -16,11 +16,12 @@ use Rattle.records.specs.Pair.{pairOf, seen}
 use Rattle.records.specs.Screen.{keptOf}
 use Rattle.records.specs.declared.record.Carrier.{Carrier}
 use Rattle.records.specs.declared.pair.Pair.{Pair}
-use Rattle.estimate_rounds.specs.Rules.{Rule, rule, ruled}
+use Rattle.numeric.specs.Rules.{Rule, rule, ruled}
 use Rattle.records.specs.City.{isCity}
 use Rattle.estimate_rounds.specs.Rounds.{concluded}
 use Rattle.estimate_rounds.specs.declared.rules.Check.the-variants.{Refused as Stops, Passed}
-use Rattle.estimate_rounds.proofs.RulesLaws.{checked, ruled-append}
+use Rattle.numeric.proofs.RulesLaws.{ruled-append}
+use Rattle.estimate_rounds.proofs.RulesLaws.{checked}
 use Rattle.tdcp.specs.Valid.{epochRules, intervalRules}
 use Rattle.tdcp.specs.Front.{rangeRules, sightRules, countRules, cityRules, pairRules}
 use Rattle.tdcp.specs.Displacement.{Input, fitBy, pairs, deltaAt, endRules, movedBy, displacementOf}

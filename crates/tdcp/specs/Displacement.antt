@@ -18,7 +18,7 @@ use Rattle.robust.specs.Round.{Round, RoundOutcome, roundOf, SoundRound, Finite
 use Rattle.robust.specs.Sigma.{elevationSigma}
 use Rattle.normal_equations.specs.declared.row.Row.{Row}
 use Rattle.clocks.specs.Clocks.{slot, clocksOf}
-use Rattle.estimate_rounds.specs.Rules.{Rule, rule, ruled}
+use Rattle.numeric.specs.Rules.{Rule, rule, ruled}
 use Rattle.records.specs.Record.{countedCarriers}
 use Rattle.records.specs.City.{looked, isCity}
 use Rattle.records.specs.Pair.{pairsOf}

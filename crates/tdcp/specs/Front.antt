@@ -5,7 +5,7 @@ use lib.ListN.{length}
 use Rattle.lists.specs.Walk.{collect}
 use Rattle.numeric.specs.Sight.{onReceiver}
 use Rattle.numeric.specs.declared.refusal.Refusal.the-variants.{OnReceiver, NotCertified}
-use Rattle.estimate_rounds.specs.Rules.{Rule, rule}
+use Rattle.numeric.specs.Rules.{Rule, rule}
 use Rattle.clocks.specs.Clocks.{has, clocksOf}
 use Rattle.records.specs.Screen.{keptOf, constellations}
 use Rattle.tdcp.specs.Valid.{fewRules}

@@ -95,6 +95,12 @@ pub record RatedAccepted (i : Input) (d : RatedDelta) : Type 0 where
   pub chi-finite : T (finite (d .chi))
   pub pdop-finite : T (finite (d .pdop))
 
+-- the answer is the definition's, with figures on request; its floats are finite, and an accepted one is as accurate as an accepted displacement
+pub record Answered (wanted : Bool) (i : Input) (r : Rated) : Type 0 where
+  pub answer : r ≡ answeredOf wanted i
+  pub given-finite : every finite (ratedFloats r ++ ratedFigures r) ≡ true
+  pub accepted : (d : RatedDelta) → r ≡ Moved d → RatedAccepted i d
+
 -- the answer is the definition's, and so are its number, floats, figures and counts
 pub record RatedPromised (i : Input) (r : Rated) : Type 0 where
   pub answer : r ≡ ratedOf i

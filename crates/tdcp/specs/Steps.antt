@@ -13,7 +13,7 @@ use Rattle.clocks.specs.Clocks.{slot, clocksOf}
 use Rattle.clocks.specs.declared.clocks.Clocks.{Clocks}
 use Rattle.records.specs.declared.pair.Pair.{Pair}
 use Rattle.numeric.specs.declared.refusal.Refusal.the-variants.{SettingOutOfRange, RecordOutOfRange}
-use Rattle.estimate_rounds.specs.Rules.{Rule, rule, ruled}
+use Rattle.numeric.specs.Rules.{Rule, rule, ruled}
 use Rattle.estimate_rounds.specs.Rounds.{concluded, stateAfter}
 use Rattle.estimate_rounds.specs.Steps.{Ended}
 use Rattle.estimate_rounds.specs.declared.rules.Check.{Check}

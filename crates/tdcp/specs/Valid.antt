@@ -11,7 +11,8 @@ use Rattle.numeric.specs.Real.{inRange}
 use Rattle.numeric.specs.declared.vec3.Vec3.{Vec3}
 use Rattle.numeric.specs.declared.refusal.Refusal.the-variants.{TooMany, SettingOutOfRange, RecordOutOfRange, BadTime, BadInterval, TooFewPairs}
 use Rattle.time.specs.Time.{isDated, secondsBetween}
-use Rattle.estimate_rounds.specs.Rules.{Rule, rule, rowRules}
+use Rattle.numeric.specs.Rules.{Rule, rule}
+use Rattle.estimate_rounds.specs.Rules.{rowRules}
 use Rattle.records.specs.Record.{countedCarriers, placeable, soundCarrier}
 use Rattle.records.specs.declared.record.Epoch.{Epoch}
 use Rattle.tdcp.specs.declared.displacement.Settings.{Settings}

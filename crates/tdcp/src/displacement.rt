@@ -1,6 +1,6 @@
 // The displacement between two epochs: its types, the way that every call takes, and the calls by value.
 ghost use mathlib.Core.Path.{_≡_};
-ghost use Rattle.records.specs.Signals.{epochIn, SignalsFit};
+ghost use Rattle.records.specs.Lent.{lentSignals, SignalsLent};
 ghost use Rattle.tdcp.specs.Displacement as spec;
 ghost use Rattle.tdcp.specs.Rated as rated;
 use crate::moved::moved_by;
@@ -72,7 +72,7 @@ pub fn plain(answer: Rated) -> Displacement
 
 // Returns the receiver's position change between two epochs of signals, states and floats, with the figures of its fit on request. Every displacement ends here.
 // The receiver's position sets the geometry only.
-pub fn answered(
+pub fn displaced(
     previous_signals: &[u64],
     previous_states: &[i32],
     previous_floats: &[f64],
@@ -85,12 +85,12 @@ pub fn answered(
     profile: Profile,
     wanted: bool,
 ) -> Rated
-    requires { ⌜ SignalsFit (now «previous_signals») (now «previous_states») (now «previous_floats») ⌝ }
-    requires { ⌜ SignalsFit (now «current_signals») (now «current_states») (now «current_floats») ⌝ }
-    ensures { λ r. ⌜ r ≡ rated.answeredOf wanted (spec.input
-        (epochIn (now («previous_signals» .entry)) (now («previous_states» .entry)) (now («previous_floats» .entry)))
-        (epochIn (now («current_signals» .entry)) (now («current_states» .entry)) (now («current_floats» .entry)))
-        since receiver settings profile) ⌝ }
+    requires { ⌜ SignalsLent «previous_signals» «previous_states» «previous_floats» ⌝ }
+    requires { ⌜ SignalsLent «current_signals» «current_states» «current_floats» ⌝ }
+    ensures { λ r. ⌜ rated.Answered wanted (spec.input
+        (lentSignals «previous_signals» «previous_states» «previous_floats»)
+        (lentSignals «current_signals» «current_states» «current_floats»)
+        since receiver settings profile) r ⌝ }
 {
     let sound = sound_in(previous_signals, previous_states, previous_floats)
         & sound_in(current_signals, current_states, current_floats)
@@ -116,44 +116,8 @@ pub fn answered(
     }
 }
 
-// Returns the receiver's position change between two epochs of signals, states and floats, without copying a float.
-pub fn displaced(
-    previous_signals: &[u64],
-    previous_states: &[i32],
-    previous_floats: &[f64],
-    current_signals: &[u64],
-    current_states: &[i32],
-    current_floats: &[f64],
-    since: Interval,
-    receiver: Vec3,
-    settings: Settings,
-    profile: Profile,
-) -> Displacement
-    requires { ⌜ SignalsFit (now «previous_signals») (now «previous_states») (now «previous_floats») ⌝ }
-    requires { ⌜ SignalsFit (now «current_signals») (now «current_states») (now «current_floats») ⌝ }
-    ensures { λ r. ⌜ spec.Promised (spec.input
-        (epochIn (now («previous_signals» .entry)) (now («previous_states» .entry)) (now («previous_floats» .entry)))
-        (epochIn (now («current_signals» .entry)) (now («current_states» .entry)) (now («current_floats» .entry)))
-        since receiver settings profile) r ⌝ }
-{
-    let answer = answered(
-        previous_signals,
-        previous_states,
-        previous_floats,
-        current_signals,
-        current_states,
-        current_floats,
-        since,
-        receiver,
-        settings,
-        profile,
-        false,
-    );
-    plain(answer)
-}
-
-// Returns the answer of two epochs by value: each is written as signals, states and floats once.
-fn answered_by(
+// Returns the receiver's position change between two epochs by value, with the figures of its fit on request: each is written as signals, states and floats once.
+pub fn displaced_by(
     previous: Epoch,
     current: Epoch,
     since: Interval,
@@ -162,7 +126,7 @@ fn answered_by(
     profile: Profile,
     wanted: bool,
 ) -> Rated
-    ensures { λ r. ⌜ r ≡ rated.answeredOf wanted (spec.input previous current since receiver settings profile) ⌝ }
+    ensures { λ r. ⌜ rated.Answered wanted (spec.input previous current since receiver settings profile) r ⌝ }
 {
     let m = previous.count;
     let n = current.count;
@@ -190,7 +154,7 @@ fn answered_by(
         &mut current_states,
         &mut current_floats,
     );
-    answered(
+    displaced(
         &previous_signals[..m],
         &previous_states,
         &previous_floats,
@@ -205,21 +169,6 @@ fn answered_by(
     )
 }
 
-// Returns the receiver's position change between two epochs by value.
-pub fn displaced_by(
-    previous: Epoch,
-    current: Epoch,
-    since: Interval,
-    receiver: Vec3,
-    settings: Settings,
-    profile: Profile,
-) -> Displacement
-    ensures { λ r. ⌜ spec.Promised (spec.input previous current since receiver settings profile) r ⌝ }
-{
-    let answer = answered_by(previous, current, since, receiver, settings, profile, false);
-    plain(answer)
-}
-
 // Returns the receiver's position change between two epochs, dt seconds apart.
 pub fn delta_position(
     previous: Epoch,
@@ -230,14 +179,16 @@ pub fn delta_position(
 ) -> Displacement
     ensures { λ r. ⌜ spec.Promised (spec.general previous current dt receiver settings) r ⌝ }
 {
-    displaced_by(
+    let answer = displaced_by(
         previous,
         current,
         Interval::Seconds(dt),
         receiver,
         settings,
         Profile::General,
-    )
+        false,
+    );
+    plain(answer)
 }
 
 // Returns the receiver's position change between two epochs by their times.
@@ -251,14 +202,16 @@ pub fn delta_between(
 ) -> Displacement
     ensures { λ r. ⌜ spec.Promised (spec.input previous current (Interval.Between «previous_time» «current_time») receiver settings Profile.General) r ⌝ }
 {
-    displaced_by(
+    let answer = displaced_by(
         previous,
         current,
         Interval::Between(previous_time, current_time),
         receiver,
         settings,
         Profile::General,
-    )
+        false,
+    );
+    plain(answer)
 }
 
 // Returns the receiver's position change between two epochs, dt seconds apart, by the carriers that the city profile certifies: GPS (1) and Galileo (6) on one band.
@@ -272,14 +225,16 @@ pub fn city_displacement(
 ) -> Displacement
     ensures { λ r. ⌜ spec.Promised (spec.input previous current (Interval.Seconds dt) receiver settings (Profile.City band)) r ⌝ }
 {
-    displaced_by(
+    let answer = displaced_by(
         previous,
         current,
         Interval::Seconds(dt),
         receiver,
         settings,
         Profile::City(band),
-    )
+        false,
+    );
+    plain(answer)
 }
 
 // Returns the receiver's position change between two epochs, dt seconds apart, with the quality of its fit.
@@ -292,7 +247,7 @@ pub fn rated_displacement(
 ) -> Rated
     ensures { λ r. ⌜ rated.RatedPromised (spec.general previous current dt receiver settings) r ⌝ }
 {
-    answered_by(
+    displaced_by(
         previous,
         current,
         Interval::Seconds(dt),
@@ -314,7 +269,7 @@ pub fn rated_city_displacement(
 ) -> Rated
     ensures { λ r. ⌜ rated.RatedPromised (spec.input previous current (Interval.Seconds dt) receiver settings (Profile.City band)) r ⌝ }
 {
-    answered_by(
+    displaced_by(
         previous,
         current,
         Interval::Seconds(dt),

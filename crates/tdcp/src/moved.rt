@@ -1,11 +1,11 @@
 // The displacement of carrier pairs: the screen, the rules on what it keeps, and the end of the rounds.
 ghost use mathlib.Core.Path.{_≡_};
-ghost use lib.ListN.{length, take};
+ghost use lib.ListN.{length};
 ghost use Prim.Native.Nat.{_≤_};
 ghost use Rattle.lists.specs.Walk.{every};
 ghost use Rattle.records.specs.City.{isCity};
-ghost use Rattle.records.specs.Steps.{pairsIn};
-ghost use Rattle.records.specs.Pair.{seen};
+ghost use Rattle.records.specs.Steps.{lentPairs};
+ghost use Rattle.records.specs.Pair.{countedPairs, seen};
 ghost use Rattle.tdcp.specs.Displacement as spec;
 ghost use Rattle.tdcp.specs.Rated as rated;
 ghost use Rattle.tdcp.specs.Steps as code;
@@ -64,8 +64,7 @@ fn moved_over(
     wanted: bool,
 ) -> Rated
     requires { ⌜ (length (now observed) ≤ 64) × (k .count ≤ 6) ⌝ }
-    ensures { λ r. ⌜ (let pairs = pairsIn (now (x .entry)) (now (y .entry)) (now (z .entry)) (now (constellation .entry)) (now (elevation .entry))
-        (now (observed .entry)) in
+    ensures { λ r. ⌜ (let pairs = lentPairs x y z constellation elevation observed in
         r ≡ rated.answeredBy wanted (code.qualityOver settings k pairs) (code.movedOver settings k pairs screened)) ⌝ }
 {
     let used = observed.len();
@@ -108,9 +107,9 @@ fn moved_over(
 // Finishes a displacement from its carrier pairs: screens them, checks rules 15, 7 to 9 (and 20 in the city profile), runs the rounds, checks 10. Rule 15 is checked
 // after screening: returning earlier makes the compiler copy the pairs.
 pub(crate) fn moved_by(settings: Settings, all: Pairs, profile: Profile, wanted: bool) -> Rated
-    requires { ⌜ (all .count ≤ 64) × (all .seen ≡ every seen (take (all .count) (all .pair))) ⌝ }
-    ensures { λ r. ⌜ (let pairs = take (all .count) (all .pair) in
-        r ≡ rated.answeredBy wanted (code.qualityBy settings pairs) (spec.movedBy (isCity profile) settings pairs)) ⌝ }
+    requires { ⌜ (all .count ≤ 64) × (all .seen ≡ every seen (countedPairs all)) ⌝ }
+    ensures { λ r. ⌜ r ≡ rated.answeredBy wanted (code.qualityBy settings (countedPairs all))
+        (spec.movedBy (isCity profile) settings (countedPairs all)) ⌝ }
 {
     let pairs = all.count;
     let seen = all.seen;

@@ -2,6 +2,7 @@
 ghost use mathlib.Core.Path.{_≡_};
 ghost use lib.ListN.{length};
 ghost use Prim.Native.Nat.{_≤_};
+ghost use Rattle.lists.specs.Memory.{before};
 ghost use Rattle.tdcp.specs.Rated as rated;
 ghost use Rattle.tdcp.specs.Steps as code;
 use crate::displacement::Delta;
@@ -23,8 +24,8 @@ pub(crate) fn quality_at(
     at: [f64; 9],
 ) -> Quality
     requires { ⌜ (length (now observed) ≤ 64) × (3 ≤ n) × (n ≤ 9) ⌝ }
-    ensures { λ r. ⌜ code.QualityIs n (now (x .entry)) (now (y .entry)) (now (z .entry)) (now (clock .entry)) (now (sigma .entry))
-        (now (observed .entry)) at r ⌝ }
+    ensures { λ r. ⌜ code.QualityIs n (before x) (before y) (before z) (before clock) (before sigma)
+        (before observed) at r ⌝ }
 {
     let count = observed.len();
     let mut residual = [0u64; 64];

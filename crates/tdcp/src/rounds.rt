@@ -2,6 +2,7 @@
 ghost use mathlib.Core.Path.{_≡_};
 ghost use lib.ListN.{length};
 ghost use Prim.Native.Nat.{_≤_};
+ghost use Rattle.lists.specs.Memory.{before, after};
 ghost use Rattle.tdcp.specs.Steps as code;
 use crate::displacement::Settings;
 use clocks::clocks::Clocks;
@@ -32,8 +33,8 @@ pub(crate) fn residuals_at(
     residual: &mut [u64; 64],
 )
     requires { ⌜ (length (now observed) ≤ 64) × (length (now residual) ≡ 64) ⌝ }
-    ensures { λ _. ⌜ code.ResidualsAt (now (x .entry)) (now (y .entry)) (now (z .entry)) (now (clock .entry)) (now (observed .entry)) at
-        (now (residual .exit)) ⌝ }
+    ensures { λ _. ⌜ code.ResidualsAt (before x) (before y) (before z) (before clock) (before observed) at
+        (after residual) ⌝ }
 {
     let count = observed.len();
     for j in 0..count {
@@ -55,7 +56,7 @@ pub(crate) fn clocks_into(
     clock: &mut [usize; 64],
 )
     requires { ⌜ (count ≤ 64) × (length (now clock) ≡ 64) ⌝ }
-    ensures { λ _. ⌜ code.ClocksAt k (now (constellation .entry)) count (now (clock .exit)) ⌝ }
+    ensures { λ _. ⌜ code.ClocksAt k (before constellation) count (after clock) ⌝ }
 {
     for j in 0..count {
         let c = constellation[j];
@@ -72,7 +73,7 @@ pub(crate) fn sigmas_into(
     sigma: &mut [f64; 64],
 )
     requires { ⌜ (count ≤ 64) × (length (now sigma) ≡ 64) ⌝ }
-    ensures { λ _. ⌜ code.SigmasAt settings (now (elevation .entry)) count (now (sigma .exit)) ⌝ }
+    ensures { λ _. ⌜ code.SigmasAt settings (before elevation) count (after sigma) ⌝ }
 {
     for j in 0..count {
         let e = elevation[j];
@@ -94,8 +95,8 @@ pub(crate) fn fit_pairs(
     state: &mut [f64; 9],
 ) -> Check
     requires { ⌜ (length (now observed) ≤ 64) × (k .count ≤ 6) ⌝ }
-    ensures { λ r. ⌜ code.FitEnds settings k (now (x .entry)) (now (y .entry)) (now (z .entry)) (now (clock .entry)) (now (sigma .entry))
-        (now (observed .entry)) r (now (state .entry)) (now (state .exit)) ⌝ }
+    ensures { λ r. ⌜ code.FitEnds settings k (before x) (before y) (before z) (before clock) (before sigma)
+        (before observed) r (before state) (after state) ⌝ }
 {
     let count = observed.len();
     let mut residual = [0u64; 64];

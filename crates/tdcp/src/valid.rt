@@ -2,10 +2,11 @@
 ghost use mathlib.Core.Path.{_≡_};
 ghost use mathlib.Core.Bool.{true, not, _&&_};
 ghost use mathlib.Core.List.{[], _∷_, _++_};
+ghost use Rattle.lists.specs.Memory.{before};
 ghost use Rattle.numeric.specs.declared.refusal.Refusal.the-variants.{BadTime, NotCertified};
 ghost use Rattle.clocks.specs.Clocks.{has};
 ghost use Rattle.records.specs.City.{isCity};
-ghost use Rattle.estimate_rounds.specs.Rules.{rule, ruled};
+ghost use Rattle.numeric.specs.Rules.{rule, ruled};
 ghost use Rattle.tdcp.specs.Steps as code;
 ghost use Rattle.tdcp.specs.Valid as spec;
 use crate::displacement::Interval;
@@ -71,7 +72,7 @@ pub(crate) fn seconds_of(settings: Settings, sound: bool, since: Interval) -> Se
 
 // Checks whether, in the city profile, GPS (1) or Galileo (6) is absent among these constellations.
 pub(crate) fn is_uncertified(profile: Profile, constellation: &[u8]) -> bool
-    ensures { λ r. ⌜ r ≡ (isCity profile && not (has (now (constellation .entry)) 1 && has (now (constellation .entry)) 6)) ⌝ }
+    ensures { λ r. ⌜ r ≡ (isCity profile && not (has (before constellation) 1 && has (before constellation) 6)) ⌝ }
 {
     if let Profile::General = profile {
         return false;

@@ -1,41 +1,34 @@
 -- The calls on columns beside one another: the displacement between two times beside the one with their seconds. Assumes nothing.
-use mathlib.Core.Path.{_≡_, sym, ap, _∙_}
+use mathlib.Core.Path.{_≡_, sym, ap, ap₂, _∙_}
 use mathlib.Core.Bool.{true, false, cond, _&&_}
 use mathlib.Core.List.{List}
 use Prim.Native.Nat.{ℕ}
+use Rattle.lists.specs.Memory.{LentNumbers}
 use Rattle.numeric.specs.declared.vec3.Vec3.{Vec3}
 use Rattle.numeric.specs.declared.refusal.Refusal.the-variants.{TooMany, BadTime}
 use Rattle.time.specs.Time.{isDated, secondsBetween}
 use Rattle.time.specs.declared.time.GpsTime.{GpsTime}
 use Rattle.records.specs.Carriers.{CarrierColumns, epochOf}
 use Rattle.records.specs.declared.pair.Profile.{Profile}
-use Rattle.estimate_rounds.specs.Rules.{Rule, ruled}
-use Rattle.estimate_rounds.proofs.RulesLaws.{ruled-append}
+use Rattle.numeric.specs.Rules.{Rule, ruled}
+use Rattle.numeric.proofs.RulesLaws.{ruled-append}
 use Rattle.tdcp.specs.Valid.{epochRules, intervalRules}
-use Rattle.tdcp.specs.Displacement.{displacementOf}
+use Rattle.tdcp.specs.Displacement.{displacementOf, displacementNumber}
 use Rattle.tdcp.specs.declared.displacement.Settings.{Settings}
 use Rattle.tdcp.specs.declared.displacement.Interval.{Interval}
 use Rattle.tdcp.specs.declared.displacement.Interval.the-variants as Interval
-use Rattle.tdcp.specs.declared.displacement.Displacement.{Displacement}
 use Rattle.tdcp.specs.declared.displacement.Displacement.the-variants.{Refused}
 use Rattle.tdcp.proofs.IntervalLaws.{at-dt}
-use Rattle.tdcp_columns.specs.Displacement.{Lent, lent, lentInput, isFit, columnsDisplaced, deltaAfter, countsAfter, DisplacementAnswers}
-use Rattle.tdcp.specs.Displacement.{displacementNumber}
+use Rattle.tdcp_columns.specs.Displacement.{Lent, lent, lentInput, isFit, columnsDisplaced, deltaAfter, countsAfter, DisplacementAnswers, Alike}
 
--- the same number, and the same bits in the lent results
-pub record Alike (number number′ : ℕ) (delta delta′ counts counts′ : List ℕ) : Type 0 where
-  pub numbers : number ≡ number′
-  pub deltas : delta ≡ delta′
-  pub counted : counts ≡ counts′
-
--- two calls whose displacements are one leave the same, from the same memory
-pub alike : (l m : Lent) {number number′ : ℕ} {delta₀ delta delta′ counts₀ counts counts′ : List ℕ} → columnsDisplaced l ≡ columnsDisplaced m
-    → DisplacementAnswers l number delta₀ delta counts₀ counts → DisplacementAnswers m number′ delta₀ delta′ counts₀ counts′ → Alike number number′ delta delta′ counts counts′
-alike l m {delta₀ = delta₀} {counts₀ = counts₀} e a b =
+-- two calls whose displacements are one are alike
+pub alike : (l m : Lent) {number number′ : ℕ} {delta delta′ counts counts′ : LentNumbers} → columnsDisplaced l ≡ columnsDisplaced m
+    → DisplacementAnswers l number delta counts → DisplacementAnswers m number′ delta′ counts′ → Alike number number′ delta delta′ counts counts′
+alike l m {delta = delta} {counts = counts} e a b =
     record {
       numbers = a .leaves .number-is ∙ ap displacementNumber e ∙ sym (b .leaves .number-is);
-      deltas = a .leaves .delta-is ∙ ap (λ (d : Displacement). deltaAfter d delta₀) e ∙ sym (b .leaves .delta-is);
-      counted = a .leaves .counts-are ∙ ap (λ (d : Displacement). countsAfter d counts₀) e ∙ sym (b .leaves .counts-are);
+      deltas = λ same. a .leaves .delta-is ∙ ap₂ deltaAfter e same ∙ sym (b .leaves .delta-is);
+      counted = λ same. a .leaves .counts-are ∙ ap₂ countsAfter e same ∙ sym (b .leaves .counts-are);
     }
 
 module _ (previous : CarrierColumns) (m : ℕ) (current : CarrierColumns) (n : ℕ) (s t : GpsTime) (receiver : Vec3) (settings : Settings) (profile : Profile) where
@@ -50,8 +43,8 @@ module _ (previous : CarrierColumns) (m : ℕ) (current : CarrierColumns) (n : �
   same-displacement e = rw (at-dt (epochOf previous m) (epochOf current n) s t receiver settings profile e)
 
   -- with two valid times, the call with dt the seconds between them
-  pub between-apart : (isDated t && isDated s) ≡ true → {number number′ : ℕ} {delta₀ delta delta′ counts₀ counts counts′ : List ℕ}
-      → DisplacementAnswers between number delta₀ delta counts₀ counts → DisplacementAnswers apart number′ delta₀ delta′ counts₀ counts′ → Alike number number′ delta delta′ counts counts′
+  pub between-apart : (isDated t && isDated s) ≡ true → {number number′ : ℕ} {delta delta′ counts counts′ : LentNumbers}
+      → DisplacementAnswers between number delta counts → DisplacementAnswers apart number′ delta′ counts′ → Alike number number′ delta delta′ counts counts′
   between-apart e a b = alike between apart (same-displacement e) a b
 
   abbrev rules : List Rule

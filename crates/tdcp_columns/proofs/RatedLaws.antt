@@ -5,6 +5,7 @@ use mathlib.Core.List.{List, map}
 use lib.Ieee.Scale.{finite}
 use Prim.Native.Nat.{ℕ, _+_}
 use native.Mathlib.Omega.{arith}
+use Rattle.lists.specs.Memory.{LentNumbers}
 use Rattle.numeric.specs.declared.refusal.Refusal.{Refusal}
 use Rattle.numeric.specs.declared.refusal.Refusal.the-variants.{TooMany, FitFailed, QualityNotFinite}
 use Rattle.cholesky.specs.Factor.{zeros, factorOf}
@@ -12,33 +13,24 @@ use Rattle.cholesky.specs.Answer.{accepted}
 use Rattle.normal_equations.specs.declared.row.Row.{Row}
 use Rattle.clocks.specs.Clocks.{clocksOf}
 use Rattle.records.specs.Screen.{constellations}
-use Rattle.estimate_rounds.specs.Rules.{ruled}
+use Rattle.numeric.specs.Rules.{ruled}
 use Rattle.estimate_rounds.specs.Rounds.{stateAfter}
 use Rattle.quality.specs.Quality.{chiOf, unweightedMatrix, dilutionOf, figureRules, qualityOf}
 use Rattle.tdcp.specs.Displacement.{rowAt, keptPairs, callFit, displacementOf}
 use Rattle.tdcp.specs.declared.displacement.Delta.{Delta}
-use Rattle.tdcp.specs.Rated.{qualityAt, quality, rate, ratedWith, ratedOf, RatedAccepted, plainOf, answeredOf}
+use Rattle.tdcp.specs.Rated.{qualityAt, quality, rate, ratedWith, ratedOf, RatedAccepted}
 use Rattle.tdcp.specs.declared.displacement.Displacement.{Displacement}
 use Rattle.tdcp.specs.declared.displacement.Displacement.the-variants as Displacement
 use Rattle.tdcp.specs.declared.displacement.RatedDelta.{RatedDelta}
 use Rattle.tdcp.specs.declared.displacement.Rated.{Rated}
 use Rattle.tdcp.specs.declared.displacement.Rated.the-variants.{Refused, Moved}
-use Rattle.tdcp.proofs.RatedLaws.{plain-is, rated-is as answer-is, rated-accepted}
+use Rattle.tdcp.proofs.RatedLaws.{rated-is as answer-is, rated-accepted}
 use Rattle.tdcp_columns.specs.Displacement.{Lent, lentInput, isFit, columnsDisplaced}
 use Rattle.tdcp_columns.specs.Rated.{columnsRated, RatedLeaves, RatedAnswers}
-use Rattle.tdcp_columns.specs.Steps.{columnsAnswered}
+use Rattle.tdcp_columns.specs.Steps.{columnsAnswered, ColumnsPromised}
 
 module _ (l : Lent) where
-  -- without its figures the answer is the displacement of the columns
-  pub plain-columns : {a : Rated} → a ≡ columnsAnswered false l → plainOf a ≡ columnsDisplaced l
-  unfolding columnsAnswered columnsDisplaced
-  plain-columns {a} = go (isFit l)
-    where
-      go : (b : Bool) → a ≡ cond b (answeredOf false (lentInput l)) (Refused TooMany) → plainOf a ≡ cond b (displacementOf (lentInput l)) (Displacement.Refused TooMany)
-      go true e = plain-is (lentInput l) e
-      go false e = ap plainOf e
-
-  -- with them it is the rated one
+  -- with its figures the answer is the rated displacement
   rated-columns : columnsAnswered true l ≡ columnsRated l
   unfolding columnsAnswered columnsRated
   rated-columns = rw (answer-is (lentInput l))
@@ -53,10 +45,9 @@ module _ (l : Lent) where
       go false e = absurd (let z : _≡_ {A = ℕ} 0 1 = cc in omega arith)
 
   -- what is left in lent memory of the answer q that was given
-  pub rated-answers : {q : Rated} {number : ℕ} {delta₀ delta quality₀ quality counts₀ counts : List ℕ} → q ≡ columnsAnswered true l → RatedLeaves q number delta₀ delta quality₀ quality counts₀ counts
-      → RatedAnswers l number delta₀ delta quality₀ quality counts₀ counts
-  rated-answers {number = number} {delta₀ = delta₀} {delta = delta} {quality₀ = quality₀} {quality = quality} {counts₀ = counts₀} {counts = counts} e h =
-      record { leaves = subst (λ (a : Rated). RatedLeaves a number delta₀ delta quality₀ quality counts₀ counts) (e ∙ rated-columns) h; accepted = columns-rated }
+  pub rated-answers : {q : Rated} {number : ℕ} {delta quality counts : LentNumbers} → ColumnsPromised true l q → RatedLeaves q number delta quality counts → RatedAnswers l number delta quality counts
+  rated-answers {number = number} {delta = delta} {quality = quality} {counts = counts} p h =
+      record { leaves = subst (λ (a : Rated). RatedLeaves a number delta quality counts) (p .answer ∙ rated-columns) h; accepted = columns-rated }
 
 -- ---- the rated call beside the plain one
 

@@ -9,6 +9,7 @@ use Rattle.exact.specs.Float.{+0}
 use Rattle.numeric.specs.Order.{patternOf}
 use Rattle.numeric.specs.declared.refusal.Refusal.the-variants.{TooMany}
 use Rattle.numeric.specs.declared.vec3.Vec3.{Vec3}
+use Rattle.lists.specs.Memory.{before, after, LentNumbers, LentFloats}
 use Rattle.records.specs.Carriers.{CarrierColumns, epochOf, epochFits}
 use Rattle.records.specs.declared.pair.Profile.{Profile}
 use Rattle.tdcp.specs.Displacement.{Input, input, displacementOf, displacementNumber, displacementFloats, displacementCounts, Accepted}
@@ -30,6 +31,10 @@ displacementSettings s rounds =
       rounds = rounds;
       agreement = +0;
     }
+
+-- the same, lent
+abbrev pub lentSettings : LentFloats → ℕ → Settings
+lentSettings s rounds = displacementSettings (before s) rounds
 
 -- what is lent: the first carriers of two epochs' columns, so many of each, and what every displacement is handed
 pub record Lent : Type 0 where
@@ -61,21 +66,27 @@ columnsDisplaced l = cond (isFit l) (displacementOf (lentInput l)) (Refused TooM
 
 -- the patterns of the displacement in metres, and how many pairs were used and screened out; a refusal changes no bit of either
 abbrev pub deltaAfter : Displacement → List ℕ → List ℕ
-deltaAfter (Refused r) before = before
-deltaAfter (Moved d) before = map patternOf (displacementFloats (Moved d))
+deltaAfter (Refused r) old = old
+deltaAfter (Moved d) old = map patternOf (displacementFloats (Moved d))
 
 abbrev pub countsAfter : Displacement → List ℕ → List ℕ
-countsAfter (Refused r) before = before
-countsAfter (Moved d) before = displacementCounts (Moved d)
+countsAfter (Refused r) old = old
+countsAfter (Moved d) old = displacementCounts (Moved d)
 
 -- the number and the lent results afterwards are those of the displacement d
-pub record Leaves (d : Displacement) (number : ℕ) (delta₀ delta : List ℕ) (counts₀ counts : List ℕ) : Type 0 where
+pub record Leaves (d : Displacement) (number : ℕ) (delta counts : LentNumbers) : Type 0 where
   pub number-is : number ≡ displacementNumber d
-  pub delta-is : delta ≡ deltaAfter d delta₀
-  pub counts-are : counts ≡ countsAfter d counts₀
+  pub delta-is : after delta ≡ deltaAfter d (before delta)
+  pub counts-are : after counts ≡ countsAfter d (before counts)
 
 -- The number and the lent results afterwards are those of the displacement of what is lent. An accepted one has what an accepted displacement has, demand 3 of every
 -- round included.
-pub record DisplacementAnswers (l : Lent) (number : ℕ) (delta₀ delta : List ℕ) (counts₀ counts : List ℕ) : Type 0 where
-  pub leaves : Leaves (columnsDisplaced l) number delta₀ delta counts₀ counts
+pub record DisplacementAnswers (l : Lent) (number : ℕ) (delta counts : LentNumbers) : Type 0 where
+  pub leaves : Leaves (columnsDisplaced l) number delta counts
   pub accepted : (d : Delta) → columnsDisplaced l ≡ Moved d → Accepted (lentInput l) d
+
+-- two calls are alike: the same number, and from the same memory the same bits in the lent results
+pub record Alike (number number′ : ℕ) (delta delta′ counts counts′ : LentNumbers) : Type 0 where
+  pub numbers : number ≡ number′
+  pub deltas : before delta ≡ before delta′ → after delta ≡ after delta′
+  pub counted : before counts ≡ before counts′ → after counts ≡ after counts′

@@ -1,20 +1,19 @@
 // Displacements of two epochs' columns: refused by 2 where they do not fit, otherwise that of their signals, states and floats.
 ghost use mathlib.Core.Path.{_≡_};
 ghost use lib.ListN.{length};
-ghost use Rattle.records.specs.Carriers.{carrierColumns, epochFits};
-ghost use Rattle.numeric.specs.Vec3.{vectorAt};
+ghost use Rattle.lists.specs.Memory.{after};
+ghost use Rattle.records.specs.Carriers.{epochFits};
+ghost use Rattle.records.specs.Lent.{lentColumns, lentVector};
 ghost use Rattle.tdcp_columns.specs.Displacement as spec;
-ghost use Rattle.tdcp_columns.specs.Steps.{FitInto, ColumnsPromised, columnsAnswered};
+ghost use Rattle.tdcp_columns.specs.Steps.{FitInto, ColumnsPromised};
 use crate::settings::displacement_settings;
 use numeric::refusal::Refusal;
 use numeric::vec3::vector;
 use records::carriers::signals_into;
 use records::pair::Profile;
-use tdcp::displacement::Displacement;
 use tdcp::displacement::Interval;
 use tdcp::displacement::Rated;
-use tdcp::displacement::answered;
-use tdcp::displacement::plain;
+use tdcp::displacement::displaced;
 
 // Checks that there are at most 64 carriers and that the columns hold them.
 fn epoch_fits(
@@ -25,8 +24,7 @@ fn epoch_fits(
     floats: &[f64],
     n: usize,
 ) -> bool
-    ensures { λ r. ⌜ r ≡ epochFits (carrierColumns (now (constellation .entry)) (now (svid .entry)) (now (band .entry))
-        (now (state .entry)) (now (floats .entry))) n ⌝ }
+    ensures { λ r. ⌜ r ≡ epochFits (lentColumns constellation svid band state floats) n ⌝ }
 {
     if n > 64 {
         return false;
@@ -49,8 +47,7 @@ fn fit_into(
     signals: &mut [u64; 64],
 ) -> bool
     requires { ⌜ length (now signals) ≡ 64 ⌝ }
-    ensures { λ r. ⌜ FitInto (carrierColumns (now (constellation .entry)) (now (svid .entry)) (now (band .entry))
-        (now (state .entry)) (now (floats .entry))) n r (now (signals .exit)) ⌝ }
+    ensures { λ r. ⌜ FitInto (lentColumns constellation svid band state floats) n r (after signals) ⌝ }
 {
     if !epoch_fits(constellation, svid, band, state, floats, n) {
         return false;
@@ -60,7 +57,7 @@ fn fit_into(
 }
 
 // Returns the displacement between two epochs, with the figures of its fit on request. States and floats are read in place.
-pub fn columns_answered(
+pub fn columns_displaced(
     previous_constellation: &[u8],
     previous_svid: &[u16],
     previous_band: &[u32],
@@ -80,12 +77,10 @@ pub fn columns_answered(
     profile: Profile,
     wanted: bool,
 ) -> Rated
-    ensures { λ r. ⌜ (let previous = carrierColumns (now («previous_constellation» .entry)) (now («previous_svid» .entry)) (now («previous_band» .entry))
-        (now («previous_state» .entry)) (now («previous_floats» .entry)) in
-        let current = carrierColumns (now («current_constellation» .entry)) (now («current_svid» .entry)) (now («current_band» .entry))
-        (now («current_state» .entry)) (now («current_floats» .entry)) in
-        r ≡ columnsAnswered wanted (spec.lent previous «previous_count» current «current_count» since
-        (vectorAt (now (receiver .entry)) 0) (spec.displacementSettings (now (settings .entry)) rounds) profile)) ⌝ }
+    ensures { λ r. ⌜ ColumnsPromised wanted (spec.lent
+        (lentColumns «previous_constellation» «previous_svid» «previous_band» «previous_state» «previous_floats») «previous_count»
+        (lentColumns «current_constellation» «current_svid» «current_band» «current_state» «current_floats») «current_count»
+        since (lentVector receiver) (spec.lentSettings settings rounds) profile) r ⌝ }
 {
     let mut previous_signals = [0u64; 64];
     if !fit_into(
@@ -113,7 +108,7 @@ pub fn columns_answered(
     }
     let at = vector(receiver);
     let s = displacement_settings(settings, rounds);
-    answered(
+    displaced(
         &previous_signals[..previous_count],
         previous_state,
         previous_floats,
@@ -126,54 +121,4 @@ pub fn columns_answered(
         profile,
         wanted,
     )
-}
-
-// Returns the displacement between two epochs.
-pub fn columns_displaced(
-    previous_constellation: &[u8],
-    previous_svid: &[u16],
-    previous_band: &[u32],
-    previous_state: &[i32],
-    previous_floats: &[f64],
-    previous_count: usize,
-    current_constellation: &[u8],
-    current_svid: &[u16],
-    current_band: &[u32],
-    current_state: &[i32],
-    current_floats: &[f64],
-    current_count: usize,
-    since: Interval,
-    receiver: &[f64; 3],
-    settings: &[f64; 5],
-    rounds: usize,
-    profile: Profile,
-) -> Displacement
-    ensures { λ r. ⌜ (let previous = carrierColumns (now («previous_constellation» .entry)) (now («previous_svid» .entry)) (now («previous_band» .entry))
-        (now («previous_state» .entry)) (now («previous_floats» .entry)) in
-        let current = carrierColumns (now («current_constellation» .entry)) (now («current_svid» .entry)) (now («current_band» .entry))
-        (now («current_state» .entry)) (now («current_floats» .entry)) in
-        ColumnsPromised (spec.lent previous «previous_count» current «current_count» since
-        (vectorAt (now (receiver .entry)) 0) (spec.displacementSettings (now (settings .entry)) rounds) profile) r) ⌝ }
-{
-    let answer = columns_answered(
-        previous_constellation,
-        previous_svid,
-        previous_band,
-        previous_state,
-        previous_floats,
-        previous_count,
-        current_constellation,
-        current_svid,
-        current_band,
-        current_state,
-        current_floats,
-        current_count,
-        since,
-        receiver,
-        settings,
-        rounds,
-        profile,
-        false,
-    );
-    plain(answer)
 }

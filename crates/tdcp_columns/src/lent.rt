@@ -1,17 +1,18 @@
 // The answer of a displacement in lent memory. Doubles are lent as their patterns, so that a refusal is promised to change no bit.
 ghost use mathlib.Core.Path.{_≡_};
+ghost use Rattle.tdcp.specs.Rated.{plainOf};
 ghost use Rattle.tdcp_columns.specs.Displacement as spec;
 ghost use Rattle.tdcp_columns.specs.Rated as rated;
 use numeric::order::pattern;
-use tdcp::displacement::Displacement;
 use tdcp::displacement::Rated;
 
-// Returns 0 and writes the displacement in metres to `delta` and how many pairs were used and screened out to `counts`. On refusal, returns its number and changes nothing.
-pub fn answer_into(answer: Displacement, delta: &mut [u64; 3], counts: &mut [usize; 2]) -> u8
-    ensures { λ r. ⌜ spec.Leaves answer r (now (delta .entry)) (now (delta .exit)) (now (counts .entry)) (now (counts .exit)) ⌝ }
+// Returns 0 and writes the displacement in metres, without its figures, to `delta` and how many pairs were used and screened out to `counts`. On refusal, returns its number and changes nothing.
+pub fn answer_into(answer: Rated, delta: &mut [u64; 3], counts: &mut [usize; 2]) -> u8
+    ensures { λ r. ⌜ spec.Leaves (plainOf answer) r delta counts ⌝ }
 {
     match answer {
-        Displacement::Moved(d) => {
+        Rated::Moved(a) => {
+            let d = a.moved;
             let v = d.delta;
             let x = pattern(v.x);
             let y = pattern(v.y);
@@ -20,7 +21,7 @@ pub fn answer_into(answer: Displacement, delta: &mut [u64; 3], counts: &mut [usi
             *counts = [d.used, d.screened];
             0
         }
-        Displacement::Refused(r) => r.number(),
+        Rated::Refused(r) => r.number(),
     }
 }
 
@@ -31,8 +32,7 @@ pub fn rated_into(
     quality: &mut [u64; 2],
     counts: &mut [usize; 2],
 ) -> u8
-    ensures { λ r. ⌜ rated.RatedLeaves answer r (now (delta .entry)) (now (delta .exit)) (now (quality .entry)) (now (quality .exit))
-        (now (counts .entry)) (now (counts .exit)) ⌝ }
+    ensures { λ r. ⌜ rated.RatedLeaves answer r delta quality counts ⌝ }
 {
     match answer {
         Rated::Moved(d) => {

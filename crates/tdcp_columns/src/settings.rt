@@ -7,7 +7,7 @@ use tdcp::displacement::Settings;
 
 // Returns the settings of five floats and the rounds.
 pub fn displacement_settings(s: &[f64; 5], rounds: usize) -> Settings
-    ensures { λ r. ⌜ r ≡ spec.displacementSettings (now (s .entry)) (min rounds 51) ⌝ }
+    ensures { λ r. ⌜ r ≡ spec.lentSettings s (min rounds 51) ⌝ }
 {
     let n = rounds_of(rounds);
     Settings {

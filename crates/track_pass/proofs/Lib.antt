@@ -5,3 +5,6 @@ pub mod Anchors
 pub mod Links
 pub mod Assembly
 pub mod Passing
+pub mod FiniteSum
+pub mod Finite
+pub mod Publishing

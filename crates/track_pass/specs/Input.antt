@@ -3,6 +3,7 @@ use mathlib.Core.List.{List}
 use Prim.Native.Nat.{ℕ, _+_, _*_}
 use lib.ListN.{getD}
 use lib.Ieee.{Float, nan}
+use Rattle.lists.specs.Memory.{before, LentNumbers, LentFloats}
 
 -- Anchors, or links: how many there are, and of each the epoch index, three floats of position (a link's change in position), and three sigmas.
 pub record Measured : Type 0 where
@@ -22,6 +23,19 @@ measured count index value sigma = record { count = count; index = index; value 
 
 abbrev pub trajectory : ℕ → Measured → Measured → Trajectory
 trajectory n anchors links = record { n = n; anchors = anchors; links = links }
+
+-- ---- what a call is lent
+
+-- anchors, or links, that a call is lent
+abbrev pub lentMeasured : ℕ → LentNumbers → LentFloats → LentFloats → Measured
+lentMeasured count index value sigma = measured count (before index) (before value) (before sigma)
+
+-- the trajectory of n epochs that a call is lent: its anchors, then its links
+abbrev pub lentTrack : ℕ → ℕ → LentNumbers → LentFloats → LentFloats → ℕ → LentNumbers → LentFloats → LentFloats → Trajectory
+lentTrack n anchors epoch position sigma links from change spread =
+    trajectory n (lentMeasured anchors epoch position sigma) (lentMeasured links from change spread)
+
+-- ---- its measurements
 
 -- the epoch index of measurement j, and its value and sigma on axis t: 0 is x, 1 is y, 2 is z
 abbrev pub indexAt : Measured → ℕ → ℕ

@@ -10,8 +10,8 @@ use Rattle.track_pass.specs.Input.{Trajectory, trackOrigin}
 use Rattle.track_pass.specs.Equations.{Scales, equationsOf}
 
 -- a pass fails where an axis does: an epoch is held by no measurement, a pivot vanishes or an unknown is not finite
-unfoldable pub passes : Trajectory → Scales → Bool
-passes p s = onAxes (λ t. axisSolved (equationsOf p s t) (p .n))
+unfoldable pub passSucceeds : Trajectory → Scales → Bool
+passSucceeds p s = onAxes (λ t. axisSolved (equationsOf p s t) (p .n))
 
 -- what a good pass fits at epoch k on axis t: the unknown and the origin
 unfoldable pub fittedAt : Trajectory → Scales → ℕ → ℕ → Float

@@ -1,14 +1,13 @@
 // One pass: the equations of the three axes, solved side by side.
-ghost use Prim.Native.Nat.{_+_, _*_, _≤_};
-ghost use lib.ListN.{length};
-ghost use Rattle.track_pass.specs.Input.{measured, trajectory};
-ghost use Rattle.track_pass.specs.Steps.{Valid, PassDone};
+ghost use Rattle.track_pass.specs.Input.{lentTrack};
+ghost use Rattle.track_pass.specs.Steps.{trackNow, Ready, Passed};
+use crate::publish::publish;
 use crate::system::add_anchors;
 use crate::system::add_links;
 use track_tridiagonal::fill::fill;
 use track_tridiagonal::solve::solve;
 
-// Makes one pass by the scales after the rows: the solutions replace the right sides. False where the pass fails.
+// Makes one pass by the scales after the rows and puts its fit into the result r. False where the pass fails, which leaves the result.
 pub fn pass(
     w: &mut [u64],
     n: usize,
@@ -20,16 +19,10 @@ pub fn pass(
     link_epoch: &[usize],
     link_change: &[f64],
     link_sigma: &[f64],
+    r: &mut [u64],
 ) -> bool
-    requires { ⌜ n * 9 + anchors + links ≤ length (now w) ⌝ }
-    requires { ⌜ (
-        let a = measured anchors (now «anchor_epoch») (now «anchor_position») (now «anchor_sigma») in
-        let l = measured links (now «link_epoch») (now «link_change») (now «link_sigma») in
-        Valid (trajectory n a l)) ⌝ }
-    ensures { λ r. ⌜ (
-        let a = measured anchors (now («anchor_epoch» .entry)) (now («anchor_position» .entry)) (now («anchor_sigma» .entry)) in
-        let l = measured links (now («link_epoch» .entry)) (now («link_change» .entry)) (now («link_sigma» .entry)) in
-        PassDone (trajectory n a l) (now (w .entry)) r (now (w .exit))) ⌝ }
+    requires { ⌜ Ready (trackNow n anchors «anchor_epoch» «anchor_position» «anchor_sigma» links «link_epoch» «link_change» «link_sigma») (now w) (now r) ⌝ }
+    ensures { λ ok. ⌜ Passed (lentTrack n anchors «anchor_epoch» «anchor_position» «anchor_sigma» links «link_epoch» «link_change» «link_sigma») w r ok ⌝ }
 {
     fill(&mut *w, 0, n * 9, 0);
     if !add_anchors(
@@ -53,5 +46,16 @@ pub fn pass(
     ) {
         return false;
     }
-    solve(&mut *w, n)
+    if !solve(&mut *w, n) {
+        return false;
+    }
+    publish(
+        &w[..],
+        n,
+        anchor_position[0],
+        anchor_position[1],
+        anchor_position[2],
+        &mut *r,
+    );
+    true
 }

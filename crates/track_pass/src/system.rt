@@ -2,18 +2,17 @@
 ghost use mathlib.Core.Path.{_≡_};
 ghost use Prim.Native.Nat.{_+_, _-_, _*_, _<_, _≤_};
 ghost use lib.ListN.{length};
+ghost use Rattle.lists.specs.Memory.{before, after};
 ghost use Rattle.exact.specs.Float.{_⊗_, _⊘_};
-ghost use Rattle.track_tridiagonal.specs.Rows.{Axes, axisIn, floatAt};
 ghost use Rattle.track_tridiagonal.specs.Steps.{NumbersAt};
-ghost use Rattle.track_tridiagonal.specs.Tridiagonal.{NoNan};
-ghost use Rattle.track_pass.specs.Input.{measured};
-ghost use Rattle.track_pass.specs.Steps.{Lent, AnchorAdded, LinkAdded, AddDone, anchorChange, linkChange};
+ghost use Rattle.track_pass.specs.Input.{lentMeasured};
+ghost use Rattle.track_pass.specs.Steps.{measuredNow, AnchorAdded, LinkAdded, Addable, AddedBy, anchorChange, linkChange};
 use numeric::order::float;
 
 // Adds an anchor to the row of one axis with its diagonal at `at`: its scale c, sigma s and place v from the origin. False where a NaN would be stored.
 fn add_anchor(w: &mut [u64], at: usize, c: f64, s: f64, v: f64) -> bool
     requires { ⌜ (at + 6 < length (now w)) × NumbersAt (now w) at (at + 6) (at + 6) ⌝ }
-    ensures { λ r. ⌜ AnchorAdded (now (w .entry)) at (c ⊘ (s ⊗ s)) (c ⊘ (s ⊗ s) ⊗ v) r (now (w .exit)) ⌝ }
+    ensures { λ r. ⌜ AnchorAdded (before w) at (c ⊘ (s ⊗ s)) (c ⊘ (s ⊗ s) ⊗ v) r (after w) ⌝ }
 {
     let a = c / (s * s);
     let d = f64::from_bits(w[at]) + a;
@@ -29,7 +28,7 @@ fn add_anchor(w: &mut [u64], at: usize, c: f64, s: f64, v: f64) -> bool
 // Adds a link to the row of one axis with its diagonal at `at` and to the next: its scale c, sigma s and change in position v. False where a NaN would be stored.
 fn add_link(w: &mut [u64], at: usize, c: f64, s: f64, v: f64) -> bool
     requires { ⌜ (at + 15 < length (now w)) × NumbersAt (now w) at (at + 3) (at + 6) × NumbersAt (now w) (at + 9) (at + 9) (at + 15) ⌝ }
-    ensures { λ r. ⌜ LinkAdded (now (w .entry)) at (c ⊘ (s ⊗ s)) (c ⊘ (s ⊗ s) ⊗ v) r (now (w .exit)) ⌝ }
+    ensures { λ r. ⌜ LinkAdded (before w) at (c ⊘ (s ⊗ s)) (c ⊘ (s ⊗ s) ⊗ v) r (after w) ⌝ }
 {
     let a = c / (s * s);
     let b = a * v;
@@ -58,11 +57,8 @@ pub(crate) fn add_anchors(
     value: &[f64],
     sigma: &[f64],
 ) -> bool
-    requires { ⌜ (0 < count) × (n * 9 + count ≤ length (now w)) × Lent (measured count (now index) (now value) (now sigma)) n
-        × Axes (λ t. NoNan (axisIn (now w) t) n) ⌝ }
-    ensures { λ r. ⌜ (
-        let m = measured count (now (index .entry)) (now (value .entry)) (now (sigma .entry)) in
-        AddDone (anchorChange m (λ j. floatAt (now (w .entry)) (n * 9 + j))) (now (w .entry)) n count r (now (w .exit))) ⌝ }
+    requires { ⌜ (0 < count) × Addable (measuredNow count index value sigma) n n (n * 9) (now w) ⌝ }
+    ensures { λ ok. ⌜ AddedBy anchorChange (lentMeasured count index value sigma) n (n * 9) w ok ⌝ }
 {
     let from = n * 9;
     let ox = value[0];
@@ -96,11 +92,8 @@ pub(crate) fn add_links(
     value: &[f64],
     sigma: &[f64],
 ) -> bool
-    requires { ⌜ (n * 9 + skip + count ≤ length (now w)) × Lent (measured count (now index) (now value) (now sigma)) (n - 1)
-        × Axes (λ t. NoNan (axisIn (now w) t) n) ⌝ }
-    ensures { λ r. ⌜ (
-        let m = measured count (now (index .entry)) (now (value .entry)) (now (sigma .entry)) in
-        AddDone (linkChange m (λ j. floatAt (now (w .entry)) (n * 9 + skip + j))) (now (w .entry)) n count r (now (w .exit))) ⌝ }
+    requires { ⌜ Addable (measuredNow count index value sigma) (n - 1) n (n * 9 + skip) (now w) ⌝ }
+    ensures { λ ok. ⌜ AddedBy linkChange (lentMeasured count index value sigma) n (n * 9 + skip) w ok ⌝ }
 {
     let from = n * 9 + skip;
     let mut j: usize = 0;

@@ -1,7 +1,6 @@
 pub mod RootOrder
 pub mod Weights
 pub mod Refusals
-pub mod FiniteSum
 pub mod Finite
 pub mod Points
 pub mod Passes

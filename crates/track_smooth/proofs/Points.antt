@@ -14,8 +14,8 @@ use lib.Ieee.Scale.{finite}
 use Rattle.numeric.specs.Order.{patternOf}
 use Rattle.track_tridiagonal.specs.Rows.{SameOutside}
 use Rattle.track_tridiagonal.proofs.Cells.{place}
+use Rattle.track_pass.specs.Steps.{Tabulated}
 use Rattle.track_smooth.specs.Track.{points}
-use Rattle.track_smooth.specs.Steps.{Tabulated}
 
 float-at : (xs : List Float) (i k : ℕ) → i ≡ k → getD xs i nan ≡ getD xs k nan
 float-at xs i k e = ap (λ (j : ℕ). getD xs j nan) e

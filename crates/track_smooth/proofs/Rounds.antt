@@ -1,71 +1,31 @@
 -- The result, and the passes in turn. Assumes nothing.
 use mathlib.Core.Path.{_≡_, refl, sym, _∙_, ap}
-use mathlib.Core.Bool.{Bool, true, false, cond}
-use mathlib.Core.Logic.{⊎-elim}
+use mathlib.Core.Bool.{Bool, true, false}
 use mathlib.Core.List.{List}
 use Prim.Native.Nat.{ℕ, zero, suc, _+_, _-_, _*_, _/_, _%_, _≤_, _<_}
-use native.Mathlib.Nat.{eq-or-lt-of-le}
 use native.Mathlib.Omega.{arith}
 use lib.Dec.{T}
-use lib.ListN.{length, getD, set, take, length-set, length-take}
+use lib.ListN.{length, getD, take, length-take}
 use lib.Seq.{getD-take}
-use lib.Ieee.{Float, nan, isNan, binary64, fits}
-use lib.Ieee.Scale.{finite}
+use lib.Ieee.{Float, isNan, binary64, fits}
 use lib.Ieee.Fits.{add-fits}
-use Rattle.exact.specs.Float.{_⊕_, bits}
+use Rattle.exact.specs.Float.{bits}
 use Rattle.numeric.specs.Order.{patternOf}
-use Rattle.numeric.specs.Real.{inRange}
 use Rattle.numeric.proofs.OrderLaws.{pattern-back}
-use Rattle.track_tridiagonal.specs.Rows.{floatAt, rowCell, SameOutside}
-use Rattle.track_tridiagonal.specs.Tridiagonal.{solution}
+use Rattle.track_tridiagonal.specs.Rows.{floatAt, SameOutside}
 use Rattle.track_tridiagonal.specs.Steps.{Filled}
-use Rattle.track_tridiagonal.proofs.Cells.{place, same-float, hit, miss, miss2, miss3, kept-none, kept-then}
+use Rattle.track_tridiagonal.proofs.Cells.{place, same-float, kept-none, kept-then}
 use Rattle.track_tridiagonal.proofs.Nan.{finite-number}
-use Rattle.track_pass.specs.Input.{Measured, Trajectory, trackOrigin, workNeed}
-use Rattle.track_pass.specs.Equations.{Scales, equationsOf}
-use Rattle.track_pass.specs.Pass.{passes, fittedAt}
-use Rattle.track_pass.specs.Steps.{Lent, Valid, scalesIn, PassDone}
-use Rattle.track_pass.proofs.Passing.{passes-same, fit-same}
-use Rattle.track_smooth.specs.Track.{anchorScale, linkScale, scalesOf, ones, refined, smoothed}
-use Rattle.track_smooth.specs.Steps.{fitIn, Numbers, Weighed, Reweighed, FiniteCells, Tabulated, Published, FitDone}
+use Rattle.track_pass.specs.Input.{Measured, Trajectory, workNeed}
+use Rattle.track_pass.specs.Equations.{Scales}
+use Rattle.track_pass.specs.Pass.{passSucceeds, fittedAt}
+use Rattle.track_pass.specs.Steps.{Lent, Valid, scalesIn, Tabulated, PassDone}
+use Rattle.track_pass.proofs.Passing.{passSucceeds-same, fit-same}
+use Rattle.track_pass.proofs.Finite.{pass-finite}
+use Rattle.track_smooth.specs.Track.{anchorScale, linkScale, scalesOf, ones, smoothed}
+use Rattle.track_smooth.specs.Steps.{fitIn, Numbers, Weighed, Reweighed, FitDone}
+use Rattle.track_smooth.proofs.Passes.{trackFrom, from-none, from-yes, from-no}
 use Rattle.track_smooth.proofs.Weights.{held-anchor, held-link}
-use Rattle.track_smooth.proofs.Finite.{solution-finite, pass-finite}
-
--- ---- the copy
-
-module _ (w : List ℕ) (x y z : Float) (r₀ : List ℕ) where
-  pub published-none : Published w 0 x y z r₀ r₀
-  published-none = record { kept = kept-none 0 (0 * 3) r₀; xs = λ k h. absurd (omega arith); ys = λ k h. absurd (omega arith); zs = λ k h. absurd (omega arith) }
-
-  last-of : (j k : ℕ) {A : Type 0} → j < k + 1 → (j ≡ k → A) → (j < k → A) → A
-  last-of j k h f g = ⊎-elim (λ e. f (omega arith)) (λ l. g (omega arith)) (eq-or-lt-of-le h)
-
-  module _ (k : ℕ) (r : List ℕ) (room : k * 3 + 2 < length r) (a b c : ℕ) (ea : a ≡ patternOf (rowCell w 6 k ⊕ x)) (eb : b ≡ patternOf (rowCell w 7 k ⊕ y)) (ec : c ≡ patternOf (rowCell w 8 k ⊕ z)) where
-    moved : (s j : ℕ) (o : Float) → j ≡ k → patternOf (rowCell w s k ⊕ o) ≡ patternOf (rowCell w s j ⊕ o)
-    moved s j o e = ap (λ (i : ℕ). patternOf (rowCell w s i ⊕ o)) (sym e)
-
-    pub published-more : Published w k x y z r₀ r → Published w (k + 1) x y z r₀ (set (set (set r (k * 3) a) (k * 3 + 1) b) (k * 3 + 2) c)
-    published-more s =
-        let r1 = set r (k * 3) a in
-        let r2 = set r1 (k * 3 + 1) b in
-        record {
-          kept = record {
-            low = λ q h. absurd (omega arith);
-            high = λ q h. miss3 r (k * 3) (k * 3 + 1) (k * 3 + 2) q a b c (omega arith) (omega arith) (omega arith) ∙ s .kept .high q (omega arith);
-          };
-          xs = λ j h. last-of j k h
-              (λ e. miss2 r1 (k * 3 + 1) (k * 3 + 2) (j * 3) b c (omega arith) (omega arith) ∙ hit r (k * 3) (j * 3) a (omega arith) (omega arith) ∙ ea ∙ moved 6 j x e)
-              (λ l. miss3 r (k * 3) (k * 3 + 1) (k * 3 + 2) (j * 3) a b c (omega arith) (omega arith) (omega arith) ∙ s .xs j l);
-          ys = λ j h. last-of j k h
-              (λ e. miss r2 (k * 3 + 2) (j * 3 + 1) c (omega arith) ∙ hit r1 (k * 3 + 1) (j * 3 + 1) b (simp length-set (omega arith)) (omega arith) ∙ eb ∙ moved 7 j y e)
-              (λ l. miss3 r (k * 3) (k * 3 + 1) (k * 3 + 2) (j * 3 + 1) a b c (omega arith) (omega arith) (omega arith) ∙ s .ys j l);
-          zs = λ j h. last-of j k h
-              (λ e. hit r2 (k * 3 + 2) (j * 3 + 2) c (simp length-set (omega arith)) (omega arith) ∙ ec ∙ moved 8 j z e)
-              (λ l. miss3 r (k * 3) (k * 3 + 1) (k * 3 + 2) (j * 3 + 2) a b c (omega arith) (omega arith) (omega arith) ∙ s .zs j l);
-        }
-
-  pub published-all : (k n : ℕ) (r : List ℕ) → k ≡ n → Published w k x y z r₀ r → Published w n x y z r₀ r
-  published-all k n r e s = rw e at s
 
 -- ---- a list that holds a fit, as floats
 
@@ -107,33 +67,17 @@ pub record Stand (p : Trajectory) (s : Scales) (w : List ℕ) : Type 0 where
   pub anchors : (j : ℕ) → j < p .anchors .count → scalesIn p w .anchors j ≡ s .anchors j
   pub links : (j : ℕ) → j < p .links .count → scalesIn p w .links j ≡ s .links j
 
-module _ (p : Trajectory) (s : Scales) (w w' : List ℕ) (ok : Bool) (d : PassDone p w ok w') (e : Stand p s w) where
-  pub pass-answer : ok ≡ passes p s
-  pass-answer = d .answer ∙ passes-same p (scalesIn p w) s (e .anchors) (e .links)
+module _ (p : Trajectory) (s : Scales) (w w' r r' : List ℕ) (ok : Bool) (d : PassDone p w r ok w' r') (e : Stand p s w) where
+  pub pass-answer : ok ≡ passSucceeds p s
+  pass-answer = d .answer ∙ passSucceeds-same p (scalesIn p w) s (e .anchors) (e .links)
 
-  pub pass-cells : ok ≡ true → FiniteCells w' (p .n)
-  pass-cells y =
-      let g : passes p (scalesIn p w) ≡ true = sym (d .answer) ∙ y in
-      let u = d .solutions y in
-      record {
-        xs = λ k h. ap finite (u .x k h) ∙ solution-finite p (scalesIn p w) g 0 (omega arith) k h;
-        ys = λ k h. ap finite (u .y k h) ∙ solution-finite p (scalesIn p w) g 1 (omega arith) k h;
-        zs = λ k h. ap finite (u .z k h) ∙ solution-finite p (scalesIn p w) g 2 (omega arith) k h;
-      }
-
-  module _ (y : ok ≡ true) (r r' : List ℕ) (q : Published w' (p .n) (getD (p .anchors .value) 0 nan) (getD (p .anchors .value) 1 nan) (getD (p .anchors .value) 2 nan) r r') where
-    shifted : (t k : ℕ) (x : Float) → x ≡ solution (equationsOf p (scalesIn p w) t) (p .n) k → patternOf (x ⊕ trackOrigin (p .anchors) t) ≡ patternOf (fittedAt p s t k)
-    unfolding fittedAt
-    shifted t k x g = ap patternOf (ap (λ (y : Float). y ⊕ trackOrigin (p .anchors) t) g ∙ fit-same p (scalesIn p w) s (e .anchors) (e .links) t k)
-
-    pub published-fit : Tabulated r' (p .n) (fittedAt p s)
-    published-fit =
-        let u = d .solutions y in
-        record {
-          xs = λ k g. q .xs k g ∙ shifted 0 k _ (u .x k g);
-          ys = λ k g. q .ys k g ∙ shifted 1 k _ (u .y k g);
-          zs = λ k g. q .zs k g ∙ shifted 2 k _ (u .z k g);
-        }
+  pub pass-fit : ok ≡ true → Tabulated r' (p .n) (fittedAt p s)
+  pass-fit y =
+      let f = d .fit y in
+      record { xs = λ k g. f .xs k g ∙ same 0 k; ys = λ k g. f .ys k g ∙ same 1 k; zs = λ k g. f .zs k g ∙ same 2 k }
+    where
+      same : (t k : ℕ) → patternOf (fittedAt p (scalesIn p w) t k) ≡ patternOf (fittedAt p s t k)
+      same t k = ap patternOf (fit-same p (scalesIn p w) s (e .anchors) (e .links) t k)
 
 -- ---- the first part of a list
 
@@ -148,31 +92,14 @@ none-done n h = omega arith
 
 -- ---- the passes in turn
 
-refined-yes : (p : Trajectory) (h : Float) (m : ℕ) (f : ℕ → ℕ → Float) → passes p (scalesOf p h f) ≡ true → 0 < m
-    → refined p h m f ≡ refined p h (m - 1) (fittedAt p (scalesOf p h f))
-unfolding refined
-refined-yes p h m f e g =
-    let q : m ≡ suc (m - 1) = omega arith in
-    ap (λ (i : ℕ). refined p h i f) q ∙ ap (λ (b : Bool). cond b (refined p h (m - 1) (fittedAt p (scalesOf p h f))) f) e
-
-refined-no : (p : Trajectory) (h : Float) (m : ℕ) (f : ℕ → ℕ → Float) → passes p (scalesOf p h f) ≡ false → 0 < m → refined p h m f ≡ f
-unfolding refined
-refined-no p h m f e g =
-    let q : m ≡ suc (m - 1) = omega arith in
-    ap (λ (i : ℕ). refined p h i f) q ∙ ap (λ (b : Bool). cond b (refined p h (m - 1) (fittedAt p (scalesOf p h f))) f) e
-
-refined-none : (p : Trajectory) (h : Float) (m : ℕ) (f : ℕ → ℕ → Float) → m ≡ 0 → refined p h m f ≡ f
-unfolding refined
-refined-none p h m f e = rw e
-
 tabulated-is : (r : List ℕ) (n : ℕ) (f g : ℕ → ℕ → Float) → f ≡ g → Tabulated r n f → Tabulated r n g
 tabulated-is r n f g e s = rw e at s
 
 -- what a pass by the scales s leads to, after so many good ones: where it is good, the track is what the passes left make of its fit, and where it fails the track stands in r
 pub record Ahead (p : Trajectory) (h : Float) (its : ℕ) (r₀ r : List ℕ) (done : ℕ) (s : Scales) : Type 0 where
-  pub if-good : passes p s ≡ true → (passes p ones ≡ true) × (smoothed p h its ≡ refined p h (its - (done + 1)) (fittedAt p s))
-  pub if-first : passes p s ≡ false → done ≡ 0 → (passes p ones ≡ false) × (r ≡ r₀)
-  pub if-later : passes p s ≡ false → 0 < done → (passes p ones ≡ true) × Tabulated r (p .n) (smoothed p h its)
+  pub if-good : passSucceeds p s ≡ true → (passSucceeds p ones ≡ true) × (smoothed p h its ≡ trackFrom p h (its - (done + 1)) s)
+  pub if-first : passSucceeds p s ≡ false → done ≡ 0 → (passSucceeds p ones ≡ false) × (r ≡ r₀)
+  pub if-later : passSucceeds p s ≡ false → 0 < done → (passSucceeds p ones ≡ true) × Tabulated r (p .n) (smoothed p h its)
 
 pub record Fitting (p : Trajectory) (h : Float) (its : ℕ) (w₀ r₀ w r : List ℕ) (done : ℕ) : Type 0 where
   pub work-kept : SameOutside 0 (workNeed p) w₀ w
@@ -215,47 +142,47 @@ fit-from p h its w₀ w w' r ok r' f d = record {
   no-same = d .no-same;
 }
 
-module _ (p : Trajectory) (v : Valid p) (small : (t : ℕ) → t < 3 → inRange (trackOrigin (p .anchors) t) ≡ true) (h : Float) (its : ℕ) (w₀ r₀ w r : List ℕ) (done : ℕ) (s : Fitting p h its w₀ r₀ w r done) (ok : Bool) (w1 : List ℕ) (d : PassDone p w ok w1) where
+module _ (p : Trajectory) (v : Valid p) (h : Float) (its : ℕ) (w₀ r₀ w r : List ℕ) (done : ℕ) (s : Fitting p h its w₀ r₀ w r done) (ok : Bool) (w1 r1 : List ℕ) (d : PassDone p w r ok w1 r1) where
   work-then : SameOutside 0 (workNeed p) w₀ w1
   work-then = record { low = λ k g. absurd (omega arith); high = λ k g. d .kept .high k (omega arith) ∙ s .work-kept .high k g }
 
-  ok-is : ok ≡ passes p (s .scales)
-  ok-is = pass-answer p (s .scales) w w1 ok d (s .stand)
+  kept-too : SameOutside 0 (p .n * 3) r₀ r1
+  kept-too = kept-then 0 (p .n * 3) 0 (p .n * 3) r₀ r r1 (omega arith) (omega arith) (s .kept) (d .result-kept)
 
-  pub fitting-fails : ok ≡ false → (b : Bool) → (b ≡ true → 0 < done) → (b ≡ false → done ≡ 0) → FitDone p h its w₀ w1 r₀ b r
+  ok-is : ok ≡ passSucceeds p (s .scales)
+  ok-is = pass-answer p (s .scales) w w1 r r1 ok d (s .stand)
+
+  pub fitting-fails : ok ≡ false → (b : Bool) → (b ≡ true → 0 < done) → (b ≡ false → done ≡ 0) → FitDone p h its w₀ w1 r₀ b r1
   fitting-fails f b t z =
-      let n : passes p (s .scales) ≡ false = sym ok-is ∙ f in
+      let n : passSucceeds p (s .scales) ≡ false = sym ok-is ∙ f in
       record {
         work-kept = work-then;
-        kept = s .kept;
+        kept = kept-too;
         answer = go b t z;
-        yes-holds = λ y. s .ahead .if-later n (t y) .1;
-        no-same = λ y. s .ahead .if-first n (z y) .1;
+        yes-holds = λ y. rw (d .no-same f) (s .ahead .if-later n (t y) .1);
+        no-same = λ y. d .no-same f ∙ s .ahead .if-first n (z y) .1;
       }
     where
-      go : (b : Bool) → (b ≡ true → 0 < done) → (b ≡ false → done ≡ 0) → b ≡ passes p ones
+      go : (b : Bool) → (b ≡ true → 0 < done) → (b ≡ false → done ≡ 0) → b ≡ passSucceeds p ones
       go true t z = sym (s .ahead .if-later (sym ok-is ∙ f) (t refl) .0)
       go false t z = sym (s .ahead .if-first (sym ok-is ∙ f) (z refl) .0)
 
-  module _ (y : ok ≡ true) (r1 : List ℕ) (q : Published w1 (p .n) (getD (p .anchors .value) 0 nan) (getD (p .anchors .value) 1 nan) (getD (p .anchors .value) 2 nan) r r1) where
-    good : passes p (s .scales) ≡ true
+  module _ (y : ok ≡ true) where
+    good : passSucceeds p (s .scales) ≡ true
     good = sym ok-is ∙ y
 
     abbrev g : ℕ → ℕ → Float
     g = fittedAt p (s .scales)
 
     holds : Tabulated r1 (p .n) g
-    holds = published-fit p (s .scales) w w1 ok d (s .stand) y r r1 q
-
-    kept-then-too : SameOutside 0 (p .n * 3) r₀ r1
-    kept-then-too = kept-then 0 (p .n * 3) 0 (p .n * 3) r₀ r r1 (omega arith) (omega arith) (s .kept) (q .kept)
+    holds = pass-fit p (s .scales) w w1 r r1 ok d (s .stand) y
 
     pub fitting-ends : its ≤ done + 1 → FitDone p h its w₀ w1 r₀ true r1
     fitting-ends m = record {
       work-kept = work-then;
-      kept = kept-then-too;
+      kept = kept-too;
       answer = sym (s .ahead .if-good good .0);
-      yes-holds = λ _. tabulated-is r1 (p .n) g _ (sym (s .ahead .if-good good .1 ∙ refined-none p h (its - (done + 1)) g (omega arith))) holds;
+      yes-holds = λ _. tabulated-is r1 (p .n) g _ (sym (s .ahead .if-good good .1 ∙ from-none p h (its - (done + 1)) (s .scales) (omega arith))) holds;
       no-same = λ f. let z : _≡_ {A = ℕ} 0 1 = cc in absurd (omega arith);
     }
 
@@ -263,7 +190,7 @@ module _ (p : Trajectory) (v : Valid p) (small : (t : ℕ) → t < 3 → inRange
     in-fit = tabulated-fit r1 (p .n) g (fit-fits p (s .scales)) holds
 
     fit-number : (t k : ℕ) → t < 3 → k < p .n → isNan (fitIn r1 t k) ≡ false
-    fit-number t k l h = ap isNan (in-fit t k l h) ∙ finite-number (g t k) (pass-finite p small (s .scales) good t l k h)
+    fit-number t k l h = ap isNan (in-fit t k l h) ∙ finite-number (g t k) (pass-finite p (v .origin) (s .scales) good t l k h)
 
     -- the first part of the result, as a list, holds numbers, and the same fit
     module _ (rs : List ℕ) (long-rs : length rs ≡ p .n * 3) (same : (k : ℕ) → k < p .n * 3 → getD rs k 0 ≡ getD r1 k 0) where
@@ -280,11 +207,11 @@ module _ (p : Trajectory) (v : Valid p) (small : (t : ℕ) → t < 3 → inRange
       fitting-more more w2 x lw1 lw2 lr =
           let m = its - (done + 1) in
           let so = s .ahead .if-good good in
-          let step : (e : passes p (scalesOf p h g) ≡ true) → refined p h m g ≡ refined p h (its - (done + 1 + 1)) (fittedAt p (scalesOf p h g))
-          = λ e. let i : m - 1 ≡ its - (done + 1 + 1) = omega arith in refined-yes p h m g e (omega arith) ∙ ap (λ (i : ℕ). refined p h i (fittedAt p (scalesOf p h g))) i in
+          let step : (e : passSucceeds p (scalesOf p h g) ≡ true) → trackFrom p h m (s .scales) ≡ trackFrom p h (its - (done + 1 + 1)) (scalesOf p h g)
+          = λ e. let i : m - 1 ≡ its - (done + 1 + 1) = omega arith in from-yes p h m (s .scales) e (omega arith) ∙ ap (λ (i : ℕ). trackFrom p h i (scalesOf p h g)) i in
           record {
             work-kept = kept-then 0 (workNeed p) 0 (workNeed p) w₀ w1 w2 (omega arith) (omega arith) work-then (x .kept);
-            kept = kept-then-too;
+            kept = kept-too;
             work-long = lw2 ∙ lw1 ∙ s .work-long;
             long = lr ∙ s .long;
             few = omega arith;
@@ -296,6 +223,6 @@ module _ (p : Trajectory) (v : Valid p) (small : (t : ℕ) → t < 3 → inRange
             ahead = record {
               if-good = λ e. (so .0, so .1 ∙ step e);
               if-first = λ e z. absurd (omega arith);
-              if-later = λ e z. (so .0, tabulated-is r1 (p .n) g _ (sym (so .1 ∙ refined-no p h m g e (omega arith))) holds);
+              if-later = λ e z. (so .0, tabulated-is r1 (p .n) g _ (sym (so .1 ∙ from-no p h m (s .scales) e (omega arith))) holds);
             };
           }

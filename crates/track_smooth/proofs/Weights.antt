@@ -16,13 +16,13 @@ use Rattle.root.specs.Root.{rootOf}
 use Rattle.numeric.specs.Real.{square, max}
 use Rattle.track_tridiagonal.proofs.EachBelow.{left-true, right-true}
 use Rattle.numeric.specs.Order.{patternOf}
+use Rattle.numeric.specs.declared.vec3.Vec3.{Vec3}
 use Rattle.track_tridiagonal.specs.Rows.{floatAt}
-use Rattle.track_tridiagonal.specs.Steps.{NumbersAt}
 use Rattle.track_tridiagonal.proofs.Cells.{miss, float-hit, float-miss, kept-none}
 use Rattle.track_pass.specs.Input.{Measured, indexAt, valueAt}
 use Rattle.track_pass.specs.Equations.{nextAt}
 use Rattle.track_smooth.specs.Track.{huberOf, anchorScale, linkScale}
-use Rattle.track_smooth.specs.Steps.{Limit, Weighed, Numbers, fitIn}
+use Rattle.track_smooth.specs.Steps.{Limit, Weighed, pointIn, fitIn}
 use Rattle.track_smooth.proofs.RootOrder.{root-within}
 
 -- ---- `huber`
@@ -99,8 +99,8 @@ huber-fits h z = cond-fits binary64 (le z h) 1·0 (h ⊘ max z (decimal 1 12)) o
     one-fits : T (fits binary64 1·0)
     one-fits = ofBits-fits binary64 0x3FF0_0000_0000_0000
 
-pub point-needs : (r : List ℕ) (i : ℕ) → Numbers r → i + 2 < length r → NumbersAt r i (i + 1) (i + 2)
-point-needs r i s h = record { first = s .number i (omega arith); second = s .number (i + 1) (omega arith); third = s .number (i + 2) h }
+pub at-point : (r : List ℕ) (i : ℕ) (v : Vec3) → v ≡ pointIn r i → (v .x ≡ floatAt r i) × (v .y ≡ floatAt r (i + 1)) × (v .z ≡ floatAt r (i + 2))
+at-point r i v e = (ap (λ (u : Vec3). u .x) e, ap (λ (u : Vec3). u .y) e, ap (λ (u : Vec3). u .z) e)
 
 -- ---- one measurement more
 

@@ -9,7 +9,7 @@ use Rattle.root.specs.Root.{rootOf}
 use Rattle.numeric.specs.Real.{square, max}
 use Rattle.track_pass.specs.Input.{Measured, Trajectory, indexAt, valueAt, sigmaAt}
 use Rattle.track_pass.specs.Equations.{Scales, nextAt}
-use Rattle.track_pass.specs.Pass.{passes, fittedAt}
+use Rattle.track_pass.specs.Pass.{passSucceeds, fittedAt}
 
 -- ---- how much a measurement counts, by the fit before
 
@@ -43,26 +43,27 @@ scalesOf p h f = record { anchors = anchorScale (p .anchors) h f; links = linkSc
 abbrev pub ones : Scales
 ones = record { anchors = λ j. 1·0; links = λ j. 1·0 }
 
--- The fit after up to so many passes more, each by the fit before. A pass that fails ends the work and keeps the last good fit.
-unfoldable pub refined : Trajectory → Float → ℕ → (ℕ → ℕ → Float) → ℕ → ℕ → Float
-refined p h zero f = f
-refined p h (suc r) f = cond (passes p (scalesOf p h f)) (refined p h r (fittedAt p (scalesOf p h f))) f
+-- The passes from one with the scales s, which is good, on: each is weighed by the fit before it, and one that fails ends the work. A pass is given by its scales: its
+-- equations on axis t are `equationsOf p s t`; `pivot`, `factor` and `solution` of them are its elimination's.
+unfoldable pub passesFrom : Trajectory → Float → ℕ → Scales → List Scales
+passesFrom p h zero s = s ∷ []
+passesFrom p h (suc r) s = let s' = scalesOf p h (fittedAt p s) in s ∷ cond (passSucceeds p s') (passesFrom p h r s') []
 
--- The fit after the given iterations. The first pass is one of them, and also runs with none.
+-- the last of a list of passes, s where there is none
+unfoldable pub lastPass : Scales → List Scales → Scales
+lastPass s [] = s
+lastPass s (t ∷ ts) = lastPass t ts
+
+-- The fit after the given iterations: that of the last good pass. The first pass is one of them, and also runs with none.
 unfoldable pub smoothed : Trajectory → Float → ℕ → ℕ → ℕ → Float
-smoothed p h iterations = refined p h (iterations - 1) (fittedAt p ones)
+smoothed p h iterations = fittedAt p (lastPass ones (passesFrom p h (iterations - 1) ones))
 
 -- a fit of n epochs as a list: x, y, z of the first epoch, then of the next, and so on
 unfoldable pub points : (ℕ → ℕ → Float) → ℕ → List Float
 points f zero = []
 points f (suc k) = points f k ++ (f 0 k ∷ f 1 k ∷ f 2 k ∷ [])
 
--- ---- the good passes, each as its scales
-
--- The passes from one with the scales s, which is good, on. A pass's equations on axis t are `equationsOf p s t`; `pivot`, `factor` and `solution` of them are its elimination's.
-unfoldable pub passesFrom : Trajectory → Float → ℕ → Scales → List Scales
-passesFrom p h zero s = s ∷ []
-passesFrom p h (suc r) s = let s' = scalesOf p h (fittedAt p s) in s ∷ cond (passes p s') (passesFrom p h r s') []
+-- ---- the passes in the laws
 
 -- the scales of pass i, where all before it are good: the first counts each measurement once, and each later one weighs by the fit before it
 unfoldable pub passAt : Trajectory → Float → ℕ → Scales
@@ -71,12 +72,7 @@ passAt p h (suc i) = scalesOf p h (fittedAt p (passAt p h i))
 
 -- all the good passes of a track, none where the first fails
 unfoldable pub goodPasses : Trajectory → Float → ℕ → List Scales
-goodPasses p h iterations = cond (passes p ones) (passesFrom p h (iterations - 1) ones) []
-
--- the last of a list of passes, s where there is none: the track that is given out is its fit
-unfoldable pub lastPass : Scales → List Scales → Scales
-lastPass s [] = s
-lastPass s (t ∷ ts) = lastPass t ts
+goodPasses p h iterations = cond (passSucceeds p ones) (passesFrom p h (iterations - 1) ones) []
 
 -- P holds of each pass of a list
 unfoldable pub EachPass : (Scales → Type 0) → List Scales → Type 0

@@ -1,46 +1,15 @@
 // The passes of the fit, each weighed by the one before.
-ghost use mathlib.Core.Path.{_≡_};
-ghost use mathlib.Core.Bool.{true};
-ghost use Prim.Native.Nat.{ℕ, _+_, _*_, _<_, _≤_};
-ghost use lib.ListN.{length};
-ghost use lib.Ieee.Scale.{finite};
-ghost use Rattle.exact.specs.Float.{_⊕_, bits};
-ghost use Rattle.numeric.specs.Order.{patternOf};
-ghost use Rattle.numeric.specs.Real.{inRange};
-ghost use Rattle.track_pass.specs.Input.{measured, trajectory, trackOrigin};
-ghost use Rattle.track_pass.specs.Steps.{Valid};
-ghost use Rattle.track_smooth.specs.Steps.{FiniteCells, SmallOrigin, Published, Reweighed, Tabulated, Numbers, FitDone};
+ghost use Prim.Native.Nat.{_≤_};
+ghost use Rattle.lists.specs.Memory.{before, after};
+ghost use Rattle.track_pass.specs.Input.{lentTrack};
+ghost use Rattle.track_pass.specs.Steps.{trackNow, Ready};
+ghost use Rattle.track_smooth.specs.Steps.{Reweighable, Reweighed, Fitted};
 use crate::Settings;
 use crate::weigh::limit;
 use crate::weigh::weigh_anchors;
 use crate::weigh::weigh_links;
 use track_pass::pass::pass;
 use track_tridiagonal::fill::fill;
-
-// Adds the origin o to an unknown.
-fn place(b: u64, o: f64) -> u64
-    requires { ⌜ (finite (bits b) ≡ true) × (inRange o ≡ true) ⌝ }
-    ensures { λ r. ⌜ r ≡ patternOf (bits b ⊕ o) ⌝ }
-{
-    f64::to_bits(f64::from_bits(b) + o)
-}
-
-// Puts the unknowns of a pass, with the origin (x, y, z) added, into the result.
-fn publish(w: &[u64], n: usize, x: f64, y: f64, z: f64, r: &mut [u64])
-    requires { ⌜ (n * 9 ≤ length (now w)) × (n * 3 ≤ length (now r)) × FiniteCells (now w) n × SmallOrigin x y z ⌝ }
-    ensures { λ _. ⌜ Published (now (w .entry)) n x y z (now (r .entry)) (now (r .exit)) ⌝ }
-{
-    let mut k: usize = 0;
-    while k < n {
-        let a = place(w[k * 9 + 6], x);
-        let b = place(w[k * 9 + 7], y);
-        let d = place(w[k * 9 + 8], z);
-        r[k * 3] = a;
-        r[k * 3 + 1] = b;
-        r[k * 3 + 2] = d;
-        k += 1;
-    }
-}
 
 // Weighs the anchors and the links by the fit in r.
 fn reweigh(
@@ -57,15 +26,12 @@ fn reweigh(
     h: f64,
     r: &[u64],
 )
-    requires { ⌜ (n * 9 + anchors + links ≤ length (now w)) × (length (now r) ≡ n * 3) × Numbers (now r) ⌝ }
     requires { ⌜ (
-        let a = measured anchors (now «anchor_epoch») (now «anchor_position») (now «anchor_sigma») in
-        let l = measured links (now «link_epoch») (now «link_change») (now «link_sigma») in
-        Valid (trajectory n a l)) ⌝ }
+        let p = trackNow n anchors «anchor_epoch» «anchor_position» «anchor_sigma» links «link_epoch» «link_change» «link_sigma» in
+        Reweighable p (now w) (now r)) ⌝ }
     ensures { λ _. ⌜ (
-        let a = measured anchors (now («anchor_epoch» .entry)) (now («anchor_position» .entry)) (now («anchor_sigma» .entry)) in
-        let l = measured links (now («link_epoch» .entry)) (now («link_change» .entry)) (now («link_sigma» .entry)) in
-        Reweighed (trajectory n a l) h (now (r .entry)) (now (w .entry)) (now (w .exit))) ⌝ }
+        let p = lentTrack n anchors «anchor_epoch» «anchor_position» «anchor_sigma» links «link_epoch» «link_change» «link_sigma» in
+        Reweighed p h (before r) (before w) (after w)) ⌝ }
 {
     let c = limit(h);
     let from = n * 9;
@@ -108,20 +74,14 @@ pub(crate) fn fit(
     set: Settings,
     r: &mut [u64],
 ) -> bool
-    requires { ⌜ (n * 9 + anchors + links ≤ length (now w)) × (n * 3 ≤ length (now r)) × (set .iterations ≤ 50) ⌝ }
     requires { ⌜ (
-        let a = measured anchors (now «anchor_epoch») (now «anchor_position») (now «anchor_sigma») in
-        let l = measured links (now «link_epoch») (now «link_change») (now «link_sigma») in
-        Valid (trajectory n a l) × ((t : ℕ) → t < 3 → inRange (trackOrigin a t) ≡ true)) ⌝ }
-    ensures { λ ok. ⌜ (
-        let a = measured anchors (now («anchor_epoch» .entry)) (now («anchor_position» .entry)) (now («anchor_sigma» .entry)) in
-        let l = measured links (now («link_epoch» .entry)) (now («link_change» .entry)) (now («link_sigma» .entry)) in
-        FitDone (trajectory n a l) (set .huber) (set .iterations) (now (w .entry)) (now (w .exit)) (now (r .entry)) ok (now (r .exit))) ⌝ }
+        let p = trackNow n anchors «anchor_epoch» «anchor_position» «anchor_sigma» links «link_epoch» «link_change» «link_sigma» in
+        Ready p (now w) (now r) × (set .iterations ≤ 50)) ⌝ }
+    ensures { λ ok. ⌜ Fitted (lentTrack n anchors «anchor_epoch» «anchor_position» «anchor_sigma» links «link_epoch» «link_change» «link_sigma») set w r ok ⌝ }
 {
     let h = set.huber;
     let iterations = set.iterations;
     let from = n * 9;
-    let all = n * 3;
     fill(&mut *w, from, from + anchors + links, 0x3FF0_0000_0000_0000);
     let mut done: usize = 0;
     loop {
@@ -136,17 +96,10 @@ pub(crate) fn fit(
             link_epoch,
             link_change,
             link_sigma,
+            &mut *r,
         ) {
             return done > 0;
         }
-        publish(
-            &w[..],
-            n,
-            anchor_position[0],
-            anchor_position[1],
-            anchor_position[2],
-            &mut *r,
-        );
         done += 1;
         if done >= iterations {
             return true;
@@ -163,7 +116,7 @@ pub(crate) fn fit(
             link_change,
             link_sigma,
             h,
-            &r[..all],
+            &r[..n * 3],
         );
     }
 }

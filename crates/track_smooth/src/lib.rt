@@ -5,13 +5,10 @@ mod fit;
 mod weigh;
 
 ghost use mathlib.Core.Path.{_≡_};
-ghost use Rattle.track_pass.specs.Input.{measured, trajectory};
-ghost use Rattle.track_smooth.specs.Answer.{settingsOk, trackNumber, Called};
-use checks::fits_limits;
-use checks::has_floats_in_range;
-use checks::is_track;
+ghost use Rattle.track_pass.specs.Input.{lentTrack};
+ghost use Rattle.track_smooth.specs.Answer.{trackNumber, Called};
+use checks::check;
 use fit::fit as find;
-use numeric::real::in_range;
 use numeric::refusal::Refusal;
 use track_tridiagonal::fill::fill;
 
@@ -39,13 +36,6 @@ impl Track {
     }
 }
 
-// Tells whether the threshold is in range and the passes are not too many.
-fn allows(set: Settings) -> bool
-    ensures { λ r. ⌜ r ≡ settingsOk set ⌝ }
-{
-    in_range(set.huber) & (set.iterations <= 50)
-}
-
 // Puts the track of n epochs into the result: x, y, z of the first epoch, then of the next, and so on.
 // `result` is 3 * n patterns long or longer, `work` 9 * n + anchors + links: the call's only memory, all zero in that part afterwards. A refusal leaves the result as it
 // was, and one by 2 to 6 the work too.
@@ -64,49 +54,10 @@ pub fn smooth(
     work: &mut [u64],
 ) -> Track
     ensures { λ x. ⌜ (
-        let a = measured anchors (now («anchor_epoch» .entry)) (now («anchor_position» .entry)) (now («anchor_sigma» .entry)) in
-        let l = measured links (now («link_epoch» .entry)) (now («link_change» .entry)) (now («link_sigma» .entry)) in
-        Called (trajectory n a l) set (now (result .entry)) (now (work .entry)) x (now (result .exit)) (now (work .exit))) ⌝ }
+        let p = lentTrack n anchors «anchor_epoch» «anchor_position» «anchor_sigma» links «link_epoch» «link_change» «link_sigma» in
+        Called p set result work x) ⌝ }
 {
-    let room = result.len();
-    let space = work.len();
-    if !fits_limits(
-        n,
-        anchors,
-        links,
-        anchor_epoch,
-        anchor_position,
-        anchor_sigma,
-        link_epoch,
-        link_change,
-        link_sigma,
-        room,
-        space,
-    ) {
-        return Track::Refused(Refusal::TooMany);
-    }
-    if !allows(set) {
-        return Track::Refused(Refusal::SettingOutOfRange);
-    }
-    if !has_floats_in_range(anchors, anchor_position, anchor_sigma) {
-        return Track::Refused(Refusal::RecordOutOfRange);
-    }
-    if !has_floats_in_range(links, link_change, link_sigma) {
-        return Track::Refused(Refusal::RecordOutOfRange);
-    }
-    if !is_track(
-        n,
-        anchors,
-        links,
-        anchor_epoch,
-        anchor_sigma,
-        link_epoch,
-        link_sigma,
-    ) {
-        return Track::Refused(Refusal::BadTrack);
-    }
-    let found = find(
-        &mut *work,
+    let checked = check(
         n,
         anchors,
         links,
@@ -117,11 +68,31 @@ pub fn smooth(
         link_change,
         link_sigma,
         set,
-        &mut *result,
+        result.len(),
+        work.len(),
     );
-    fill(&mut *work, 0, n * 9 + anchors + links, 0);
-    if found {
-        return Track::Smoothed;
+    match checked {
+        Track::Refused(x) => Track::Refused(x),
+        Track::Smoothed => {
+            let found = find(
+                &mut *work,
+                n,
+                anchors,
+                links,
+                anchor_epoch,
+                anchor_position,
+                anchor_sigma,
+                link_epoch,
+                link_change,
+                link_sigma,
+                set,
+                &mut *result,
+            );
+            fill(&mut *work, 0, n * 9 + anchors + links, 0);
+            if found {
+                return Track::Smoothed;
+            }
+            Track::Refused(Refusal::FitFailed)
+        }
     }
-    Track::Refused(Refusal::FitFailed)
 }

@@ -1,17 +1,12 @@
 // How much each measurement counts in the next pass, by how far it lies off the fit.
 ghost use mathlib.Core.Path.{_≡_};
-ghost use Prim.Native.Nat.{_+_, _-_, _/_, _<_, _≤_};
-ghost use lib.ListN.{length, getD};
-ghost use lib.Ieee.{nan};
-ghost use Rattle.exact.specs.Float.{_⊕_, _⊖_, _⊘_};
-ghost use Rattle.root.specs.Root.{rootOf};
-ghost use Rattle.numeric.specs.Real.{square};
-ghost use Rattle.track_tridiagonal.specs.Rows.{floatAt};
-ghost use Rattle.track_tridiagonal.specs.Steps.{NumbersAt};
-ghost use Rattle.track_pass.specs.Input.{measured};
-ghost use Rattle.track_pass.specs.Steps.{Lent};
+ghost use Prim.Native.Nat.{_+_, _-_, _/_, _<_};
+ghost use lib.ListN.{length};
+ghost use Rattle.lists.specs.Memory.{before};
+ghost use Rattle.track_pass.specs.Input.{lentMeasured};
+ghost use Rattle.track_pass.specs.Steps.{measuredNow};
 ghost use Rattle.track_smooth.specs.Track.{huberOf, anchorScale, linkScale};
-ghost use Rattle.track_smooth.specs.Steps.{Limit, Weighed, Numbers, fitIn};
+ghost use Rattle.track_smooth.specs.Steps.{Numbers, pointIn, Limit, pointScale, Weighable, WeighedBy};
 use numeric::order::pattern;
 use numeric::real::max;
 use numeric::vec3::Vec3;
@@ -41,8 +36,8 @@ pub(crate) fn limit(h: f64) -> f64
 
 // Reads x, y, z of the fit from place i on.
 fn point(r: &[u64], i: usize) -> Vec3
-    requires { ⌜ (i + 2 < length (now r)) × NumbersAt (now r) i (i + 1) (i + 2) ⌝ }
-    ensures { λ v. ⌜ (v .x ≡ floatAt (now (r .entry)) i) × (v .y ≡ floatAt (now (r .entry)) (i + 1)) × (v .z ≡ floatAt (now (r .entry)) (i + 2)) ⌝ }
+    requires { ⌜ (i + 2 < length (now r)) × Numbers (now r) ⌝ }
+    ensures { λ v. ⌜ v ≡ pointIn (before r) i ⌝ }
 {
     let x = f64::from_bits(r[i]);
     let y = f64::from_bits(r[i + 1]);
@@ -53,11 +48,7 @@ fn point(r: &[u64], i: usize) -> Vec3
 // Computes the scale of a measurement whose floats start at place a and which the fit has at f. Most lie within the limit c of h and need no root.
 fn scale(f: Vec3, value: &[f64], sigma: &[f64], a: usize, h: f64, c: f64) -> f64
     requires { ⌜ (a + 2 < length (now value)) × (a + 2 < length (now sigma)) × Limit h c ⌝ }
-    ensures { λ r. ⌜ (
-        let v = now (value .entry) in
-        let s = now (sigma .entry) in
-        r ≡ huberOf h (rootOf (square ((f .x ⊖ getD v a nan) ⊘ getD s a nan) ⊕ square ((f .y ⊖ getD v (a + 1) nan) ⊘ getD s (a + 1) nan)
-        ⊕ square ((f .z ⊖ getD v (a + 2) nan) ⊘ getD s (a + 2) nan)))) ⌝ }
+    ensures { λ r. ⌜ r ≡ pointScale h f (before value) (before sigma) a ⌝ }
 {
     let x = (f.x - value[a]) / sigma[a];
     let y = (f.y - value[a + 1]) / sigma[a + 1];
@@ -81,11 +72,8 @@ pub(crate) fn weigh_anchors(
     c: f64,
     r: &[u64],
 )
-    requires { ⌜ (from + count ≤ length (now w)) × Limit h c × Numbers (now r) ⌝ }
-    requires { ⌜ Lent (measured count (now index) (now value) (now sigma)) (length (now r) / 3) ⌝ }
-    ensures { λ _. ⌜ (
-        let m = measured count (now (index .entry)) (now (value .entry)) (now (sigma .entry)) in
-        Weighed (anchorScale m h (fitIn (now (r .entry)))) from count (now (w .entry)) (now (w .exit))) ⌝ }
+    requires { ⌜ Weighable (measuredNow count index value sigma) (length (now r) / 3) h c from (now w) (now r) ⌝ }
+    ensures { λ _. ⌜ WeighedBy anchorScale (lentMeasured count index value sigma) h r from w ⌝ }
 {
     let mut j: usize = 0;
     while j < count {
@@ -108,11 +96,8 @@ pub(crate) fn weigh_links(
     c: f64,
     r: &[u64],
 )
-    requires { ⌜ (from + count ≤ length (now w)) × Limit h c × Numbers (now r) ⌝ }
-    requires { ⌜ Lent (measured count (now index) (now value) (now sigma)) (length (now r) / 3 - 1) ⌝ }
-    ensures { λ _. ⌜ (
-        let m = measured count (now (index .entry)) (now (value .entry)) (now (sigma .entry)) in
-        Weighed (linkScale m h (fitIn (now (r .entry)))) from count (now (w .entry)) (now (w .exit))) ⌝ }
+    requires { ⌜ Weighable (measuredNow count index value sigma) (length (now r) / 3 - 1) h c from (now w) (now r) ⌝ }
+    ensures { λ _. ⌜ WeighedBy linkScale (lentMeasured count index value sigma) h r from w ⌝ }
 {
     let mut j: usize = 0;
     while j < count {

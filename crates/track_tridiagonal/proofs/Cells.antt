@@ -7,7 +7,7 @@ use mathlib.Core.Bool.{Bool, true, false, not, cond}
 use native.Mathlib.Nat.{eq-or-lt-of-le}
 use native.Mathlib.Decide.{decLt}
 use native.Mathlib.Omega.{arith}
-use lib.ListN.{length, getD, set, drop, replicate, length-set, length-append, length-drop, length-replicate, getD-replicate, List·getD-append}
+use lib.ListN.{length, getD, set, drop, replicate, length-append, length-drop, length-replicate, getD-replicate, List·getD-append}
 use lib.Seq.{getD-set-same, getD-set-other, getD-drop, getD-append-add, ext-getD}
 use lib.Dec.{T, eqb}
 use lib.Ieee.Bits.{nanBits-is}
@@ -33,12 +33,6 @@ miss xs i k v h = getD-set-other xs i k v 0 h
 -- the same after two stores
 pub miss2 : (xs : List ℕ) (i j k : ℕ) (v w : ℕ) → (k ≡ i → ⊥) → (k ≡ j → ⊥) → getD (set (set xs i v) j w) k 0 ≡ getD xs k 0
 miss2 xs i j k v w h g = miss (set xs i v) j k w g ∙ miss xs i k v h
-
-pub hit-under : (xs : List ℕ) (i j k : ℕ) (v w : ℕ) → i < length xs → k ≡ i → (k ≡ j → ⊥) → getD (set (set xs i v) j w) k 0 ≡ v
-hit-under xs i j k v w l e g = miss (set xs i v) j k w g ∙ hit xs i k v l e
-
-pub hit-over : (xs : List ℕ) (i j k : ℕ) (v w : ℕ) → j < length xs → k ≡ j → getD (set (set xs i v) j w) k 0 ≡ w
-hit-over xs i j k v w l e = hit (set xs i v) j k w (simp length-set l) e
 
 -- a bound that grew by one
 pub grown : (k i : ℕ) → k ≤ i + 1 → (k ≡ i + 1) ⊎ (k ≤ i)

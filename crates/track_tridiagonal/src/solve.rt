@@ -3,6 +3,7 @@ ghost use mathlib.Core.Path.{_≡_};
 ghost use mathlib.Core.Bool.{cond};
 ghost use Prim.Native.Nat.{_+_, _*_, _<_, _≤_};
 ghost use lib.ListN.{length};
+ghost use Rattle.lists.specs.Memory.{before, after};
 ghost use Rattle.exact.specs.Float.{_⊖_, _⊗_, _⊘_};
 ghost use Rattle.track_tridiagonal.specs.Rows.{Axes, axisIn, Solved};
 ghost use Rattle.track_tridiagonal.specs.Tridiagonal.{vanishing, NoNan};
@@ -36,7 +37,7 @@ fn goes_on(d: f64, p: f64, q: f64) -> bool
 // Reads the first row of the system whose diagonal starts at `at`.
 fn first_row(w: &[u64], at: usize) -> Row
     requires { ⌜ (at + 6 < length (now w)) × NumbersAt (now w) at (at + 6) (at + 6) ⌝ }
-    ensures { λ r. ⌜ FirstRow (now (w .entry)) at r ⌝ }
+    ensures { λ r. ⌜ FirstRow (before w) at r ⌝ }
 {
     let p = f64::from_bits(w[at]);
     let q = f64::from_bits(w[at + 6]);
@@ -51,7 +52,7 @@ fn first_row(w: &[u64], at: usize) -> Row
 // Eliminates an unknown from the row below. Its own row, with its diagonal at `at`, is `above`.
 fn eliminate_row(w: &mut [u64], at: usize, above: Row) -> Row
     requires { ⌜ (at + 15 < length (now w)) × NumbersAt (now w) (at + 3) (at + 9) (at + 15) ⌝ }
-    ensures { λ r. ⌜ RowEliminated (now (w .entry)) at above r (now (w .exit)) ⌝ }
+    ensures { λ r. ⌜ RowEliminated (before w) at above r (after w) ⌝ }
 {
     let u = f64::from_bits(w[at + 3]);
     let d = f64::from_bits(w[at + 9]);
@@ -76,7 +77,7 @@ fn eliminate_row(w: &mut [u64], at: usize, above: Row) -> Row
 // Eliminates from the first row to the last. False where a system cannot be solved.
 fn eliminate(w: &mut [u64], n: usize) -> bool
     requires { ⌜ (0 < n) × (n * 9 ≤ length (now w)) × Axes (λ t. NoNan (axisIn (now w) t) n) ⌝ }
-    ensures { λ r. ⌜ Eliminated (now (w .entry)) n r (now (w .exit)) ⌝ }
+    ensures { λ r. ⌜ Eliminated (before w) n r (after w) ⌝ }
 {
     let mut x = first_row(&w[..], 0);
     let mut y = first_row(&w[..], 1);
@@ -110,7 +111,7 @@ fn unknown(last: bool, d: f64, u: f64, r: f64, x: f64) -> f64
 // Solves the row with its diagonal at `at`, by the unknown x of the next row, and replaces the right side by its unknown, if finite.
 fn solve_row(w: &mut [u64], at: usize, last: bool, x: f64) -> f64
     requires { ⌜ (at + 6 < length (now w)) × NumbersAt (now w) at (at + 3) (at + 6) ⌝ }
-    ensures { λ v. ⌜ RowSolved (now (w .entry)) at last x v (now (w .exit)) ⌝ }
+    ensures { λ v. ⌜ RowSolved (before w) at last x v (after w) ⌝ }
 {
     let d = f64::from_bits(w[at]);
     let u = f64::from_bits(w[at + 3]);
@@ -126,7 +127,7 @@ fn solve_row(w: &mut [u64], at: usize, last: bool, x: f64) -> f64
 // Substitutes from the last row to the first. False where an unknown is not finite.
 fn substitute(w: &mut [u64], n: usize) -> bool
     requires { ⌜ (n * 9 ≤ length (now w)) × Axes (λ t. NoNan (axisIn (now w) t) n) ⌝ }
-    ensures { λ r. ⌜ Substituted (now (w .entry)) n r (now (w .exit)) ⌝ }
+    ensures { λ r. ⌜ Substituted (before w) n r (after w) ⌝ }
 {
     let mut x = 0.0;
     let mut y = 0.0;
@@ -149,7 +150,7 @@ fn substitute(w: &mut [u64], n: usize) -> bool
 // Solves the three systems of n equations, in place of their right sides. False where a diagonal is at or below 0, a pivot vanishes or an unknown is not finite.
 pub fn solve(w: &mut [u64], n: usize) -> bool
     requires { ⌜ (0 < n) × (n * 9 ≤ length (now w)) × Axes (λ t. NoNan (axisIn (now w) t) n) ⌝ }
-    ensures { λ r. ⌜ Solved (now (w .entry)) n r (now (w .exit)) ⌝ }
+    ensures { λ r. ⌜ Solved (before w) n r (after w) ⌝ }
 {
     if eliminate(&mut *w, n) {
         return substitute(&mut *w, n);

@@ -17,6 +17,7 @@ use Rattle.median.specs.Sorted.{insertBy, sortedBy, medianOf}
 use Rattle.median.specs.Centre.{centreOf, deviationOf, centreAndScaleOf, centreScaleOf}
 use Rattle.clocks.specs.Clocks.{given}
 use Rattle.records.specs.Record.{unsigned, bitSet, usable}
+use Rattle.numeric.specs.Rules.{ruled}
 use Rattle.corrections_table.specs.Table.{timeBefore}
 use Rattle.corrections_directory.specs.Directory.{entryRows, readingRows, ascends, tiles, timely, timelyFrom, blockTimes, inReach, soundDirectory, block, flat}
 use Rattle.corrections_query.specs.Query.{near, firstOf, lastOf, through, nearOr, spanned, correctionRule, answerIn, answerAt, guarded, queryIn}
@@ -77,11 +78,11 @@ unfolding usable bitSet unsigned
 states c h = rw h
 
 pub half-way : m10
-unfolding queryIn guarded answerAt answerIn flat block collect correctionRule nearOr spanned through near firstOf lastOf inRange abs soundDirectory inReach ascends tiles timely timelyFrom blockTimes entryRows readingRows timeBefore totalOrder sign patternOf every lt le eq add sub mul div ofBits ofInt toBits isNan
+unfolding queryIn guarded answerAt answerIn flat block collect correctionRule nearOr spanned through near firstOf lastOf inRange abs soundDirectory inReach ascends tiles timely timelyFrom blockTimes entryRows readingRows timeBefore totalOrder sign patternOf every lt le eq add sub mul div ofBits ofInt toBits isNan ruled
 half-way = refl
 
 pub gap-too-long : m11
-unfolding queryIn guarded answerAt answerIn flat block collect correctionRule nearOr spanned through near firstOf lastOf inRange abs soundDirectory inReach ascends tiles timely timelyFrom blockTimes entryRows readingRows timeBefore totalOrder sign patternOf every lt le eq add sub mul div ofBits ofInt toBits isNan
+unfolding queryIn guarded answerAt answerIn flat block collect correctionRule nearOr spanned through near firstOf lastOf inRange abs soundDirectory inReach ascends tiles timely timelyFrom blockTimes entryRows readingRows timeBefore totalOrder sign patternOf every lt le eq add sub mul div ofBits ofInt toBits isNan ruled
 gap-too-long = refl
 
 -- THE FACT over the list

@@ -1,8 +1,11 @@
--- What the trial of a carrier's state hands to a displacement. Definitions only.
+-- What the trial of a carrier's state hands to a displacement, and the trials of a track to the smoother. Definitions only.
+use mathlib.Core.Path.{_≡_}
+use mathlib.Core.List.{List}
 use Prim.Native.Nat.{ℕ}
 use lib.IntN.{ℤ}
-use lib.ListN.{replicate}
+use lib.ListN.{length, replicate}
 use lib.Ieee.{Float}
+use Rattle.lists.specs.Memory.{before, after, LentNumbers}
 use Rattle.exact.specs.Float.{+0, 1·0, bits}
 use Rattle.numeric.specs.declared.vec3.Vec3.{Vec3}
 use Rattle.tdcp.specs.Displacement.{Input, general}
@@ -10,6 +13,9 @@ use Rattle.records.specs.declared.record.Carrier.{Carrier}
 use Rattle.records.specs.declared.record.Epoch.{Epoch}
 use Rattle.tdcp.specs.declared.displacement.Displacement.{Displacement}
 use Rattle.tdcp.specs.declared.displacement.Displacement.the-variants.{Refused, Moved}
+use Rattle.track_pass.specs.Input.{trajectory}
+use Rattle.track_smooth.specs.Answer.{Tracked, trackOf, trackAnswer, trackNumber, trackResultAfter}
+use Rattle.track_smooth.specs.Trials.{usual, oneAnchor, noLink}
 
 -- 10
 abbrev pub ten : Float
@@ -39,3 +45,13 @@ sixIn z =
 abbrev pub usedOf : Displacement → ℕ
 usedOf (Moved d) = d .used
 usedOf (Refused r) = 0
+
+-- the number of the answer t, and its result
+pub record Tells (t : Tracked) (r : List ℕ) (number : ℕ) (r' : List ℕ) : Type 0 where
+  pub number-is : number ≡ trackNumber (trackAnswer t)
+  pub result-is : r' ≡ trackResultAfter t r
+
+-- those of n epochs with one anchor and no link
+abbrev pub OneAnchor : ℕ → (result work : LentNumbers) → ℕ → Type 0
+OneAnchor n result work number =
+    Tells (trackOf (trajectory n oneAnchor noLink) usual (length (before result)) (length (before work))) (before result) number (after result)

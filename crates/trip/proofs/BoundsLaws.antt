@@ -9,7 +9,7 @@ use Rattle.lists.proofs.Walk.{and-both}
 use Rattle.numeric.specs.declared.vec3.Vec3.{Vec3}
 use Rattle.numeric.specs.declared.refusal.Refusal.the-variants.{BadTrip}
 use Rattle.trip.specs.Measure.{millimetresOf, measurable}
-use Rattle.trip.specs.Trip.{Leg, soundTrip, epochCounted, added, tripLeft, withLeg, narrow}
+use Rattle.trip.specs.Trip.{Leg, soundTrip, withEpoch, added, tripLeft, withLeg, narrow}
 use Rattle.trip.specs.declared.trip.Trip.{Trip}
 use Rattle.trip.specs.declared.trip.Step.the-variants.{Refused, Goes}
 use Rattle.trip.proofs.MeasureLaws.{measured}
@@ -33,11 +33,11 @@ unfolding soundTrip
 bounded t b = rw (lt-ltb _ _ (b .rated), le-leb _ _ (b .few), le-leb _ _ (b .carrier), le-leb _ _ (b .pulses))
 
 -- one epoch more
-pub counted-sound : (t : Trip) (millimetres pulses : ℕ) → soundTrip t ≡ true → t .epochs < 65535 → millimetres ≤ 1000000 → pulses ≤ 65535 → soundTrip (epochCounted t millimetres pulses) ≡ true
-unfolding epochCounted
+pub counted-sound : (t : Trip) (millimetres pulses : ℕ) → soundTrip t ≡ true → t .epochs < 65535 → millimetres ≤ 1000000 → pulses ≤ 65535 → soundTrip (withEpoch t millimetres pulses) ≡ true
+unfolding withEpoch
 counted-sound t millimetres pulses s l h k =
     let b = bounds t s in
-    bounded (epochCounted t millimetres pulses) (record { rated = b .rated; few = omega arith; carrier = omega arith; pulses = omega arith })
+    bounded (withEpoch t millimetres pulses) (record { rated = b .rated; few = omega arith; carrier = omega arith; pulses = omega arith })
 
 -- what an accepted addition tells
 pub record Accepted (t : Trip) (d : Vec3) : Type 0 where
@@ -56,7 +56,7 @@ pub after-sound : (t : Trip) (l : Leg) → soundTrip t ≡ true → narrow l ≡
 unfolding withLeg added tripLeft narrow
 after-sound t l s n = go (soundTrip t && ltb (t .epochs) 65535 && measurable (l .displacement)) (accepted t (l .displacement))
   where
-    go : (b : Bool) → (b ≡ true → Accepted t (l .displacement)) → soundTrip (tripLeft t (cond b (Goes (epochCounted t (millimetresOf (l .displacement)) (l .pulses))) (Refused BadTrip))) ≡ true
+    go : (b : Bool) → (b ≡ true → Accepted t (l .displacement)) → soundTrip (tripLeft t (cond b (Goes (withEpoch t (millimetresOf (l .displacement)) (l .pulses))) (Refused BadTrip))) ≡ true
     go false f = s
     go true f =
         let a = f refl in

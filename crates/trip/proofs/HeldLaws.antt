@@ -14,7 +14,7 @@ use Rattle.numeric.specs.Vec3.{vectorAt}
 use Rattle.numeric.specs.declared.vec3.Vec3.{Vec3}
 use Rattle.numeric.specs.declared.refusal.Refusal.the-variants.{BadTrip, NoDistance}
 use Rattle.trip.specs.Measure.{millimetresOf, measurable}
-use Rattle.trip.specs.Trip.{Leg, carrierMillimetres, pulsesOf, odometer, greatest, firstWith, greatestOf, reachedOf, tripOf, soundTrip, started, epochCounted, added, reported, fuelled, tripLeft, withLeg, measurables, counting, narrow}
+use Rattle.trip.specs.Trip.{Leg, carrierMillimetres, pulsesOf, odometer, greatest, firstWith, greatestOf, reachedOf, tripOf, soundTrip, started, withEpoch, added, reported, fuelled, tripLeft, withLeg, measurables, counting, narrow}
 use Rattle.trip.specs.Words.{Addition, tooWide, tripFrom, heldOf, wordsOf, addedHeld, addedWords, reportedHeld, reportedWords, fuelledHeld, fuelledWords, stepNumber, wordsAfter, reportNumber, reportAfter, fuelNumber, fuelAfter, soundWords, legOf, wordsNext, wordsAfterCalls, countedLegs}
 use Rattle.trip.specs.declared.trip.Trip.{Trip}
 use Rattle.trip.specs.declared.trip.Step.{Step}
@@ -94,15 +94,15 @@ pub words-held : (t : Trip) → WordsHeld t → heldOf (wordsOf t) ≡ Goes t
 unfolding heldOf tooWide
 words-held t h = rw (le-ltb 65535 (t .rate) (h .rate), le-ltb 4294967295 (t .epochs) (omega (arith, h .epochs)))
 
-counted-held : (t : Trip) (millimetres pulses : ℕ) → WordsHeld t → t .epochs < 65535 → WordsHeld (epochCounted t millimetres pulses)
-unfolding epochCounted
+counted-held : (t : Trip) (millimetres pulses : ℕ) → WordsHeld t → t .epochs < 65535 → WordsHeld (withEpoch t millimetres pulses)
+unfolding withEpoch
 counted-held t millimetres pulses h l = record { rate = h .rate; epochs = omega arith }
 
 after-held : (t : Trip) (l : Leg) → WordsHeld t → WordsHeld (withLeg t l)
 unfolding withLeg added tripLeft
 after-held t l h = go (soundTrip t && ltb (t .epochs) 65535 && measurable (l .displacement)) (accepted t (l .displacement))
   where
-    go : (b : Bool) → (b ≡ true → Accepted t (l .displacement)) → WordsHeld (tripLeft t (cond b (Goes (epochCounted t (millimetresOf (l .displacement)) (l .pulses))) (Refused BadTrip)))
+    go : (b : Bool) → (b ≡ true → Accepted t (l .displacement)) → WordsHeld (tripLeft t (cond b (Goes (withEpoch t (millimetresOf (l .displacement)) (l .pulses))) (Refused BadTrip)))
     go false f = h
     go true f = counted-held t (millimetresOf (l .displacement)) (l .pulses) h (f refl .room)
 

@@ -18,7 +18,7 @@ use Rattle.numeric.specs.Whole.{wholeTimes}
 use Rattle.numeric.specs.declared.refusal.Refusal.the-variants.{BadTrip}
 use Rattle.numeric.proofs.WholeLaws.{Greatest, whole-greatest}
 use Rattle.trip.specs.Measure.{millimetresOf, measurable}
-use Rattle.trip.specs.Trip.{Leg, carrierMillimetres, pulsesOf, odometer, apart, greatest, greatestOf, reportOf, tripOf, soundTrip, epochCounted, added, tripLeft, withLeg, counting, narrow}
+use Rattle.trip.specs.Trip.{Leg, carrierMillimetres, pulsesOf, odometer, apart, greatest, greatestOf, reportOf, tripOf, soundTrip, withEpoch, added, tripLeft, withLeg, counting, narrow}
 use Rattle.trip.specs.declared.trip.Trip.{Trip}
 use Rattle.trip.specs.declared.trip.Step.the-variants.{Refused, Goes}
 use Rattle.trip.specs.declared.trip.Report.{Report}
@@ -93,8 +93,8 @@ odometer-small : (rate pulses : ℕ) → pulses ≤ 4294836225 → odometer rate
 unfolding odometer
 odometer-small rate pulses h = le-trans (div-le-self (pulses * 1000000) rate) (omega arith)
 
-counted-small : (t : Trip) (millimetres pulses : ℕ) → Small t → t .epochs < 65535 → millimetres ≤ 1000000 → pulses ≤ 65535 → Small (epochCounted t millimetres pulses)
-unfolding epochCounted
+counted-small : (t : Trip) (millimetres pulses : ℕ) → Small t → t .epochs < 65535 → millimetres ≤ 1000000 → pulses ≤ 65535 → Small (withEpoch t millimetres pulses)
+unfolding withEpoch
 counted-small t millimetres pulses s l h k =
     let b = bounds t (s .is-sound) in
     let d = apart (t .carrier + millimetres) (odometer (t .rate) (t .pulses + pulses)) in
@@ -109,7 +109,7 @@ after-small : (t : Trip) (l : Leg) → Small t → narrow l ≡ true → Small (
 unfolding withLeg added tripLeft narrow
 after-small t l s n = go (soundTrip t && ltb (t .epochs) 65535 && measurable (l .displacement)) (accepted t (l .displacement))
   where
-    go : (b : Bool) → (b ≡ true → Accepted t (l .displacement)) → Small (tripLeft t (cond b (Goes (epochCounted t (millimetresOf (l .displacement)) (l .pulses))) (Refused BadTrip)))
+    go : (b : Bool) → (b ≡ true → Accepted t (l .displacement)) → Small (tripLeft t (cond b (Goes (withEpoch t (millimetresOf (l .displacement)) (l .pulses))) (Refused BadTrip)))
     go false f = s
     go true f =
         let a = f refl in counted-small t (millimetresOf (l .displacement)) (l .pulses) s (a .room) (measured (l .displacement) (a .is-measurable) .short) (leb-true (l .pulses) 65535 n)

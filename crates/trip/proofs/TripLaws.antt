@@ -19,7 +19,7 @@ use Rattle.numeric.specs.declared.vec3.Vec3.{Vec3}
 use Rattle.numeric.specs.declared.refusal.Refusal.the-variants.{BadTrip}
 use Rattle.trip.specs.Measure.{millimetresOf, measurable}
 use Rattle.trip.specs.Steps.{wayOf}
-use Rattle.trip.specs.Trip.{Leg, carrierMillimetres, pulsesOf, odometer, apart, differenceAfter, greatest, firstWith, greatestOf, reachedOf, reportOf, tripOf, soundTrip, started, epochCounted, added, reported, Adds, Reports, tripLeft, withLeg, measurables, counting, narrow}
+use Rattle.trip.specs.Trip.{Leg, carrierMillimetres, pulsesOf, odometer, apart, differenceAfter, greatest, firstWith, greatestOf, reachedOf, reportOf, tripOf, soundTrip, started, withEpoch, added, reported, Adds, Reports, tripLeft, withLeg, measurables, counting, narrow}
 use Rattle.trip.specs.declared.trip.Trip.{Trip}
 use Rattle.trip.specs.declared.trip.Report.{Report}
 use Rattle.trip.specs.declared.trip.Step.{Step}
@@ -144,16 +144,16 @@ module _ (rate : ℕ) (legs : List Leg) (l : Leg) where
   unfolding reachedOf
   first-old = first-same (differenceAfter rate longer) (differenceAfter rate legs) (greatestOf rate legs) (length legs) difference-old
 
-  greatest-more : greatestOf rate longer ≡ epochCounted (tripOf rate legs) (millimetresOf (l .displacement)) (l .pulses) .greatest
-  unfolding epochCounted tripOf
+  greatest-more : greatestOf rate longer ≡ withEpoch (tripOf rate legs) (millimetresOf (l .displacement)) (l .pulses) .greatest
+  unfolding withEpoch tripOf
   greatest-more = unfold greatestOf in ap (greatest (differenceAfter rate longer)) (length-more legs l) ∙ greatest-next (differenceAfter rate longer) (length legs) ∙ rw (difference-new, greatest-old)
 
-  reached-more : reachedOf rate longer ≡ epochCounted (tripOf rate legs) (millimetresOf (l .displacement)) (l .pulses) .reached
-  unfolding epochCounted tripOf
+  reached-more : reachedOf rate longer ≡ withEpoch (tripOf rate legs) (millimetresOf (l .displacement)) (l .pulses) .reached
+  unfolding withEpoch tripOf
   reached-more = unfold reachedOf greatestOf in rw (length-more legs l) (first-next (differenceAfter rate longer) (length legs) ∙ rw (difference-new, greatest-old, first-old, add-one))
 
-  pub more : tripOf rate longer ≡ epochCounted (tripOf rate legs) (millimetresOf (l .displacement)) (l .pulses)
-  unfolding epochCounted tripOf
+  pub more : tripOf rate longer ≡ withEpoch (tripOf rate legs) (millimetresOf (l .displacement)) (l .pulses)
+  unfolding withEpoch tripOf
   more = rw (length-more legs l, carrier-more legs l, pulses-more legs l, greatest-more, reached-more, add-one)
 
 -- ---- the promises of the calls, where the trip handed in is that of a list
@@ -162,8 +162,8 @@ list-epochs : (t : Trip) (legs : List Leg) → t ≡ tripOf (t .rate) legs → t
 unfolding tripOf
 list-epochs t legs h = ap (λ (u : Trip). u .epochs) h
 
-list-counted : (t : Trip) (l : Leg) (legs : List Leg) → t ≡ tripOf (t .rate) legs → epochCounted t (millimetresOf (l .displacement)) (l .pulses) ≡ tripOf (t .rate) (legs ++ (l ∷ []))
-list-counted t l legs h = ap (λ (u : Trip). epochCounted u (millimetresOf (l .displacement)) (l .pulses)) h ∙ sym (more (t .rate) legs l)
+list-counted : (t : Trip) (l : Leg) (legs : List Leg) → t ≡ tripOf (t .rate) legs → withEpoch t (millimetresOf (l .displacement)) (l .pulses) ≡ tripOf (t .rate) (legs ++ (l ∷ []))
+list-counted t l legs h = ap (λ (u : Trip). withEpoch u (millimetresOf (l .displacement)) (l .pulses)) h ∙ sym (more (t .rate) legs l)
 
 list-added : (t : Trip) (l : Leg) (legs : List Leg) → t ≡ tripOf (t .rate) legs
     → added t (l .displacement) (l .pulses) ≡ cond (soundTrip t && ltb (length legs) 65535 && measurable (l .displacement)) (Goes (tripOf (t .rate) (legs ++ (l ∷ [])))) (Refused BadTrip)
@@ -193,7 +193,7 @@ module _ (t : Trip) (d : Vec3) (pulses : ℕ) {way : ℕ} (e : way ≡ wayOf (no
     unfolding added
     trip-refused h = rw (sym test-is ∙ h)
 
-    pub way-added : (s && ltb (t .epochs) 65535) ≡ true → Goes (epochCounted t way pulses) ≡ added t d pulses
+    pub way-added : (s && ltb (t .epochs) 65535) ≡ true → Goes (withEpoch t way pulses) ≡ added t d pulses
     unfolding added millimetresOf wayOf
     way-added h =
         let n : le (norm d) (whole 1000) ≡ true = sym (way-within-is d) ∙ ap (λ (z : ℕ). leb z 1000000) (sym e) ∙ w in
@@ -216,7 +216,7 @@ reports t e = record { is = e; of-list = λ legs h. e ∙ list-reported t legs h
 -- ---- one call
 
 module _ (t : Trip) (l : Leg) where
-  after-accepted : (soundTrip t && ltb (t .epochs) 65535 && measurable (l .displacement)) ≡ true → withLeg t l ≡ epochCounted t (millimetresOf (l .displacement)) (l .pulses)
+  after-accepted : (soundTrip t && ltb (t .epochs) 65535 && measurable (l .displacement)) ≡ true → withLeg t l ≡ withEpoch t (millimetresOf (l .displacement)) (l .pulses)
   unfolding withLeg added tripLeft
   after-accepted h = rw h
 

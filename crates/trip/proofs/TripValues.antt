@@ -11,7 +11,7 @@ use Rattle.numeric.specs.Vec3.{norm}
 use Rattle.numeric.specs.Whole.{wholeTimes}
 use Rattle.numeric.specs.declared.refusal.Refusal.the-variants.{BadTrip, NoDistance}
 use Rattle.trip.specs.Measure.{millimetres, millimetresOf, measurable}
-use Rattle.trip.specs.Trip.{Leg, carrierMillimetres, pulsesOf, odometer, apart, differenceAfter, greatest, firstWith, greatestOf, reachedOf, reportOf, tripOf, soundTrip, started, epochCounted, added, fuelled, tripLeft, withLeg}
+use Rattle.trip.specs.Trip.{Leg, carrierMillimetres, pulsesOf, odometer, apart, differenceAfter, greatest, firstWith, greatestOf, reachedOf, reportOf, tripOf, soundTrip, started, withEpoch, added, fuelled, tripLeft, withLeg}
 use Rattle.trip.specs.declared.trip.Trip.{Trip}
 use Rattle.trip.specs.declared.trip.Report.{Report}
 use Rattle.trip.specs.declared.trip.Step.the-variants.{Refused}
@@ -68,7 +68,7 @@ all = refl
 
 -- the calls, one after the other
 pub called : fold withLeg (tripOf 1000 []) four ≡ tripOf 1000 four
-unfolding fold withLeg tripLeft added soundTrip epochCounted measurable tripOf greatestOf reachedOf differenceAfter greatest firstWith carrierMillimetres pulsesOf odometer apart millimetresOf wholeTimes magnitude scale norm rootOf le lt eq add mul ofInt
+unfolding fold withLeg tripLeft added soundTrip withEpoch measurable tripOf greatestOf reachedOf differenceAfter greatest firstWith carrierMillimetres pulsesOf odometer apart millimetresOf wholeTimes magnitude scale norm rootOf le lt eq add mul ofInt
 called = refl
 
 -- 850 ml over these 10 m

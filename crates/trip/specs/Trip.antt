@@ -86,8 +86,8 @@ unfoldable pub started : ℕ → Step
 started rate = cond (ltb 0 rate) (Goes (tripOf rate [])) (Refused BadTrip)
 
 -- one epoch of so many millimetres and pulses more: the first is the first to reach its difference, a later one where it is above all before it
-unfoldable pub epochCounted : Trip → ℕ → ℕ → Trip
-epochCounted t millimetres pulses =
+unfoldable pub withEpoch : Trip → ℕ → ℕ → Trip
+withEpoch t millimetres pulses =
     let carrier = t .carrier + millimetres in
     let count = t .pulses + pulses in
     let difference = apart carrier (odometer (t .rate) count) in
@@ -103,7 +103,7 @@ epochCounted t millimetres pulses =
 
 -- one epoch more; 16 for a trip that is not sound, a full one, and a displacement not finite or longer than 1,000 m
 unfoldable pub added : Trip → Vec3 → ℕ → Step
-added t d pulses = cond (soundTrip t && ltb (t .epochs) 65535 && measurable d) (Goes (epochCounted t (millimetresOf d) pulses)) (Refused BadTrip)
+added t d pulses = cond (soundTrip t && ltb (t .epochs) 65535 && measurable d) (Goes (withEpoch t (millimetresOf d) pulses)) (Refused BadTrip)
 
 unfoldable pub reported : Trip → Reported
 reported t =

@@ -1,11 +1,13 @@
 -- A trip as six words (docs/SCOPE.md, "Trip"): pulses per kilometre, epochs, carrier millimetres, pulses, greatest difference, its epoch. What the calls on them
 -- answer, and what lent words hold afterwards. Definitions only.
+use mathlib.Core.Path.{_≡_}
 use Prim.Native.Nat.{ℕ, _*_}
 use mathlib.Core.Bool.{Bool, cond, _&&_, _||_}
 use mathlib.Core.List.{List, [], _∷_, map}
 use lib.Dec.{leb, ltb}
 use lib.ListN.{getD}
 use lib.Ieee.{Float}
+use Rattle.lists.specs.Memory.{before, after, Memory, LentNumbers}
 use Rattle.lists.specs.Walk.{fold}
 use Rattle.numeric.specs.Refusal.{numberOf}
 use Rattle.numeric.specs.declared.refusal.Refusal.the-variants.{BadTrip}
@@ -66,24 +68,37 @@ stepNumber (Step.Refused r) = numberOf r
 stepNumber (Step.Goes t) = 0
 
 abbrev pub wordsAfter : Step → List ℕ → List ℕ
-wordsAfter (Step.Refused r) before = before
-wordsAfter (Step.Goes t) before = wordsOf t
+wordsAfter (Step.Refused r) w = w
+wordsAfter (Step.Goes t) w = wordsOf t
 
 abbrev pub reportNumber : Reported → ℕ
 reportNumber (Reported.Refused r) = numberOf r
 reportNumber (Reported.Totals p) = 0
 
 abbrev pub reportAfter : Reported → List ℕ → List ℕ
-reportAfter (Reported.Refused r) before = before
-reportAfter (Reported.Totals p) before = p .carrier ∷ p .odometer ∷ p .greatest ∷ p .reached ∷ []
+reportAfter (Reported.Refused r) w = w
+reportAfter (Reported.Totals p) w = p .carrier ∷ p .odometer ∷ p .greatest ∷ p .reached ∷ []
 
 abbrev pub fuelNumber : Fuel → ℕ
 fuelNumber (Fuel.Refused r) = numberOf r
 fuelNumber (Fuel.PerKilometre m) = 0
 
 abbrev pub fuelAfter : Fuel → ℕ → ℕ
-fuelAfter (Fuel.Refused r) before = before
-fuelAfter (Fuel.PerKilometre m) before = m
+fuelAfter (Fuel.Refused r) n = n
+fuelAfter (Fuel.PerKilometre m) n = m
+
+-- what calls on lent words promise
+pub record TripAnswers (s : Step) (number : ℕ) (trip : LentNumbers) : Type 0 where
+  pub number-is : number ≡ stepNumber s
+  pub words-are : after trip ≡ wordsAfter s (before trip)
+
+pub record ReportAnswers (q : Reported) (number : ℕ) (report : LentNumbers) : Type 0 where
+  pub number-is : number ≡ reportNumber q
+  pub words-are : after report ≡ reportAfter q (before report)
+
+pub record FuelAnswers (f : Fuel) (number : ℕ) (per-km : Memory ℕ) : Type 0 where
+  pub number-is : number ≡ fuelNumber f
+  pub word-is : after per-km ≡ fuelAfter f (before per-km)
 
 -- ---- 16, of six words handed in
 
@@ -108,7 +123,7 @@ wordsNext w a = wordsAfter (addedWords w (a .delta) (a .pulses)) w
 
 -- the words after the start with this rate and these additions, from what they held before
 unfoldable pub wordsAfterCalls : ℕ → List ℕ → List Addition → List ℕ
-wordsAfterCalls rate before calls = fold wordsNext (wordsAfter (started rate) before) calls
+wordsAfterCalls rate w calls = fold wordsNext (wordsAfter (started rate) w) calls
 
 -- the epochs that count among these additions
 unfoldable pub countedLegs : List Addition → List Leg

@@ -1,9 +1,6 @@
 // A trip that the caller holds as six words: pulses per kilometre, epochs, carrier millimetres, pulses, greatest difference, its epoch.
 ghost use mathlib.Core.Path.{_≡_};
-ghost use Rattle.numeric.specs.Vec3.{norm};
-ghost use Rattle.numeric.specs.declared.vec3.Vec3.{Vec3};
-ghost use Rattle.trip.specs.Steps.{wayOf};
-ghost use Rattle.trip.specs.Trip.{started};
+ghost use Rattle.lists.specs.Memory.{before};
 ghost use Rattle.trip.specs.Words as spec;
 use crate::measure::way_of;
 use crate::trip::Fuel;
@@ -46,10 +43,18 @@ pub fn words(t: Trip) -> [u64; 6]
     ]
 }
 
-// Adds an epoch whose displacement is of this way to the trip that the words hold.
-pub(crate) fn add_held(w: [u64; 6], way: u64, pulses: u16) -> Step
-    ensures { λ r. ⌜ ((d : Vec3) → way ≡ wayOf (norm d) → r ≡ spec.addedHeld (spec.heldOf w) d pulses) ⌝ }
+// Adds an epoch to the trip that the lent words hold.
+pub fn add_held(trip: &[u64; 6], delta: &[f64; 3], pulses: u16) -> Step
+    ensures { λ r. ⌜ r ≡ spec.addedWords (before trip) (before delta) pulses ⌝ }
 {
+    // The way first: it may need a root, which is a call, over which no word has to be kept.
+    let d = Vec3 {
+        x: delta[0],
+        y: delta[1],
+        z: delta[2],
+    };
+    let way = way_of(d);
+    let w = *trip;
     let before = held(w);
     match before {
         Step::Refused(r) => Step::Refused(r),
@@ -58,7 +63,7 @@ pub(crate) fn add_held(w: [u64; 6], way: u64, pulses: u16) -> Step
 }
 
 // Reports the trip that the words hold.
-pub(crate) fn report_held(w: [u64; 6]) -> Reported
+pub fn report_held(w: [u64; 6]) -> Reported
     ensures { λ r. ⌜ r ≡ spec.reportedWords w ⌝ }
 {
     let before = held(w);
@@ -69,7 +74,7 @@ pub(crate) fn report_held(w: [u64; 6]) -> Reported
 }
 
 // Returns its fuel for a kilometre.
-pub(crate) fn fuel_held(w: [u64; 6], millilitres: u32) -> Fuel
+pub fn fuel_held(w: [u64; 6], millilitres: u32) -> Fuel
     ensures { λ r. ⌜ r ≡ spec.fuelledWords w millilitres ⌝ }
 {
     let before = held(w);
@@ -79,12 +84,11 @@ pub(crate) fn fuel_held(w: [u64; 6], millilitres: u32) -> Fuel
     }
 }
 
-// Starts a trip in the lent words and returns 0. On refusal, returns 16 and changes nothing.
-pub fn start_in(per_km: u16, trip: &mut [u64; 6]) -> u8
-    ensures { λ r. ⌜ (let s = started «per_km» in (r ≡ spec.stepNumber s) × (now (trip .exit) ≡ spec.wordsAfter s (now (trip .entry)))) ⌝ }
+// Writes the trip of a step to the lent words and returns 0. On refusal, returns its number and changes nothing.
+pub fn put_step(step: Step, trip: &mut [u64; 6]) -> u8
+    ensures { λ r. ⌜ spec.TripAnswers step r trip ⌝ }
 {
-    let answer = Trip::start(per_km);
-    match answer {
+    match step {
         Step::Refused(r) => r.number(),
         Step::Goes(t) => {
             *trip = words(t);
@@ -93,37 +97,11 @@ pub fn start_in(per_km: u16, trip: &mut [u64; 6]) -> u8
     }
 }
 
-// Adds an epoch to the trip in the lent words and returns 0. On refusal, returns 16 and changes nothing.
-pub fn add_in(trip: &mut [u64; 6], delta: &[f64; 3], pulses: u16) -> u8
-    ensures { λ r. ⌜ (let s = spec.addedWords (now (trip .entry)) (now (delta .entry)) pulses in
-        (r ≡ spec.stepNumber s) × (now (trip .exit) ≡ spec.wordsAfter s (now (trip .entry)))) ⌝ }
+// Writes a report to the lent words and returns 0. On refusal, returns its number and changes nothing.
+pub fn put_report(reported: Reported, report: &mut [u64; 4]) -> u8
+    ensures { λ r. ⌜ spec.ReportAnswers reported r report ⌝ }
 {
-    // The way first: it may need a root, which is a call, over which no word has to be kept.
-    let d = Vec3 {
-        x: delta[0],
-        y: delta[1],
-        z: delta[2],
-    };
-    let way = way_of(d);
-    let w = *trip;
-    let answer = add_held(w, way, pulses);
-    match answer {
-        Step::Refused(r) => r.number(),
-        Step::Goes(t) => {
-            *trip = words(t);
-            0
-        }
-    }
-}
-
-// Writes carrier millimetres, odometer millimetres, the greatest difference and its epoch to `report` and returns 0. On refusal, returns 16 and changes nothing.
-pub fn report_in(trip: &[u64; 6], report: &mut [u64; 4]) -> u8
-    ensures { λ r. ⌜ (let q = spec.reportedWords (now (trip .entry)) in
-        (r ≡ spec.reportNumber q) × (now (report .exit) ≡ spec.reportAfter q (now (report .entry)))) ⌝ }
-{
-    let w = *trip;
-    let answer = report_held(w);
-    match answer {
+    match reported {
         Reported::Refused(r) => r.number(),
         Reported::Totals(p) => {
             *report = [p.carrier, p.odometer, p.greatest, p.reached];
@@ -132,14 +110,11 @@ pub fn report_in(trip: &[u64; 6], report: &mut [u64; 4]) -> u8
     }
 }
 
-// Writes the millilitres for a kilometre to the lent number and returns 0. On refusal, returns 16 or 17 and changes nothing.
-pub fn fuel_in(trip: &[u64; 6], millilitres: u32, per_km: &mut u64) -> u8
-    ensures { λ r. ⌜ (let f = spec.fuelledWords (now (trip .entry)) millilitres in
-        (r ≡ spec.fuelNumber f) × (now («per_km» .exit) ≡ spec.fuelAfter f (now («per_km» .entry)))) ⌝ }
+// Writes the millilitres for a kilometre to the lent number and returns 0. On refusal, returns its number and changes nothing.
+pub fn put_fuel(fuel: Fuel, per_km: &mut u64) -> u8
+    ensures { λ r. ⌜ spec.FuelAnswers fuel r «per_km» ⌝ }
 {
-    let w = *trip;
-    let answer = fuel_held(w, millilitres);
-    match answer {
+    match fuel {
         Fuel::Refused(r) => r.number(),
         Fuel::PerKilometre(m) => {
             *per_km = m;

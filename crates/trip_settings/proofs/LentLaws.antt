@@ -6,12 +6,11 @@ use lib.Ieee.{Float}
 use Rattle.tdcp.specs.declared.displacement.Displacement.{Displacement}
 use Rattle.tdcp.proofs.CountedLaws.{many-rounds}
 use Rattle.trip.specs.declared.trip.Step.{Step}
+use Rattle.tdcp_columns.specs.Displacement.{deltaAfter, countsAfter, displacementSettings, Lent, columnsDisplaced}
 use Rattle.trip_settings.specs.Drive.{underNew}
-use Rattle.tdcp_columns.specs.Displacement.{displacementSettings, Lent, columnsDisplaced}
-use Rattle.tdcp_columns.specs.Steps.{ColumnsPromised}
 use Rattle.estimate_rounds.proofs.RoundsLaws.{capped}
 use Rattle.tdcp_columns.proofs.AnswerLaws.{columns-accepted}
-use Rattle.trip_settings.specs.Lent.{drivingNumber, inForceAfter, roundsAfter, startedAfter, DrivingAnswers, BegunAnswers, travelledBy, travelNumber, tripAfter, travelDeltaAfter, travelCountsAfter, TravelLeaves, TravelAnswers}
+use Rattle.trip_settings.specs.Lent.{drivingNumber, inForceAfter, roundsAfter, startedAfter, DrivingAnswers, BegunAnswers, travelledBy, travelNumber, tripAfter, travelledDelta, TravelLeaves, TravelAnswers}
 use Rattle.trip_settings.specs.declared.drive.Driving.{Driving}
 use Rattle.trip_settings.specs.declared.drive.Driving.the-variants as Driving
 use Rattle.trip_settings.specs.declared.drive.Travel.{Travel}
@@ -39,20 +38,20 @@ pub begun-answers : {d q : Driving} {number : ℕ} {trip₀ trip force₀ force 
 begun-answers {trip₀ = trip₀} e a h = record { trip-is = a ∙ ap (λ (z : Driving). startedAfter z trip₀) e; others = h }
 
 pub travel-leaves : {t q : Travel} {number : ℕ} {trip₀ trip delta₀ delta counts₀ counts : List ℕ} → q ≡ t
-    → number ≡ travelNumber q → trip ≡ tripAfter q trip₀ → delta ≡ travelDeltaAfter q delta₀ → counts ≡ travelCountsAfter q counts₀ → TravelLeaves t number trip₀ trip delta₀ delta counts₀ counts
+    → number ≡ travelNumber q → trip ≡ tripAfter q trip₀ → delta ≡ deltaAfter (travelledDelta q) delta₀ → counts ≡ countsAfter (travelledDelta q) counts₀ → TravelLeaves t number trip₀ trip delta₀ delta counts₀ counts
 travel-leaves {trip₀ = trip₀} {delta₀ = delta₀} {counts₀ = counts₀} e a b c d =
     record {
       number-is = a ∙ ap travelNumber e;
       trip-is = b ∙ ap (λ (z : Travel). tripAfter z trip₀) e;
-      delta-is = c ∙ ap (λ (z : Travel). travelDeltaAfter z delta₀) e;
-      counts-are = d ∙ ap (λ (z : Travel). travelCountsAfter z counts₀) e;
+      delta-is = c ∙ ap (λ (z : Travel). deltaAfter (travelledDelta z) delta₀) e;
+      counts-are = d ∙ ap (λ (z : Travel). countsAfter (travelledDelta z) counts₀) e;
     }
 
 -- what is left of the displacement q of what is lent
-pub travel-answers : (l : Lent) {q : Displacement} {pulses number : ℕ} {trip₀ trip delta₀ delta counts₀ counts : List ℕ} → ColumnsPromised l q
+pub travel-answers : (l : Lent) {q : Displacement} {pulses number : ℕ} {trip₀ trip delta₀ delta counts₀ counts : List ℕ} → q ≡ columnsDisplaced l
     → TravelLeaves (travelledBy q pulses trip₀) number trip₀ trip delta₀ delta counts₀ counts → TravelAnswers l pulses number trip₀ trip delta₀ delta counts₀ counts
-travel-answers l {pulses = pulses} {number = number} {trip₀ = trip₀} {trip = trip} {delta₀ = delta₀} {delta = delta} {counts₀ = counts₀} {counts = counts} p h =
+travel-answers l {pulses = pulses} {number = number} {trip₀ = trip₀} {trip = trip} {delta₀ = delta₀} {delta = delta} {counts₀ = counts₀} {counts = counts} e h =
     record {
-      leaves = subst (λ (d : Displacement). TravelLeaves (travelledBy d pulses trip₀) number trip₀ trip delta₀ delta counts₀ counts) (p .answer) h;
-      accepted = λ w e. columns-accepted l (w .moved) (by-moved _ pulses (columnsDisplaced l) w e);
+      leaves = subst (λ (d : Displacement). TravelLeaves (travelledBy d pulses trip₀) number trip₀ trip delta₀ delta counts₀ counts) e h;
+      accepted = λ w q. columns-accepted l (w .moved) (by-moved _ pulses (columnsDisplaced l) w q);
     }

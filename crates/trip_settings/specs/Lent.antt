@@ -3,10 +3,11 @@ use Prim.Native.Nat.{ℕ}
 use mathlib.Core.Path.{_≡_}
 use mathlib.Core.List.{List, [], _∷_, map}
 use lib.Ieee.{Float}
+use Rattle.lists.specs.Memory.{before, after, Memory, LentNumbers}
 use Rattle.numeric.specs.Order.{patternOf}
 use Rattle.numeric.specs.Refusal.{numberOf}
-use Rattle.tdcp.specs.Displacement.{displacementFloats, displacementCounts, Accepted}
-use Rattle.tdcp_columns.specs.Displacement.{Lent, lentInput, columnsDisplaced}
+use Rattle.tdcp.specs.Displacement.{Accepted}
+use Rattle.tdcp_columns.specs.Displacement.{Lent, lentInput, columnsDisplaced, deltaAfter, countsAfter}
 use Rattle.tdcp.specs.declared.displacement.Settings.{Settings}
 use Rattle.tdcp.specs.declared.displacement.Displacement.{Displacement}
 use Rattle.tdcp.specs.declared.displacement.Displacement.the-variants as Displacement
@@ -52,6 +53,13 @@ pub record BegunAnswers (d : Driving) (number : ℕ) (trip₀ trip force₀ forc
   pub trip-is : trip ≡ startedAfter d trip₀
   pub others : DrivingAnswers d number force₀ force rounds₀ rounds
 
+-- of lent patterns and rounds, and of lent words
+abbrev pub SettingsPut : Driving → ℕ → LentNumbers → Memory ℕ → Type 0
+SettingsPut d number force rounds = DrivingAnswers d number (before force) (after force) (before rounds) (after rounds)
+
+abbrev pub TripBegun : Driving → ℕ → LentNumbers → LentNumbers → Memory ℕ → Type 0
+TripBegun d number trip force rounds = BegunAnswers d number (before trip) (after trip) (before force) (after force) (before rounds) (after rounds)
+
 -- ---- a displacement
 
 -- the trip that the words hold, with the displacement `moved`
@@ -66,21 +74,17 @@ abbrev pub tripAfter : Travel → List ℕ → List ℕ
 tripAfter (Travel.Refused r) before = before
 tripAfter (Travel.Goes w) before = wordsOf (w .trip)
 
--- the patterns of the displacement in metres, and how many pairs were used and screened out
-abbrev pub travelDeltaAfter : Travel → List ℕ → List ℕ
-travelDeltaAfter (Travel.Refused r) before = before
-travelDeltaAfter (Travel.Goes w) before = map patternOf (displacementFloats (Displacement.Moved (w .moved)))
-
-abbrev pub travelCountsAfter : Travel → List ℕ → List ℕ
-travelCountsAfter (Travel.Refused r) before = before
-travelCountsAfter (Travel.Goes w) before = displacementCounts (Displacement.Moved (w .moved))
+-- its displacement, or the refusal
+abbrev pub travelledDelta : Travel → Displacement
+travelledDelta (Travel.Refused r) = Displacement.Refused r
+travelledDelta (Travel.Goes w) = Displacement.Moved (w .moved)
 
 -- the number and what is lent afterwards are those of t
 pub record TravelLeaves (t : Travel) (number : ℕ) (trip₀ trip delta₀ delta counts₀ counts : List ℕ) : Type 0 where
   pub number-is : number ≡ travelNumber t
   pub trip-is : trip ≡ tripAfter t trip₀
-  pub delta-is : delta ≡ travelDeltaAfter t delta₀
-  pub counts-are : counts ≡ travelCountsAfter t counts₀
+  pub delta-is : delta ≡ deltaAfter (travelledDelta t) delta₀
+  pub counts-are : counts ≡ countsAfter (travelledDelta t) counts₀
 
 -- They are those of the trip with the displacement of what is lent. An accepted one has what every accepted displacement has with its own settings, demand 3 of every
 -- round included.

@@ -1,6 +1,7 @@
 // The calls of a trip with settings on lent memory: the trip as six words, the settings as five floats and the rounds.
 ghost use mathlib.Core.Path.{_≡_};
 ghost use mathlib.Core.List.{map};
+ghost use Rattle.lists.specs.Memory.{before, after};
 ghost use Rattle.numeric.specs.Order.{patternOf};
 ghost use Rattle.tdcp_columns.specs.Displacement.{displacementSettings};
 ghost use Rattle.trip.specs.Words.{heldOf};
@@ -31,22 +32,33 @@ fn patterns_of(s: Settings) -> [u64; 5]
     [a, b, c, d, e]
 }
 
-// Starts a trip in the lent words, puts its settings in force in the lent patterns and rounds, and returns 0. On refusal, returns 3 or 16 and changes nothing.
-pub fn begin_into(
-    settings: &[f64; 5],
-    rounds: usize,
-    per_km: u16,
+// Starts a trip with these settings.
+pub fn begun(settings: &[f64; 5], rounds: usize, per_km: u16) -> Driving
+    ensures { λ r. ⌜ r ≡ begunOf (displacementSettings (before settings) rounds) «per_km» ⌝ }
+{
+    let s = displacement_settings(settings, rounds);
+    Drive::begin(s, per_km)
+}
+
+// Changes the settings of the trip that the lent words hold.
+pub fn changed(trip: &[u64; 6], settings: &[f64; 5], rounds: usize) -> Driving
+    ensures { λ r. ⌜ r ≡ underNew (displacementSettings (before settings) rounds) (tested (heldOf (before trip))) ⌝ }
+{
+    let s = displacement_settings(settings, rounds);
+    let w = *trip;
+    under_new(s, tested(held(w)))
+}
+
+// Writes the trip that began to the lent words and its settings to the lent patterns and rounds, and returns 0. On refusal, returns its number and changes nothing.
+pub fn put_begun(
+    driving: Driving,
     trip: &mut [u64; 6],
     in_force: &mut [u64; 5],
     in_force_rounds: &mut usize,
 ) -> u8
-    ensures { λ r. ⌜ spec.BegunAnswers (begunOf (displacementSettings (now (settings .entry)) rounds) «per_km») r
-        (now (trip .entry)) (now (trip .exit)) (now («in_force» .entry)) (now («in_force» .exit))
-        (now («in_force_rounds» .entry)) (now («in_force_rounds» .exit)) ⌝ }
+    ensures { λ r. ⌜ spec.TripBegun driving r trip «in_force» «in_force_rounds» ⌝ }
 {
-    let s = displacement_settings(settings, rounds);
-    let answer = Drive::begin(s, per_km);
-    match answer {
+    match driving {
         Driving::Refused(r) => r.number(),
         Driving::Goes(v) => {
             let t = v.trip;
@@ -59,21 +71,11 @@ pub fn begin_into(
     }
 }
 
-// Puts new settings in force in the lent patterns and rounds and returns 0. On refusal, returns 3 or 16 and changes nothing.
-pub fn change_into(
-    trip: &[u64; 6],
-    settings: &[f64; 5],
-    rounds: usize,
-    in_force: &mut [u64; 5],
-    in_force_rounds: &mut usize,
-) -> u8
-    ensures { λ r. ⌜ spec.DrivingAnswers (underNew (displacementSettings (now (settings .entry)) rounds) (tested (heldOf (now (trip .entry))))) r
-        (now («in_force» .entry)) (now («in_force» .exit)) (now («in_force_rounds» .entry)) (now («in_force_rounds» .exit)) ⌝ }
+// Writes the settings in force to the lent patterns and rounds and returns 0. On refusal, returns its number and changes nothing.
+pub fn put_settings(driving: Driving, in_force: &mut [u64; 5], in_force_rounds: &mut usize) -> u8
+    ensures { λ r. ⌜ spec.SettingsPut driving r «in_force» «in_force_rounds» ⌝ }
 {
-    let s = displacement_settings(settings, rounds);
-    let w = *trip;
-    let answer = under_new(s, tested(held(w)));
-    match answer {
+    match driving {
         Driving::Refused(r) => r.number(),
         Driving::Goes(v) => {
             let n = v.settings;
@@ -93,8 +95,8 @@ pub fn travel_into(
     delta: &mut [u64; 3],
     counts: &mut [usize; 2],
 ) -> u8
-    ensures { λ r. ⌜ spec.TravelLeaves (spec.travelledBy moved pulses (now (trip .entry))) r
-        (now (trip .entry)) (now (trip .exit)) (now (delta .entry)) (now (delta .exit)) (now (counts .entry)) (now (counts .exit)) ⌝ }
+    ensures { λ r. ⌜ spec.TravelLeaves (spec.travelledBy moved pulses (before trip)) r
+        (before trip) (after trip) (before delta) (after delta) (before counts) (after counts) ⌝ }
 {
     let w = *trip;
     let answer = travel_by(held(w), moved, pulses);

@@ -2,3 +2,4 @@ pub mod Number
 pub mod Record
 pub mod Columns
 pub mod Lent
+pub mod Steps

@@ -3,13 +3,14 @@ ghost use mathlib.Core.Path.{_≡_};
 ghost use Prim.Native.Nat.{_+_, _≤_, _<_, _^_};
 ghost use lib.ListN.{length};
 ghost use lib.Seq.{sets};
+ghost use Rattle.lists.specs.Memory.{before, after};
 ghost use Rattle.records.specs.Record.{unsigned};
 ghost use Rattle.wire.specs.Number as spec;
 
 // Returns the number of the w bytes from place `at` on, starting with the most significant byte, which is the last.
 pub(crate) fn number_at(s: &[u8], at: usize, w: usize) -> u64
     requires { ⌜ (w ≤ 8) × (at + w ≤ length (now s)) ⌝ }
-    ensures { λ r. ⌜ (r ≡ spec.numberAt (now (s .entry)) at w) × (r < 256 ^ w) ⌝ }
+    ensures { λ r. ⌜ (r ≡ spec.numberAt (before s) at w) × (r < 256 ^ w) ⌝ }
 {
     let mut i: usize = 0;
     let mut n: u64 = 0;
@@ -24,7 +25,7 @@ pub(crate) fn number_at(s: &[u8], at: usize, w: usize) -> u64
 // Writes the w bytes of n from place `at` on.
 pub(crate) fn put_number(out: &mut [u8], at: usize, w: usize, n: u64)
     requires { ⌜ at + w ≤ length (now out) ⌝ }
-    ensures { λ _. ⌜ now (out .exit) ≡ sets (now (out .entry)) at (spec.bytesIn w n) ⌝ }
+    ensures { λ _. ⌜ after out ≡ sets (before out) at (spec.bytesIn w n) ⌝ }
 {
     let mut i: usize = 0;
     let mut rest = n;

@@ -3,6 +3,7 @@ ghost use mathlib.Core.Path.{_≡_};
 ghost use Prim.Native.Nat.{_+_, _≤_};
 ghost use lib.ListN.{length, drop};
 ghost use lib.Seq.{sets};
+ghost use Rattle.lists.specs.Memory.{before, after};
 ghost use Rattle.wire.specs.Number.{fiveBytes, numberAt};
 ghost use Rattle.wire.specs.Record as spec;
 use crate::number::number_at;
@@ -27,7 +28,7 @@ pub struct CarrierRecord {
 // The 64 bits of a float, a NaN's sign and payload with them.
 pub(crate) fn pattern_in(s: &[u8], at: usize) -> u64
     requires { ⌜ at + 8 ≤ length (now s) ⌝ }
-    ensures { λ r. ⌜ r ≡ numberAt (now (s .entry)) at 8 ⌝ }
+    ensures { λ r. ⌜ r ≡ numberAt (before s) at 8 ⌝ }
 {
     number_at(s, at, 8)
 }
@@ -35,7 +36,7 @@ pub(crate) fn pattern_in(s: &[u8], at: usize) -> u64
 // Returns the record of the 59 bytes from place `at` on.
 pub fn record_of(s: &[u8], at: usize) -> CarrierRecord
     requires { ⌜ at + 59 ≤ length (now s) ⌝ }
-    ensures { λ r. ⌜ r ≡ spec.recordOf (drop at (now (s .entry))) ⌝ }
+    ensures { λ r. ⌜ r ≡ spec.recordOf (drop at (before s)) ⌝ }
 {
     let constellation = number_at(s, at, 1);
     let svid = number_at(s, at + 1, 2);
@@ -72,7 +73,7 @@ fn put_front(
     state: u64,
 )
     requires { ⌜ at + 19 ≤ length (now out) ⌝ }
-    ensures { λ _. ⌜ now (out .exit) ≡ sets (now (out .entry)) at (spec.frontBytes constellation svid band adr state) ⌝ }
+    ensures { λ _. ⌜ after out ≡ sets (before out) at (spec.frontBytes constellation svid band adr state) ⌝ }
 {
     put_number(out, at, 1, constellation as u64);
     put_number(out, at + 1, 2, svid as u64);
@@ -84,7 +85,7 @@ fn put_front(
 // Writes five numbers of 8 bytes each from place `at` on.
 pub fn put_five(out: &mut [u8], at: usize, a: u64, b: u64, c: u64, d: u64, e: u64)
     requires { ⌜ at + 40 ≤ length (now out) ⌝ }
-    ensures { λ _. ⌜ now (out .exit) ≡ sets (now (out .entry)) at (fiveBytes a b c d e) ⌝ }
+    ensures { λ _. ⌜ after out ≡ sets (before out) at (fiveBytes a b c d e) ⌝ }
 {
     put_number(out, at, 8, a);
     put_number(out, at + 8, 8, b);
@@ -96,7 +97,7 @@ pub fn put_five(out: &mut [u8], at: usize, a: u64, b: u64, c: u64, d: u64, e: u6
 // Writes the 59 bytes of a record from place `at` on.
 pub(crate) fn put_record(out: &mut [u8], at: usize, r: CarrierRecord)
     requires { ⌜ at + 59 ≤ length (now out) ⌝ }
-    ensures { λ _. ⌜ now (out .exit) ≡ sets (now (out .entry)) at (spec.bytesOf r) ⌝ }
+    ensures { λ _. ⌜ after out ≡ sets (before out) at (spec.bytesOf r) ⌝ }
 {
     let state = unsigned(r.state);
     put_front(out, at, r.constellation, r.svid, r.band, r.adr, state);

@@ -18,7 +18,7 @@ use Rattle.records.specs.Steps.{Laid}
 use Rattle.records.specs.declared.record.Carrier.{Carrier}
 use Rattle.records.proofs.RecordLaws.{blank}
 use Rattle.records.proofs.EpochLaws.{cut-count, cut-fits, cut-is}
-use Rattle.estimate_rounds.specs.Rules.{ruled}
+use Rattle.numeric.specs.Rules.{ruled}
 use Rattle.tdcp.specs.Displacement.{displacementOf, displacementNumber, Promised}
 use Rattle.tdcp.specs.declared.displacement.Delta.{Delta}
 use Rattle.tdcp.specs.declared.displacement.Displacement.{Displacement}

@@ -5,7 +5,7 @@ use Prim.Native.Nat.{_*_}
 use lib.Ieee.{Float}
 use lib.ListN.{replicate}
 use Rattle.numeric.specs.declared.vec3.Vec3.{Vec3}
-use Rattle.estimate_rounds.specs.Rules.{ruled}
+use Rattle.numeric.specs.Rules.{ruled}
 use Rattle.tdcp.specs.Displacement.{displacementNumber}
 use Rattle.tdcp.specs.declared.displacement.Settings.{Settings}
 use Rattle.wire_tdcp.specs.Displacement.{handed, recordRules, recordsDisplaced}

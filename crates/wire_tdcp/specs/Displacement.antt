@@ -13,7 +13,7 @@ use Rattle.numeric.specs.declared.vec3.Vec3.{Vec3}
 use Rattle.records.specs.Carriers.{CarrierColumns, carrierColumns}
 use Rattle.records.specs.declared.record.Carrier.{Carrier}
 use Rattle.records.specs.declared.record.Epoch.{Epoch}
-use Rattle.estimate_rounds.specs.Rules.{Rule, rule, ruled}
+use Rattle.numeric.specs.Rules.{Rule, rule, ruled}
 use Rattle.tdcp.specs.Displacement.{Input, general, displacementOf, displacementNumber, Accepted}
 use Rattle.tdcp.specs.declared.displacement.Settings.{Settings}
 use Rattle.tdcp.specs.declared.displacement.Delta.{Delta}

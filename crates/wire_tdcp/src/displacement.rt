@@ -2,6 +2,7 @@
 ghost use mathlib.Core.Path.{_≡_};
 ghost use Prim.Native.Nat.{_*_, _≤_};
 ghost use lib.ListN.{length};
+ghost use Rattle.lists.specs.Memory.{before, after};
 ghost use Rattle.records.specs.Steps.{Laid};
 ghost use Rattle.tdcp.specs.Displacement.{Promised};
 ghost use Rattle.wire.specs.Record.{countIn};
@@ -17,6 +18,7 @@ use tdcp::displacement::Displacement;
 use tdcp::displacement::Interval;
 use tdcp::displacement::Settings;
 use tdcp::displacement::displaced;
+use tdcp::displacement::plain;
 use wire::record::CarrierRecord;
 use wire::record::put_five;
 use wire::record::record_of;
@@ -54,7 +56,7 @@ fn carriers_into(
     floats: &mut [f64; 384],
 )
     requires { ⌜ (n ≤ 64) × (59 * n ≤ length (now s)) × (length (now signals) ≡ 64) × (length (now states) ≡ 64) × (length (now floats) ≡ 384) ⌝ }
-    ensures { λ _. ⌜ Laid (spec.recordCarriers (now (s .entry)) n) n (now (signals .exit)) (now (states .exit)) (now (floats .exit)) ⌝ }
+    ensures { λ _. ⌜ Laid (spec.recordCarriers (before s) n) n (after signals) (after states) (after floats) ⌝ }
 {
     let mut i: usize = 0;
     while i < n {
@@ -74,7 +76,7 @@ fn displacement_of(
     settings: Settings,
 ) -> Displacement
     requires { ⌜ (countIn (now previous) ≤ 64) × (countIn (now current) ≤ 64) ⌝ }
-    ensures { λ r. ⌜ Promised (spec.recordInput (spec.handed (now (previous .entry)) (now (current .entry)) dt receiver settings)) r ⌝ }
+    ensures { λ r. ⌜ Promised (spec.recordInput (spec.handed (before previous) (before current) dt receiver settings)) r ⌝ }
 {
     let m = previous.len() / 59;
     let n = current.len() / 59;
@@ -98,7 +100,7 @@ fn displacement_of(
         &mut current_states,
         &mut current_floats,
     );
-    displaced(
+    let answer = displaced(
         &previous_signals[..m],
         &previous_states,
         &previous_floats,
@@ -109,7 +111,9 @@ fn displacement_of(
         receiver,
         settings,
         Profile::General,
-    )
+        false,
+    );
+    plain(answer)
 }
 
 // Returns 0 and writes how many pairs were used and screened out and the displacement in metres to the first 40 bytes of `result`. On refusal, returns its number and
@@ -122,8 +126,8 @@ pub fn displacement_records(
     settings: Settings,
     result: &mut [u8],
 ) -> u8
-    ensures { λ r. ⌜ spec.RecordAnswers (spec.handed (now (previous .entry)) (now (current .entry)) dt receiver settings)
-        r (now (result .entry)) (now (result .exit)) ⌝ }
+    ensures { λ r. ⌜ spec.RecordAnswers (spec.handed (before previous) (before current) dt receiver settings)
+        r (before result) (after result) ⌝ }
 {
     if previous.len() % 59 != 0 {
         return Refusal::BrokenRecords.number();

@@ -19,11 +19,12 @@ use Rattle.robust.specs.Round.{Round, RoundOutcome, Refused as NoRound, Solved}
 use Rattle.normal_equations.specs.declared.row.Row.{Row}
 use Rattle.clocks.specs.declared.clocks.Clocks.{Clocks}
 use Rattle.records.specs.declared.record.Observation.{Observation}
-use Rattle.estimate_rounds.specs.Rules.{Rule, rule, ruled}
+use Rattle.numeric.specs.Rules.{Rule, rule, ruled}
 use Rattle.estimate_rounds.specs.Rounds.{End, Stopped, Reached, Fit, moved, shortStep, reachedAt, begun, afterRound, fitFrom, lastRows, finiteAt, concluded}
 use Rattle.estimate_rounds.specs.declared.rules.Check.{Check}
 use Rattle.estimate_rounds.specs.declared.rules.Check.the-variants.{Refused as Stops, Passed}
-use Rattle.estimate_rounds.proofs.RulesLaws.{checked, ruled-append, refused-by, passed-by}
+use Rattle.numeric.proofs.RulesLaws.{ruled-append}
+use Rattle.estimate_rounds.proofs.RulesLaws.{checked, refused-by, passed-by}
 use Rattle.wls.specs.Front.{fixRules}
 use Rattle.wls.specs.Fix.{Input, sightAt, sightRules, roundAt, fixStop, start, fitOver, keptObservations, clocks, chiAt, qualityRules, endRules, foundOver, fixOf}
 use Rattle.quality.specs.Quality.{unweightedMatrix, dilutionOf}

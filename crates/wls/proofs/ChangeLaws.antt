@@ -31,10 +31,12 @@ use Rattle.normal_equations.specs.declared.row.Row.{Row}
 use Rattle.clocks.specs.Clocks.{slot}
 use Rattle.clocks.specs.declared.clocks.Clocks.{Clocks}
 use Rattle.records.specs.declared.record.Observation.{Observation}
-use Rattle.estimate_rounds.specs.Rules.{Rule, rule, ruled, rowRules}
+use Rattle.numeric.specs.Rules.{Rule, rule, ruled}
+use Rattle.estimate_rounds.specs.Rules.{rowRules}
 use Rattle.estimate_rounds.specs.Rounds.{End, Stopped, Reached, vector, lastRows, finiteAt, concluded}
 use Rattle.estimate_rounds.specs.declared.rules.Check.the-variants.{Passed}
-use Rattle.estimate_rounds.proofs.RulesLaws.{checked, ruled-append, passed-by}
+use Rattle.numeric.proofs.RulesLaws.{ruled-append}
+use Rattle.estimate_rounds.proofs.RulesLaws.{checked, passed-by}
 use Rattle.wls.specs.Valid.{fixInputRules}
 use Rattle.wls.specs.Front.{fixRules}
 use Rattle.wls.specs.Fix.{Input, sightAt, sightRules, rowAt, start, fitOver, keptObservations, clocks, fitOf, roundsOf, chiAt, residualAt, qualityRules, endRules, solutionAt, foundOver, fixOf}

@@ -7,7 +7,7 @@ use lib.Dec.{ltb}
 use Rattle.numeric.specs.declared.vec3.Vec3.{Vec3}
 use Rattle.numeric.specs.declared.refusal.Refusal.the-variants.{TooMany, SettingOutOfRange}
 use Rattle.records.specs.Record.{countedObservations}
-use Rattle.estimate_rounds.specs.Rules.{ruled}
+use Rattle.numeric.specs.Rules.{ruled}
 use Rattle.wls.specs.Valid.{fixSettingsPass, fixInputRules}
 use Rattle.wls.specs.Front.{fixRules}
 use Rattle.records.specs.declared.record.Observations.{Observations}

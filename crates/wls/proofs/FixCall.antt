@@ -11,7 +11,8 @@ use Rattle.cholesky.specs.Factor.{at}
 use Rattle.numeric.specs.declared.refusal.Refusal.{Refusal}
 use Rattle.numeric.specs.declared.refusal.Refusal.the-variants.{FitFailed, QualityNotFinite}
 use Rattle.normal_equations.specs.declared.row.Row.{Row}
-use Rattle.estimate_rounds.specs.Rules.{Rule, ruled, rowRules}
+use Rattle.numeric.specs.Rules.{Rule, ruled}
+use Rattle.estimate_rounds.specs.Rules.{rowRules}
 use Rattle.records.specs.Record.{countedObservations}
 use Rattle.clocks.specs.Clocks.{clocksOf}
 use Rattle.records.specs.Mask.{constellations}
@@ -32,7 +33,8 @@ use Rattle.wls.specs.declared.chi.Chi.the-variants.{Refused as NoChi, Of
 use Rattle.wls.specs.declared.fix.Fix.{Fix}
 use Rattle.wls.specs.declared.fix.Fix.the-variants.{Refused, At}
 use Rattle.estimate_rounds.specs.declared.rules.Check.the-variants.{Refused as Stops, Passed}
-use Rattle.estimate_rounds.proofs.RulesLaws.{checked, ruled-append, ruled-map, rows-passed}
+use Rattle.numeric.proofs.RulesLaws.{ruled-append, ruled-map}
+use Rattle.estimate_rounds.proofs.RulesLaws.{checked, rows-passed}
 use Rattle.wls.proofs.FrontLaws.{fix-input-refused, fix-clocks, fix-counts-refused, fix-counts-kept}
 
 -- the code's three ways of what chi and pdop come to

@@ -11,7 +11,7 @@ use lib.Ieee.Scale.{finite}
 use lib.Ieee.Bits.{is-true}
 use lib.Ieee.Fits.{and-l, and-r}
 use borrow.Author.Tests.{not-false}
-use Rattle.estimate_rounds.specs.Rules.{Rule}
+use Rattle.numeric.specs.Rules.{Rule}
 use Rattle.lists.specs.Walk.{every}
 use Rattle.cholesky.specs.Factor.{at}
 use Rattle.normal_equations.specs.declared.row.Row.{Row}

@@ -11,7 +11,8 @@ use Rattle.lists.specs.Walk.{Holds}
 use Rattle.numeric.specs.Real.{inRange}
 use Rattle.numeric.specs.declared.vec3.Vec3.{Vec3}
 use Rattle.numeric.specs.declared.refusal.Refusal.{Refusal}
-use Rattle.estimate_rounds.specs.Rules.{ruled, rowRules}
+use Rattle.numeric.specs.Rules.{ruled}
+use Rattle.estimate_rounds.specs.Rules.{rowRules}
 use Rattle.wls.specs.Valid.{fixSettingsPass, fixInputRules}
 use Rattle.records.specs.declared.record.Observations.{Observations}
 use Rattle.wls.specs.declared.fix.Settings.{Settings as FixSettings}
@@ -23,7 +24,8 @@ use Rattle.records.specs.Mask.{constellations as observedConstellations}
 use Rattle.wls.specs.Front.{fixRows, fixRules}
 use Rattle.clocks.specs.declared.clocks.Clocks.{Clocks}
 use Rattle.records.specs.declared.record.Observation.{Observation}
-use Rattle.estimate_rounds.proofs.RulesLaws.{checked, ruled-append, refused-by, passed-by, passed-of, append-passed, append-first, head-passed, Enough, rows-passed}
+use Rattle.numeric.proofs.RulesLaws.{ruled-append}
+use Rattle.estimate_rounds.proofs.RulesLaws.{checked, refused-by, passed-by, passed-of, append-passed, append-first, head-passed, Enough, rows-passed}
 
 pub observations-fit : (observations : Observations) (guess : Vec3) (settings : FixSettings) → Passed ≡ checked (fixInputRules observations guess settings)
     → observations .count ≤ 64

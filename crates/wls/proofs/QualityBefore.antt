@@ -13,7 +13,7 @@ use Rattle.numeric.specs.declared.refusal.Refusal.the-variants.{FitFailed, Qual
 use Rattle.normal_equations.specs.declared.row.Row.{Row}
 use Rattle.clocks.specs.declared.clocks.Clocks.{Clocks}
 use Rattle.records.specs.declared.record.Observation.{Observation}
-use Rattle.estimate_rounds.specs.Rules.{Rule, rule, ruled}
+use Rattle.numeric.specs.Rules.{Rule, rule, ruled}
 use Rattle.estimate_rounds.specs.Rounds.{End, Stopped, Reached, lastRows, finiteAt, concluded}
 use Rattle.wls.specs.Front.{fixRules}
 use Rattle.wls.specs.Fix.{Input, keptObservations, clocks, chiAt, solutionAt}

@@ -20,7 +20,7 @@ use Rattle.robust.specs.declared.round.Stepping.the-variants as Stepping
 use Rattle.clocks.specs.declared.clocks.Clocks.{Clocks}
 use Rattle.records.specs.declared.record.Observation.{Observation}
 use Rattle.records.proofs.RecordLaws.{blankObservation}
-use Rattle.estimate_rounds.specs.Rules.{ruled}
+use Rattle.numeric.specs.Rules.{ruled}
 use Rattle.estimate_rounds.specs.Rounds.{vector}
 use Rattle.estimate_rounds.specs.declared.rules.Check.the-variants.{Refused as Stops, Passed}
 use Rattle.estimate_rounds.proofs.RulesLaws.{checked, refused-by, passed-by, passed-of}

@@ -14,7 +14,7 @@ use Rattle.robust.specs.Round.{RoundOutcome, roundOf}
 use Rattle.normal_equations.specs.declared.row.Row.{Row}
 use Rattle.clocks.specs.declared.clocks.Clocks.{Clocks}
 use Rattle.records.specs.declared.record.Observation.{Observation}
-use Rattle.estimate_rounds.specs.Rules.{Rule, rule, ruled}
+use Rattle.numeric.specs.Rules.{Rule, rule, ruled}
 use Rattle.estimate_rounds.specs.Rounds.{Fit, fitFrom, lastRows, finiteAt, concluded}
 use Rattle.wls.specs.Front.{fixRules}
 use Rattle.wls.specs.Fix.{Input, sightAt, rowAt, fixStop, start, keptObservations, clocks, chiAt, solutionAt}

@@ -20,7 +20,7 @@ use Rattle.robust.specs.Round.{Round, RoundOutcome, Refused as NoRound, roundOf
 use Rattle.robust.specs.Sigma.{elevationSigma}
 use Rattle.normal_equations.specs.declared.row.Row.{Row}
 use Rattle.clocks.specs.Clocks.{slot, clocksOf}
-use Rattle.estimate_rounds.specs.Rules.{Rule, rule, ruled}
+use Rattle.numeric.specs.Rules.{Rule, rule, ruled}
 use Rattle.quality.specs.Quality.{chiOf, dilutionOf, pivotRule}
 use Rattle.records.specs.Mask.{constellations}
 use Rattle.wls.specs.Front.{fixRows, fixRules}

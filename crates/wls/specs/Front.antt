@@ -2,7 +2,8 @@
 use mathlib.Core.List.{List, _++_}
 use lib.ListN.{length}
 use Rattle.numeric.specs.declared.vec3.Vec3.{Vec3}
-use Rattle.estimate_rounds.specs.Rules.{Rule, rowRules}
+use Rattle.numeric.specs.Rules.{Rule}
+use Rattle.estimate_rounds.specs.Rules.{rowRules}
 use Rattle.records.specs.Record.{countedObservations}
 use Rattle.clocks.specs.Clocks.{clocksOf}
 use Rattle.records.specs.Mask.{aboveMask, constellations as observedConstellations}

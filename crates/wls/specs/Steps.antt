@@ -14,13 +14,15 @@ use Rattle.normal_equations.specs.Steps.{columns, rowsIn}
 use Rattle.normal_equations.specs.declared.row.Row.{Row}
 use Rattle.clocks.specs.Clocks.{slot}
 use Rattle.clocks.specs.declared.clocks.Clocks.{Clocks}
+use Rattle.records.specs.Record.{countedObservations}
 use Rattle.records.specs.declared.record.Observation.{Observation}
-use Rattle.estimate_rounds.specs.Rules.{Rule, rule, ruled}
+use Rattle.records.specs.declared.record.Observations.{Observations}
+use Rattle.numeric.specs.Rules.{Rule, rule, ruled}
 use Rattle.estimate_rounds.specs.Rounds.{End, Stopped, Reached, Fit, lastRows}
 use Rattle.estimate_rounds.specs.Steps.{checkNumber, checkOf}
 use Rattle.estimate_rounds.specs.declared.rules.Check.{Check}
 use Rattle.estimate_rounds.specs.declared.rules.Check.the-variants as Check
-use Rattle.wls.specs.Fix.{sightAt, residualAt, sightRules, chiAt, endRules, solutionAt}
+use Rattle.wls.specs.Fix.{sigmaOf, sightAt, residualAt, sightRules, chiAt, endRules, solutionAt}
 use Rattle.wls.specs.declared.fix.Settings.{Settings}
 use Rattle.wls.specs.declared.fix.Ending.{Ending}
 use Rattle.wls.specs.declared.fix.Ending.the-variants.{Refused as NotEnded, Rows as EndedBy}
@@ -28,6 +30,10 @@ use Rattle.wls.specs.declared.fix.Fix.{Fix}
 use Rattle.wls.specs.declared.fix.Fix.the-variants.{Refused, At}
 use Rattle.wls.specs.declared.chi.Chi.{Chi}
 use Rattle.wls.specs.declared.chi.Chi.the-variants.{Refused as NoChi, Of as ChiOf}
+
+-- sigma begins with the sigma of each observation, which no round changes
+abbrev pub SigmasOf : Settings → Observations → List Float → Type 0
+SigmasOf settings sky sigma = take (sky .count) sigma ≡ map (sigmaOf settings) (countedObservations sky)
 
 -- ---- the rows of a round: columns of 64 numbers, the first n of them the observations'
 pub record Long (x y z : List Float) (clock residual : List ℕ) : Type 0 where

@@ -6,7 +6,7 @@ use Rattle.lists.specs.Walk.{every}
 use Rattle.numeric.specs.Real.{inRange}
 use Rattle.numeric.specs.declared.vec3.Vec3.{Vec3}
 use Rattle.numeric.specs.declared.refusal.Refusal.the-variants.{TooMany, SettingOutOfRange, RecordOutOfRange}
-use Rattle.estimate_rounds.specs.Rules.{Rule, rule}
+use Rattle.numeric.specs.Rules.{Rule, rule}
 use Rattle.records.specs.Record.{countedObservations, placeable, soundObservation}
 use Rattle.records.specs.declared.record.Observations.{Observations}
 use Rattle.wls.specs.declared.fix.Settings.{Settings as FixSettings}

@@ -1,11 +1,10 @@
 // Chi at the returned position.
 ghost use mathlib.Core.Path.{_≡_};
-ghost use mathlib.Core.List.{map};
 ghost use Prim.Native.Nat.{_≤_};
-ghost use lib.ListN.{take};
+ghost use Rattle.lists.specs.Memory.{before};
 ghost use Rattle.wls.specs.declared.fix.Settings.{Settings};
-ghost use Rattle.wls.specs.Fix.{sigmaOf};
-ghost use Rattle.wls.specs.Steps.{ChiAnswered};
+ghost use Rattle.records.specs.Record.{countedObservations};
+ghost use Rattle.wls.specs.Steps.{SigmasOf, ChiAnswered};
 use clocks::clocks::Clocks;
 use estimate_rounds::rounds::state_at;
 use numeric::real::square;
@@ -26,8 +25,7 @@ pub enum Chi {
 // Returns chi of the observations with these sigmas at the state s, the root of the reduced chi-squared, or refuses a line of sight by 15.
 pub(crate) fn chi_at(k: Clocks, sky: Observations, sigma: &[f64; 64], s: [f64; 9]) -> Chi
     requires { ⌜ (sky .count ≤ 64) × (k .count ≤ 6) ⌝ }
-    ensures { λ r. ⌜ (let os = take (sky .count) (sky .observation) in
-        ((settings : Settings) → take (sky .count) (now (sigma .entry)) ≡ map (sigmaOf settings) os → ChiAnswered settings k os s r)) ⌝ }
+    ensures { λ r. ⌜ ((settings : Settings) → SigmasOf settings sky (before sigma) → ChiAnswered settings k (countedObservations sky) s r) ⌝ }
 {
     let count = sky.count;
     let at = Vec3 {

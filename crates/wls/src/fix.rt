@@ -1,13 +1,15 @@
 // The position from one epoch.
 ghost use mathlib.Core.Path.{_≡_};
-ghost use mathlib.Core.List.{List, map};
-ghost use lib.ListN.{length, take};
+ghost use mathlib.Core.List.{List};
+ghost use lib.ListN.{length};
 ghost use Prim.Native.Nat.{ℕ, _≤_};
 ghost use lib.Ieee.{Float};
-ghost use Rattle.normal_equations.specs.Steps.{columns, rowsIn};
-ghost use Rattle.estimate_rounds.specs.Rules.{Rule, ruled};
+ghost use Rattle.lists.specs.Memory.{before, after};
+ghost use Rattle.normal_equations.specs.Steps.{lentRows};
+ghost use Rattle.numeric.specs.Rules.{Rule, ruled};
+ghost use Rattle.records.specs.Record.{countedObservations};
 ghost use Rattle.wls.specs.Fix as spec;
-ghost use Rattle.wls.specs.Steps.{Long, Rowed, Fitted, concludedAt, ratedFix};
+ghost use Rattle.wls.specs.Steps.{SigmasOf, Long, Rowed, Fitted, concludedAt, ratedFix};
 use crate::chi::Chi;
 use crate::chi::chi_at;
 use crate::valid::check_fix;
@@ -64,7 +66,7 @@ pub enum Position {
 // Returns the sigma of each observation, which no round changes.
 pub(crate) fn sigmas_of(settings: Settings, sky: Observations) -> [f64; 64]
     requires { ⌜ sky .count ≤ 64 ⌝ }
-    ensures { λ r. ⌜ take (sky .count) r ≡ map (spec.sigmaOf settings) (take (sky .count) (sky .observation)) ⌝ }
+    ensures { λ r. ⌜ SigmasOf settings sky r ⌝ }
 {
     let count = sky.count;
     let mut sigma = [0.0; 64];
@@ -89,7 +91,7 @@ pub(crate) fn rows_at(
 ) -> bool
     requires { ⌜ (sky .count ≤ 64) × Long (now x) (now y) (now z) (now clock) (now residual) ⌝ }
     ensures { λ r. ⌜ Rowed k (sky .count) (sky .observation) s r
-        (now (x .exit)) (now (y .exit)) (now (z .exit)) (now (clock .exit)) (now (residual .exit)) ⌝ }
+        (after x) (after y) (after z) (after clock) (after residual) ⌝ }
 {
     let count = sky.count;
     let at = Vec3 {
@@ -135,9 +137,9 @@ fn fit_rounds(
     state: &mut [f64; 9],
 ) -> Ending
     requires { ⌜ (sky .count ≤ 64) × (k .count ≤ 6) × Long (now x) (now y) (now z) (now clock) (now residual) ⌝ }
-    requires { ⌜ take (sky .count) (now sigma) ≡ map (spec.sigmaOf settings) (take (sky .count) (sky .observation)) ⌝ }
-    ensures { λ r. ⌜ Fitted (spec.fitAt settings k (take (sky .count) (sky .observation)) (now (state .entry))) r (now (state .exit))
-        (now (x .exit)) (now (y .exit)) (now (z .exit)) (now (clock .exit)) (now (sigma .entry)) (now (residual .exit)) ⌝ }
+    requires { ⌜ SigmasOf settings sky (now sigma) ⌝ }
+    ensures { λ r. ⌜ Fitted (spec.fitAt settings k (countedObservations sky) (before state)) r (after state)
+        (after x) (after y) (after z) (after clock) (before sigma) (after residual) ⌝ }
 {
     let n = 3 + k.count;
     let count = sky.count;
@@ -177,7 +179,7 @@ fn fit_rounds(
 // Runs the rounds over the observations, starting at the guess. Returns the fix, or the refusal.
 pub(crate) fn fit_sky(settings: Settings, k: Clocks, sky: Observations, guess: Vec3) -> Fix
     requires { ⌜ (sky .count ≤ 64) × (k .count ≤ 6) ⌝ }
-    ensures { λ r. ⌜ r ≡ spec.foundOver settings k (take (sky .count) (sky .observation)) guess ⌝ }
+    ensures { λ r. ⌜ r ≡ spec.foundOver settings k (countedObservations sky) guess ⌝ }
 {
     let sigma = sigmas_of(settings, sky);
     let mut x = [0.0; 64];
@@ -224,8 +226,8 @@ fn found_at(
     chi: Chi,
 ) -> Fix
     requires { ⌜ (length (now residual) ≤ 64) × (3 ≤ n) × (n ≤ 9) ⌝ }
-    ensures { λ r. ⌜ (let rows = columns (now (x .entry)) (now (y .entry)) (now (z .entry)) (now (clock .entry)) (now (sigma .entry)) (now (residual .entry)) in
-        ((sights : List Rule) (c : Float) → chi ≡ ruled Chi.Refused sights (Chi.Of c) → r ≡ concludedAt n (rowsIn rows) sights c s)) ⌝ }
+    ensures { λ r. ⌜ ((sights : List Rule) (c : Float) → chi ≡ ruled Chi.Refused sights (Chi.Of c)
+        → r ≡ concludedAt n (lentRows x y z clock sigma residual) sights c s) ⌝ }
 {
     let position = Vec3 {
         x: s[0],

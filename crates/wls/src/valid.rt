@@ -3,7 +3,7 @@ ghost use mathlib.Core.Path.{_≡_};
 ghost use Prim.Native.Nat.{_≤_};
 ghost use Rattle.lists.specs.Walk.{every};
 ghost use Rattle.records.specs.Record.{soundObservation, countedObservations};
-ghost use Rattle.estimate_rounds.specs.Rules.{ruled};
+ghost use Rattle.numeric.specs.Rules.{ruled};
 ghost use Rattle.wls.specs.Valid as spec;
 use crate::fix::Settings;
 use estimate_rounds::rules::Check;

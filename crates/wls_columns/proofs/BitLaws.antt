@@ -1,15 +1,14 @@
 -- The patterns of nine floats and of an accepted factor. Assumes nothing.
-use Prim.Native.Nat.{ℕ, zero, suc, _+_, _≤_, _<_}
+use Prim.Native.Nat.{ℕ, zero, suc, _≤_, _<_}
 use native.Mathlib.Omega.{arith}
 use native.Mathlib.Decide.{ℕ-discrete}
-use native.Mathlib.Numerals.{add-one}
 use mathlib.Core.Path.{_≡_, refl, sym, ap, _∙_, subst}
 use mathlib.Core.Bool.{Bool, true, false, cond}
 use mathlib.Core.List.{List, [], _∷_, map}
 use lib.Dec.{T}
-use lib.ListN.{length, take, set, getD, length-set, length-map, replicate, getD-replicate, List·getD-map}
-use lib.Seq.{take-all, take-suc, take-suc-set, getD-set-same, getD-set-other}
-use lib.Ieee.{Float, nan, fin, isNan, binary64, toBits}
+use lib.ListN.{length, set, getD, length-set, replicate, getD-replicate}
+use lib.Seq.{getD-set-same, getD-set-other}
+use lib.Ieee.{Float, fin, isNan, binary64, toBits}
 use lib.Ieee.Scale.{finite}
 use Rattle.numeric.specs.Order.{patternOf}
 use Rattle.numeric.proofs.OrderLaws.{pattern-bits}

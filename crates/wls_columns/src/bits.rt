@@ -2,6 +2,7 @@
 ghost use mathlib.Core.Path.{_≡_};
 ghost use mathlib.Core.List.{map};
 ghost use Prim.Native.Nat.{_<_};
+ghost use Rattle.lists.specs.Memory.{before, after};
 ghost use Rattle.numeric.specs.Order.{patternOf};
 ghost use Rattle.cholesky.specs.Factor.{row, factorOf};
 ghost use Rattle.cholesky.specs.Answer.{factoringOf};
@@ -31,7 +32,7 @@ pub fn patterns(x: [f64; 9]) -> [u64; 9]
 // Returns the bits of row i of a matrix whose cells are finite: there is no NaN to test for.
 fn row_bits(i: usize, m: &[[f64; 9]; 9]) -> [u64; 9]
     requires { ⌜ (i < 9) × FiniteSquare (now m) ⌝ }
-    ensures { λ r. ⌜ r ≡ map patternOf (row (now (m .entry)) i) ⌝ }
+    ensures { λ r. ⌜ r ≡ map patternOf (row (before m) i) ⌝ }
 {
     let a = f64::to_bits(m[i][0]);
     let b = f64::to_bits(m[i][1]);
@@ -47,7 +48,7 @@ fn row_bits(i: usize, m: &[[f64; 9]; 9]) -> [u64; 9]
 
 // Writes the patterns of the factor of a to l, or refuses and leaves l unchanged. Only the lower triangle of a is read. An accepted factor is finite.
 pub fn factor_patterns(a: &[[f64; 9]; 9], l: &mut [[u64; 9]; 9]) -> Factoring
-    ensures { λ r. ⌜ (let f = factorOf (now (a .entry)) in (r ≡ factoringOf f) × (now (l .exit) ≡ patternsAfter f (now (l .entry)))) ⌝ }
+    ensures { λ r. ⌜ (let f = factorOf (before a) in (r ≡ factoringOf f) × (after l ≡ patternsAfter f (before l))) ⌝ }
 {
     let mut m = [[0.0; 9]; 9];
     if factor_used(9, a, &mut m) {

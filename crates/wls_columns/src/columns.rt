@@ -5,6 +5,7 @@ ghost use Prim.Native.Nat.{_+_, _*_, _<_};
 ghost use lib.ListN.{length};
 ghost use Rattle.lists.specs.Walk.{Holds};
 ghost use Rattle.wls_columns.specs.Columns as spec;
+ghost use Rattle.wls_columns.specs.Steps.{lentObservations, lentRowColumns};
 use normal_equations::row::Row;
 use normal_equations::row::Rows;
 use numeric::vec3::Vec3;
@@ -20,8 +21,7 @@ pub(crate) fn rows_fit(
     sigmas: &[f64],
     n: usize,
 ) -> bool
-    ensures { λ r. ⌜ (let c = spec.rowColumns (now (units .entry)) (now (clocks .entry)) (now (residuals .entry)) (now (sigmas .entry)) in
-        r ≡ spec.rowsFit c n) ⌝ }
+    ensures { λ r. ⌜ r ≡ spec.rowsFit (lentRowColumns units clocks residuals sigmas) n ⌝ }
 {
     if n > 64 {
         return false;
@@ -33,8 +33,7 @@ pub(crate) fn rows_fit(
 fn row_at(units: &[f64], clocks: &[usize], residuals: &[u64], sigmas: &[f64], i: usize) -> Row
     requires { ⌜ 3 * i + 2 < length (now units) ⌝ }
     requires { ⌜ (i < length (now clocks)) × (i < length (now residuals)) × (i < length (now sigmas)) ⌝ }
-    ensures { λ r. ⌜ (let c = spec.rowColumns (now (units .entry)) (now (clocks .entry)) (now (residuals .entry)) (now (sigmas .entry)) in
-        r ≡ spec.rowFrom c i) ⌝ }
+    ensures { λ r. ⌜ r ≡ spec.rowFrom (lentRowColumns units clocks residuals sigmas) i ⌝ }
 {
     let unit = vector_at(units, 3 * i);
     Row {
@@ -54,8 +53,7 @@ pub(crate) fn rows_of(
     n: usize,
 ) -> Rows
     requires { ⌜ spec.rowsFit (spec.rowColumns (now units) (now clocks) (now residuals) (now sigmas)) n ≡ true ⌝ }
-    ensures { λ r. ⌜ (let c = spec.rowColumns (now (units .entry)) (now (clocks .entry)) (now (residuals .entry)) (now (sigmas .entry)) in
-        Holds (r .count) (r .row) (spec.rowsFrom c n .row)) ⌝ }
+    ensures { λ r. ⌜ Holds (r .count) (r .row) (spec.rowsFrom (lentRowColumns units clocks residuals sigmas) n .row) ⌝ }
 {
     let zero = Vec3 {
         x: 0.0,
@@ -79,7 +77,7 @@ pub(crate) fn rows_of(
 
 // Checks that there are at most 64 observations and that each column has room for them.
 pub(crate) fn observations_fit(constellation: &[u8], floats: &[f64], n: usize) -> bool
-    ensures { λ r. ⌜ r ≡ spec.observationsFit (spec.observationColumns (now (constellation .entry)) (now (floats .entry))) n ⌝ }
+    ensures { λ r. ⌜ r ≡ spec.observationsFit (lentObservations constellation floats) n ⌝ }
 {
     if n > 64 {
         return false;
@@ -90,7 +88,7 @@ pub(crate) fn observations_fit(constellation: &[u8], floats: &[f64], n: usize) -
 // Returns observation i of the columns.
 fn observation_at(constellation: &[u8], floats: &[f64], i: usize) -> Observation
     requires { ⌜ (i < length (now constellation)) × (5 * i + 4 < length (now floats)) ⌝ }
-    ensures { λ r. ⌜ r ≡ spec.observationAt (spec.observationColumns (now (constellation .entry)) (now (floats .entry))) i ⌝ }
+    ensures { λ r. ⌜ r ≡ spec.observationAt (lentObservations constellation floats) i ⌝ }
 {
     let at = 5 * i;
     let satellite = vector_at(floats, at + 1);
@@ -108,8 +106,7 @@ fn observation_at(constellation: &[u8], floats: &[f64], i: usize) -> Observation
 // Returns the first n observations of the columns.
 pub(crate) fn observations_of(constellation: &[u8], floats: &[f64], n: usize) -> Observations
     requires { ⌜ spec.observationsFit (spec.observationColumns (now constellation) (now floats)) n ≡ true ⌝ }
-    ensures { λ r. ⌜ (let c = spec.observationColumns (now (constellation .entry)) (now (floats .entry)) in
-        Holds (r .count) (r .observation) (spec.observationsOf c n .observation)) ⌝ }
+    ensures { λ r. ⌜ Holds (r .count) (r .observation) (spec.observationsOf (lentObservations constellation floats) n .observation) ⌝ }
 {
     let zero = Vec3 {
         x: 0.0,

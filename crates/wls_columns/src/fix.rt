@@ -2,9 +2,10 @@
 // so that a refusal is promised to leave every bit.
 ghost use mathlib.Core.Path.{_≡_};
 ghost use Prim.Native.Nat.{min};
+ghost use Rattle.lists.specs.Memory.{before, after};
 ghost use Rattle.numeric.specs.Vec3.{vectorAt};
-ghost use Rattle.wls_columns.specs.Columns.{observationColumns};
 ghost use Rattle.wls_columns.specs.Fix as spec;
+ghost use Rattle.wls_columns.specs.Steps.{lentObservations};
 use crate::columns::observations_fit;
 use crate::columns::observations_of;
 use estimate_rounds::rounds::rounds_of;
@@ -17,7 +18,7 @@ use wls::fix::solve_full;
 
 // Returns the settings of a fix.
 fn fix_settings(s: &[f64; 4], rounds: usize) -> Settings
-    ensures { λ r. ⌜ r ≡ spec.fixSettings (now (s .entry)) (min rounds 51) ⌝ }
+    ensures { λ r. ⌜ r ≡ spec.fixSettings (before s) (min rounds 51) ⌝ }
 {
     let n = rounds_of(rounds);
     Settings {
@@ -38,8 +39,8 @@ pub fn columns_fix(
     settings: &[f64; 4],
     rounds: usize,
 ) -> Fix
-    ensures { λ r. ⌜ r ≡ spec.columnFixOf (observationColumns (now (constellation .entry)) (now (floats .entry))) count
-        (vectorAt (now (guess .entry)) 0) (spec.fixSettings (now (settings .entry)) rounds) ⌝ }
+    ensures { λ r. ⌜ r ≡ spec.columnFixOf (lentObservations constellation floats) count
+        (vectorAt (before guess) 0) (spec.fixSettings (before settings) rounds) ⌝ }
 {
     if !observations_fit(constellation, floats, count) {
         return Fix::Refused(Refusal::TooMany);
@@ -52,7 +53,7 @@ pub fn columns_fix(
 
 // Returns 0 and writes x, y, z, chi and pdop to `solution` and the observations used to `used`. On refusal, returns its number and changes nothing.
 pub fn fix_into(answer: Fix, solution: &mut [u64; 5], used: &mut usize) -> u8
-    ensures { λ r. ⌜ spec.FixLeaves answer r (now (solution .entry)) (now (solution .exit)) (now (used .entry)) (now (used .exit)) ⌝ }
+    ensures { λ r. ⌜ spec.FixLeaves answer r (before solution) (after solution) (before used) (after used) ⌝ }
 {
     match answer {
         Fix::At(f) => {
@@ -72,7 +73,7 @@ pub fn fix_into(answer: Fix, solution: &mut [u64; 5], used: &mut usize) -> u8
 
 // Returns 0 and writes x, y and z of the fix to `position` (`solve` of wls.rs). On refusal, returns its number and changes nothing.
 pub fn position_into(answer: Fix, position: &mut [u64; 3]) -> u8
-    ensures { λ r. ⌜ spec.PositionLeaves answer r (now (position .entry)) (now (position .exit)) ⌝ }
+    ensures { λ r. ⌜ spec.PositionLeaves answer r (before position) (after position) ⌝ }
 {
     match answer {
         Fix::At(f) => {

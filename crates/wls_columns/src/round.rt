@@ -1,8 +1,9 @@
 // One round of a caller's columns.
 ghost use mathlib.Core.Path.{_≡_};
+ghost use Rattle.lists.specs.Memory.{before, after};
 ghost use Rattle.robust.specs.Step.{steppingNumber, StepPromised};
-ghost use Rattle.wls_columns.specs.Columns.{rowColumns};
 ghost use Rattle.wls_columns.specs.Step.{columnStepOf, stepAfter};
+ghost use Rattle.wls_columns.specs.Steps.{lentRowColumns};
 use crate::bits::patterns;
 use crate::columns::rows_fit;
 use crate::columns::rows_of;
@@ -21,8 +22,7 @@ pub fn columns_step(
     huber: f64,
     x: &mut [f64; 9],
 ) -> Stepping
-    ensures { λ r. ⌜ (let c = rowColumns (now (units .entry)) (now (clocks .entry)) (now (residuals .entry)) (now (sigmas .entry)) in
-        StepPromised (columnStepOf c rows unknowns huber) r (now (x .exit))) ⌝ }
+    ensures { λ r. ⌜ StepPromised (columnStepOf (lentRowColumns units clocks residuals sigmas) rows unknowns huber) r (after x) ⌝ }
 {
     *x = [0.0; 9];
     if !rows_fit(units, clocks, residuals, sigmas, rows) {
@@ -34,7 +34,7 @@ pub fn columns_step(
 
 // Returns 0 and writes the patterns of the step x to dx. On refusal, returns its number and changes nothing.
 pub fn step_into(answer: Stepping, x: [f64; 9], dx: &mut [u64; 9]) -> u8
-    ensures { λ r. ⌜ (r ≡ steppingNumber answer) × (now (dx .exit) ≡ stepAfter answer x (now (dx .entry))) ⌝ }
+    ensures { λ r. ⌜ (r ≡ steppingNumber answer) × (after dx ≡ stepAfter answer x (before dx)) ⌝ }
 {
     match answer {
         Stepping::Refused(r) => r.number(),

@@ -1,5 +1,6 @@
 // Entry points of the corrections: one base epoch added to a directory, and the bands of an old table.
 ghost use mathlib.Core.Path.{_≡_};
+ghost use Rattle.lists.specs.Memory.{before, after};
 ghost use Rattle.corrections_table.specs.Widen.{widenOf, wideningNumber, bandsAfter};
 ghost use Rattle.corrections_directory.specs.Lent.{lentTable};
 ghost use Rattle.corrections_add.specs.Add.{AddsIn};
@@ -41,11 +42,11 @@ pub extern "C" fn zaqnuti_add_epoch(
     corrected: &[bool; 8],
 ) -> u8
     ensures { λ r. ⌜ (let t = lentTable «block_constellation» «block_svid» «block_band» «block_first» «block_samples» «table_time» «table_metres» in
-        let m = now (blocks .entry) in
-        let n = now («table_count» .entry) in
+        let m = before blocks in
+        let n = before «table_count» in
         let o = lentEntry m n (t .before) time ranges «range_constellation» «range_svid» «range_band» «range_pseudorange»
         «states_present» states «state_constellation» «state_svid» «state_band» «state_floats» base rover «max_gap» «max_correction» corrected in
-        AddsIn o r m (now (blocks .exit)) n (now («table_count» .exit)) t) ⌝ }
+        AddsIn o r m (after blocks) n (after «table_count») t) ⌝ }
 {
     let entries = *blocks;
     let samples = *table_count;
@@ -83,8 +84,8 @@ pub extern "C" fn zaqnuti_add_epoch(
 // Writes the first n bands of a table with 8 bits for each to the front of a column of 32 bits. Returns 0. On refusal, returns its number and changes nothing.
 #[no_mangle]
 pub extern "C" fn zaqnuti_widen_bands(narrow: &[u8], n: usize, wide: &mut [u32]) -> u8
-    ensures { λ r. ⌜ (let o = widenOf n (now (narrow .entry)) (now (wide .entry)) in
-        (r ≡ wideningNumber o) × (now (wide .exit) ≡ bandsAfter o n (now (narrow .entry)) (now (wide .entry)))) ⌝ }
+    ensures { λ r. ⌜ (let o = widenOf n (before narrow) (before wide) in
+        (r ≡ wideningNumber o) × (after wide ≡ bandsAfter o n (before narrow) (before wide))) ⌝ }
 {
     let answer = widen_bands(narrow, n, wide);
     match answer {

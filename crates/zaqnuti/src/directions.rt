@@ -1,4 +1,5 @@
 // Entry point of a displacement as north, east, down.
+ghost use Rattle.lists.specs.Memory.{before, after};
 ghost use Rattle.frames.specs.Lent.{DirectionAnswered};
 use frames::lent::ned_into;
 
@@ -9,7 +10,7 @@ pub extern "C" fn zaqnuti_north_east_down(
     displacement: &[f64; 3],
     ned: &mut [u64; 3],
 ) -> u8
-    ensures { λ r. ⌜ DirectionAnswered (now (position .entry)) (now (displacement .entry)) r (now (ned .entry)) (now (ned .exit)) ⌝ }
+    ensures { λ r. ⌜ DirectionAnswered (before position) (before displacement) r (before ned) (after ned) ⌝ }
 {
     ned_into(position, displacement, ned)
 }

@@ -1,17 +1,20 @@
 // Entry points of a trip whose displacements are worked out under settings that may change between two epochs. The caller holds the trip as six words, and the settings in force as
 // five floats (screen, sigma_a, sigma_b, huber, mask) and the rounds.
 ghost use mathlib.Core.Path.{_≡_};
-ghost use Rattle.records.specs.Carriers.{carrierColumns};
-ghost use Rattle.numeric.specs.Vec3.{vectorAt};
+ghost use Rattle.lists.specs.Memory.{before, after};
+ghost use Rattle.records.specs.Lent.{lentColumns, lentVector};
 ghost use Rattle.trip.specs.Words.{heldOf};
 ghost use Rattle.trip_settings.specs.Drive.{begunOf, underNew, tested};
-ghost use Rattle.tdcp_columns.specs.Displacement.{lent, displacementSettings};
-ghost use Rattle.trip_settings.specs.Lent.{DrivingAnswers, BegunAnswers, TravelAnswers};
+ghost use Rattle.tdcp_columns.specs.Displacement.{displacementSettings, lent, lentSettings};
+ghost use Rattle.trip_settings.specs.Lent.{SettingsPut, TripBegun, TravelAnswers};
 use records::pair::Profile;
 use tdcp::displacement::Interval;
+use tdcp::displacement::plain;
 use tdcp_columns::displacement::columns_displaced;
-use trip_settings::lent::begin_into;
-use trip_settings::lent::change_into;
+use trip_settings::lent::begun;
+use trip_settings::lent::changed;
+use trip_settings::lent::put_begun;
+use trip_settings::lent::put_settings;
 use trip_settings::lent::travel_into;
 
 // Starts a trip in the lent words, puts its settings in force in the lent patterns and rounds, and returns 0. On refusal, returns 3 or 16 and changes nothing.
@@ -24,11 +27,14 @@ pub extern "C" fn zaqnuti_trip_begin(
     in_force: &mut [u64; 5],
     in_force_rounds: &mut usize,
 ) -> u8
-    ensures { λ r. ⌜ BegunAnswers (begunOf (displacementSettings (now (settings .entry)) rounds) «per_km») r
-        (now (trip .entry)) (now (trip .exit)) (now («in_force» .entry)) (now («in_force» .exit))
-        (now («in_force_rounds» .entry)) (now («in_force_rounds» .exit)) ⌝ }
+    ensures { λ r. ⌜ TripBegun (begunOf (displacementSettings (before settings) rounds) «per_km») r trip «in_force» «in_force_rounds» ⌝ }
 {
-    begin_into(settings, rounds, per_km, trip, in_force, in_force_rounds)
+    put_begun(
+        begun(settings, rounds, per_km),
+        trip,
+        in_force,
+        in_force_rounds,
+    )
 }
 
 // Puts new settings in force in the lent patterns and rounds and returns 0. On refusal, returns 3 or 16 and changes nothing.
@@ -40,10 +46,9 @@ pub extern "C" fn zaqnuti_trip_settings(
     in_force: &mut [u64; 5],
     in_force_rounds: &mut usize,
 ) -> u8
-    ensures { λ r. ⌜ DrivingAnswers (underNew (displacementSettings (now (settings .entry)) rounds) (tested (heldOf (now (trip .entry))))) r
-        (now («in_force» .entry)) (now («in_force» .exit)) (now («in_force_rounds» .entry)) (now («in_force_rounds» .exit)) ⌝ }
+    ensures { λ r. ⌜ SettingsPut (underNew (displacementSettings (before settings) rounds) (tested (heldOf (before trip)))) r «in_force» «in_force_rounds» ⌝ }
 {
-    change_into(trip, settings, rounds, in_force, in_force_rounds)
+    put_settings(changed(trip, settings, rounds), in_force, in_force_rounds)
 }
 
 // Works a displacement out under the settings in force, adds it with its pulses to the trip in the lent words, writes it in metres to `delta` and how many pairs were
@@ -71,15 +76,13 @@ pub extern "C" fn zaqnuti_trip_displacement(
     delta: &mut [u64; 3],
     counts: &mut [usize; 2],
 ) -> u8
-    ensures { λ r. ⌜ (let previous = carrierColumns (now («previous_constellation» .entry)) (now («previous_svid» .entry)) (now («previous_band» .entry))
-        (now («previous_state» .entry)) (now («previous_floats» .entry)) in
-        let current = carrierColumns (now («current_constellation» .entry)) (now («current_svid» .entry)) (now («current_band» .entry))
-        (now («current_state» .entry)) (now («current_floats» .entry)) in
-        TravelAnswers (lent previous «previous_count» current «current_count» (Interval.Seconds dt)
-        (vectorAt (now (receiver .entry)) 0) (displacementSettings (now («in_force» .entry)) «in_force_rounds») Profile.General) pulses
-        r (now (trip .entry)) (now (trip .exit)) (now (delta .entry)) (now (delta .exit)) (now (counts .entry)) (now (counts .exit))) ⌝ }
+    ensures { λ r. ⌜ TravelAnswers (lent
+        (lentColumns «previous_constellation» «previous_svid» «previous_band» «previous_state» «previous_floats») «previous_count»
+        (lentColumns «current_constellation» «current_svid» «current_band» «current_state» «current_floats») «current_count»
+        (Interval.Seconds dt) (lentVector receiver) (lentSettings «in_force» «in_force_rounds») Profile.General) pulses
+        r (before trip) (after trip) (before delta) (after delta) (before counts) (after counts) ⌝ }
 {
-    let moved = columns_displaced(
+    let answer = columns_displaced(
         previous_constellation,
         previous_svid,
         previous_band,
@@ -97,6 +100,8 @@ pub extern "C" fn zaqnuti_trip_displacement(
         in_force,
         in_force_rounds,
         Profile::General,
+        false,
     );
+    let moved = plain(answer);
     travel_into(trip, moved, pulses, delta, counts)
 }

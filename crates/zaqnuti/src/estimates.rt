@@ -1,8 +1,9 @@
 // Entry points of the displacement and the fix. Doubles to be written are lent as their patterns, so that a refusal is promised to change no bit.
 ghost use mathlib.Core.Path.{_≡_};
-ghost use Rattle.records.specs.Carriers.{carrierColumns};
+ghost use Rattle.lists.specs.Memory.{before, after};
+ghost use Rattle.records.specs.Lent.{lentColumns, lentVector};
 ghost use Rattle.numeric.specs.Vec3.{vectorAt};
-ghost use Rattle.tdcp_columns.specs.Displacement.{lent, displacementSettings, DisplacementAnswers};
+ghost use Rattle.tdcp_columns.specs.Displacement.{lent, lentSettings, DisplacementAnswers};
 ghost use Rattle.wls_columns.specs.Columns.{observationColumns};
 ghost use Rattle.wls_columns.specs.Fix.{fixSettings, FixAnswers, PositionAnswers};
 use records::pair::Profile;
@@ -36,13 +37,10 @@ pub extern "C" fn zaqnuti_displacement(
     delta: &mut [u64; 3],
     counts: &mut [usize; 2],
 ) -> u8
-    ensures { λ r. ⌜ (let previous = carrierColumns (now («previous_constellation» .entry)) (now («previous_svid» .entry)) (now («previous_band» .entry))
-        (now («previous_state» .entry)) (now («previous_floats» .entry)) in
-        let current = carrierColumns (now («current_constellation» .entry)) (now («current_svid» .entry)) (now («current_band» .entry))
-        (now («current_state» .entry)) (now («current_floats» .entry)) in
-        DisplacementAnswers (lent previous «previous_count» current «current_count» (Interval.Seconds dt)
-        (vectorAt (now (receiver .entry)) 0) (displacementSettings (now (settings .entry)) rounds) Profile.General)
-        r (now (delta .entry)) (now (delta .exit)) (now (counts .entry)) (now (counts .exit))) ⌝ }
+    ensures { λ r. ⌜ DisplacementAnswers (lent
+        (lentColumns «previous_constellation» «previous_svid» «previous_band» «previous_state» «previous_floats») «previous_count»
+        (lentColumns «current_constellation» «current_svid» «current_band» «current_state» «current_floats») «current_count»
+        (Interval.Seconds dt) (lentVector receiver) (lentSettings settings rounds) Profile.General) r delta counts ⌝ }
 {
     let answer = columns_displaced(
         previous_constellation,
@@ -62,6 +60,7 @@ pub extern "C" fn zaqnuti_displacement(
         settings,
         rounds,
         Profile::General,
+        false,
     );
     answer_into(answer, delta, counts)
 }
@@ -78,9 +77,9 @@ pub extern "C" fn zaqnuti_fix(
     solution: &mut [u64; 5],
     used: &mut usize,
 ) -> u8
-    ensures { λ r. ⌜ FixAnswers (observationColumns (now (constellation .entry)) (now (floats .entry))) count
-        (vectorAt (now (guess .entry)) 0) (fixSettings (now (settings .entry)) rounds)
-        r (now (solution .entry)) (now (solution .exit)) (now (used .entry)) (now (used .exit)) ⌝ }
+    ensures { λ r. ⌜ FixAnswers (observationColumns (before constellation) (before floats)) count
+        (vectorAt (before guess) 0) (fixSettings (before settings) rounds)
+        r (before solution) (after solution) (before used) (after used) ⌝ }
 {
     let answer = columns_fix(constellation, floats, count, guess, settings, rounds);
     fix_into(answer, solution, used)
@@ -97,9 +96,9 @@ pub extern "C" fn zaqnuti_position(
     rounds: usize,
     position: &mut [u64; 3],
 ) -> u8
-    ensures { λ r. ⌜ PositionAnswers (observationColumns (now (constellation .entry)) (now (floats .entry))) count
-        (vectorAt (now (guess .entry)) 0) (fixSettings (now (settings .entry)) rounds)
-        r (now (position .entry)) (now (position .exit)) ⌝ }
+    ensures { λ r. ⌜ PositionAnswers (observationColumns (before constellation) (before floats)) count
+        (vectorAt (before guess) 0) (fixSettings (before settings) rounds)
+        r (before position) (after position) ⌝ }
 {
     let answer = columns_fix(constellation, floats, count, guess, settings, rounds);
     position_into(answer, position)

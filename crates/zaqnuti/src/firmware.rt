@@ -1,9 +1,13 @@
 // Entry points for firmware that holds epochs as bytes: carrier records read and written, and the displacement between two slices of them.
-ghost use Rattle.wire.specs.Columns.{recordColumns};
-ghost use Rattle.wire.specs.Lent.{ReadAnswers, WriteAnswers};
+ghost use Rattle.lists.specs.Memory.{before, after};
+ghost use Rattle.wire.specs.Lent.{recordsBefore, lentRecords, RecordsRead, RecordsWritten};
 ghost use Rattle.wire_tdcp.specs.Displacement as spec;
+use numeric::refusal::Refusal;
 use numeric::vec3::Vec3;
 use tdcp::displacement::Settings;
+use wire::columns::columns_fit;
+use wire::columns::fill;
+use wire::columns::put_records;
 use wire_tdcp::displacement::displacement_records;
 
 // The displacement between two slices of carrier records, with the numbers of line S in its order.
@@ -26,8 +30,8 @@ pub extern "C" fn zaqnuti_displacement_records(
     result: &mut [u8],
 ) -> u8
     ensures { λ r. ⌜ spec.RecordAnswers
-        (spec.handed (now (previous .entry)) (now (current .entry)) dt (spec.vectorOf x y z) (spec.lineSettings screen «sigma_a» «sigma_b» huber mask rounds))
-        r (now (result .entry)) (now (result .exit)) ⌝ }
+        (spec.handed (before previous) (before current) dt (spec.vectorOf x y z) (spec.lineSettings screen «sigma_a» «sigma_b» huber mask rounds))
+        r (before result) (after result) ⌝ }
 {
     let receiver = Vec3 { x: x, y: y, z: z };
     let settings = Settings {
@@ -53,14 +57,20 @@ pub extern "C" fn zaqnuti_write_records(
     count: usize,
     bytes: &mut [u8],
 ) -> u8
-    ensures { λ r. ⌜ WriteAnswers
-        (recordColumns (now (constellation .entry)) (now (svid .entry)) (now (band .entry)) (now (state .entry)) (now (floats .entry)))
-        count r (now (bytes .entry)) (now (bytes .exit)) ⌝ }
+    ensures { λ r. ⌜ RecordsWritten (recordsBefore constellation svid band state floats) count r bytes ⌝ }
 {
-    wire::columns::write_records(constellation, svid, band, state, floats, count, bytes)
+    if !columns_fit(constellation, svid, band, state, floats, count) {
+        return Refusal::TooMany.number();
+    }
+    if 59 * count > bytes.len() {
+        return Refusal::TooMany.number();
+    }
+    put_records(constellation, svid, band, state, floats, count, bytes);
+    0
 }
 
-// Returns 0 and writes the records of bytes to the columns and their number to count. On refusal, returns 21 or 2 and changes nothing.
+// Returns 0 and writes the records of bytes to the columns and their number to count. On refusal, returns its number and changes nothing: 21 where the length of
+// bytes is not a multiple of 59, then 2 where there are more than 64 records or a column is too short.
 #[no_mangle]
 pub extern "C" fn zaqnuti_read_records(
     bytes: &[u8],
@@ -71,10 +81,16 @@ pub extern "C" fn zaqnuti_read_records(
     floats: &mut [u64],
     count: &mut usize,
 ) -> u8
-    ensures { λ r. ⌜ ReadAnswers (now (bytes .entry)) r
-        (recordColumns (now (constellation .entry)) (now (svid .entry)) (now (band .entry)) (now (state .entry)) (now (floats .entry)))
-        (recordColumns (now (constellation .exit)) (now (svid .exit)) (now (band .exit)) (now (state .exit)) (now (floats .exit)))
-        (now (count .entry)) (now (count .exit)) ⌝ }
+    ensures { λ r. ⌜ RecordsRead bytes r (lentRecords constellation svid band state floats) count ⌝ }
 {
-    wire::columns::read_records(bytes, constellation, svid, band, state, floats, count)
+    if bytes.len() % 59 != 0 {
+        return Refusal::BrokenRecords.number();
+    }
+    let n = bytes.len() / 59;
+    if !columns_fit(constellation, svid, band, state, floats, n) {
+        return Refusal::TooMany.number();
+    }
+    fill(bytes, n, constellation, svid, band, state, floats);
+    *count = n;
+    0
 }

@@ -1,7 +1,7 @@
 // Entry point of the corrections: forgetting the samples before a time.
-ghost use Rattle.corrections_directory.specs.Directory.{blockCapacity, directoryIn};
+ghost use Rattle.lists.specs.Memory.{before, after};
 ghost use Rattle.corrections_directory.specs.Lent.{lentTable};
-ghost use Rattle.corrections_forget.specs.Forget.{ForgetsIn, forgetIn};
+ghost use Rattle.corrections_forget.specs.Forget.{ForgetsIn};
 use corrections_forget::forget::Forgetting;
 use corrections_forget::forget::forget;
 
@@ -20,10 +20,8 @@ pub extern "C" fn zaqnuti_forget(
     table_count: &mut usize,
     time: f64,
 ) -> u8
-    ensures { λ r. ⌜ (let t = lentTable «block_constellation» «block_svid» «block_band» «block_first» «block_samples» «table_time» «table_metres» in
-        let n = now («table_count» .entry) in
-        let o = forgetIn blocks n (blockCapacity (t .before)) (directoryIn blocks n (t .before)) time in
-        ForgetsIn o r blocks n (now («table_count» .exit)) t) ⌝ }
+    ensures { λ r. ⌜ ForgetsIn blocks (before «table_count»)
+        (lentTable «block_constellation» «block_svid» «block_band» «block_first» «block_samples» «table_time» «table_metres») time r (after «table_count») ⌝ }
 {
     let count = *table_count;
     let answer = forget(

@@ -1,10 +1,7 @@
 // Entry points of the two forms of a table.
-ghost use Prim.Native.Nat.{min};
-ghost use lib.ListN.{length};
-ghost use Rattle.corrections_table.specs.Table.{lentSamples};
-ghost use Rattle.corrections_directory.specs.Directory.{lentBlocks, entriesIn};
-ghost use Rattle.corrections_directory.specs.Rearrange.{filedOf, listedOf};
-ghost use Rattle.corrections_convert.specs.Lent.{Files, Lists};
+ghost use Rattle.corrections_table.specs.Lent.{columnsBefore};
+ghost use Rattle.corrections_directory.specs.Read.{readTable};
+ghost use Rattle.corrections_convert.specs.Lent.{FilesIn, ListsIn, lentDirectory, lentSignalColumns};
 use corrections_convert::answers::filing_count;
 use corrections_convert::answers::filing_number;
 use corrections_convert::answers::listing_number;
@@ -28,14 +25,8 @@ pub extern "C" fn zaqnuti_directory_of(
     block_samples: &mut [usize],
     blocks: &mut usize,
 ) -> u8
-    ensures { λ r. ⌜ (let t = lentSamples
-        (now (constellation .entry)) (now (svid .entry)) (now (band .entry)) (now («table_time» .entry)) (now («table_metres» .entry)) in
-        let l = lentBlocks
-        (now («block_constellation» .entry)) (now («block_svid» .entry)) (now («block_band» .entry)) (now («block_first» .entry)) (now («block_samples» .entry))
-        (t .times) (t .corrections) in
-        Files (filedOf «table_count» (length (entriesIn l)) t) r (now (blocks .entry)) (now (blocks .exit)) l (lentBlocks
-        (now («block_constellation» .exit)) (now («block_svid» .exit)) (now («block_band» .exit)) (now («block_first» .exit)) (now («block_samples» .exit))
-        (t .times) (t .corrections))) ⌝ }
+    ensures { λ r. ⌜ (let t = columnsBefore constellation svid band «table_time» «table_metres» in
+        FilesIn «table_count» t (lentDirectory «block_constellation» «block_svid» «block_band» «block_first» «block_samples» t) r blocks) ⌝ }
 {
     let answer = directory_of(
         constellation,
@@ -71,12 +62,9 @@ pub extern "C" fn zaqnuti_signals_of(
     svid: &mut [u16],
     band: &mut [u32],
 ) -> u8
-    ensures { λ r. ⌜ (let l = lentBlocks
-        (now («block_constellation» .entry)) (now («block_svid» .entry)) (now («block_band» .entry)) (now («block_first» .entry)) (now («block_samples» .entry))
-        (now («table_time» .entry)) (now («table_metres» .entry)) in
-        let t = lentSamples (now (constellation .entry)) (now (svid .entry)) (now (band .entry)) (l .times) (l .corrections) in
-        let o = listedOf blocks «table_count» (min (length (t .constellations)) (min (length (t .svids)) (length (t .bands)))) l in
-        Lists o r t (lentSamples (now (constellation .exit)) (now (svid .exit)) (now (band .exit)) (l .times) (l .corrections))) ⌝ }
+    ensures { λ r. ⌜ (let table = readTable
+        «block_constellation» «block_svid» «block_band» «block_first» «block_samples» blocks «table_time» «table_metres» «table_count» in
+        ListsIn table (lentSignalColumns constellation svid band table) r) ⌝ }
 {
     listing_number(signals_of(
         block_constellation,

@@ -1,8 +1,7 @@
 // The entry point of the city displacement.
 ghost use mathlib.Core.Path.{_≡_};
-ghost use Rattle.records.specs.Carriers.{carrierColumns};
-ghost use Rattle.numeric.specs.Vec3.{vectorAt};
-ghost use Rattle.tdcp_columns.specs.Displacement.{lent, displacementSettings, DisplacementAnswers};
+ghost use Rattle.records.specs.Lent.{lentColumns, lentVector};
+ghost use Rattle.tdcp_columns.specs.Displacement.{lent, lentSettings, DisplacementAnswers};
 use records::pair::Profile;
 use tdcp::displacement::Interval;
 use tdcp_columns::displacement::columns_displaced;
@@ -32,13 +31,10 @@ pub extern "C" fn zaqnuti_city_displacement(
     delta: &mut [u64; 3],
     counts: &mut [usize; 2],
 ) -> u8
-    ensures { λ r. ⌜ (let previous = carrierColumns (now («previous_constellation» .entry)) (now («previous_svid» .entry)) (now («previous_band» .entry))
-        (now («previous_state» .entry)) (now («previous_floats» .entry)) in
-        let current = carrierColumns (now («current_constellation» .entry)) (now («current_svid» .entry)) (now («current_band» .entry))
-        (now («current_state» .entry)) (now («current_floats» .entry)) in
-        DisplacementAnswers (lent previous «previous_count» current «current_count» (Interval.Seconds dt)
-        (vectorAt (now (receiver .entry)) 0) (displacementSettings (now (settings .entry)) rounds) (Profile.City band))
-        r (now (delta .entry)) (now (delta .exit)) (now (counts .entry)) (now (counts .exit))) ⌝ }
+    ensures { λ r. ⌜ DisplacementAnswers (lent
+        (lentColumns «previous_constellation» «previous_svid» «previous_band» «previous_state» «previous_floats») «previous_count»
+        (lentColumns «current_constellation» «current_svid» «current_band» «current_state» «current_floats») «current_count»
+        (Interval.Seconds dt) (lentVector receiver) (lentSettings settings rounds) (Profile.City band)) r delta counts ⌝ }
 {
     let answer = columns_displaced(
         previous_constellation,
@@ -58,6 +54,7 @@ pub extern "C" fn zaqnuti_city_displacement(
         settings,
         rounds,
         Profile::City(band),
+        false,
     );
     answer_into(answer, delta, counts)
 }

@@ -1,7 +1,8 @@
 // Entry points of the corrections: one query of a table, and many.
-ghost use Rattle.corrections_directory.specs.Directory.{lentBlocks, blockCapacity, directoryIn};
-ghost use Rattle.corrections_query.specs.Query.{queryIn, Answers};
-ghost use Rattle.corrections_queries.specs.Queries.{queriesIn, Replies};
+ghost use Rattle.lists.specs.Memory.{before, after};
+ghost use Rattle.corrections_directory.specs.Read.{readTable};
+ghost use Rattle.corrections_query.specs.Query.{lentQuery, Answers};
+ghost use Rattle.corrections_queries.specs.Queries.{asked, RepliesTo};
 use corrections_queries::queries::call_number;
 use corrections_queries::queries::one_query;
 use corrections_queries::queries::queries;
@@ -25,11 +26,9 @@ pub extern "C" fn zaqnuti_query(
     time: f64,
     metres: &mut u64,
 ) -> u8
-    ensures { λ r. ⌜ (let l = lentBlocks
-        (now («block_constellation» .entry)) (now («block_svid» .entry)) (now («block_band» .entry)) (now («block_first» .entry)) (now («block_samples» .entry))
-        (now («table_time» .entry)) (now («table_metres» .entry)) in
-        Answers (queryIn blocks «table_count» (blockCapacity l) (directoryIn blocks «table_count» l) «max_gap» constellation svid band time) r
-        (now (metres .entry)) (now (metres .exit))) ⌝ }
+    ensures { λ r. ⌜ Answers (lentQuery
+        (readTable «block_constellation» «block_svid» «block_band» «block_first» «block_samples» blocks «table_time» «table_metres» «table_count») «max_gap»
+        constellation svid band time) r (before metres) (after metres) ⌝ }
 {
     let answer = one_query(
         block_constellation,
@@ -74,12 +73,9 @@ pub extern "C" fn zaqnuti_queries(
     numbers: &mut [u8],
     metres: &mut [u64],
 ) -> u8
-    ensures { λ r. ⌜ (let l = lentBlocks
-        (now («block_constellation» .entry)) (now («block_svid» .entry)) (now («block_band» .entry)) (now («block_first» .entry)) (now («block_samples» .entry))
-        (now («table_time» .entry)) (now («table_metres» .entry)) in
-        Replies (queriesIn blocks «table_count» (blockCapacity l) (directoryIn blocks «table_count» l) «max_gap»
-        (now (constellation .entry)) (now (svid .entry)) (now (band .entry)) (now (time .entry)) count (now (numbers .entry)) (now (metres .entry))) r
-        (now (numbers .entry)) (now (metres .entry)) (now (numbers .exit)) (now (metres .exit))) ⌝ }
+    ensures { λ r. ⌜ RepliesTo
+        (readTable «block_constellation» «block_svid» «block_band» «block_first» «block_samples» blocks «table_time» «table_metres» «table_count») «max_gap»
+        (asked constellation svid band time count) r numbers metres ⌝ }
 {
     call_number(queries(
         block_constellation,

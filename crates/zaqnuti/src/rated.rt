@@ -1,12 +1,11 @@
 // Entry points of the displacements that rate themselves.
 ghost use mathlib.Core.Path.{_≡_};
-ghost use Rattle.records.specs.Carriers.{carrierColumns};
-ghost use Rattle.numeric.specs.Vec3.{vectorAt};
-ghost use Rattle.tdcp_columns.specs.Displacement.{lent, displacementSettings};
+ghost use Rattle.records.specs.Lent.{lentColumns, lentVector};
+ghost use Rattle.tdcp_columns.specs.Displacement.{lent, lentSettings};
 ghost use Rattle.tdcp_columns.specs.Rated.{RatedAnswers};
 use records::pair::Profile;
 use tdcp::displacement::Interval;
-use tdcp_columns::displacement::columns_answered;
+use tdcp_columns::displacement::columns_displaced;
 use tdcp_columns::lent::rated_into;
 
 // The displacement between two epochs with the quality of its fit.
@@ -34,15 +33,12 @@ pub extern "C" fn zaqnuti_displacement_rated(
     quality: &mut [u64; 2],
     counts: &mut [usize; 2],
 ) -> u8
-    ensures { λ r. ⌜ (let previous = carrierColumns (now («previous_constellation» .entry)) (now («previous_svid» .entry)) (now («previous_band» .entry))
-        (now («previous_state» .entry)) (now («previous_floats» .entry)) in
-        let current = carrierColumns (now («current_constellation» .entry)) (now («current_svid» .entry)) (now («current_band» .entry))
-        (now («current_state» .entry)) (now («current_floats» .entry)) in
-        RatedAnswers (lent previous «previous_count» current «current_count» (Interval.Seconds dt)
-        (vectorAt (now (receiver .entry)) 0) (displacementSettings (now (settings .entry)) rounds) Profile.General)
-        r (now (delta .entry)) (now (delta .exit)) (now (quality .entry)) (now (quality .exit)) (now (counts .entry)) (now (counts .exit))) ⌝ }
+    ensures { λ r. ⌜ RatedAnswers (lent
+        (lentColumns «previous_constellation» «previous_svid» «previous_band» «previous_state» «previous_floats») «previous_count»
+        (lentColumns «current_constellation» «current_svid» «current_band» «current_state» «current_floats») «current_count»
+        (Interval.Seconds dt) (lentVector receiver) (lentSettings settings rounds) Profile.General) r delta quality counts ⌝ }
 {
-    let answer = columns_answered(
+    let answer = columns_displaced(
         previous_constellation,
         previous_svid,
         previous_band,
@@ -91,15 +87,12 @@ pub extern "C" fn zaqnuti_city_displacement_rated(
     quality: &mut [u64; 2],
     counts: &mut [usize; 2],
 ) -> u8
-    ensures { λ r. ⌜ (let previous = carrierColumns (now («previous_constellation» .entry)) (now («previous_svid» .entry)) (now («previous_band» .entry))
-        (now («previous_state» .entry)) (now («previous_floats» .entry)) in
-        let current = carrierColumns (now («current_constellation» .entry)) (now («current_svid» .entry)) (now («current_band» .entry))
-        (now («current_state» .entry)) (now («current_floats» .entry)) in
-        RatedAnswers (lent previous «previous_count» current «current_count» (Interval.Seconds dt)
-        (vectorAt (now (receiver .entry)) 0) (displacementSettings (now (settings .entry)) rounds) (Profile.City band))
-        r (now (delta .entry)) (now (delta .exit)) (now (quality .entry)) (now (quality .exit)) (now (counts .entry)) (now (counts .exit))) ⌝ }
+    ensures { λ r. ⌜ RatedAnswers (lent
+        (lentColumns «previous_constellation» «previous_svid» «previous_band» «previous_state» «previous_floats») «previous_count»
+        (lentColumns «current_constellation» «current_svid» «current_band» «current_state» «current_floats») «current_count»
+        (Interval.Seconds dt) (lentVector receiver) (lentSettings settings rounds) (Profile.City band)) r delta quality counts ⌝ }
 {
-    let answer = columns_answered(
+    let answer = columns_displaced(
         previous_constellation,
         previous_svid,
         previous_band,

@@ -1,5 +1,6 @@
 // Entry points of the centre, the line of sight, the one-sigma and the round.
 ghost use mathlib.Core.Path.{_≡_};
+ghost use Rattle.lists.specs.Memory.{before, after};
 ghost use Rattle.median.specs.Centre.{centreScaleOf, centreNumber};
 ghost use Rattle.numeric.specs.Sight as sight;
 ghost use Rattle.robust.specs.Sigma.{elevationSigma};
@@ -20,7 +21,7 @@ use wls_columns::round::step_into;
 // Returns 0 and writes the patterns of the centre and the scale of the residuals to `out`. Refuses more than 64: returns 2 and changes nothing.
 #[no_mangle]
 pub extern "C" fn zaqnuti_centre(residuals: &[u64], out: &mut [u64; 2]) -> u8
-    ensures { λ r. ⌜ (let s = centreScaleOf (now (residuals .entry)) in (r ≡ centreNumber s) × (now (out .exit) ≡ centreAfter s (now (out .entry)))) ⌝ }
+    ensures { λ r. ⌜ (let s = centreScaleOf (before residuals) in (r ≡ centreNumber s) × (after out ≡ centreAfter s (before out))) ⌝ }
 {
     let answer = centre_scale(residuals);
     match answer {
@@ -40,8 +41,8 @@ pub extern "C" fn zaqnuti_geometry(
     receiver: &[f64; 3],
     out: &mut [u64; 4],
 ) -> u8
-    ensures { λ r. ⌜ (let s = sight.geometry (vectorAt (now (satellite .entry)) 0) (vectorAt (now (receiver .entry)) 0) in
-        (r ≡ sight.sightingNumber s) × (now (out .exit) ≡ sightAfter s (now (out .entry)))) ⌝ }
+    ensures { λ r. ⌜ (let s = sight.geometry (vectorAt (before satellite) 0) (vectorAt (before receiver) 0) in
+        (r ≡ sight.sightingNumber s) × (after out ≡ sightAfter s (before out))) ⌝ }
 {
     let s = vector(satellite);
     let at = vector(receiver);
@@ -75,8 +76,8 @@ pub extern "C" fn zaqnuti_round(
     huber: f64,
     dx: &mut [u64; 9],
 ) -> u8
-    ensures { λ r. ⌜ (let c = rowColumns (now (units .entry)) (now (clocks .entry)) (now (residuals .entry)) (now (sigmas .entry)) in
-        StepAnswers (columnStepOf c rows unknowns huber) r (now (dx .entry)) (now (dx .exit))) ⌝ }
+    ensures { λ r. ⌜ (let c = rowColumns (before units) (before clocks) (before residuals) (before sigmas) in
+        StepAnswers (columnStepOf c rows unknowns huber) r (before dx) (after dx)) ⌝ }
 {
     let mut x = [0.0; 9];
     let answer = columns_step(

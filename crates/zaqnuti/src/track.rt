@@ -1,5 +1,5 @@
 // Entry point of the track. What a caller lends as doubles for the result and the work is taken as their patterns, so that a refusal is promised to leave every bit.
-ghost use Rattle.track_pass.specs.Input.{measured, trajectory};
+ghost use Rattle.track_pass.specs.Input.{lentTrack};
 ghost use Rattle.zaqnuti.specs.Track.{settings, TrackCalled};
 use track_smooth::Settings;
 use track_smooth::smooth;
@@ -22,10 +22,8 @@ pub extern "C" fn zaqnuti_smooth(
     work: &mut [u64],
 ) -> u8
     ensures { λ x. ⌜ (
-        let a = measured anchors (now («anchor_epoch» .entry)) (now («anchor_position» .entry)) (now («anchor_sigma» .entry)) in
-        let l = measured links (now («link_epoch» .entry)) (now («link_change» .entry)) (now («link_sigma» .entry)) in
-        let s = settings huber iterations in
-        TrackCalled (trajectory epochs a l) s (now (result .entry)) (now (work .entry)) x (now (result .exit)) (now (work .exit))) ⌝ }
+        let p = lentTrack epochs anchors «anchor_epoch» «anchor_position» «anchor_sigma» links «link_epoch» «link_change» «link_sigma» in
+        TrackCalled p (settings huber iterations) result work x) ⌝ }
 {
     let set = Settings { huber, iterations };
     let track = smooth(

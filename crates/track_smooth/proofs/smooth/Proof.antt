@@ -1,62 +1,58 @@
-use Rattle.track_smooth.proofs.Refusals.{few-passes, counted, valid}
-use Rattle.track_smooth.proofs.Answers.{too-many, bad-settings, bad-records, bad-track, fit-failed, found, records-first, records-second}
-use Rattle.track_smooth.proofs.Finite.{origin-small}
-use Rattle.track_smooth.proofs.Refusals.{counted, valid}
-use Rattle.track_pass.specs.Input.{measured, trajectory}
-use borrow.Author.Tests.{not-true, not-false}
-use mathlib.Core.Bool.{false}
-use mathlib.Core.Path.{refl, sym, _∙_}
+-- `track_smooth::smooth` meets its contract. Assumes nothing.
+use mathlib.Core.Path.{_≡_, sym, _∙_}
 use native.Mathlib.Omega.{arith}
+use lib.ListN.{length}
+use Rattle.track_pass.specs.Input.{Trajectory, measured, trajectory}
+use Rattle.track_smooth.specs.declared.Track.the-variants as Track
+use Rattle.track_smooth.specs.Steps.{trackChecked}
+use Rattle.track_smooth.proofs.Answers.{turned-back, is-ready, is-few, fit-failed, found}
 use borrow.Author.Needs.{needs}
 use Rattle.track_smooth.proofs.smooth.Statement.{statement}
 use Rattle.track_smooth.proofs.smooth.Tie as tie
 
-fits-limits-requires : tie.Need-fits-limits-requires
-fits-limits-requires c κs = search needs
+-- the trajectory that is lent
+abbrev track : tie.Start → Trajectory
+track s =
+    trajectory (s .args .n) (measured (s .args .anchors) (s .args .anchor-epoch .now) (s .args .anchor-position .now) (s .args .anchor-sigma .now))
+    (measured (s .args .links) (s .args .link-epoch .now) (s .args .link-change .now) (s .args .link-sigma .now))
 
-returns : tie.Need-returns
-returns c = too-many (trajectory (c .before .before .before .before .before .before .before .before .before .before .args .n) (measured (c .before .before .before .before .before .before .before .before .before .before .args .anchors) (c .before .before .before .before .before .before .before .before .before .before .args .anchor-epoch .now) (c .before .before .before .before .before .before .before .before .before .before .args .anchor-position .now) (c .before .before .before .before .before .before .before .before .before .before .args .anchor-sigma .now)) (measured (c .before .before .before .before .before .before .before .before .before .before .args .links) (c .before .before .before .before .before .before .before .before .before .before .args .link-epoch .now) (c .before .before .before .before .before .before .before .before .before .before .args .link-change .now) (c .before .before .before .before .before .before .before .before .before .before .args .link-sigma .now))) _ _ _ _ (c .before .fits-limits .ensures) (not-true _ (c .if1 .taken))
+-- no rule before the fit applies
+passed : (c : tie.After-enum-told) → (let s = (c .before .before .before .before .before .before .before .before .before .before .before) in trackChecked (track s) (s .args .set) (length (s .args .result .now)) (length (s .args .work .now)) ≡ Track.Smoothed)
+passed c = sym (c .before .before .check .ensures) ∙ c .enum-told .given .1
 
-allows-requires : tie.Need-allows-requires
-allows-requires c κs = search needs
+check-requires : tie.Need-check-requires
+check-requires c κs = search needs
 
-returns-2 : tie.Need-returns-2
-returns-2 c = bad-settings (trajectory (c .before .before .before .before .before .before .before .before .before .before .before .before .args .n) (measured (c .before .before .before .before .before .before .before .before .before .before .before .before .args .anchors) (c .before .before .before .before .before .before .before .before .before .before .before .before .args .anchor-epoch .now) (c .before .before .before .before .before .before .before .before .before .before .before .before .args .anchor-position .now) (c .before .before .before .before .before .before .before .before .before .before .before .before .args .anchor-sigma .now)) (measured (c .before .before .before .before .before .before .before .before .before .before .before .before .args .links) (c .before .before .before .before .before .before .before .before .before .before .before .before .args .link-epoch .now) (c .before .before .before .before .before .before .before .before .before .before .before .before .args .link-change .now) (c .before .before .before .before .before .before .before .before .before .before .before .before .args .link-sigma .now))) _ _ _ _ (c .before .before .before .fits-limits .ensures) (not-false _ (c .before .before .if1 .left)) _ (c .before .allows .ensures) (not-true _ (c .if2 .taken))
+enum-known-checked : tie.Need-enum-known-checked
+enum-known-checked c = search needs
 
-has-floats-in-range-requires : tie.Need-has-floats-in-range-requires
-has-floats-in-range-requires c κs = let k = counted (trajectory (c .before .before .before .before .before .before .before .before .before .before .before .before .args .n) (measured (c .before .before .before .before .before .before .before .before .before .before .before .before .args .anchors) (c .before .before .before .before .before .before .before .before .before .before .before .before .args .anchor-epoch .now) (c .before .before .before .before .before .before .before .before .before .before .before .before .args .anchor-position .now) (c .before .before .before .before .before .before .before .before .before .before .before .before .args .anchor-sigma .now)) (measured (c .before .before .before .before .before .before .before .before .before .before .before .before .args .links) (c .before .before .before .before .before .before .before .before .before .before .before .before .args .link-epoch .now) (c .before .before .before .before .before .before .before .before .before .before .before .before .args .link-change .now) (c .before .before .before .before .before .before .before .before .before .before .before .before .args .link-sigma .now))) _ _ (sym (c .before .before .before .fits-limits .ensures) ∙ not-false _ (c .before .before .if1 .left)) in (k .anchors .values, k .anchors .sigmas)
-
-returns-3 : tie.Need-returns-3
-returns-3 c = bad-records (trajectory (c .before .before .before .before .before .before .before .before .before .before .before .before .before .before .args .n) (measured (c .before .before .before .before .before .before .before .before .before .before .before .before .before .before .args .anchors) (c .before .before .before .before .before .before .before .before .before .before .before .before .before .before .args .anchor-epoch .now) (c .before .before .before .before .before .before .before .before .before .before .before .before .before .before .args .anchor-position .now) (c .before .before .before .before .before .before .before .before .before .before .before .before .before .before .args .anchor-sigma .now)) (measured (c .before .before .before .before .before .before .before .before .before .before .before .before .before .before .args .links) (c .before .before .before .before .before .before .before .before .before .before .before .before .before .before .args .link-epoch .now) (c .before .before .before .before .before .before .before .before .before .before .before .before .before .before .args .link-change .now) (c .before .before .before .before .before .before .before .before .before .before .before .before .before .before .args .link-sigma .now))) _ _ _ _ (c .before .before .before .before .before .fits-limits .ensures) (not-false _ (c .before .before .before .before .if1 .left)) _ (c .before .before .before .allows .ensures) (not-false _ (c .before .before .if2 .left)) false (records-first (trajectory (c .before .before .before .before .before .before .before .before .before .before .before .before .before .before .args .n) (measured (c .before .before .before .before .before .before .before .before .before .before .before .before .before .before .args .anchors) (c .before .before .before .before .before .before .before .before .before .before .before .before .before .before .args .anchor-epoch .now) (c .before .before .before .before .before .before .before .before .before .before .before .before .before .before .args .anchor-position .now) (c .before .before .before .before .before .before .before .before .before .before .before .before .before .before .args .anchor-sigma .now)) (measured (c .before .before .before .before .before .before .before .before .before .before .before .before .before .before .args .links) (c .before .before .before .before .before .before .before .before .before .before .before .before .before .before .args .link-epoch .now) (c .before .before .before .before .before .before .before .before .before .before .before .before .before .before .args .link-change .now) (c .before .before .before .before .before .before .before .before .before .before .before .before .before .before .args .link-sigma .now))) _ (c .before .has-floats-in-range .ensures) (not-true _ (c .if3 .taken))) refl
-
-has-floats-in-range-requires-2 : tie.Need-has-floats-in-range-requires-2
-has-floats-in-range-requires-2 c κs = let k = counted (trajectory (c .before .before .before .before .before .before .before .before .before .before .before .before .before .before .args .n) (measured (c .before .before .before .before .before .before .before .before .before .before .before .before .before .before .args .anchors) (c .before .before .before .before .before .before .before .before .before .before .before .before .before .before .args .anchor-epoch .now) (c .before .before .before .before .before .before .before .before .before .before .before .before .before .before .args .anchor-position .now) (c .before .before .before .before .before .before .before .before .before .before .before .before .before .before .args .anchor-sigma .now)) (measured (c .before .before .before .before .before .before .before .before .before .before .before .before .before .before .args .links) (c .before .before .before .before .before .before .before .before .before .before .before .before .before .before .args .link-epoch .now) (c .before .before .before .before .before .before .before .before .before .before .before .before .before .before .args .link-change .now) (c .before .before .before .before .before .before .before .before .before .before .before .before .before .before .args .link-sigma .now))) _ _ (sym (c .before .before .before .before .before .fits-limits .ensures) ∙ not-false _ (c .before .before .before .before .if1 .left)) in (k .links .values, k .links .sigmas)
-
-returns-4 : tie.Need-returns-4
-returns-4 c = bad-records (trajectory (c .before .before .before .before .before .before .before .before .before .before .before .before .before .before .before .before .args .n) (measured (c .before .before .before .before .before .before .before .before .before .before .before .before .before .before .before .before .args .anchors) (c .before .before .before .before .before .before .before .before .before .before .before .before .before .before .before .before .args .anchor-epoch .now) (c .before .before .before .before .before .before .before .before .before .before .before .before .before .before .before .before .args .anchor-position .now) (c .before .before .before .before .before .before .before .before .before .before .before .before .before .before .before .before .args .anchor-sigma .now)) (measured (c .before .before .before .before .before .before .before .before .before .before .before .before .before .before .before .before .args .links) (c .before .before .before .before .before .before .before .before .before .before .before .before .before .before .before .before .args .link-epoch .now) (c .before .before .before .before .before .before .before .before .before .before .before .before .before .before .before .before .args .link-change .now) (c .before .before .before .before .before .before .before .before .before .before .before .before .before .before .before .before .args .link-sigma .now))) _ _ _ _ (c .before .before .before .before .before .before .before .fits-limits .ensures) (not-false _ (c .before .before .before .before .before .before .if1 .left)) _ (c .before .before .before .before .before .allows .ensures) (not-false _ (c .before .before .before .before .if2 .left)) _ (records-second (trajectory (c .before .before .before .before .before .before .before .before .before .before .before .before .before .before .before .before .args .n) (measured (c .before .before .before .before .before .before .before .before .before .before .before .before .before .before .before .before .args .anchors) (c .before .before .before .before .before .before .before .before .before .before .before .before .before .before .before .before .args .anchor-epoch .now) (c .before .before .before .before .before .before .before .before .before .before .before .before .before .before .before .before .args .anchor-position .now) (c .before .before .before .before .before .before .before .before .before .before .before .before .before .before .before .before .args .anchor-sigma .now)) (measured (c .before .before .before .before .before .before .before .before .before .before .before .before .before .before .before .before .args .links) (c .before .before .before .before .before .before .before .before .before .before .before .before .before .before .before .before .args .link-epoch .now) (c .before .before .before .before .before .before .before .before .before .before .before .before .before .before .before .before .args .link-change .now) (c .before .before .before .before .before .before .before .before .before .before .before .before .before .before .before .before .args .link-sigma .now))) _ _ (c .before .before .before .has-floats-in-range .ensures) (not-false _ (c .before .before .if3 .left)) (c .before .has-floats-in-range2 .ensures)) (not-true _ (c .if4 .taken))
-
-is-track-requires : tie.Need-is-track-requires
-is-track-requires c κs = let k = counted (trajectory (c .before .before .before .before .before .before .before .before .before .before .before .before .before .before .before .before .args .n) (measured (c .before .before .before .before .before .before .before .before .before .before .before .before .before .before .before .before .args .anchors) (c .before .before .before .before .before .before .before .before .before .before .before .before .before .before .before .before .args .anchor-epoch .now) (c .before .before .before .before .before .before .before .before .before .before .before .before .before .before .before .before .args .anchor-position .now) (c .before .before .before .before .before .before .before .before .before .before .before .before .before .before .before .before .args .anchor-sigma .now)) (measured (c .before .before .before .before .before .before .before .before .before .before .before .before .before .before .before .before .args .links) (c .before .before .before .before .before .before .before .before .before .before .before .before .before .before .before .before .args .link-epoch .now) (c .before .before .before .before .before .before .before .before .before .before .before .before .before .before .before .before .args .link-change .now) (c .before .before .before .before .before .before .before .before .before .before .before .before .before .before .before .before .args .link-sigma .now))) _ _ (sym (c .before .before .before .before .before .before .before .fits-limits .ensures) ∙ not-false _ (c .before .before .before .before .before .before .if1 .left)) in ((k .anchors .indices, k .anchors .sigmas), (k .links .indices, k .links .sigmas))
-
-returns-5 : tie.Need-returns-5
-returns-5 c = bad-track (trajectory (c .before .before .before .before .before .before .before .before .before .before .before .before .before .before .before .before .before .before .args .n) (measured (c .before .before .before .before .before .before .before .before .before .before .before .before .before .before .before .before .before .before .args .anchors) (c .before .before .before .before .before .before .before .before .before .before .before .before .before .before .before .before .before .before .args .anchor-epoch .now) (c .before .before .before .before .before .before .before .before .before .before .before .before .before .before .before .before .before .before .args .anchor-position .now) (c .before .before .before .before .before .before .before .before .before .before .before .before .before .before .before .before .before .before .args .anchor-sigma .now)) (measured (c .before .before .before .before .before .before .before .before .before .before .before .before .before .before .before .before .before .before .args .links) (c .before .before .before .before .before .before .before .before .before .before .before .before .before .before .before .before .before .before .args .link-epoch .now) (c .before .before .before .before .before .before .before .before .before .before .before .before .before .before .before .before .before .before .args .link-change .now) (c .before .before .before .before .before .before .before .before .before .before .before .before .before .before .before .before .before .before .args .link-sigma .now))) _ _ _ _ (c .before .before .before .before .before .before .before .before .before .fits-limits .ensures) (not-false _ (c .before .before .before .before .before .before .before .before .if1 .left)) _ (c .before .before .before .before .before .before .before .allows .ensures) (not-false _ (c .before .before .before .before .before .before .if2 .left)) _ (records-second (trajectory (c .before .before .before .before .before .before .before .before .before .before .before .before .before .before .before .before .before .before .args .n) (measured (c .before .before .before .before .before .before .before .before .before .before .before .before .before .before .before .before .before .before .args .anchors) (c .before .before .before .before .before .before .before .before .before .before .before .before .before .before .before .before .before .before .args .anchor-epoch .now) (c .before .before .before .before .before .before .before .before .before .before .before .before .before .before .before .before .before .before .args .anchor-position .now) (c .before .before .before .before .before .before .before .before .before .before .before .before .before .before .before .before .before .before .args .anchor-sigma .now)) (measured (c .before .before .before .before .before .before .before .before .before .before .before .before .before .before .before .before .before .before .args .links) (c .before .before .before .before .before .before .before .before .before .before .before .before .before .before .before .before .before .before .args .link-epoch .now) (c .before .before .before .before .before .before .before .before .before .before .before .before .before .before .before .before .before .before .args .link-change .now) (c .before .before .before .before .before .before .before .before .before .before .before .before .before .before .before .before .before .before .args .link-sigma .now))) _ _ (c .before .before .before .before .before .has-floats-in-range .ensures) (not-false _ (c .before .before .before .before .if3 .left)) (c .before .before .before .has-floats-in-range2 .ensures)) (not-false _ (c .before .before .if4 .left)) _ (c .before .is-track .ensures) (not-true _ (c .if5 .taken))
+enum-told : tie.Need-enum-told
+enum-told c = search needs
 
 fit-requires : tie.Need-fit-requires
-fit-requires c κs = let k = counted (trajectory (c .before .before .before .before .before .before .before .before .before .before .before .before .before .before .before .before .before .before .before .before .args .n) (measured (c .before .before .before .before .before .before .before .before .before .before .before .before .before .before .before .before .before .before .before .before .args .anchors) (c .before .before .before .before .before .before .before .before .before .before .before .before .before .before .before .before .before .before .before .before .args .anchor-epoch .now) (c .before .before .before .before .before .before .before .before .before .before .before .before .before .before .before .before .before .before .before .before .args .anchor-position .now) (c .before .before .before .before .before .before .before .before .before .before .before .before .before .before .before .before .before .before .before .before .args .anchor-sigma .now)) (measured (c .before .before .before .before .before .before .before .before .before .before .before .before .before .before .before .before .before .before .before .before .args .links) (c .before .before .before .before .before .before .before .before .before .before .before .before .before .before .before .before .before .before .before .before .args .link-epoch .now) (c .before .before .before .before .before .before .before .before .before .before .before .before .before .before .before .before .before .before .before .before .args .link-change .now) (c .before .before .before .before .before .before .before .before .before .before .before .before .before .before .before .before .before .before .before .before .args .link-sigma .now))) _ _ (sym (c .before .before .before .before .before .before .before .before .before .before .before .fits-limits .ensures) ∙ not-false _ (c .before .before .before .before .before .before .before .before .before .before .if1 .left)) in
-    let v = valid (trajectory (c .before .before .before .before .before .before .before .before .before .before .before .before .before .before .before .before .before .before .before .before .args .n) (measured (c .before .before .before .before .before .before .before .before .before .before .before .before .before .before .before .before .before .before .before .before .args .anchors) (c .before .before .before .before .before .before .before .before .before .before .before .before .before .before .before .before .before .before .before .before .args .anchor-epoch .now) (c .before .before .before .before .before .before .before .before .before .before .before .before .before .before .before .before .before .before .before .before .args .anchor-position .now) (c .before .before .before .before .before .before .before .before .before .before .before .before .before .before .before .before .before .before .before .before .args .anchor-sigma .now)) (measured (c .before .before .before .before .before .before .before .before .before .before .before .before .before .before .before .before .before .before .before .before .args .links) (c .before .before .before .before .before .before .before .before .before .before .before .before .before .before .before .before .before .before .before .before .args .link-epoch .now) (c .before .before .before .before .before .before .before .before .before .before .before .before .before .before .before .before .before .before .before .before .args .link-change .now) (c .before .before .before .before .before .before .before .before .before .before .before .before .before .before .before .before .before .before .before .before .args .link-sigma .now))) _ _ k (sym (c .before .before .before .is-track .ensures) ∙ not-false _ (c .before .before .if5 .left)) in
-    ((k .work, k .result, few-passes _ (sym (c .before .before .before .before .before .before .before .before .before .allows .ensures) ∙ not-false _ (c .before .before .before .before .before .before .before .before .if2 .left))), (v, origin-small (trajectory (c .before .before .before .before .before .before .before .before .before .before .before .before .before .before .before .before .before .before .before .before .args .n) (measured (c .before .before .before .before .before .before .before .before .before .before .before .before .before .before .before .before .before .before .before .before .args .anchors) (c .before .before .before .before .before .before .before .before .before .before .before .before .before .before .before .before .before .before .before .before .args .anchor-epoch .now) (c .before .before .before .before .before .before .before .before .before .before .before .before .before .before .before .before .before .before .before .before .args .anchor-position .now) (c .before .before .before .before .before .before .before .before .before .before .before .before .before .before .before .before .before .before .before .before .args .anchor-sigma .now)) (measured (c .before .before .before .before .before .before .before .before .before .before .before .before .before .before .before .before .before .before .before .before .args .links) (c .before .before .before .before .before .before .before .before .before .before .before .before .before .before .before .before .before .before .before .before .args .link-epoch .now) (c .before .before .before .before .before .before .before .before .before .before .before .before .before .before .before .before .before .before .before .before .args .link-change .now) (c .before .before .before .before .before .before .before .before .before .before .before .before .before .before .before .before .before .before .before .before .args .link-sigma .now))) (v .some) (sym (records-second (trajectory (c .before .before .before .before .before .before .before .before .before .before .before .before .before .before .before .before .before .before .before .before .args .n) (measured (c .before .before .before .before .before .before .before .before .before .before .before .before .before .before .before .before .before .before .before .before .args .anchors) (c .before .before .before .before .before .before .before .before .before .before .before .before .before .before .before .before .before .before .before .before .args .anchor-epoch .now) (c .before .before .before .before .before .before .before .before .before .before .before .before .before .before .before .before .before .before .before .before .args .anchor-position .now) (c .before .before .before .before .before .before .before .before .before .before .before .before .before .before .before .before .before .before .before .before .args .anchor-sigma .now)) (measured (c .before .before .before .before .before .before .before .before .before .before .before .before .before .before .before .before .before .before .before .before .args .links) (c .before .before .before .before .before .before .before .before .before .before .before .before .before .before .before .before .before .before .before .before .args .link-epoch .now) (c .before .before .before .before .before .before .before .before .before .before .before .before .before .before .before .before .before .before .before .before .args .link-change .now) (c .before .before .before .before .before .before .before .before .before .before .before .before .before .before .before .before .before .before .before .before .args .link-sigma .now))) _ _ (c .before .before .before .before .before .before .before .has-floats-in-range .ensures) (not-false _ (c .before .before .before .before .before .before .if3 .left)) (c .before .before .before .before .before .has-floats-in-range2 .ensures)) ∙ not-false _ (c .before .before .before .before .if4 .left))))
+fit-requires c κs =
+    let s = (c .before .before .before .before .before .before .before .before .before .before .before .before .before) in
+    let t = passed (c .before .before) in (is-ready (track s) (s .args .set) (s .args .result .now) (s .args .work .now) t, is-few (track s) (s .args .set) (s .args .result .now) (s .args .work .now) t)
 
 mul-fill : tie.Need-mul-fill
-mul-fill c = let k = counted (trajectory (c .before .before .before .before .before .before .before .before .before .before .before .before .before .before .before .before .before .before .before .before .before .before .before .before .before .before .args .n) (measured (c .before .before .before .before .before .before .before .before .before .before .before .before .before .before .before .before .before .before .before .before .before .before .before .before .before .before .args .anchors) (c .before .before .before .before .before .before .before .before .before .before .before .before .before .before .before .before .before .before .before .before .before .before .before .before .before .before .args .anchor-epoch .now) (c .before .before .before .before .before .before .before .before .before .before .before .before .before .before .before .before .before .before .before .before .before .before .before .before .before .before .args .anchor-position .now) (c .before .before .before .before .before .before .before .before .before .before .before .before .before .before .before .before .before .before .before .before .before .before .before .before .before .before .args .anchor-sigma .now)) (measured (c .before .before .before .before .before .before .before .before .before .before .before .before .before .before .before .before .before .before .before .before .before .before .before .before .before .before .args .links) (c .before .before .before .before .before .before .before .before .before .before .before .before .before .before .before .before .before .before .before .before .before .before .before .before .before .before .args .link-epoch .now) (c .before .before .before .before .before .before .before .before .before .before .before .before .before .before .before .before .before .before .before .before .before .before .before .before .before .before .args .link-change .now) (c .before .before .before .before .before .before .before .before .before .before .before .before .before .before .before .before .before .before .before .before .before .before .before .before .before .before .args .link-sigma .now))) _ _ (sym (c .before .before .before .before .before .before .before .before .before .before .before .before .before .before .before .before .before .fits-limits .ensures) ∙ not-false _ (c .before .before .before .before .before .before .before .before .before .before .before .before .before .before .before .before .if1 .left)) in omega (arith, k .epochs, k .anchors-few, k .links-few)
+mul-fill c =
+    let s = (c .before .before .before .before .before .before .before .before .before .before .before .before .before .before .before .before .before .before .before) in
+    let k = is-ready (track s) (s .args .set) (s .args .result .now) (s .args .work .now) (passed (c .before .before .before .before .before .before .before .before)) in omega (arith, k .work, s .fits)
 
 add-fill : tie.Need-add-fill
-add-fill c = let k = counted (trajectory (c .before .before .before .before .before .before .before .before .before .before .before .before .before .before .before .before .before .before .before .before .before .before .before .before .before .before .args .n) (measured (c .before .before .before .before .before .before .before .before .before .before .before .before .before .before .before .before .before .before .before .before .before .before .before .before .before .before .args .anchors) (c .before .before .before .before .before .before .before .before .before .before .before .before .before .before .before .before .before .before .before .before .before .before .before .before .before .before .args .anchor-epoch .now) (c .before .before .before .before .before .before .before .before .before .before .before .before .before .before .before .before .before .before .before .before .before .before .before .before .before .before .args .anchor-position .now) (c .before .before .before .before .before .before .before .before .before .before .before .before .before .before .before .before .before .before .before .before .before .before .before .before .before .before .args .anchor-sigma .now)) (measured (c .before .before .before .before .before .before .before .before .before .before .before .before .before .before .before .before .before .before .before .before .before .before .before .before .before .before .args .links) (c .before .before .before .before .before .before .before .before .before .before .before .before .before .before .before .before .before .before .before .before .before .before .before .before .before .before .args .link-epoch .now) (c .before .before .before .before .before .before .before .before .before .before .before .before .before .before .before .before .before .before .before .before .before .before .before .before .before .before .args .link-change .now) (c .before .before .before .before .before .before .before .before .before .before .before .before .before .before .before .before .before .before .before .before .before .before .before .before .before .before .args .link-sigma .now))) _ _ (sym (c .before .before .before .before .before .before .before .before .before .before .before .before .before .before .before .before .before .fits-limits .ensures) ∙ not-false _ (c .before .before .before .before .before .before .before .before .before .before .before .before .before .before .before .before .if1 .left)) in omega (arith, k .epochs, k .anchors-few, k .links-few)
+add-fill c =
+    let s = (c .before .before .before .before .before .before .before .before .before .before .before .before .before .before .before .before .before .before .before) in
+    let k = is-ready (track s) (s .args .set) (s .args .result .now) (s .args .work .now) (passed (c .before .before .before .before .before .before .before .before)) in omega (arith, k .work, s .fits)
 
 add-fill-2 : tie.Need-add-fill-2
-add-fill-2 c = let k = counted (trajectory (c .before .before .before .before .before .before .before .before .before .before .before .before .before .before .before .before .before .before .before .before .before .before .before .before .before .before .args .n) (measured (c .before .before .before .before .before .before .before .before .before .before .before .before .before .before .before .before .before .before .before .before .before .before .before .before .before .before .args .anchors) (c .before .before .before .before .before .before .before .before .before .before .before .before .before .before .before .before .before .before .before .before .before .before .before .before .before .before .args .anchor-epoch .now) (c .before .before .before .before .before .before .before .before .before .before .before .before .before .before .before .before .before .before .before .before .before .before .before .before .before .before .args .anchor-position .now) (c .before .before .before .before .before .before .before .before .before .before .before .before .before .before .before .before .before .before .before .before .before .before .before .before .before .before .args .anchor-sigma .now)) (measured (c .before .before .before .before .before .before .before .before .before .before .before .before .before .before .before .before .before .before .before .before .before .before .before .before .before .before .args .links) (c .before .before .before .before .before .before .before .before .before .before .before .before .before .before .before .before .before .before .before .before .before .before .before .before .before .before .args .link-epoch .now) (c .before .before .before .before .before .before .before .before .before .before .before .before .before .before .before .before .before .before .before .before .before .before .before .before .before .before .args .link-change .now) (c .before .before .before .before .before .before .before .before .before .before .before .before .before .before .before .before .before .before .before .before .before .before .before .before .before .before .args .link-sigma .now))) _ _ (sym (c .before .before .before .before .before .before .before .before .before .before .before .before .before .before .before .before .before .fits-limits .ensures) ∙ not-false _ (c .before .before .before .before .before .before .before .before .before .before .before .before .before .before .before .before .if1 .left)) in omega (arith, k .epochs, k .anchors-few, k .links-few)
+add-fill-2 c =
+    let s = (c .before .before .before .before .before .before .before .before .before .before .before .before .before .before .before .before .before .before .before) in
+    let k = is-ready (track s) (s .args .set) (s .args .result .now) (s .args .work .now) (passed (c .before .before .before .before .before .before .before .before)) in omega (arith, k .work, s .fits)
 
 fill-requires : tie.Need-fill-requires
-fill-requires c κs = let k = counted (trajectory (c .before .before .before .before .before .before .before .before .before .before .before .before .before .before .before .before .before .before .before .before .before .before .before .before .before .before .args .n) (measured (c .before .before .before .before .before .before .before .before .before .before .before .before .before .before .before .before .before .before .before .before .before .before .before .before .before .before .args .anchors) (c .before .before .before .before .before .before .before .before .before .before .before .before .before .before .before .before .before .before .before .before .before .before .before .before .before .before .args .anchor-epoch .now) (c .before .before .before .before .before .before .before .before .before .before .before .before .before .before .before .before .before .before .before .before .before .before .before .before .before .before .args .anchor-position .now) (c .before .before .before .before .before .before .before .before .before .before .before .before .before .before .before .before .before .before .before .before .before .before .before .before .before .before .args .anchor-sigma .now)) (measured (c .before .before .before .before .before .before .before .before .before .before .before .before .before .before .before .before .before .before .before .before .before .before .before .before .before .before .args .links) (c .before .before .before .before .before .before .before .before .before .before .before .before .before .before .before .before .before .before .before .before .before .before .before .before .before .before .args .link-epoch .now) (c .before .before .before .before .before .before .before .before .before .before .before .before .before .before .before .before .before .before .before .before .before .before .before .before .before .before .args .link-change .now) (c .before .before .before .before .before .before .before .before .before .before .before .before .before .before .before .before .before .before .before .before .before .before .before .before .before .before .args .link-sigma .now))) _ _ (sym (c .before .before .before .before .before .before .before .before .before .before .before .before .before .before .before .before .before .fits-limits .ensures) ∙ not-false _ (c .before .before .before .before .before .before .before .before .before .before .before .before .before .before .before .before .if1 .left)) in (omega arith, omega (arith, k .work, c .before .before .before .before .before .fit .kept .0))
+fill-requires c κs =
+    let s = (c .before .before .before .before .before .before .before .before .before .before .before .before .before .before .before .before .before .before .before) in
+    let k = is-ready (track s) (s .args .set) (s .args .result .now) (s .args .work .now) (passed (c .before .before .before .before .before .before .before .before)) in (omega arith, omega (arith, k .work, c .before .before .before .before .before .fit .kept .0))
 
 same-length : tie.Need-same-length
 same-length c = search needs
@@ -64,9 +60,17 @@ same-length c = search needs
 same-length-2 : tie.Need-same-length-2
 same-length-2 c = search needs
 
-returns-6 : tie.Need-returns-6
-returns-6 c = found (trajectory (c .before .before .before .before .before .before .before .before .before .before .before .before .before .before .before .before .before .before .before .before .before .before .before .before .before .before .before .before .before .before .args .n) (measured (c .before .before .before .before .before .before .before .before .before .before .before .before .before .before .before .before .before .before .before .before .before .before .before .before .before .before .before .before .before .before .args .anchors) (c .before .before .before .before .before .before .before .before .before .before .before .before .before .before .before .before .before .before .before .before .before .before .before .before .before .before .before .before .before .before .args .anchor-epoch .now) (c .before .before .before .before .before .before .before .before .before .before .before .before .before .before .before .before .before .before .before .before .before .before .before .before .before .before .before .before .before .before .args .anchor-position .now) (c .before .before .before .before .before .before .before .before .before .before .before .before .before .before .before .before .before .before .before .before .before .before .before .before .before .before .before .before .before .before .args .anchor-sigma .now)) (measured (c .before .before .before .before .before .before .before .before .before .before .before .before .before .before .before .before .before .before .before .before .before .before .before .before .before .before .before .before .before .before .args .links) (c .before .before .before .before .before .before .before .before .before .before .before .before .before .before .before .before .before .before .before .before .before .before .before .before .before .before .before .before .before .before .args .link-epoch .now) (c .before .before .before .before .before .before .before .before .before .before .before .before .before .before .before .before .before .before .before .before .before .before .before .before .before .before .before .before .before .before .args .link-change .now) (c .before .before .before .before .before .before .before .before .before .before .before .before .before .before .before .before .before .before .before .before .before .before .before .before .before .before .before .before .before .before .args .link-sigma .now))) _ _ _ _ (c .before .before .before .before .before .before .before .before .before .before .before .before .before .before .before .before .before .before .before .before .before .fits-limits .ensures) (not-false _ (c .before .before .before .before .before .before .before .before .before .before .before .before .before .before .before .before .before .before .before .before .if1 .left)) _ (c .before .before .before .before .before .before .before .before .before .before .before .before .before .before .before .before .before .before .before .allows .ensures) (not-false _ (c .before .before .before .before .before .before .before .before .before .before .before .before .before .before .before .before .before .before .if2 .left)) _ (records-second (trajectory (c .before .before .before .before .before .before .before .before .before .before .before .before .before .before .before .before .before .before .before .before .before .before .before .before .before .before .before .before .before .before .args .n) (measured (c .before .before .before .before .before .before .before .before .before .before .before .before .before .before .before .before .before .before .before .before .before .before .before .before .before .before .before .before .before .before .args .anchors) (c .before .before .before .before .before .before .before .before .before .before .before .before .before .before .before .before .before .before .before .before .before .before .before .before .before .before .before .before .before .before .args .anchor-epoch .now) (c .before .before .before .before .before .before .before .before .before .before .before .before .before .before .before .before .before .before .before .before .before .before .before .before .before .before .before .before .before .before .args .anchor-position .now) (c .before .before .before .before .before .before .before .before .before .before .before .before .before .before .before .before .before .before .before .before .before .before .before .before .before .before .before .before .before .before .args .anchor-sigma .now)) (measured (c .before .before .before .before .before .before .before .before .before .before .before .before .before .before .before .before .before .before .before .before .before .before .before .before .before .before .before .before .before .before .args .links) (c .before .before .before .before .before .before .before .before .before .before .before .before .before .before .before .before .before .before .before .before .before .before .before .before .before .before .before .before .before .before .args .link-epoch .now) (c .before .before .before .before .before .before .before .before .before .before .before .before .before .before .before .before .before .before .before .before .before .before .before .before .before .before .before .before .before .before .args .link-change .now) (c .before .before .before .before .before .before .before .before .before .before .before .before .before .before .before .before .before .before .before .before .before .before .before .before .before .before .before .before .before .before .args .link-sigma .now))) _ _ (c .before .before .before .before .before .before .before .before .before .before .before .before .before .before .before .before .before .has-floats-in-range .ensures) (not-false _ (c .before .before .before .before .before .before .before .before .before .before .before .before .before .before .before .before .if3 .left)) (c .before .before .before .before .before .before .before .before .before .before .before .before .before .before .before .has-floats-in-range2 .ensures)) (not-false _ (c .before .before .before .before .before .before .before .before .before .before .before .before .before .before .if4 .left)) _ (c .before .before .before .before .before .before .before .before .before .before .before .before .before .is-track .ensures) (not-false _ (c .before .before .before .before .before .before .before .before .before .before .before .before .if5 .left))
-    _ _ _ _ (c .before .before .before .before .before .before .before .before .before .fit .ensures) (c .before .before .before .fill .ensures) (c .before .before .before .fill .kept .0 ∙ c .before .before .before .before .before .before .before .before .before .fit .kept .0) (c .before .before .before .before .before .before .before .before .before .fit .kept .1 .1 .1 .1 .1 .1 .1 .1 .1 .1 .1 .0) (c .if6 .taken)
+returns : tie.Need-returns
+returns c =
+    let s = (c .before .before .before .before .before .before .before .before .before .before .before .before .before .before .before .before .before .before .before .before .before .before .before) in
+    let f = c .before .before .before .before .before .before .before .before .before .fit in
+    let e = c .before .before .before .fill in
+    found (track s) (s .args .set) (s .args .result .now) (s .args .work .now) (passed (c .before .before .before .before .before .before .before .before .before .before .before .before)) _ _ _ _ (f .ensures) (e .ensures) (e .kept .0 ∙ f .kept .0) (f .kept .1 .1 .1 .1 .1 .1 .1 .1 .1 .1 .1 .0) (c .if1 .taken)
+
+returns-2 : tie.Need-returns-2
+returns-2 c =
+    let s = (c .before .before .before .before .before .before .before .before .before .before .before .before) in
+    turned-back (track s) (s .args .set) (s .args .result .now) (s .args .work .now) _ (sym (c .before .before .before .check .ensures) ∙ c .before .checked .given .1)
 
 same-length-3 : tie.Need-same-length-3
 same-length-3 c = search needs
@@ -74,24 +78,20 @@ same-length-3 c = search needs
 same-length-4 : tie.Need-same-length-4
 same-length-4 c = search needs
 
-returns-7 : tie.Need-returns-7
-returns-7 c = fit-failed (trajectory (c .before .before .before .before .before .before .before .before .before .before .before .before .before .before .before .before .before .before .before .before .before .before .before .before .before .before .before .before .before .before .args .n) (measured (c .before .before .before .before .before .before .before .before .before .before .before .before .before .before .before .before .before .before .before .before .before .before .before .before .before .before .before .before .before .before .args .anchors) (c .before .before .before .before .before .before .before .before .before .before .before .before .before .before .before .before .before .before .before .before .before .before .before .before .before .before .before .before .before .before .args .anchor-epoch .now) (c .before .before .before .before .before .before .before .before .before .before .before .before .before .before .before .before .before .before .before .before .before .before .before .before .before .before .before .before .before .before .args .anchor-position .now) (c .before .before .before .before .before .before .before .before .before .before .before .before .before .before .before .before .before .before .before .before .before .before .before .before .before .before .before .before .before .before .args .anchor-sigma .now)) (measured (c .before .before .before .before .before .before .before .before .before .before .before .before .before .before .before .before .before .before .before .before .before .before .before .before .before .before .before .before .before .before .args .links) (c .before .before .before .before .before .before .before .before .before .before .before .before .before .before .before .before .before .before .before .before .before .before .before .before .before .before .before .before .before .before .args .link-epoch .now) (c .before .before .before .before .before .before .before .before .before .before .before .before .before .before .before .before .before .before .before .before .before .before .before .before .before .before .before .before .before .before .args .link-change .now) (c .before .before .before .before .before .before .before .before .before .before .before .before .before .before .before .before .before .before .before .before .before .before .before .before .before .before .before .before .before .before .args .link-sigma .now))) _ _ _ _ (c .before .before .before .before .before .before .before .before .before .before .before .before .before .before .before .before .before .before .before .before .before .fits-limits .ensures) (not-false _ (c .before .before .before .before .before .before .before .before .before .before .before .before .before .before .before .before .before .before .before .before .if1 .left)) _ (c .before .before .before .before .before .before .before .before .before .before .before .before .before .before .before .before .before .before .before .allows .ensures) (not-false _ (c .before .before .before .before .before .before .before .before .before .before .before .before .before .before .before .before .before .before .if2 .left)) _ (records-second (trajectory (c .before .before .before .before .before .before .before .before .before .before .before .before .before .before .before .before .before .before .before .before .before .before .before .before .before .before .before .before .before .before .args .n) (measured (c .before .before .before .before .before .before .before .before .before .before .before .before .before .before .before .before .before .before .before .before .before .before .before .before .before .before .before .before .before .before .args .anchors) (c .before .before .before .before .before .before .before .before .before .before .before .before .before .before .before .before .before .before .before .before .before .before .before .before .before .before .before .before .before .before .args .anchor-epoch .now) (c .before .before .before .before .before .before .before .before .before .before .before .before .before .before .before .before .before .before .before .before .before .before .before .before .before .before .before .before .before .before .args .anchor-position .now) (c .before .before .before .before .before .before .before .before .before .before .before .before .before .before .before .before .before .before .before .before .before .before .before .before .before .before .before .before .before .before .args .anchor-sigma .now)) (measured (c .before .before .before .before .before .before .before .before .before .before .before .before .before .before .before .before .before .before .before .before .before .before .before .before .before .before .before .before .before .before .args .links) (c .before .before .before .before .before .before .before .before .before .before .before .before .before .before .before .before .before .before .before .before .before .before .before .before .before .before .before .before .before .before .args .link-epoch .now) (c .before .before .before .before .before .before .before .before .before .before .before .before .before .before .before .before .before .before .before .before .before .before .before .before .before .before .before .before .before .before .args .link-change .now) (c .before .before .before .before .before .before .before .before .before .before .before .before .before .before .before .before .before .before .before .before .before .before .before .before .before .before .before .before .before .before .args .link-sigma .now))) _ _ (c .before .before .before .before .before .before .before .before .before .before .before .before .before .before .before .before .before .has-floats-in-range .ensures) (not-false _ (c .before .before .before .before .before .before .before .before .before .before .before .before .before .before .before .before .if3 .left)) (c .before .before .before .before .before .before .before .before .before .before .before .before .before .before .before .has-floats-in-range2 .ensures)) (not-false _ (c .before .before .before .before .before .before .before .before .before .before .before .before .before .before .if4 .left)) _ (c .before .before .before .before .before .before .before .before .before .before .before .before .before .is-track .ensures) (not-false _ (c .before .before .before .before .before .before .before .before .before .before .before .before .if5 .left))
-    _ _ _ _ (c .before .before .before .before .before .before .before .before .before .fit .ensures) (c .before .before .before .fill .ensures) (c .before .before .before .fill .kept .0 ∙ c .before .before .before .before .before .before .before .before .before .fit .kept .0) (c .before .before .before .before .before .before .before .before .before .fit .kept .1 .1 .1 .1 .1 .1 .1 .1 .1 .1 .1 .0) (c .if6 .left)
+returns-3 : tie.Need-returns-3
+returns-3 c =
+    let s = (c .before .before .before .before .before .before .before .before .before .before .before .before .before .before .before .before .before .before .before .before .before .before .before) in
+    let f = c .before .before .before .before .before .before .before .before .before .fit in
+    let e = c .before .before .before .fill in
+    fit-failed (track s) (s .args .set) (s .args .result .now) (s .args .work .now) (passed (c .before .before .before .before .before .before .before .before .before .before .before .before)) _ _ _ _ (f .ensures) (e .ensures) (e .kept .0 ∙ f .kept .0) (f .kept .1 .1 .1 .1 .1 .1 .1 .1 .1 .1 .1 .0) (c .if1 .left)
 
 pub smooth-spec : {M : Type 1} → statement M
 smooth-spec =
     tie.close
     (tie.spec
-    fits-limits-requires
-    returns
-    allows-requires
-    returns-2
-    has-floats-in-range-requires
-    returns-3
-    has-floats-in-range-requires-2
-    returns-4
-    is-track-requires
-    returns-5
+    check-requires
+    enum-known-checked
+    enum-told
     fit-requires
     mul-fill
     add-fill
@@ -99,7 +99,8 @@ smooth-spec =
     fill-requires
     same-length
     same-length-2
-    returns-6
+    returns
+    returns-2
     same-length-3
     same-length-4
-    returns-7)
+    returns-3)

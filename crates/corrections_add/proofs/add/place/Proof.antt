@@ -9,68 +9,17 @@ use borrow.Author.Needs.{needs}
 use Rattle.corrections_add.proofs.add.place.Statement.{statement}
 use Rattle.corrections_add.proofs.add.place.Tie as tie
 
-slice-aggregate-insert-all : tie.Need-slice-aggregate-insert-all
-slice-aggregate-insert-all c = search needs
-
-slice-aggregate-insert-all-2 : tie.Need-slice-aggregate-insert-all-2
-slice-aggregate-insert-all-2 c = search needs
-
-slice-aggregate-insert-all-3 : tie.Need-slice-aggregate-insert-all-3
-slice-aggregate-insert-all-3 c = search needs
-
-slice-aggregate-insert-all-4 : tie.Need-slice-aggregate-insert-all-4
-slice-aggregate-insert-all-4 c = search needs
-
-slice-aggregate-insert-all-5 : tie.Need-slice-aggregate-insert-all-5
-slice-aggregate-insert-all-5 c = search needs
-
 insert-all-requires : tie.Need-insert-all-requires
 insert-all-requires c κs =
     let s = c .before .before .before .before .before .before .before .before .before .before .before .before in
     let z : 0 + s .args .new-count ≡ s .args .new-count = omega arith in
     (s .pre .0 .0, (rw z (fits-64 _ (s .args .new-count) refl refl refl refl refl (s .pre .0 .0)), (none-sound, s .pre .0 .1)))
 
-slice-aggregate-merge : tie.Need-slice-aggregate-merge
-slice-aggregate-merge c = search needs
-
-slice-aggregate-merge-2 : tie.Need-slice-aggregate-merge-2
-slice-aggregate-merge-2 c = search needs
-
-slice-aggregate-merge-3 : tie.Need-slice-aggregate-merge-3
-slice-aggregate-merge-3 c = search needs
-
-slice-aggregate-merge-4 : tie.Need-slice-aggregate-merge-4
-slice-aggregate-merge-4 c = search needs
-
-slice-aggregate-merge-5 : tie.Need-slice-aggregate-merge-5
-slice-aggregate-merge-5 c = search needs
-
 merge-requires : tie.Need-merge-requires
 merge-requires c κs =
     let s = c .before .before .before .before .before .before .before .before .before .before .before .before .before .before .before .before .before .before .before .before .before .before .before .before .before .before .before .before .before .before in
     let i = c .before .before .before .before .before .before .before .before .before .before .before .before .before .before .before .before .before .insert-all in
     (s .pre .1, (fits-64 _ (s .args .new-count) (i .kept .0) (i .kept .1 .0) (i .kept .1 .1 .0) (i .kept .1 .1 .1 .0) (i .kept .1 .1 .1 .1 .0) (s .pre .0 .0), table-sorted _ _ _ _ (i .ensures)))
-
-same-length : tie.Need-same-length
-same-length c = search needs
-
-same-length-2 : tie.Need-same-length-2
-same-length-2 c = search needs
-
-same-length-3 : tie.Need-same-length-3
-same-length-3 c = search needs
-
-same-length-4 : tie.Need-same-length-4
-same-length-4 c = search needs
-
-same-length-5 : tie.Need-same-length-5
-same-length-5 c = search needs
-
-same-length-6 : tie.Need-same-length-6
-same-length-6 c = search needs
-
-same-length-7 : tie.Need-same-length-7
-same-length-7 c = search needs
 
 returns : tie.Need-returns
 returns c =
@@ -84,23 +33,6 @@ pub place-spec : {M : Type 1} → statement M
 place-spec =
     tie.close
     (tie.spec
-    slice-aggregate-insert-all
-    slice-aggregate-insert-all-2
-    slice-aggregate-insert-all-3
-    slice-aggregate-insert-all-4
-    slice-aggregate-insert-all-5
-    insert-all-requires
-    slice-aggregate-merge
-    slice-aggregate-merge-2
-    slice-aggregate-merge-3
-    slice-aggregate-merge-4
-    slice-aggregate-merge-5
-    merge-requires
-    same-length
-    same-length-2
-    same-length-3
-    same-length-4
-    same-length-5
-    same-length-6
-    same-length-7
-    returns)
+    (λ c. search needs) (λ c. search needs) (λ c. search needs) (λ c. search needs) (λ c. search needs) insert-all-requires (λ c. search needs)
+    (λ c. search needs) (λ c. search needs) (λ c. search needs) (λ c. search needs) merge-requires (λ c. search needs) (λ c. search needs)
+    (λ c. search needs) (λ c. search needs) (λ c. search needs) (λ c. search needs) (λ c. search needs) returns)

@@ -1,7 +1,7 @@
 -- `corrections_convert::directory_of::file_all` meets its contract. Assumes nothing.
 use native.Mathlib.Omega.{arith}
-use Prim.Native.Nat.{_-_}
-use Rattle.corrections_add.proofs.OwnLaws.{room-of}
+use Prim.Native.Nat.{_-_, _<_}
+use Rattle.corrections_add.proofs.OwnLaws.{Room, room-of}
 use Rattle.corrections_convert.proofs.FileLaws.{FilingUp, filing-end, filing-start, filing-turn}
 use Rattle.corrections_convert.proofs.directory_of.file_all.Statement.{statement}
 use Rattle.corrections_convert.proofs.directory_of.file_all.Tie as tie
@@ -15,140 +15,75 @@ abbrev μ-loop : tie.MeasureT-loop
 loop-holds : tie.Need-loop-holds Inv-loop μ-loop
 loop-holds c = filing-start _ _ _ _ _ _ _ _ _
 
+-- ---- a turn of the loop, where the run of one signal is known
+abbrev start : tie.After-run-end Inv-loop μ-loop → tie.Start Inv-loop μ-loop
+start b = b .before .before .before .before .before .before .before .before .before .before .before
+
+room : (b : tie.After-run-end Inv-loop μ-loop) → Room (start b .args .table-count) (start b .args .block-constellation .now) (start b .args .block-svid .now) (start b .args .block-band .now) (start b .args .block-first .now) (start b .args .block-samples .now)
+room b = room-of _ _ _ _ _ _ (start b .pre .1)
+
+here : (b : tie.After-run-end Inv-loop μ-loop) → b .before .before .loop .i < start b .args .table-count
+here b = let run = b .run-end .ensures in omega (arith, run .some, run .within)
+
+few : (b : tie.After-run-end Inv-loop μ-loop) → b .before .before .loop .entries < start b .args .table-count
+few b = omega (arith, b .before .before .loop .inv .fewer, here b)
+
 run-end-requires : tie.Need-run-end-requires Inv-loop μ-loop
 run-end-requires c κs = (c .loop-test .taken, c .before .before .before .before .before .before .before .before .before .before .pre .0)
 
 shared-slice-read-block-constellation : tie.Need-shared-slice-read-block-constellation Inv-loop μ-loop
-shared-slice-read-block-constellation c =
-    let s = c .before .before .before .before .before .before .before .before .before .before .before .before in
-    let run = c .before .run-end .ensures in
-    omega (arith, run .some, run .within, s .pre .0 .0)
+shared-slice-read-block-constellation c = let b = c .before in omega (arith, here b, start b .pre .0 .0)
 
 slice-write-block-constellation : tie.Need-slice-write-block-constellation Inv-loop μ-loop
-slice-write-block-constellation c =
-    let s = c .before .before .before .before .before .before .before .before .before .before .before .before in
-    let a = s .args in
-    let h = c .before .before .before .loop in
-    let room = room-of (a .table-count) (a .block-constellation .now) (a .block-svid .now) (a .block-band .now) (a .block-first .now) (a .block-samples .now) (s .pre .1) in
-    let run = c .before .run-end .ensures in
-    omega (arith, h .inv .fewer, h .inv .long-c, run .some, run .within, room .in-dc)
+slice-write-block-constellation c = let b = c .before in omega (arith, few b, b .before .before .loop .inv .long-c, room b .in-dc)
 
 mul-block-svid : tie.Need-mul-block-svid Inv-loop μ-loop
-mul-block-svid c =
-    let s = c .before .before .before .before .before .before .before .before .before .before .before .before in
-    let run = c .before .run-end .ensures in
-    omega (arith, run .some, run .within, s .pre .0 .1 .0)
+mul-block-svid c = let b = c .before in omega (arith, here b, start b .pre .0 .1 .0)
 
 shared-slice-read-block-svid : tie.Need-shared-slice-read-block-svid Inv-loop μ-loop
-shared-slice-read-block-svid c =
-    let s = c .before .before .before .before .before .before .before .before .before .before .before .before .before in
-    let run = c .before .before .run-end .ensures in
-    omega (arith, run .some, run .within, s .pre .0 .1 .0)
+shared-slice-read-block-svid c = let b = c .before .before in omega (arith, here b, start b .pre .0 .1 .0)
 
 mul-block-svid-2 : tie.Need-mul-block-svid-2 Inv-loop μ-loop
-mul-block-svid-2 c =
-    let s = c .before .before .before .before .before .before .before .before .before .before .before .before .before in
-    let a = s .args in
-    let h = c .before .before .before .before .loop in
-    let room = room-of (a .table-count) (a .block-constellation .now) (a .block-svid .now) (a .block-band .now) (a .block-first .now) (a .block-samples .now) (s .pre .1) in
-    let run = c .before .before .run-end .ensures in
-    omega (arith, h .inv .fewer, h .inv .long-v, run .some, run .within, room .in-dv)
+mul-block-svid-2 c = let b = c .before .before in omega (arith, few b, b .before .before .loop .inv .long-v, room b .in-dv)
 
 slice-write-block-svid : tie.Need-slice-write-block-svid Inv-loop μ-loop
-slice-write-block-svid c =
-    let s = c .before .before .before .before .before .before .before .before .before .before .before .before .before in
-    let a = s .args in
-    let h = c .before .before .before .before .loop in
-    let room = room-of (a .table-count) (a .block-constellation .now) (a .block-svid .now) (a .block-band .now) (a .block-first .now) (a .block-samples .now) (s .pre .1) in
-    let run = c .before .before .run-end .ensures in
-    omega (arith, h .inv .fewer, h .inv .long-v, run .some, run .within, room .in-dv)
+slice-write-block-svid c = let b = c .before .before in omega (arith, few b, b .before .before .loop .inv .long-v, room b .in-dv)
 
 mul-block-band : tie.Need-mul-block-band Inv-loop μ-loop
-mul-block-band c =
-    let s = c .before .before .before .before .before .before .before .before .before .before .before .before .before in
-    let run = c .before .before .run-end .ensures in
-    omega (arith, run .some, run .within, s .pre .0 .1 .1)
+mul-block-band c = let b = c .before .before in omega (arith, here b, start b .pre .0 .1 .1)
 
 shared-slice-read-block-band : tie.Need-shared-slice-read-block-band Inv-loop μ-loop
-shared-slice-read-block-band c =
-    let s = c .before .before .before .before .before .before .before .before .before .before .before .before .before .before in
-    let run = c .before .before .before .run-end .ensures in
-    omega (arith, run .some, run .within, s .pre .0 .1 .1)
+shared-slice-read-block-band c = let b = c .before .before .before in omega (arith, here b, start b .pre .0 .1 .1)
 
 mul-block-band-2 : tie.Need-mul-block-band-2 Inv-loop μ-loop
-mul-block-band-2 c =
-    let s = c .before .before .before .before .before .before .before .before .before .before .before .before .before .before in
-    let a = s .args in
-    let h = c .before .before .before .before .before .loop in
-    let room = room-of (a .table-count) (a .block-constellation .now) (a .block-svid .now) (a .block-band .now) (a .block-first .now) (a .block-samples .now) (s .pre .1) in
-    let run = c .before .before .before .run-end .ensures in
-    omega (arith, h .inv .fewer, h .inv .long-b, run .some, run .within, room .in-db)
+mul-block-band-2 c = let b = c .before .before .before in omega (arith, few b, b .before .before .loop .inv .long-b, room b .in-db)
 
 slice-write-block-band : tie.Need-slice-write-block-band Inv-loop μ-loop
-slice-write-block-band c =
-    let s = c .before .before .before .before .before .before .before .before .before .before .before .before .before .before in
-    let a = s .args in
-    let h = c .before .before .before .before .before .loop in
-    let room = room-of (a .table-count) (a .block-constellation .now) (a .block-svid .now) (a .block-band .now) (a .block-first .now) (a .block-samples .now) (s .pre .1) in
-    let run = c .before .before .before .run-end .ensures in
-    omega (arith, h .inv .fewer, h .inv .long-b, run .some, run .within, room .in-db)
+slice-write-block-band c = let b = c .before .before .before in omega (arith, few b, b .before .before .loop .inv .long-b, room b .in-db)
 
 mul-block-first : tie.Need-mul-block-first Inv-loop μ-loop
-mul-block-first c =
-    let s = c .before .before .before .before .before .before .before .before .before .before .before .before .before .before in
-    let a = s .args in
-    let h = c .before .before .before .before .before .loop in
-    let room = room-of (a .table-count) (a .block-constellation .now) (a .block-svid .now) (a .block-band .now) (a .block-first .now) (a .block-samples .now) (s .pre .1) in
-    let run = c .before .before .before .run-end .ensures in
-    omega (arith, h .inv .fewer, h .inv .long-f, run .some, run .within, room .in-df)
+mul-block-first c = let b = c .before .before .before in omega (arith, few b, b .before .before .loop .inv .long-f, room b .in-df)
 
 slice-write-block-first : tie.Need-slice-write-block-first Inv-loop μ-loop
-slice-write-block-first c =
-    let s = c .before .before .before .before .before .before .before .before .before .before .before .before .before .before in
-    let a = s .args in
-    let h = c .before .before .before .before .before .loop in
-    let room = room-of (a .table-count) (a .block-constellation .now) (a .block-svid .now) (a .block-band .now) (a .block-first .now) (a .block-samples .now) (s .pre .1) in
-    let run = c .before .before .before .run-end .ensures in
-    omega (arith, h .inv .fewer, h .inv .long-f, run .some, run .within, room .in-df)
+slice-write-block-first c = let b = c .before .before .before in omega (arith, few b, b .before .before .loop .inv .long-f, room b .in-df)
 
 sub-block-samples : tie.Need-sub-block-samples Inv-loop μ-loop
 sub-block-samples c = omega (arith, c .before .before .before .run-end .ensures .some)
 
 mul-block-samples : tie.Need-mul-block-samples Inv-loop μ-loop
-mul-block-samples c =
-    let s = c .before .before .before .before .before .before .before .before .before .before .before .before .before .before in
-    let a = s .args in
-    let h = c .before .before .before .before .before .loop in
-    let room = room-of (a .table-count) (a .block-constellation .now) (a .block-svid .now) (a .block-band .now) (a .block-first .now) (a .block-samples .now) (s .pre .1) in
-    let run = c .before .before .before .run-end .ensures in
-    omega (arith, h .inv .fewer, h .inv .long-n, run .some, run .within, room .in-dn)
+mul-block-samples c = let b = c .before .before .before in omega (arith, few b, b .before .before .loop .inv .long-n, room b .in-dn)
 
 slice-write-block-samples : tie.Need-slice-write-block-samples Inv-loop μ-loop
-slice-write-block-samples c =
-    let s = c .before .before .before .before .before .before .before .before .before .before .before .before .before .before in
-    let a = s .args in
-    let h = c .before .before .before .before .before .loop in
-    let room = room-of (a .table-count) (a .block-constellation .now) (a .block-svid .now) (a .block-band .now) (a .block-first .now) (a .block-samples .now) (s .pre .1) in
-    let run = c .before .before .before .run-end .ensures in
-    omega (arith, h .inv .fewer, h .inv .long-n, run .some, run .within, room .in-dn)
+slice-write-block-samples c = let b = c .before .before .before in omega (arith, few b, b .before .before .loop .inv .long-n, room b .in-dn)
 
 add-entries : tie.Need-add-entries Inv-loop μ-loop
-add-entries c =
-    let s = c .before .before .before .before .before .before .before .before .before .before .before .before .before .before in
-    let run = c .before .before .before .run-end .ensures in
-    omega (arith, c .before .before .before .before .before .loop .inv .fewer, run .some, run .within, s .fits)
+add-entries c = let b = c .before .before .before in omega (arith, few b, start b .fits)
 
 loop-less : tie.Need-loop-less Inv-loop μ-loop
 loop-less c = let r = c .before .before .before .run-end .ensures in omega (arith, r .some, r .within)
 
 loop-again : tie.Need-loop-again Inv-loop μ-loop
-loop-again c =
-    let s = c .before .before .before .before .before .before .before .before .before .before .before .before .before .before in
-    let a = s .args in
-    let h = c .before .before .before .before .before .loop in
-    let room = room-of (a .table-count) (a .block-constellation .now) (a .block-svid .now) (a .block-band .now) (a .block-first .now) (a .block-samples .now) (s .pre .1) in
-    let run = c .before .before .before .run-end .ensures in
-    filing-turn (h .inv) run room
+loop-again c = let b = c .before .before .before in filing-turn (b .before .before .loop .inv) (b .run-end .ensures) (room b)
 
 same-length : tie.Need-same-length Inv-loop μ-loop
 same-length c = c .before .loop .inv .long-c

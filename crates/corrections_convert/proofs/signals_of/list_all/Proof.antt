@@ -1,10 +1,9 @@
 -- `corrections_convert::signals_of::list_all` meets its contract. Assumes nothing.
 use mathlib.Core.Path.{_≡_}
 use native.Mathlib.Omega.{arith}
-use Prim.Native.Nat.{_+_, _-_, _≤_}
-use lib.ListN.{getD}
+use Prim.Native.Nat.{_-_, _≤_}
 use Rattle.corrections_convert.specs.Steps.{Laid, startOf}
-use Rattle.corrections_convert.proofs.ListLaws.{laid-more, laid-none, start-mono, start-next, start-none}
+use Rattle.corrections_convert.proofs.ListLaws.{block-end, laid-more, laid-none, start-none}
 use Rattle.corrections_convert.proofs.signals_of.list_all.Statement.{statement}
 use Rattle.corrections_convert.proofs.signals_of.list_all.Tie as tie
 
@@ -27,12 +26,8 @@ add-end : tie.Need-add-end Inv-loop μ-loop
 add-end c =
     let s = c .before .before .before .before .before .before .before .before .before .before in
     let h = c .before .before .loop in
-    let t = c .before .loop-test .taken in
-    let counts = s .args .block-samples .now in
-    let next = start-next counts (h .i) in
-    let at = h .inv .1 .0 in
-    let up = start-mono counts (h .i + 1) (s .args .blocks) (omega (arith, t)) in
-    omega (arith, next, at, up, s .pre .1 .0, s .fits)
+    let w = block-end (s .args .block-samples .now) (h .place) (h .i) (s .args .blocks) (h .inv .1 .0) (c .before .loop-test .taken) in
+    omega (arith, w, s .pre .1 .0, s .fits)
 
 shared-slice-read-c : tie.Need-shared-slice-read-c Inv-loop μ-loop
 shared-slice-read-c c = omega (arith, c .before .before .loop-test .taken, c .before .before .before .before .before .before .before .before .before .before .before .pre .0 .0 .0)
@@ -53,18 +48,10 @@ list-block-requires : tie.Need-list-block-requires Inv-loop μ-loop
 list-block-requires c κs =
     let s = c .before .before .before .before .before .before .before .before .before .before .before .before .before .before .before .before in
     let h = c .before .before .before .before .before .before .before .before .loop in
-    let t = c .before .before .before .before .before .before .before .loop-test .taken in
-    let counts = s .args .block-samples .now in
-    let next = start-next counts (h .i) in
-    let at = h .inv .1 .0 in
-    let up = start-mono counts (h .i + 1) (s .args .blocks) (omega (arith, t)) in
-    let w = h .inv .1 .1 in (
-      omega arith,
-      (
-        omega (arith, next, at, up, s .pre .1 .0, w .0 .same-length),
-        (omega (arith, next, at, up, s .pre .1 .1 .0, w .1 .0 .same-length), omega (arith, next, at, up, s .pre .1 .1 .1, w .1 .1 .same-length)),
-      ),
-    )
+    let w = block-end (s .args .block-samples .now) (h .place) (h .i) (s .args .blocks) (h .inv .1 .0) (c .before .before .before .before .before .before .before .loop-test .taken) in
+    let l = h .inv .1 .1 in
+    let p = s .pre .1 in
+    (omega arith, (omega (arith, w, p .0, l .0 .same-length), (omega (arith, w, p .1 .0, l .1 .0 .same-length), omega (arith, w, p .1 .1, l .1 .1 .same-length))))
 
 add-i : tie.Need-add-i Inv-loop μ-loop
 add-i c = omega (arith, c .before .before .before .before .before .before .before .before .before .before .before .before .before .before .loop-test .taken, c .before .before .before .before .before .before .before .before .before .before .before .before .before .before .before .before .before .before .before .before .before .before .before .fits)
@@ -77,14 +64,11 @@ loop-again c =
     let s = c .before .before .before .before .before .before .before .before .before .before .before .before .before .before .before .before .before .before .before .before .before .before .before in
     let h = c .before .before .before .before .before .before .before .before .before .before .before .before .before .before .before .loop in
     let t = c .before .before .before .before .before .before .before .before .before .before .before .before .before .before .loop-test .taken in
-    let counts = s .args .block-samples .now in
-    let next = start-next counts (h .i) in
     let at = h .inv .1 .0 in
-    let up = start-mono counts (h .i + 1) (s .args .blocks) (omega (arith, t)) in
-    let w = h .inv .1 .1 in
+    let e = block-end (s .args .block-samples .now) (h .place) (h .i) (s .args .blocks) at t .0 in
+    let l = h .inv .1 .1 in
     let q = c .before .before .before .before .before .before .list-block .ensures in
-    let e : h .place + getD counts (h .i) 0 ≡ startOf counts (h .i + 1) = omega (arith, next, at) in
-    (omega (arith, t), (e, (laid-more (h .i) at e (w .0) (q .0), (laid-more (h .i) at e (w .1 .0) (q .1 .0), laid-more (h .i) at e (w .1 .1) (q .1 .1)))))
+    (omega (arith, t), (e, (laid-more (h .i) at e (l .0) (q .0), (laid-more (h .i) at e (l .1 .0) (q .1 .0), laid-more (h .i) at e (l .1 .1) (q .1 .1)))))
 
 same-length : tie.Need-same-length Inv-loop μ-loop
 same-length c = c .before .loop .inv .1 .1 .0 .same-length

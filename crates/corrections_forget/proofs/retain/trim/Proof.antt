@@ -50,7 +50,7 @@ turn t l =
     let p = s .pre in
     let h = t .loop in
     let i = h .inv .0 (p .constellations) (p .svids) (p .bands) (p .samples) (p .fit) in
-    let w = here (s .args .time) (s .args .blocks) (p .samples) (held s) (p .fit .few-entries) (p .fit .few-samples) (p .fit .steady) i l in
+    let w = here (s .args .time) (s .args .blocks) (p .samples) (held s) (p .fit .few-entries) (p .fit .few-samples) (p .fit .sound) i l in
     record {
       low = w .low;
       some = w .some;
@@ -69,7 +69,7 @@ loop-holds : tie.Need-loop-holds Inv-loop μ-loop
 loop-holds c =
     let s = c .before .before .before .before in
     let a = s .args in (
-      λ dc dv db n f. trimming-start (a .time) (a .blocks) n (lentBlocks dc dv db (a .block-first .now) (a .block-samples .now) (floats (a .table-time .now)) (floats (a .table-metres .now))) (f .few-entries) (f .few-samples) (f .steady),
+      λ dc dv db n f. trimming-start (a .time) (a .blocks) n (lentBlocks dc dv db (a .block-first .now) (a .block-samples .now) (floats (a .table-time .now)) (floats (a .table-metres .now))) (f .few-entries) (f .few-samples) (f .sound),
       (beyond-start (a .table-time .now), beyond-start (a .table-metres .now)),
     )
 
@@ -103,7 +103,7 @@ front-of-requires c κs =
     let w = turn t (c .before .before .before .loop-test .taken) in
     let s = start t in
     let f = s .pre .fit in
-    let n = numbers-in (s .args .table-time .now) (s .args .table-metres .now) (s .pre .samples) (f .few-samples) (sound-parts _ (f .steady) .in-reach) in
+    let n = numbers-in (s .args .table-time .now) (s .args .table-metres .now) (s .pre .samples) (f .few-samples) (sound-parts _ (f .sound) .in-reach) in
     record {
       filled = w .some;
       inside = omega (arith, w .inside, w .in-times);
@@ -187,7 +187,7 @@ loop-again c =
     let mt = c .before .before .before .before .move-down .ensures .0 in
     let mx = c .before .before .before .before .move-down .ensures .1 in (
       λ dc dv db n k.
-          trimming-turn (a .time) (a .blocks) n (lentBlocks dc dv db (a .block-first .now) (a .block-samples .now) (floats (a .table-time .now)) (floats (a .table-metres .now))) (k .few-entries) (k .few-samples) (k .steady) (h .inv .0 dc dv db n k) (c .before .before .before .before .before .before .before .before .before .before .before .before .loop-test .taken) f g
+          trimming-turn (a .time) (a .blocks) n (lentBlocks dc dv db (a .block-first .now) (a .block-samples .now) (floats (a .table-time .now)) (floats (a .table-metres .now))) (k .few-entries) (k .few-samples) (k .sound) (h .inv .0 dc dv db n k) (c .before .before .before .before .before .before .before .before .before .before .before .before .loop-test .taken) f g
           (ap floats mt ∙ floats-moved (h .place) (getD (h .block-first) (h .i) 0 + c .before .before .before .before .before .before .before .all-but-one .result) (getD (h .block-samples) (h .i) 0 - c .before .before .before .before .before .before .before .all-but-one .result) (h .table-time)) (ap floats mx ∙ floats-moved (h .place) (getD (h .block-first) (h .i) 0 + c .before .before .before .before .before .before .before .all-but-one .result) (getD (h .block-samples) (h .i) 0 - c .before .before .before .before .before .before .before .all-but-one .result) (h .table-metres)),
       (
         beyond-turn (h .inv .1 .0) (getD (h .block-first) (h .i) 0 + c .before .before .before .before .before .before .before .all-but-one .result) (getD (h .block-samples) (h .i) 0 - c .before .before .before .before .before .before .before .all-but-one .result) (omega (arith, w .low, g)) (omega (arith, w .inside, w .in-times, h .inv .1 .0 .long, g, f .within)) mt,
@@ -216,8 +216,8 @@ returns c =
       λ dc dv db n k.
           let l = lentBlocks dc dv db (a .block-first .now) (a .block-samples .now) (floats (a .table-time .now)) (floats (a .table-metres .now)) in
           let i = h .inv .0 dc dv db n k in (
-            trimming-count (a .time) (a .blocks) n l (k .few-entries) (k .few-samples) (k .steady) i (c .loop-test .left),
-            trimming-end (a .time) (a .blocks) n l (k .few-entries) (k .few-samples) (k .steady) i (c .loop-test .left),
+            trimming-count (a .time) (a .blocks) n l (k .few-entries) (k .few-samples) (k .sound) i (c .loop-test .left),
+            trimming-end (a .time) (a .blocks) n l (k .few-entries) (k .few-samples) (k .sound) i (c .loop-test .left),
           ),
       (h .inv .1 .0 .rest, h .inv .1 .1 .rest),
     )

@@ -1,7 +1,6 @@
 -- `corrections_query::search::front_of` meets its contract. Assumes nothing.
-use Prim.Native.Nat.{_+_, _<_}
+use Prim.Native.Nat.{_+_, _<_, _-_}
 use native.Mathlib.Omega.{arith}
-use Prim.Native.Nat.{_-_}
 use Rattle.corrections_query.specs.Steps.{Halving, isBefore}
 use Rattle.corrections_query.proofs.HalvingLaws.{halving-start, halving-half, halving-inner, falling-inner}
 use Rattle.corrections_query.proofs.search.front_of.Statement.{statement}

@@ -2,7 +2,7 @@
 use Prim.Native.Nat.{_+_}
 use native.Mathlib.Omega.{arith}
 use borrow.Author.Tests.{lt-ltb, le-ltb}
-use Rattle.estimate_rounds.specs.Rules.{ruled}
+use Rattle.numeric.specs.Rules.{ruled}
 use Rattle.estimate_rounds.specs.Rules.{rowRules}
 use Rattle.estimate_rounds.proofs.rules.check_rows.Statement.{statement}
 use Rattle.estimate_rounds.proofs.rules.check_rows.Tie as tie

@@ -1,13 +1,15 @@
 -- `line_form::text::displacement_after` meets its contract. Assumes nothing.
 use native.Mathlib.Omega.{arith}
 use Prim.Native.Nat.{_-_}
-use mathlib.Core.Path.{refl, sym}
+use mathlib.Core.Path.{refl, sym, _∙_}
 use lib.Dec.{ltb}
 use lib.ListN.{length}
 use denote.Ref.{now}
 use borrow.Author.Needs.{needs}
 use borrow.Author.Tests.{ltb-false}
 use Rattle.lists.proofs.Walk.{or-no}
+use Rattle.tdcp.proofs.DisplacementSound.{promised}
+use Rattle.tdcp.proofs.RatedLaws.{plain-is}
 use Rattle.line_form.proofs.TextLaws.{Going, going-start, going-broken, going-previous, going-current, lines-broken, lines-many, cut-room, cut-room′, fits, fits′, lines-are}
 use Rattle.line_form.proofs.text.displacement_after.Statement.{statement}
 use Rattle.line_form.proofs.text.displacement_after.Tie as tie
@@ -131,16 +133,19 @@ displaced-requires c κs =
     let few′ = ltb-false 64 (l .loop .n) (h .1) in
     (fits (now (a .text)) (a .from) (a .dt) (a .receiver) (a .settings) i (e .before .loop-test .left) few few′, fits′ (now (a .text)) (a .from) (a .dt) (a .receiver) (a .settings) i (e .before .loop-test .left) few few′)
 
+plain-requires : tie.Need-plain-requires Inv-loop μ-loop
+plain-requires c κs = search needs
+
 returns-3 : tie.Need-returns-3 Inv-loop μ-loop
 returns-3 c =
-    let e = c .before .before .before .before .before .before .before in
+    let e = c .before .before .before .before .before .before .before .before in
     let l = e .before .before in
     let a = l .before .before .args in
     let i = l .loop .inv in
     let h = or-no (ltb 64 (l .loop .m)) (ltb 64 (l .loop .n)) (e .if1 .left) in
     let few = ltb-false 64 (l .loop .m) (h .0) in
     let few′ = ltb-false 64 (l .loop .n) (h .1) in
-    lines-are (now (a .text)) (a .from) (a .dt) (a .receiver) (a .settings) i (e .before .loop-test .left) few few′ _ (c .displaced .ensures)
+    lines-are (now (a .text)) (a .from) (a .dt) (a .receiver) (a .settings) i (e .before .loop-test .left) few few′ _ (promised _ _ (c .plain .ensures ∙ plain-is _ (c .before .displaced .ensures .answer)))
 
 pub displacement-after-spec : {M : Type 1} → statement M
 displacement-after-spec =
@@ -170,4 +175,5 @@ displacement-after-spec =
     slice-aggregate-displaced-5
     slice-aggregate-displaced-6
     displaced-requires
+    plain-requires
     returns-3)

@@ -19,39 +19,6 @@ abbrev μ-loop : tie.MeasureT-loop
 loop-holds : tie.Need-loop-holds Inv-loop μ-loop
 loop-holds c = (omega arith, rw (from-end (c .args .k .now) (c .args .n) (omega (arith, c .pre .2, c .pre .3))) (highest-none (2 ^ 63 - 1)))
 
-sub-j : tie.Need-sub-j Inv-loop μ-loop
-sub-j c = omega arith
-
-mul-x : tie.Need-mul-x Inv-loop μ-loop
-mul-x c = omega arith
-
-element-copy-out-x : tie.Need-element-copy-out-x Inv-loop μ-loop
-element-copy-out-x c = omega arith
-
-lesser-requires : tie.Need-lesser-requires Inv-loop μ-loop
-lesser-requires c κs = search needs
-
-greater-requires : tie.Need-greater-requires Inv-loop μ-loop
-greater-requires c κs = search needs
-
-lesser-requires-2 : tie.Need-lesser-requires-2 Inv-loop μ-loop
-lesser-requires-2 c κs = search needs
-
-greater-requires-2 : tie.Need-greater-requires-2 Inv-loop μ-loop
-greater-requires-2 c κs = search needs
-
-lesser-requires-3 : tie.Need-lesser-requires-3 Inv-loop μ-loop
-lesser-requires-3 c κs = search needs
-
-greater-requires-3 : tie.Need-greater-requires-3 Inv-loop μ-loop
-greater-requires-3 c κs = search needs
-
-greater-requires-4 : tie.Need-greater-requires-4 Inv-loop μ-loop
-greater-requires-4 c κs = search needs
-
-loop-less : tie.Need-loop-less Inv-loop μ-loop
-loop-less c = omega arith
-
 loop-again : tie.Need-loop-again Inv-loop μ-loop
 loop-again c =
     let r = c .before .before .before .before .before .before .before in
@@ -64,9 +31,6 @@ loop-again c =
       rw (c .greater4 .ensures, c .before .greater3 .ensures, c .before .before .lesser3 .ensures, c .before .before .before .greater2 .ensures, c .before .before .before .before .lesser2 .ensures, c .before .before .before .before .before .greater .ensures, c .before .before .before .before .before .before .lesser .ensures, from-before k n (omega arith) j (omega arith) (omega arith))
           (highest-more (2 ^ 63 - 1) (drop j (take n k)) _ (each-below k n (omega arith) (s .pre .4) (j - 1) (omega arith)) (t .loop .inv .1)),
     )
-
-one-of-requires : tie.Need-one-of-requires Inv-loop μ-loop
-one-of-requires c κs = search needs
 
 returns : tie.Need-returns Inv-loop μ-loop
 returns c =
@@ -82,20 +46,6 @@ pub of-highest-spec : {M : Type 1} → statement M
 of-highest-spec =
     tie.close
     (tie.spec
-    Inv-loop
-    μ-loop
-    loop-holds
-    sub-j
-    mul-x
-    element-copy-out-x
-    lesser-requires
-    greater-requires
-    lesser-requires-2
-    greater-requires-2
-    lesser-requires-3
-    greater-requires-3
-    greater-requires-4
-    loop-less
-    loop-again
-    one-of-requires
-    returns)
+    Inv-loop μ-loop loop-holds (λ c. omega arith) (λ c. omega arith) (λ c. omega arith) (λ c κs. search needs) (λ c κs. search needs)
+    (λ c κs. search needs) (λ c κs. search needs) (λ c κs. search needs) (λ c κs. search needs) (λ c κs. search needs) (λ c. omega arith) loop-again
+    (λ c κs. search needs) returns)

@@ -2,7 +2,6 @@
 use mir.Facts.{toZ-ofZ}
 use borrow.Author.Needs.{needs, sfits-of}
 use Rattle.records.specs.Signals.{carrierWith}
-use borrow.Author.Needs.{needs}
 use Rattle.records.proofs.carriers.carrier_in.Statement.{statement}
 use Rattle.records.proofs.carriers.carrier_in.Tie as tie
 

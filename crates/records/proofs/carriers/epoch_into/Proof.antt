@@ -18,7 +18,7 @@ abbrev μ-loop : tie.MeasureT-loop
 μ-loop signals₀ states₀ floats₀ e n i₀ signals states floats i = n - i
 
 loop-holds : tie.Need-loop-holds Inv-loop μ-loop
-loop-holds c = (search needs, refl, record { signals-long = c .pre .1; states-long = c .pre .2; floats-long = c .pre .3; small = λ i l. absurd (omega arith); all = λ i l d. absurd (omega arith) })
+loop-holds c = (search needs, refl, record { signals-long = c .pre .1 .0; states-long = c .pre .1 .1; floats-long = c .pre .1 .2; small = λ i l. absurd (omega arith); all = λ i l d. absurd (omega arith) })
 
 mul-c : tie.Need-mul-c Inv-loop μ-loop
 mul-c c = search needs

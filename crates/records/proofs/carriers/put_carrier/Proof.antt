@@ -84,7 +84,7 @@ returns c =
     let x = s .args .c in
     let e : signal (x .constellation) (x .svid) (x .band) ≡ c .signal-of .result = sym (c .signal-of .ensures) in
     let z : toZ w32 (ofZ w32 (x .state)) ≡ x .state = toZ-ofZ (search needs) in
-    rw (← e, z) (put-is (s .args .signals .now) (s .args .states .now) (s .args .floats .now) (s .args .i) x (s .pre .1) (s .pre .2) (s .pre .3) (s .pre .0) (search needs) (search needs) (search needs))
+    rw (← e, z) (put-is (s .args .signals .now) (s .args .states .now) (s .args .floats .now) (s .args .i) x (s .pre .1 .0) (s .pre .1 .1) (s .pre .1 .2) (s .pre .0) (search needs) (search needs) (search needs))
 
 pub put-carrier-spec : {M : Type 1} → statement M
 put-carrier-spec =

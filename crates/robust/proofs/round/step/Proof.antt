@@ -124,10 +124,10 @@ unfolding indexed
 loop-again c = let s = c .before .before .before .before .before .before .before in let h = c .before .before .before .before .loop in (omega arith, every-yes (s .args .t1 .row) (s .args .t1 .count) (omega (arith, long s)) (h .k) blank (omega arith) indexed (h .inv .1) (sym (le-leb _ 8 (c .if3 .left))) refl, column-next (λ (r : Row). r .unit .x) (s .args .t1 .row) (h .k) (h .x) blank _ (omega arith) (omega (arith, long s)) refl (h .inv .2), column-next (λ (r : Row). r .unit .y) (s .args .t1 .row) (h .k) (h .y) blank _ (omega arith) (omega (arith, long s)) refl (h .inv .3), column-next (λ (r : Row). r .unit .z) (s .args .t1 .row) (h .k) (h .z) blank _ (omega arith) (omega (arith, long s)) refl (h .inv .4), column-next (λ (r : Row). r .clock) (s .args .t1 .row) (h .k) (h .clock) blank _ (omega arith) (omega (arith, long s)) refl (h .inv .5), column-next (λ (r : Row). r .sigma) (s .args .t1 .row) (h .k) (h .sigma) blank _ (omega arith) (omega (arith, long s)) refl (h .inv .6), column-next (λ (r : Row). r .residual) (s .args .t1 .row) (h .k) (h .residual) blank _ (omega arith) (omega (arith, long s)) refl (h .inv .7))
 
 array-share-prefix-residual : tie.Need-array-share-prefix-residual Inv-loop μ-loop
-array-share-prefix-residual c = let h = c .before .before .before .before .before .before .loop in omega (arith, h .inv .7 .long)
+array-share-prefix-residual c = let h = c .before .loop in omega (arith, h .inv .7 .long)
 
-slice-aggregate-round-step : tie.Need-slice-aggregate-round-step Inv-loop μ-loop
-slice-aggregate-round-step c = let h = c .before .before .before .before .before .before .before .loop in sym (length-take-le _ _ (omega (arith, h .inv .7 .long)))
+slice-aggregate-used : tie.Need-slice-aggregate-used Inv-loop μ-loop
+slice-aggregate-used c = let h = c .before .before .loop in sym (length-take-le _ _ (omega (arith, h .inv .7 .long)))
 
 round-step-requires : tie.Need-round-step-requires Inv-loop μ-loop
 round-step-requires c κs = let h = c .before .before .before .before .before .before .before .before .loop in let s = c .before .before .before .before .before .before .before .before .before .before .before in let e = length-take-le (s .args .t1 .count) (h .residual) (omega (arith, h .inv .7 .long)) in (omega (arith, e), omega arith)
@@ -175,7 +175,7 @@ step-spec =
     loop-less
     loop-again
     array-share-prefix-residual
-    slice-aggregate-round-step
+    slice-aggregate-used
     round-step-requires
     enum-known-made
     returns-4

@@ -4,11 +4,11 @@ use borrow.Author.Needs.{needs}
 use Rattle.tdcp.proofs.displacement.rated_displacement.Statement.{statement}
 use Rattle.tdcp.proofs.displacement.rated_displacement.Tie as tie
 
-answered-by-requires : tie.Need-answered-by-requires
-answered-by-requires c κs = search needs
+displaced-by-requires : tie.Need-displaced-by-requires
+displaced-by-requires c κs = search needs
 
 returns : tie.Need-returns
-returns c = rated-promised _ _ (c .answered-by .ensures)
+returns c = rated-promised _ _ (c .displaced-by .ensures .answer)
 
 pub rated-displacement-spec : {M : Type 1} → statement M
-rated-displacement-spec = tie.close (tie.spec answered-by-requires returns)
+rated-displacement-spec = tie.close (tie.spec displaced-by-requires returns)

@@ -1,5 +1,5 @@
 -- `tdcp::moved::moved_to` meets its contract. Assumes nothing.
-use Rattle.estimate_rounds.specs.Rules.{ruled}
+use Rattle.numeric.specs.Rules.{ruled}
 use Rattle.estimate_rounds.specs.Rounds.{finiteAt}
 use Rattle.tdcp.specs.Displacement.{endRules}
 use borrow.Author.Needs.{needs}

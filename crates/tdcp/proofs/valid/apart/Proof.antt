@@ -1,7 +1,7 @@
 -- `tdcp::valid::apart` meets its contract. Assumes nothing.
 use mathlib.Core.Path.{_∙_}
 use borrow.Author.Needs.{needs}
-use Rattle.estimate_rounds.specs.Rules.{ruled}
+use Rattle.numeric.specs.Rules.{ruled}
 use Rattle.tdcp.proofs.IntervalLaws.{since-times}
 use Rattle.tdcp.proofs.valid.apart.Statement.{statement}
 use Rattle.tdcp.proofs.valid.apart.Tie as tie

@@ -2,7 +2,7 @@
 use mathlib.Core.Path.{sym, _∙_}
 use borrow.Author.Tests.{not-false}
 use borrow.Author.Needs.{needs}
-use Rattle.estimate_rounds.specs.Rules.{ruled}
+use Rattle.numeric.specs.Rules.{ruled}
 use Rattle.tdcp.specs.Steps.{givenRules}
 use Rattle.tdcp.proofs.IntervalLaws.{not-timed, bad-interval, good-interval}
 use Rattle.tdcp.proofs.valid.seconds_of.Statement.{statement}

@@ -25,7 +25,7 @@ number-requires c κs = search needs
 returns : tie.Need-returns
 returns c =
     let p = c .before in
-    rw (p .before .before .before .before .before .before .answer .given .1)
+    rw (p .before .before .before .before .before .before .before .answer .given .1)
     (record { number-is = refl; delta-is = rw (p .before .before .before .pattern .ensures, p .before .before .pattern2 .ensures, p .before .pattern3 .ensures); counts-are = refl })
 
 returns-2 : tie.Need-returns-2

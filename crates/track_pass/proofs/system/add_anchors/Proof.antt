@@ -30,7 +30,7 @@ shared-slice-read-oz : tie.Need-shared-slice-read-oz Inv-loop μ-loop
 shared-slice-read-oz c = omega arith
 
 loop-holds : tie.Need-loop-holds Inv-loop μ-loop
-loop-holds c = adding-none _ _ _ _ (omega (arith, c .before .before .before .before .before .before .before .pre .1)) (c .before .before .before .before .before .before .before .pre .3)
+loop-holds c = adding-none _ _ _ _ (omega (arith, c .before .before .before .before .before .before .before .pre .1 .scales)) (c .before .before .before .before .before .before .before .pre .1 .numbers)
 
 mul-at : tie.Need-mul-at Inv-loop μ-loop
 mul-at c = omega arith
@@ -39,16 +39,16 @@ shared-slice-read-at : tie.Need-shared-slice-read-at Inv-loop μ-loop
 shared-slice-read-at c = omega arith
 
 mul-at-2 : tie.Need-mul-at-2 Inv-loop μ-loop
-mul-at-2 c = let h = c .before .before .before .before .before .before .before .before .before .before .pre .2 .below _ (c .before .loop-test .taken) in omega (arith, c .before .before .before .before .before .before .before .before .before .before .pre .1, h)
+mul-at-2 c = let h = c .before .before .before .before .before .before .before .before .before .before .pre .1 .lent .below _ (c .before .loop-test .taken) in omega (arith, c .before .before .before .before .before .before .before .before .before .before .pre .1 .scales, h)
 
 add-y-at : tie.Need-add-y-at Inv-loop μ-loop
-add-y-at c = let h = c .before .before .before .before .before .before .before .before .before .before .pre .2 .below _ (c .before .loop-test .taken) in omega (arith, c .before .before .before .before .before .before .before .before .before .before .pre .1, h)
+add-y-at c = let h = c .before .before .before .before .before .before .before .before .before .before .pre .1 .lent .below _ (c .before .loop-test .taken) in omega (arith, c .before .before .before .before .before .before .before .before .before .before .pre .1 .scales, h)
 
 add-z-at : tie.Need-add-z-at Inv-loop μ-loop
-add-z-at c = let h = c .before .before .before .before .before .before .before .before .before .before .pre .2 .below _ (c .before .loop-test .taken) in omega (arith, c .before .before .before .before .before .before .before .before .before .before .pre .1, h)
+add-z-at c = let h = c .before .before .before .before .before .before .before .before .before .before .pre .1 .lent .below _ (c .before .loop-test .taken) in omega (arith, c .before .before .before .before .before .before .before .before .before .before .pre .1 .scales, h)
 
 mul-a : tie.Need-mul-a Inv-loop μ-loop
-mul-a c = omega (arith, c .before .loop-test .taken, c .before .before .before .before .before .before .before .before .before .before .pre .2 .values, c .before .before .before .before .before .before .before .before .before .before .pre .2 .sigmas, c .before .before .before .before .before .before .before .before .before .before .fits)
+mul-a c = omega (arith, c .before .loop-test .taken, c .before .before .before .before .before .before .before .before .before .before .pre .1 .lent .values, c .before .before .before .before .before .before .before .before .before .before .pre .1 .lent .sigmas, c .before .before .before .before .before .before .before .before .before .before .fits)
 
 add-float : tie.Need-add-float Inv-loop μ-loop
 add-float c = omega arith
@@ -63,63 +63,63 @@ float-requires : tie.Need-float-requires Inv-loop μ-loop
 float-requires c κs = search needs
 
 mul-add-anchor : tie.Need-mul-add-anchor Inv-loop μ-loop
-mul-add-anchor c = omega (arith, c .before .before .before .before .loop-test .taken, c .before .before .before .before .before .before .before .before .before .before .before .before .before .pre .2 .values, c .before .before .before .before .before .before .before .before .before .before .before .before .before .pre .2 .sigmas, c .before .before .before .before .before .before .before .before .before .before .before .before .before .fits)
+mul-add-anchor c = omega (arith, c .before .before .before .before .loop-test .taken, c .before .before .before .before .before .before .before .before .before .before .before .before .before .pre .1 .lent .values, c .before .before .before .before .before .before .before .before .before .before .before .before .before .pre .1 .lent .sigmas, c .before .before .before .before .before .before .before .before .before .before .before .before .before .fits)
 
 shared-slice-read-add-anchor : tie.Need-shared-slice-read-add-anchor Inv-loop μ-loop
-shared-slice-read-add-anchor c = omega (arith, c .before .before .before .before .before .loop-test .taken, c .before .before .before .before .before .before .before .before .before .before .before .before .before .before .pre .2 .values, c .before .before .before .before .before .before .before .before .before .before .before .before .before .before .pre .2 .sigmas)
+shared-slice-read-add-anchor c = omega (arith, c .before .before .before .before .before .loop-test .taken, c .before .before .before .before .before .before .before .before .before .before .before .before .before .before .pre .1 .lent .values, c .before .before .before .before .before .before .before .before .before .before .before .before .before .before .pre .1 .lent .sigmas)
 
 mul-add-anchor-2 : tie.Need-mul-add-anchor-2 Inv-loop μ-loop
-mul-add-anchor-2 c = omega (arith, c .before .before .before .before .before .loop-test .taken, c .before .before .before .before .before .before .before .before .before .before .before .before .before .before .pre .2 .values, c .before .before .before .before .before .before .before .before .before .before .before .before .before .before .pre .2 .sigmas, c .before .before .before .before .before .before .before .before .before .before .before .before .before .before .fits)
+mul-add-anchor-2 c = omega (arith, c .before .before .before .before .before .loop-test .taken, c .before .before .before .before .before .before .before .before .before .before .before .before .before .before .pre .1 .lent .values, c .before .before .before .before .before .before .before .before .before .before .before .before .before .before .pre .1 .lent .sigmas, c .before .before .before .before .before .before .before .before .before .before .before .before .before .before .fits)
 
 shared-slice-read-add-anchor-2 : tie.Need-shared-slice-read-add-anchor-2 Inv-loop μ-loop
-shared-slice-read-add-anchor-2 c = omega (arith, c .before .before .before .before .before .before .loop-test .taken, c .before .before .before .before .before .before .before .before .before .before .before .before .before .before .before .pre .2 .values, c .before .before .before .before .before .before .before .before .before .before .before .before .before .before .before .pre .2 .sigmas)
+shared-slice-read-add-anchor-2 c = omega (arith, c .before .before .before .before .before .before .loop-test .taken, c .before .before .before .before .before .before .before .before .before .before .before .before .before .before .before .pre .1 .lent .values, c .before .before .before .before .before .before .before .before .before .before .before .before .before .before .before .pre .1 .lent .sigmas)
 
 add-anchor-requires : tie.Need-add-anchor-requires Inv-loop μ-loop
-add-anchor-requires c κs = let h = c .before .before .before .before .before .before .before .before .before .before .before .before .before .before .before .pre .2 .below _ (c .before .before .before .before .before .before .loop-test .taken) in (omega (arith, c .before .before .before .before .before .before .before .before .before .before .before .before .before .before .before .pre .1, h, c .before .before .before .before .before .before .before .loop .inv .long), anchor-x-needs _ _ (measured (c .before .before .before .before .before .before .before .before .before .before .before .before .before .before .before .args .count) (c .before .before .before .before .before .before .before .before .before .before .before .before .before .before .before .args .index .now) (c .before .before .before .before .before .before .before .before .before .before .before .before .before .before .before .args .value .now) (c .before .before .before .before .before .before .before .before .before .before .before .before .before .before .before .args .sigma .now)) _ _ (c .before .before .before .before .before .before .before .loop .inv) (c .before .before .before .before .before .before .loop-test .taken) h _ refl _ (c .before .before .before .float .ensures))
+add-anchor-requires c κs = let h = c .before .before .before .before .before .before .before .before .before .before .before .before .before .before .before .pre .1 .lent .below _ (c .before .before .before .before .before .before .loop-test .taken) in (omega (arith, c .before .before .before .before .before .before .before .before .before .before .before .before .before .before .before .pre .1 .scales, h, c .before .before .before .before .before .before .before .loop .inv .long), anchor-x-needs _ _ (measured (c .before .before .before .before .before .before .before .before .before .before .before .before .before .before .before .args .count) (c .before .before .before .before .before .before .before .before .before .before .before .before .before .before .before .args .index .now) (c .before .before .before .before .before .before .before .before .before .before .before .before .before .before .before .args .value .now) (c .before .before .before .before .before .before .before .before .before .before .before .before .before .before .before .args .sigma .now)) _ _ (c .before .before .before .before .before .before .before .loop .inv) (c .before .before .before .before .before .before .loop-test .taken) h _ refl _ (c .before .before .before .float .ensures))
 
 add-add-anchor : tie.Need-add-add-anchor Inv-loop μ-loop
-add-add-anchor c = omega (arith, c .before .before .before .before .before .before .before .before .before .before .loop-test .taken, c .before .before .before .before .before .before .before .before .before .before .before .before .before .before .before .before .before .before .before .pre .2 .values, c .before .before .before .before .before .before .before .before .before .before .before .before .before .before .before .before .before .before .before .pre .2 .sigmas, c .before .before .before .before .before .before .before .before .before .before .before .before .before .before .before .before .before .before .before .fits)
+add-add-anchor c = omega (arith, c .before .before .before .before .before .before .before .before .before .before .loop-test .taken, c .before .before .before .before .before .before .before .before .before .before .before .before .before .before .before .before .before .before .before .pre .1 .lent .values, c .before .before .before .before .before .before .before .before .before .before .before .before .before .before .before .before .before .before .before .pre .1 .lent .sigmas, c .before .before .before .before .before .before .before .before .before .before .before .before .before .before .before .before .before .before .before .fits)
 
 mul-add-anchor-3 : tie.Need-mul-add-anchor-3 Inv-loop μ-loop
-mul-add-anchor-3 c = omega (arith, c .before .before .before .before .before .before .before .before .before .before .loop-test .taken, c .before .before .before .before .before .before .before .before .before .before .before .before .before .before .before .before .before .before .before .pre .2 .values, c .before .before .before .before .before .before .before .before .before .before .before .before .before .before .before .before .before .before .before .pre .2 .sigmas, c .before .before .before .before .before .before .before .before .before .before .before .before .before .before .before .before .before .before .before .fits)
+mul-add-anchor-3 c = omega (arith, c .before .before .before .before .before .before .before .before .before .before .loop-test .taken, c .before .before .before .before .before .before .before .before .before .before .before .before .before .before .before .before .before .before .before .pre .1 .lent .values, c .before .before .before .before .before .before .before .before .before .before .before .before .before .before .before .before .before .before .before .pre .1 .lent .sigmas, c .before .before .before .before .before .before .before .before .before .before .before .before .before .before .before .before .before .before .before .fits)
 
 shared-slice-read-add-anchor-3 : tie.Need-shared-slice-read-add-anchor-3 Inv-loop μ-loop
-shared-slice-read-add-anchor-3 c = omega (arith, c .before .before .before .before .before .before .before .before .before .before .before .loop-test .taken, c .before .before .before .before .before .before .before .before .before .before .before .before .before .before .before .before .before .before .before .before .pre .2 .values, c .before .before .before .before .before .before .before .before .before .before .before .before .before .before .before .before .before .before .before .before .pre .2 .sigmas)
+shared-slice-read-add-anchor-3 c = omega (arith, c .before .before .before .before .before .before .before .before .before .before .before .loop-test .taken, c .before .before .before .before .before .before .before .before .before .before .before .before .before .before .before .before .before .before .before .before .pre .1 .lent .values, c .before .before .before .before .before .before .before .before .before .before .before .before .before .before .before .before .before .before .before .before .pre .1 .lent .sigmas)
 
 add-add-anchor-2 : tie.Need-add-add-anchor-2 Inv-loop μ-loop
-add-add-anchor-2 c = omega (arith, c .before .before .before .before .before .before .before .before .before .before .before .loop-test .taken, c .before .before .before .before .before .before .before .before .before .before .before .before .before .before .before .before .before .before .before .before .pre .2 .values, c .before .before .before .before .before .before .before .before .before .before .before .before .before .before .before .before .before .before .before .before .pre .2 .sigmas, c .before .before .before .before .before .before .before .before .before .before .before .before .before .before .before .before .before .before .before .before .fits)
+add-add-anchor-2 c = omega (arith, c .before .before .before .before .before .before .before .before .before .before .before .loop-test .taken, c .before .before .before .before .before .before .before .before .before .before .before .before .before .before .before .before .before .before .before .before .pre .1 .lent .values, c .before .before .before .before .before .before .before .before .before .before .before .before .before .before .before .before .before .before .before .before .pre .1 .lent .sigmas, c .before .before .before .before .before .before .before .before .before .before .before .before .before .before .before .before .before .before .before .before .fits)
 
 mul-add-anchor-4 : tie.Need-mul-add-anchor-4 Inv-loop μ-loop
-mul-add-anchor-4 c = omega (arith, c .before .before .before .before .before .before .before .before .before .before .before .loop-test .taken, c .before .before .before .before .before .before .before .before .before .before .before .before .before .before .before .before .before .before .before .before .pre .2 .values, c .before .before .before .before .before .before .before .before .before .before .before .before .before .before .before .before .before .before .before .before .pre .2 .sigmas, c .before .before .before .before .before .before .before .before .before .before .before .before .before .before .before .before .before .before .before .before .fits)
+mul-add-anchor-4 c = omega (arith, c .before .before .before .before .before .before .before .before .before .before .before .loop-test .taken, c .before .before .before .before .before .before .before .before .before .before .before .before .before .before .before .before .before .before .before .before .pre .1 .lent .values, c .before .before .before .before .before .before .before .before .before .before .before .before .before .before .before .before .before .before .before .before .pre .1 .lent .sigmas, c .before .before .before .before .before .before .before .before .before .before .before .before .before .before .before .before .before .before .before .before .fits)
 
 shared-slice-read-add-anchor-4 : tie.Need-shared-slice-read-add-anchor-4 Inv-loop μ-loop
-shared-slice-read-add-anchor-4 c = omega (arith, c .before .before .before .before .before .before .before .before .before .before .before .before .loop-test .taken, c .before .before .before .before .before .before .before .before .before .before .before .before .before .before .before .before .before .before .before .before .before .pre .2 .values, c .before .before .before .before .before .before .before .before .before .before .before .before .before .before .before .before .before .before .before .before .before .pre .2 .sigmas)
+shared-slice-read-add-anchor-4 c = omega (arith, c .before .before .before .before .before .before .before .before .before .before .before .before .loop-test .taken, c .before .before .before .before .before .before .before .before .before .before .before .before .before .before .before .before .before .before .before .before .before .pre .1 .lent .values, c .before .before .before .before .before .before .before .before .before .before .before .before .before .before .before .before .before .before .before .before .before .pre .1 .lent .sigmas)
 
 add-anchor-requires-2 : tie.Need-add-anchor-requires-2 Inv-loop μ-loop
-add-anchor-requires-2 c κs = let h = c .before .before .before .before .before .before .before .before .before .before .before .before .before .before .before .before .before .before .before .before .before .pre .2 .below _ (c .before .before .before .before .before .before .before .before .before .before .before .before .loop-test .taken) in
-    (omega (arith, c .before .before .before .before .before .before .before .before .before .before .before .before .before .before .before .before .before .before .before .before .before .pre .1, h, c .before .before .before .before .before .before .before .before .before .before .before .before .before .loop .inv .long, c .before .before .before .before .before .add-anchor .kept .0), anchor-y-needs _ _ (measured (c .before .before .before .before .before .before .before .before .before .before .before .before .before .before .before .before .before .before .before .before .before .args .count) (c .before .before .before .before .before .before .before .before .before .before .before .before .before .before .before .before .before .before .before .before .before .args .index .now) (c .before .before .before .before .before .before .before .before .before .before .before .before .before .before .before .before .before .before .before .before .before .args .value .now) (c .before .before .before .before .before .before .before .before .before .before .before .before .before .before .before .before .before .before .before .before .before .args .sigma .now)) _ _ (c .before .before .before .before .before .before .before .before .before .before .before .before .before .loop .inv) (c .before .before .before .before .before .before .before .before .before .before .before .before .loop-test .taken) h _ refl _ (c .before .before .before .before .before .before .before .before .before .float .ensures) _ _ (c .before .before .before .before .before .add-anchor .ensures) (c .before .before .before .before .before .add-anchor .kept .0))
+add-anchor-requires-2 c κs = let h = c .before .before .before .before .before .before .before .before .before .before .before .before .before .before .before .before .before .before .before .before .before .pre .1 .lent .below _ (c .before .before .before .before .before .before .before .before .before .before .before .before .loop-test .taken) in
+    (omega (arith, c .before .before .before .before .before .before .before .before .before .before .before .before .before .before .before .before .before .before .before .before .before .pre .1 .scales, h, c .before .before .before .before .before .before .before .before .before .before .before .before .before .loop .inv .long, c .before .before .before .before .before .add-anchor .kept .0), anchor-y-needs _ _ (measured (c .before .before .before .before .before .before .before .before .before .before .before .before .before .before .before .before .before .before .before .before .before .args .count) (c .before .before .before .before .before .before .before .before .before .before .before .before .before .before .before .before .before .before .before .before .before .args .index .now) (c .before .before .before .before .before .before .before .before .before .before .before .before .before .before .before .before .before .before .before .before .before .args .value .now) (c .before .before .before .before .before .before .before .before .before .before .before .before .before .before .before .before .before .before .before .before .before .args .sigma .now)) _ _ (c .before .before .before .before .before .before .before .before .before .before .before .before .before .loop .inv) (c .before .before .before .before .before .before .before .before .before .before .before .before .loop-test .taken) h _ refl _ (c .before .before .before .before .before .before .before .before .before .float .ensures) _ _ (c .before .before .before .before .before .add-anchor .ensures) (c .before .before .before .before .before .add-anchor .kept .0))
 
 add-add-anchor-3 : tie.Need-add-add-anchor-3 Inv-loop μ-loop
-add-add-anchor-3 c = omega (arith, c .before .before .before .before .before .before .before .before .before .before .before .before .before .before .before .before .loop-test .taken, c .before .before .before .before .before .before .before .before .before .before .before .before .before .before .before .before .before .before .before .before .before .before .before .before .before .pre .2 .values, c .before .before .before .before .before .before .before .before .before .before .before .before .before .before .before .before .before .before .before .before .before .before .before .before .before .pre .2 .sigmas, c .before .before .before .before .before .before .before .before .before .before .before .before .before .before .before .before .before .before .before .before .before .before .before .before .before .fits)
+add-add-anchor-3 c = omega (arith, c .before .before .before .before .before .before .before .before .before .before .before .before .before .before .before .before .loop-test .taken, c .before .before .before .before .before .before .before .before .before .before .before .before .before .before .before .before .before .before .before .before .before .before .before .before .before .pre .1 .lent .values, c .before .before .before .before .before .before .before .before .before .before .before .before .before .before .before .before .before .before .before .before .before .before .before .before .before .pre .1 .lent .sigmas, c .before .before .before .before .before .before .before .before .before .before .before .before .before .before .before .before .before .before .before .before .before .before .before .before .before .fits)
 
 mul-add-anchor-5 : tie.Need-mul-add-anchor-5 Inv-loop μ-loop
-mul-add-anchor-5 c = omega (arith, c .before .before .before .before .before .before .before .before .before .before .before .before .before .before .before .before .loop-test .taken, c .before .before .before .before .before .before .before .before .before .before .before .before .before .before .before .before .before .before .before .before .before .before .before .before .before .pre .2 .values, c .before .before .before .before .before .before .before .before .before .before .before .before .before .before .before .before .before .before .before .before .before .before .before .before .before .pre .2 .sigmas, c .before .before .before .before .before .before .before .before .before .before .before .before .before .before .before .before .before .before .before .before .before .before .before .before .before .fits)
+mul-add-anchor-5 c = omega (arith, c .before .before .before .before .before .before .before .before .before .before .before .before .before .before .before .before .loop-test .taken, c .before .before .before .before .before .before .before .before .before .before .before .before .before .before .before .before .before .before .before .before .before .before .before .before .before .pre .1 .lent .values, c .before .before .before .before .before .before .before .before .before .before .before .before .before .before .before .before .before .before .before .before .before .before .before .before .before .pre .1 .lent .sigmas, c .before .before .before .before .before .before .before .before .before .before .before .before .before .before .before .before .before .before .before .before .before .before .before .before .before .fits)
 
 shared-slice-read-add-anchor-5 : tie.Need-shared-slice-read-add-anchor-5 Inv-loop μ-loop
-shared-slice-read-add-anchor-5 c = omega (arith, c .before .before .before .before .before .before .before .before .before .before .before .before .before .before .before .before .before .loop-test .taken, c .before .before .before .before .before .before .before .before .before .before .before .before .before .before .before .before .before .before .before .before .before .before .before .before .before .before .pre .2 .values, c .before .before .before .before .before .before .before .before .before .before .before .before .before .before .before .before .before .before .before .before .before .before .before .before .before .before .pre .2 .sigmas)
+shared-slice-read-add-anchor-5 c = omega (arith, c .before .before .before .before .before .before .before .before .before .before .before .before .before .before .before .before .before .loop-test .taken, c .before .before .before .before .before .before .before .before .before .before .before .before .before .before .before .before .before .before .before .before .before .before .before .before .before .before .pre .1 .lent .values, c .before .before .before .before .before .before .before .before .before .before .before .before .before .before .before .before .before .before .before .before .before .before .before .before .before .before .pre .1 .lent .sigmas)
 
 add-add-anchor-4 : tie.Need-add-add-anchor-4 Inv-loop μ-loop
-add-add-anchor-4 c = omega (arith, c .before .before .before .before .before .before .before .before .before .before .before .before .before .before .before .before .before .loop-test .taken, c .before .before .before .before .before .before .before .before .before .before .before .before .before .before .before .before .before .before .before .before .before .before .before .before .before .before .pre .2 .values, c .before .before .before .before .before .before .before .before .before .before .before .before .before .before .before .before .before .before .before .before .before .before .before .before .before .before .pre .2 .sigmas, c .before .before .before .before .before .before .before .before .before .before .before .before .before .before .before .before .before .before .before .before .before .before .before .before .before .before .fits)
+add-add-anchor-4 c = omega (arith, c .before .before .before .before .before .before .before .before .before .before .before .before .before .before .before .before .before .loop-test .taken, c .before .before .before .before .before .before .before .before .before .before .before .before .before .before .before .before .before .before .before .before .before .before .before .before .before .before .pre .1 .lent .values, c .before .before .before .before .before .before .before .before .before .before .before .before .before .before .before .before .before .before .before .before .before .before .before .before .before .before .pre .1 .lent .sigmas, c .before .before .before .before .before .before .before .before .before .before .before .before .before .before .before .before .before .before .before .before .before .before .before .before .before .before .fits)
 
 mul-add-anchor-6 : tie.Need-mul-add-anchor-6 Inv-loop μ-loop
-mul-add-anchor-6 c = omega (arith, c .before .before .before .before .before .before .before .before .before .before .before .before .before .before .before .before .before .loop-test .taken, c .before .before .before .before .before .before .before .before .before .before .before .before .before .before .before .before .before .before .before .before .before .before .before .before .before .before .pre .2 .values, c .before .before .before .before .before .before .before .before .before .before .before .before .before .before .before .before .before .before .before .before .before .before .before .before .before .before .pre .2 .sigmas, c .before .before .before .before .before .before .before .before .before .before .before .before .before .before .before .before .before .before .before .before .before .before .before .before .before .before .fits)
+mul-add-anchor-6 c = omega (arith, c .before .before .before .before .before .before .before .before .before .before .before .before .before .before .before .before .before .loop-test .taken, c .before .before .before .before .before .before .before .before .before .before .before .before .before .before .before .before .before .before .before .before .before .before .before .before .before .before .pre .1 .lent .values, c .before .before .before .before .before .before .before .before .before .before .before .before .before .before .before .before .before .before .before .before .before .before .before .before .before .before .pre .1 .lent .sigmas, c .before .before .before .before .before .before .before .before .before .before .before .before .before .before .before .before .before .before .before .before .before .before .before .before .before .before .fits)
 
 shared-slice-read-add-anchor-6 : tie.Need-shared-slice-read-add-anchor-6 Inv-loop μ-loop
-shared-slice-read-add-anchor-6 c = omega (arith, c .before .before .before .before .before .before .before .before .before .before .before .before .before .before .before .before .before .before .loop-test .taken, c .before .before .before .before .before .before .before .before .before .before .before .before .before .before .before .before .before .before .before .before .before .before .before .before .before .before .before .pre .2 .values, c .before .before .before .before .before .before .before .before .before .before .before .before .before .before .before .before .before .before .before .before .before .before .before .before .before .before .before .pre .2 .sigmas)
+shared-slice-read-add-anchor-6 c = omega (arith, c .before .before .before .before .before .before .before .before .before .before .before .before .before .before .before .before .before .before .loop-test .taken, c .before .before .before .before .before .before .before .before .before .before .before .before .before .before .before .before .before .before .before .before .before .before .before .before .before .before .before .pre .1 .lent .values, c .before .before .before .before .before .before .before .before .before .before .before .before .before .before .before .before .before .before .before .before .before .before .before .before .before .before .before .pre .1 .lent .sigmas)
 
 add-anchor-requires-3 : tie.Need-add-anchor-requires-3 Inv-loop μ-loop
-add-anchor-requires-3 c κs = let h = c .before .before .before .before .before .before .before .before .before .before .before .before .before .before .before .before .before .before .before .before .before .before .before .before .before .before .before .pre .2 .below _ (c .before .before .before .before .before .before .before .before .before .before .before .before .before .before .before .before .before .before .loop-test .taken) in (
-  omega (arith, c .before .before .before .before .before .before .before .before .before .before .before .before .before .before .before .before .before .before .before .before .before .before .before .before .before .before .before .pre .1, h, c .before .before .before .before .before .before .before .before .before .before .before .before .before .before .before .before .before .before .before .loop .inv .long, c .before .before .before .before .before .before .before .before .before .before .before .add-anchor .kept .0, c .before .before .before .before .before .add-anchor2 .kept .0),
+add-anchor-requires-3 c κs = let h = c .before .before .before .before .before .before .before .before .before .before .before .before .before .before .before .before .before .before .before .before .before .before .before .before .before .before .before .pre .1 .lent .below _ (c .before .before .before .before .before .before .before .before .before .before .before .before .before .before .before .before .before .before .loop-test .taken) in (
+  omega (arith, c .before .before .before .before .before .before .before .before .before .before .before .before .before .before .before .before .before .before .before .before .before .before .before .before .before .before .before .pre .1 .scales, h, c .before .before .before .before .before .before .before .before .before .before .before .before .before .before .before .before .before .before .before .loop .inv .long, c .before .before .before .before .before .before .before .before .before .before .before .add-anchor .kept .0, c .before .before .before .before .before .add-anchor2 .kept .0),
   anchor-z-needs _ _ (measured (c .before .before .before .before .before .before .before .before .before .before .before .before .before .before .before .before .before .before .before .before .before .before .before .before .before .before .before .args .count) (c .before .before .before .before .before .before .before .before .before .before .before .before .before .before .before .before .before .before .before .before .before .before .before .before .before .before .before .args .index .now) (c .before .before .before .before .before .before .before .before .before .before .before .before .before .before .before .before .before .before .before .before .before .before .before .before .before .before .before .args .value .now) (c .before .before .before .before .before .before .before .before .before .before .before .before .before .before .before .before .before .before .before .before .before .before .before .before .before .before .before .args .sigma .now)) _ _ (c .before .before .before .before .before .before .before .before .before .before .before .before .before .before .before .before .before .before .before .loop .inv) (c .before .before .before .before .before .before .before .before .before .before .before .before .before .before .before .before .before .before .loop-test .taken) h _ refl _ (c .before .before .before .before .before .before .before .before .before .before .before .before .before .before .before .float .ensures) _ _ (c .before .before .before .before .before .before .before .before .before .before .before .add-anchor .ensures) (c .before .before .before .before .before .before .before .before .before .before .before .add-anchor .kept .0) _ _ (c .before .before .before .before .before .add-anchor2 .ensures) (c .before .before .before .before .before .add-anchor2 .kept .0),
 )
 
@@ -127,18 +127,18 @@ same-length : tie.Need-same-length Inv-loop μ-loop
 same-length c = c .before .before .before .add-anchor3 .kept .0 ∙ c .before .before .before .before .before .before .before .before .before .add-anchor2 .kept .0 ∙ c .before .before .before .before .before .before .before .before .before .before .before .before .before .before .before .add-anchor .kept .0 ∙ c .before .before .before .before .before .before .before .before .before .before .before .before .before .before .before .before .before .before .before .before .before .before .before .loop .inv .long
 
 returns : tie.Need-returns Inv-loop μ-loop
-returns c = let h = c .before .before .before .before .before .before .before .before .before .before .before .before .before .before .before .before .before .before .before .before .before .before .before .before .before .before .before .before .before .before .before .pre .2 .below _ (c .before .before .before .before .before .before .before .before .before .before .before .before .before .before .before .before .before .before .before .before .before .before .loop-test .taken) in
+returns c = let h = c .before .before .before .before .before .before .before .before .before .before .before .before .before .before .before .before .before .before .before .before .before .before .before .before .before .before .before .before .before .before .before .pre .1 .lent .below _ (c .before .before .before .before .before .before .before .before .before .before .before .before .before .before .before .before .before .before .before .before .before .before .loop-test .taken) in
     anchors-end _ _ (measured (c .before .before .before .before .before .before .before .before .before .before .before .before .before .before .before .before .before .before .before .before .before .before .before .before .before .before .before .before .before .before .before .args .count) (c .before .before .before .before .before .before .before .before .before .before .before .before .before .before .before .before .before .before .before .before .before .before .before .before .before .before .before .before .before .before .before .args .index .now) (c .before .before .before .before .before .before .before .before .before .before .before .before .before .before .before .before .before .before .before .before .before .before .before .before .before .before .before .before .before .before .before .args .value .now) (c .before .before .before .before .before .before .before .before .before .before .before .before .before .before .before .before .before .before .before .before .before .before .before .before .before .before .before .before .before .before .before .args .sigma .now)) _ _ (c .before .before .before .before .before .before .before .before .before .before .before .before .before .before .before .before .before .before .before .before .before .before .before .loop .inv) (c .before .before .before .before .before .before .before .before .before .before .before .before .before .before .before .before .before .before .before .before .before .before .loop-test .taken) h _ refl _ (c .before .before .before .before .before .before .before .before .before .before .before .before .before .before .before .before .before .before .before .float .ensures) _ _ (c .before .before .before .before .before .before .before .before .before .before .before .before .before .before .before .add-anchor .ensures) (c .before .before .before .before .before .before .before .before .before .before .before .before .before .before .before .add-anchor .kept .0) _ _ (c .before .before .before .before .before .before .before .before .before .add-anchor2 .ensures) (c .before .before .before .before .before .before .before .before .before .add-anchor2 .kept .0)
     _ _ (c .before .before .before .add-anchor3 .ensures) (c .before .before .before .add-anchor3 .kept .0) (not-true _ (c .if1 .taken))
 
 add-j : tie.Need-add-j Inv-loop μ-loop
-add-j c = omega (arith, c .before .before .before .before .before .before .before .before .before .before .before .before .before .before .before .before .before .before .before .before .before .before .loop-test .taken, c .before .before .before .before .before .before .before .before .before .before .before .before .before .before .before .before .before .before .before .before .before .before .before .before .before .before .before .before .before .before .before .pre .2 .values, c .before .before .before .before .before .before .before .before .before .before .before .before .before .before .before .before .before .before .before .before .before .before .before .before .before .before .before .before .before .before .before .pre .2 .sigmas, c .before .before .before .before .before .before .before .before .before .before .before .before .before .before .before .before .before .before .before .before .before .before .before .before .before .before .before .before .before .before .before .fits)
+add-j c = omega (arith, c .before .before .before .before .before .before .before .before .before .before .before .before .before .before .before .before .before .before .before .before .before .before .loop-test .taken, c .before .before .before .before .before .before .before .before .before .before .before .before .before .before .before .before .before .before .before .before .before .before .before .before .before .before .before .before .before .before .before .pre .1 .lent .values, c .before .before .before .before .before .before .before .before .before .before .before .before .before .before .before .before .before .before .before .before .before .before .before .before .before .before .before .before .before .before .before .pre .1 .lent .sigmas, c .before .before .before .before .before .before .before .before .before .before .before .before .before .before .before .before .before .before .before .before .before .before .before .before .before .before .before .before .before .before .before .fits)
 
 loop-less : tie.Need-loop-less Inv-loop μ-loop
 loop-less c = omega (arith, c .before .before .before .before .before .before .before .before .before .before .before .before .before .before .before .before .before .before .before .before .before .before .loop-test .taken)
 
 loop-again : tie.Need-loop-again Inv-loop μ-loop
-loop-again c = let h = c .before .before .before .before .before .before .before .before .before .before .before .before .before .before .before .before .before .before .before .before .before .before .before .before .before .before .before .before .before .before .before .pre .2 .below _ (c .before .before .before .before .before .before .before .before .before .before .before .before .before .before .before .before .before .before .before .before .before .before .loop-test .taken) in
+loop-again c = let h = c .before .before .before .before .before .before .before .before .before .before .before .before .before .before .before .before .before .before .before .before .before .before .before .before .before .before .before .before .before .before .before .pre .1 .lent .below _ (c .before .before .before .before .before .before .before .before .before .before .before .before .before .before .before .before .before .before .before .before .before .before .loop-test .taken) in
     anchors-more _ _ (measured (c .before .before .before .before .before .before .before .before .before .before .before .before .before .before .before .before .before .before .before .before .before .before .before .before .before .before .before .before .before .before .before .args .count) (c .before .before .before .before .before .before .before .before .before .before .before .before .before .before .before .before .before .before .before .before .before .before .before .before .before .before .before .before .before .before .before .args .index .now) (c .before .before .before .before .before .before .before .before .before .before .before .before .before .before .before .before .before .before .before .before .before .before .before .before .before .before .before .before .before .before .before .args .value .now) (c .before .before .before .before .before .before .before .before .before .before .before .before .before .before .before .before .before .before .before .before .before .before .before .before .before .before .before .before .before .before .before .args .sigma .now)) _ _ (c .before .before .before .before .before .before .before .before .before .before .before .before .before .before .before .before .before .before .before .before .before .before .before .loop .inv) (c .before .before .before .before .before .before .before .before .before .before .before .before .before .before .before .before .before .before .before .before .before .before .loop-test .taken) h _ refl _ (c .before .before .before .before .before .before .before .before .before .before .before .before .before .before .before .before .before .before .before .float .ensures) _ _ (c .before .before .before .before .before .before .before .before .before .before .before .before .before .before .before .add-anchor .ensures) (c .before .before .before .before .before .before .before .before .before .before .before .before .before .before .before .add-anchor .kept .0) _ _ (c .before .before .before .before .before .before .before .before .before .add-anchor2 .ensures) (c .before .before .before .before .before .before .before .before .before .add-anchor2 .kept .0)
     _ _ (c .before .before .before .add-anchor3 .ensures) (c .before .before .before .add-anchor3 .kept .0) (not-false _ (c .if1 .left))
 

@@ -24,7 +24,7 @@ add-from : tie.Need-add-from Inv-loop μ-loop
 add-from c = omega arith
 
 loop-holds : tie.Need-loop-holds Inv-loop μ-loop
-loop-holds c = adding-none _ _ _ _ (omega (arith, c .before .before .before .before .pre .0)) (c .before .before .before .before .pre .2)
+loop-holds c = adding-none _ _ _ _ (omega (arith, c .before .before .before .before .pre .scales)) (c .before .before .before .before .pre .numbers)
 
 mul-at : tie.Need-mul-at Inv-loop μ-loop
 mul-at c = omega arith
@@ -33,16 +33,16 @@ shared-slice-read-at : tie.Need-shared-slice-read-at Inv-loop μ-loop
 shared-slice-read-at c = omega arith
 
 mul-at-2 : tie.Need-mul-at-2 Inv-loop μ-loop
-mul-at-2 c = let h = c .before .before .before .before .before .before .before .pre .1 .below _ (c .before .loop-test .taken) in omega (arith, c .before .before .before .before .before .before .before .pre .0, h)
+mul-at-2 c = let h = c .before .before .before .before .before .before .before .pre .lent .below _ (c .before .loop-test .taken) in omega (arith, c .before .before .before .before .before .before .before .pre .scales, h)
 
 add-y-at : tie.Need-add-y-at Inv-loop μ-loop
-add-y-at c = let h = c .before .before .before .before .before .before .before .pre .1 .below _ (c .before .loop-test .taken) in omega (arith, c .before .before .before .before .before .before .before .pre .0, h)
+add-y-at c = let h = c .before .before .before .before .before .before .before .pre .lent .below _ (c .before .loop-test .taken) in omega (arith, c .before .before .before .before .before .before .before .pre .scales, h)
 
 add-z-at : tie.Need-add-z-at Inv-loop μ-loop
-add-z-at c = let h = c .before .before .before .before .before .before .before .pre .1 .below _ (c .before .loop-test .taken) in omega (arith, c .before .before .before .before .before .before .before .pre .0, h)
+add-z-at c = let h = c .before .before .before .before .before .before .before .pre .lent .below _ (c .before .loop-test .taken) in omega (arith, c .before .before .before .before .before .before .before .pre .scales, h)
 
 mul-a : tie.Need-mul-a Inv-loop μ-loop
-mul-a c = omega (arith, c .before .loop-test .taken, c .before .before .before .before .before .before .before .pre .1 .values, c .before .before .before .before .before .before .before .pre .1 .sigmas, c .before .before .before .before .before .before .before .fits)
+mul-a c = omega (arith, c .before .loop-test .taken, c .before .before .before .before .before .before .before .pre .lent .values, c .before .before .before .before .before .before .before .pre .lent .sigmas, c .before .before .before .before .before .before .before .fits)
 
 add-float : tie.Need-add-float Inv-loop μ-loop
 add-float c = omega arith
@@ -57,63 +57,63 @@ float-requires : tie.Need-float-requires Inv-loop μ-loop
 float-requires c κs = search needs
 
 mul-add-link : tie.Need-mul-add-link Inv-loop μ-loop
-mul-add-link c = omega (arith, c .before .before .before .before .loop-test .taken, c .before .before .before .before .before .before .before .before .before .before .pre .1 .values, c .before .before .before .before .before .before .before .before .before .before .pre .1 .sigmas, c .before .before .before .before .before .before .before .before .before .before .fits)
+mul-add-link c = omega (arith, c .before .before .before .before .loop-test .taken, c .before .before .before .before .before .before .before .before .before .before .pre .lent .values, c .before .before .before .before .before .before .before .before .before .before .pre .lent .sigmas, c .before .before .before .before .before .before .before .before .before .before .fits)
 
 shared-slice-read-add-link : tie.Need-shared-slice-read-add-link Inv-loop μ-loop
-shared-slice-read-add-link c = omega (arith, c .before .before .before .before .before .loop-test .taken, c .before .before .before .before .before .before .before .before .before .before .before .pre .1 .values, c .before .before .before .before .before .before .before .before .before .before .before .pre .1 .sigmas)
+shared-slice-read-add-link c = omega (arith, c .before .before .before .before .before .loop-test .taken, c .before .before .before .before .before .before .before .before .before .before .before .pre .lent .values, c .before .before .before .before .before .before .before .before .before .before .before .pre .lent .sigmas)
 
 mul-add-link-2 : tie.Need-mul-add-link-2 Inv-loop μ-loop
-mul-add-link-2 c = omega (arith, c .before .before .before .before .before .loop-test .taken, c .before .before .before .before .before .before .before .before .before .before .before .pre .1 .values, c .before .before .before .before .before .before .before .before .before .before .before .pre .1 .sigmas, c .before .before .before .before .before .before .before .before .before .before .before .fits)
+mul-add-link-2 c = omega (arith, c .before .before .before .before .before .loop-test .taken, c .before .before .before .before .before .before .before .before .before .before .before .pre .lent .values, c .before .before .before .before .before .before .before .before .before .before .before .pre .lent .sigmas, c .before .before .before .before .before .before .before .before .before .before .before .fits)
 
 shared-slice-read-add-link-2 : tie.Need-shared-slice-read-add-link-2 Inv-loop μ-loop
-shared-slice-read-add-link-2 c = omega (arith, c .before .before .before .before .before .before .loop-test .taken, c .before .before .before .before .before .before .before .before .before .before .before .before .pre .1 .values, c .before .before .before .before .before .before .before .before .before .before .before .before .pre .1 .sigmas)
+shared-slice-read-add-link-2 c = omega (arith, c .before .before .before .before .before .before .loop-test .taken, c .before .before .before .before .before .before .before .before .before .before .before .before .pre .lent .values, c .before .before .before .before .before .before .before .before .before .before .before .before .pre .lent .sigmas)
 
 add-link-requires : tie.Need-add-link-requires Inv-loop μ-loop
-add-link-requires c κs = let h = c .before .before .before .before .before .before .before .before .before .before .before .before .pre .1 .below _ (c .before .before .before .before .before .before .loop-test .taken) in (omega (arith, c .before .before .before .before .before .before .before .before .before .before .before .before .pre .0, h, c .before .before .before .before .before .before .before .loop .inv .long), link-x-needs _ _ _ (measured (c .before .before .before .before .before .before .before .before .before .before .before .before .args .count) (c .before .before .before .before .before .before .before .before .before .before .before .before .args .index .now) (c .before .before .before .before .before .before .before .before .before .before .before .before .args .value .now) (c .before .before .before .before .before .before .before .before .before .before .before .before .args .sigma .now)) _ _ (c .before .before .before .before .before .before .before .loop .inv) (c .before .before .before .before .before .before .loop-test .taken) (omega (arith, h)) _ refl _ (c .before .before .before .float .ensures) .0, link-x-needs _ _ _ (measured (c .before .before .before .before .before .before .before .before .before .before .before .before .args .count) (c .before .before .before .before .before .before .before .before .before .before .before .before .args .index .now) (c .before .before .before .before .before .before .before .before .before .before .before .before .args .value .now) (c .before .before .before .before .before .before .before .before .before .before .before .before .args .sigma .now)) _ _ (c .before .before .before .before .before .before .before .loop .inv) (c .before .before .before .before .before .before .loop-test .taken) (omega (arith, h)) _ refl _ (c .before .before .before .float .ensures) .1)
+add-link-requires c κs = let h = c .before .before .before .before .before .before .before .before .before .before .before .before .pre .lent .below _ (c .before .before .before .before .before .before .loop-test .taken) in (omega (arith, c .before .before .before .before .before .before .before .before .before .before .before .before .pre .scales, h, c .before .before .before .before .before .before .before .loop .inv .long), link-x-needs _ _ _ (measured (c .before .before .before .before .before .before .before .before .before .before .before .before .args .count) (c .before .before .before .before .before .before .before .before .before .before .before .before .args .index .now) (c .before .before .before .before .before .before .before .before .before .before .before .before .args .value .now) (c .before .before .before .before .before .before .before .before .before .before .before .before .args .sigma .now)) _ _ (c .before .before .before .before .before .before .before .loop .inv) (c .before .before .before .before .before .before .loop-test .taken) (omega (arith, h)) _ refl _ (c .before .before .before .float .ensures) .0, link-x-needs _ _ _ (measured (c .before .before .before .before .before .before .before .before .before .before .before .before .args .count) (c .before .before .before .before .before .before .before .before .before .before .before .before .args .index .now) (c .before .before .before .before .before .before .before .before .before .before .before .before .args .value .now) (c .before .before .before .before .before .before .before .before .before .before .before .before .args .sigma .now)) _ _ (c .before .before .before .before .before .before .before .loop .inv) (c .before .before .before .before .before .before .loop-test .taken) (omega (arith, h)) _ refl _ (c .before .before .before .float .ensures) .1)
 
 add-add-link : tie.Need-add-add-link Inv-loop μ-loop
-add-add-link c = omega (arith, c .before .before .before .before .before .before .before .before .before .before .loop-test .taken, c .before .before .before .before .before .before .before .before .before .before .before .before .before .before .before .before .pre .1 .values, c .before .before .before .before .before .before .before .before .before .before .before .before .before .before .before .before .pre .1 .sigmas, c .before .before .before .before .before .before .before .before .before .before .before .before .before .before .before .before .fits)
+add-add-link c = omega (arith, c .before .before .before .before .before .before .before .before .before .before .loop-test .taken, c .before .before .before .before .before .before .before .before .before .before .before .before .before .before .before .before .pre .lent .values, c .before .before .before .before .before .before .before .before .before .before .before .before .before .before .before .before .pre .lent .sigmas, c .before .before .before .before .before .before .before .before .before .before .before .before .before .before .before .before .fits)
 
 mul-add-link-3 : tie.Need-mul-add-link-3 Inv-loop μ-loop
-mul-add-link-3 c = omega (arith, c .before .before .before .before .before .before .before .before .before .before .loop-test .taken, c .before .before .before .before .before .before .before .before .before .before .before .before .before .before .before .before .pre .1 .values, c .before .before .before .before .before .before .before .before .before .before .before .before .before .before .before .before .pre .1 .sigmas, c .before .before .before .before .before .before .before .before .before .before .before .before .before .before .before .before .fits)
+mul-add-link-3 c = omega (arith, c .before .before .before .before .before .before .before .before .before .before .loop-test .taken, c .before .before .before .before .before .before .before .before .before .before .before .before .before .before .before .before .pre .lent .values, c .before .before .before .before .before .before .before .before .before .before .before .before .before .before .before .before .pre .lent .sigmas, c .before .before .before .before .before .before .before .before .before .before .before .before .before .before .before .before .fits)
 
 shared-slice-read-add-link-3 : tie.Need-shared-slice-read-add-link-3 Inv-loop μ-loop
-shared-slice-read-add-link-3 c = omega (arith, c .before .before .before .before .before .before .before .before .before .before .before .loop-test .taken, c .before .before .before .before .before .before .before .before .before .before .before .before .before .before .before .before .before .pre .1 .values, c .before .before .before .before .before .before .before .before .before .before .before .before .before .before .before .before .before .pre .1 .sigmas)
+shared-slice-read-add-link-3 c = omega (arith, c .before .before .before .before .before .before .before .before .before .before .before .loop-test .taken, c .before .before .before .before .before .before .before .before .before .before .before .before .before .before .before .before .before .pre .lent .values, c .before .before .before .before .before .before .before .before .before .before .before .before .before .before .before .before .before .pre .lent .sigmas)
 
 add-add-link-2 : tie.Need-add-add-link-2 Inv-loop μ-loop
-add-add-link-2 c = omega (arith, c .before .before .before .before .before .before .before .before .before .before .before .loop-test .taken, c .before .before .before .before .before .before .before .before .before .before .before .before .before .before .before .before .before .pre .1 .values, c .before .before .before .before .before .before .before .before .before .before .before .before .before .before .before .before .before .pre .1 .sigmas, c .before .before .before .before .before .before .before .before .before .before .before .before .before .before .before .before .before .fits)
+add-add-link-2 c = omega (arith, c .before .before .before .before .before .before .before .before .before .before .before .loop-test .taken, c .before .before .before .before .before .before .before .before .before .before .before .before .before .before .before .before .before .pre .lent .values, c .before .before .before .before .before .before .before .before .before .before .before .before .before .before .before .before .before .pre .lent .sigmas, c .before .before .before .before .before .before .before .before .before .before .before .before .before .before .before .before .before .fits)
 
 mul-add-link-4 : tie.Need-mul-add-link-4 Inv-loop μ-loop
-mul-add-link-4 c = omega (arith, c .before .before .before .before .before .before .before .before .before .before .before .loop-test .taken, c .before .before .before .before .before .before .before .before .before .before .before .before .before .before .before .before .before .pre .1 .values, c .before .before .before .before .before .before .before .before .before .before .before .before .before .before .before .before .before .pre .1 .sigmas, c .before .before .before .before .before .before .before .before .before .before .before .before .before .before .before .before .before .fits)
+mul-add-link-4 c = omega (arith, c .before .before .before .before .before .before .before .before .before .before .before .loop-test .taken, c .before .before .before .before .before .before .before .before .before .before .before .before .before .before .before .before .before .pre .lent .values, c .before .before .before .before .before .before .before .before .before .before .before .before .before .before .before .before .before .pre .lent .sigmas, c .before .before .before .before .before .before .before .before .before .before .before .before .before .before .before .before .before .fits)
 
 shared-slice-read-add-link-4 : tie.Need-shared-slice-read-add-link-4 Inv-loop μ-loop
-shared-slice-read-add-link-4 c = omega (arith, c .before .before .before .before .before .before .before .before .before .before .before .before .loop-test .taken, c .before .before .before .before .before .before .before .before .before .before .before .before .before .before .before .before .before .before .pre .1 .values, c .before .before .before .before .before .before .before .before .before .before .before .before .before .before .before .before .before .before .pre .1 .sigmas)
+shared-slice-read-add-link-4 c = omega (arith, c .before .before .before .before .before .before .before .before .before .before .before .before .loop-test .taken, c .before .before .before .before .before .before .before .before .before .before .before .before .before .before .before .before .before .before .pre .lent .values, c .before .before .before .before .before .before .before .before .before .before .before .before .before .before .before .before .before .before .pre .lent .sigmas)
 
 add-link-requires-2 : tie.Need-add-link-requires-2 Inv-loop μ-loop
-add-link-requires-2 c κs = let h = c .before .before .before .before .before .before .before .before .before .before .before .before .before .before .before .before .before .before .pre .1 .below _ (c .before .before .before .before .before .before .before .before .before .before .before .before .loop-test .taken) in
-    (omega (arith, c .before .before .before .before .before .before .before .before .before .before .before .before .before .before .before .before .before .before .pre .0, h, c .before .before .before .before .before .before .before .before .before .before .before .before .before .loop .inv .long, c .before .before .before .before .before .add-link .kept .0), link-y-needs _ _ _ (measured (c .before .before .before .before .before .before .before .before .before .before .before .before .before .before .before .before .before .before .args .count) (c .before .before .before .before .before .before .before .before .before .before .before .before .before .before .before .before .before .before .args .index .now) (c .before .before .before .before .before .before .before .before .before .before .before .before .before .before .before .before .before .before .args .value .now) (c .before .before .before .before .before .before .before .before .before .before .before .before .before .before .before .before .before .before .args .sigma .now)) _ _ (c .before .before .before .before .before .before .before .before .before .before .before .before .before .loop .inv) (c .before .before .before .before .before .before .before .before .before .before .before .before .loop-test .taken) (omega (arith, h)) _ refl _ (c .before .before .before .before .before .before .before .before .before .float .ensures) _ _ (c .before .before .before .before .before .add-link .ensures) (c .before .before .before .before .before .add-link .kept .0) .0, link-y-needs _ _ _ (measured (c .before .before .before .before .before .before .before .before .before .before .before .before .before .before .before .before .before .before .args .count) (c .before .before .before .before .before .before .before .before .before .before .before .before .before .before .before .before .before .before .args .index .now) (c .before .before .before .before .before .before .before .before .before .before .before .before .before .before .before .before .before .before .args .value .now) (c .before .before .before .before .before .before .before .before .before .before .before .before .before .before .before .before .before .before .args .sigma .now)) _ _ (c .before .before .before .before .before .before .before .before .before .before .before .before .before .loop .inv) (c .before .before .before .before .before .before .before .before .before .before .before .before .loop-test .taken) (omega (arith, h)) _ refl _ (c .before .before .before .before .before .before .before .before .before .float .ensures) _ _ (c .before .before .before .before .before .add-link .ensures) (c .before .before .before .before .before .add-link .kept .0) .1)
+add-link-requires-2 c κs = let h = c .before .before .before .before .before .before .before .before .before .before .before .before .before .before .before .before .before .before .pre .lent .below _ (c .before .before .before .before .before .before .before .before .before .before .before .before .loop-test .taken) in
+    (omega (arith, c .before .before .before .before .before .before .before .before .before .before .before .before .before .before .before .before .before .before .pre .scales, h, c .before .before .before .before .before .before .before .before .before .before .before .before .before .loop .inv .long, c .before .before .before .before .before .add-link .kept .0), link-y-needs _ _ _ (measured (c .before .before .before .before .before .before .before .before .before .before .before .before .before .before .before .before .before .before .args .count) (c .before .before .before .before .before .before .before .before .before .before .before .before .before .before .before .before .before .before .args .index .now) (c .before .before .before .before .before .before .before .before .before .before .before .before .before .before .before .before .before .before .args .value .now) (c .before .before .before .before .before .before .before .before .before .before .before .before .before .before .before .before .before .before .args .sigma .now)) _ _ (c .before .before .before .before .before .before .before .before .before .before .before .before .before .loop .inv) (c .before .before .before .before .before .before .before .before .before .before .before .before .loop-test .taken) (omega (arith, h)) _ refl _ (c .before .before .before .before .before .before .before .before .before .float .ensures) _ _ (c .before .before .before .before .before .add-link .ensures) (c .before .before .before .before .before .add-link .kept .0) .0, link-y-needs _ _ _ (measured (c .before .before .before .before .before .before .before .before .before .before .before .before .before .before .before .before .before .before .args .count) (c .before .before .before .before .before .before .before .before .before .before .before .before .before .before .before .before .before .before .args .index .now) (c .before .before .before .before .before .before .before .before .before .before .before .before .before .before .before .before .before .before .args .value .now) (c .before .before .before .before .before .before .before .before .before .before .before .before .before .before .before .before .before .before .args .sigma .now)) _ _ (c .before .before .before .before .before .before .before .before .before .before .before .before .before .loop .inv) (c .before .before .before .before .before .before .before .before .before .before .before .before .loop-test .taken) (omega (arith, h)) _ refl _ (c .before .before .before .before .before .before .before .before .before .float .ensures) _ _ (c .before .before .before .before .before .add-link .ensures) (c .before .before .before .before .before .add-link .kept .0) .1)
 
 add-add-link-3 : tie.Need-add-add-link-3 Inv-loop μ-loop
-add-add-link-3 c = omega (arith, c .before .before .before .before .before .before .before .before .before .before .before .before .before .before .before .before .loop-test .taken, c .before .before .before .before .before .before .before .before .before .before .before .before .before .before .before .before .before .before .before .before .before .before .pre .1 .values, c .before .before .before .before .before .before .before .before .before .before .before .before .before .before .before .before .before .before .before .before .before .before .pre .1 .sigmas, c .before .before .before .before .before .before .before .before .before .before .before .before .before .before .before .before .before .before .before .before .before .before .fits)
+add-add-link-3 c = omega (arith, c .before .before .before .before .before .before .before .before .before .before .before .before .before .before .before .before .loop-test .taken, c .before .before .before .before .before .before .before .before .before .before .before .before .before .before .before .before .before .before .before .before .before .before .pre .lent .values, c .before .before .before .before .before .before .before .before .before .before .before .before .before .before .before .before .before .before .before .before .before .before .pre .lent .sigmas, c .before .before .before .before .before .before .before .before .before .before .before .before .before .before .before .before .before .before .before .before .before .before .fits)
 
 mul-add-link-5 : tie.Need-mul-add-link-5 Inv-loop μ-loop
-mul-add-link-5 c = omega (arith, c .before .before .before .before .before .before .before .before .before .before .before .before .before .before .before .before .loop-test .taken, c .before .before .before .before .before .before .before .before .before .before .before .before .before .before .before .before .before .before .before .before .before .before .pre .1 .values, c .before .before .before .before .before .before .before .before .before .before .before .before .before .before .before .before .before .before .before .before .before .before .pre .1 .sigmas, c .before .before .before .before .before .before .before .before .before .before .before .before .before .before .before .before .before .before .before .before .before .before .fits)
+mul-add-link-5 c = omega (arith, c .before .before .before .before .before .before .before .before .before .before .before .before .before .before .before .before .loop-test .taken, c .before .before .before .before .before .before .before .before .before .before .before .before .before .before .before .before .before .before .before .before .before .before .pre .lent .values, c .before .before .before .before .before .before .before .before .before .before .before .before .before .before .before .before .before .before .before .before .before .before .pre .lent .sigmas, c .before .before .before .before .before .before .before .before .before .before .before .before .before .before .before .before .before .before .before .before .before .before .fits)
 
 shared-slice-read-add-link-5 : tie.Need-shared-slice-read-add-link-5 Inv-loop μ-loop
-shared-slice-read-add-link-5 c = omega (arith, c .before .before .before .before .before .before .before .before .before .before .before .before .before .before .before .before .before .loop-test .taken, c .before .before .before .before .before .before .before .before .before .before .before .before .before .before .before .before .before .before .before .before .before .before .before .pre .1 .values, c .before .before .before .before .before .before .before .before .before .before .before .before .before .before .before .before .before .before .before .before .before .before .before .pre .1 .sigmas)
+shared-slice-read-add-link-5 c = omega (arith, c .before .before .before .before .before .before .before .before .before .before .before .before .before .before .before .before .before .loop-test .taken, c .before .before .before .before .before .before .before .before .before .before .before .before .before .before .before .before .before .before .before .before .before .before .before .pre .lent .values, c .before .before .before .before .before .before .before .before .before .before .before .before .before .before .before .before .before .before .before .before .before .before .before .pre .lent .sigmas)
 
 add-add-link-4 : tie.Need-add-add-link-4 Inv-loop μ-loop
-add-add-link-4 c = omega (arith, c .before .before .before .before .before .before .before .before .before .before .before .before .before .before .before .before .before .loop-test .taken, c .before .before .before .before .before .before .before .before .before .before .before .before .before .before .before .before .before .before .before .before .before .before .before .pre .1 .values, c .before .before .before .before .before .before .before .before .before .before .before .before .before .before .before .before .before .before .before .before .before .before .before .pre .1 .sigmas, c .before .before .before .before .before .before .before .before .before .before .before .before .before .before .before .before .before .before .before .before .before .before .before .fits)
+add-add-link-4 c = omega (arith, c .before .before .before .before .before .before .before .before .before .before .before .before .before .before .before .before .before .loop-test .taken, c .before .before .before .before .before .before .before .before .before .before .before .before .before .before .before .before .before .before .before .before .before .before .before .pre .lent .values, c .before .before .before .before .before .before .before .before .before .before .before .before .before .before .before .before .before .before .before .before .before .before .before .pre .lent .sigmas, c .before .before .before .before .before .before .before .before .before .before .before .before .before .before .before .before .before .before .before .before .before .before .before .fits)
 
 mul-add-link-6 : tie.Need-mul-add-link-6 Inv-loop μ-loop
-mul-add-link-6 c = omega (arith, c .before .before .before .before .before .before .before .before .before .before .before .before .before .before .before .before .before .loop-test .taken, c .before .before .before .before .before .before .before .before .before .before .before .before .before .before .before .before .before .before .before .before .before .before .before .pre .1 .values, c .before .before .before .before .before .before .before .before .before .before .before .before .before .before .before .before .before .before .before .before .before .before .before .pre .1 .sigmas, c .before .before .before .before .before .before .before .before .before .before .before .before .before .before .before .before .before .before .before .before .before .before .before .fits)
+mul-add-link-6 c = omega (arith, c .before .before .before .before .before .before .before .before .before .before .before .before .before .before .before .before .before .loop-test .taken, c .before .before .before .before .before .before .before .before .before .before .before .before .before .before .before .before .before .before .before .before .before .before .before .pre .lent .values, c .before .before .before .before .before .before .before .before .before .before .before .before .before .before .before .before .before .before .before .before .before .before .before .pre .lent .sigmas, c .before .before .before .before .before .before .before .before .before .before .before .before .before .before .before .before .before .before .before .before .before .before .before .fits)
 
 shared-slice-read-add-link-6 : tie.Need-shared-slice-read-add-link-6 Inv-loop μ-loop
-shared-slice-read-add-link-6 c = omega (arith, c .before .before .before .before .before .before .before .before .before .before .before .before .before .before .before .before .before .before .loop-test .taken, c .before .before .before .before .before .before .before .before .before .before .before .before .before .before .before .before .before .before .before .before .before .before .before .before .pre .1 .values, c .before .before .before .before .before .before .before .before .before .before .before .before .before .before .before .before .before .before .before .before .before .before .before .before .pre .1 .sigmas)
+shared-slice-read-add-link-6 c = omega (arith, c .before .before .before .before .before .before .before .before .before .before .before .before .before .before .before .before .before .before .loop-test .taken, c .before .before .before .before .before .before .before .before .before .before .before .before .before .before .before .before .before .before .before .before .before .before .before .before .pre .lent .values, c .before .before .before .before .before .before .before .before .before .before .before .before .before .before .before .before .before .before .before .before .before .before .before .before .pre .lent .sigmas)
 
 add-link-requires-3 : tie.Need-add-link-requires-3 Inv-loop μ-loop
-add-link-requires-3 c κs = let h = c .before .before .before .before .before .before .before .before .before .before .before .before .before .before .before .before .before .before .before .before .before .before .before .before .pre .1 .below _ (c .before .before .before .before .before .before .before .before .before .before .before .before .before .before .before .before .before .before .loop-test .taken) in (
-  omega (arith, c .before .before .before .before .before .before .before .before .before .before .before .before .before .before .before .before .before .before .before .before .before .before .before .before .pre .0, h, c .before .before .before .before .before .before .before .before .before .before .before .before .before .before .before .before .before .before .before .loop .inv .long, c .before .before .before .before .before .before .before .before .before .before .before .add-link .kept .0, c .before .before .before .before .before .add-link2 .kept .0),
+add-link-requires-3 c κs = let h = c .before .before .before .before .before .before .before .before .before .before .before .before .before .before .before .before .before .before .before .before .before .before .before .before .pre .lent .below _ (c .before .before .before .before .before .before .before .before .before .before .before .before .before .before .before .before .before .before .loop-test .taken) in (
+  omega (arith, c .before .before .before .before .before .before .before .before .before .before .before .before .before .before .before .before .before .before .before .before .before .before .before .before .pre .scales, h, c .before .before .before .before .before .before .before .before .before .before .before .before .before .before .before .before .before .before .before .loop .inv .long, c .before .before .before .before .before .before .before .before .before .before .before .add-link .kept .0, c .before .before .before .before .before .add-link2 .kept .0),
   link-z-needs _ _ _ (measured (c .before .before .before .before .before .before .before .before .before .before .before .before .before .before .before .before .before .before .before .before .before .before .before .before .args .count) (c .before .before .before .before .before .before .before .before .before .before .before .before .before .before .before .before .before .before .before .before .before .before .before .before .args .index .now) (c .before .before .before .before .before .before .before .before .before .before .before .before .before .before .before .before .before .before .before .before .before .before .before .before .args .value .now) (c .before .before .before .before .before .before .before .before .before .before .before .before .before .before .before .before .before .before .before .before .before .before .before .before .args .sigma .now)) _ _ (c .before .before .before .before .before .before .before .before .before .before .before .before .before .before .before .before .before .before .before .loop .inv) (c .before .before .before .before .before .before .before .before .before .before .before .before .before .before .before .before .before .before .loop-test .taken) (omega (arith, h)) _ refl _ (c .before .before .before .before .before .before .before .before .before .before .before .before .before .before .before .float .ensures) _ _ (c .before .before .before .before .before .before .before .before .before .before .before .add-link .ensures) (c .before .before .before .before .before .before .before .before .before .before .before .add-link .kept .0) _ _ (c .before .before .before .before .before .add-link2 .ensures) (c .before .before .before .before .before .add-link2 .kept .0) .0,
   link-z-needs _ _ _ (measured (c .before .before .before .before .before .before .before .before .before .before .before .before .before .before .before .before .before .before .before .before .before .before .before .before .args .count) (c .before .before .before .before .before .before .before .before .before .before .before .before .before .before .before .before .before .before .before .before .before .before .before .before .args .index .now) (c .before .before .before .before .before .before .before .before .before .before .before .before .before .before .before .before .before .before .before .before .before .before .before .before .args .value .now) (c .before .before .before .before .before .before .before .before .before .before .before .before .before .before .before .before .before .before .before .before .before .before .before .before .args .sigma .now)) _ _ (c .before .before .before .before .before .before .before .before .before .before .before .before .before .before .before .before .before .before .before .loop .inv) (c .before .before .before .before .before .before .before .before .before .before .before .before .before .before .before .before .before .before .loop-test .taken) (omega (arith, h)) _ refl _ (c .before .before .before .before .before .before .before .before .before .before .before .before .before .before .before .float .ensures) _ _ (c .before .before .before .before .before .before .before .before .before .before .before .add-link .ensures) (c .before .before .before .before .before .before .before .before .before .before .before .add-link .kept .0) _ _ (c .before .before .before .before .before .add-link2 .ensures) (c .before .before .before .before .before .add-link2 .kept .0) .1,
 )
@@ -122,18 +122,18 @@ same-length : tie.Need-same-length Inv-loop μ-loop
 same-length c = c .before .before .before .add-link3 .kept .0 ∙ c .before .before .before .before .before .before .before .before .before .add-link2 .kept .0 ∙ c .before .before .before .before .before .before .before .before .before .before .before .before .before .before .before .add-link .kept .0 ∙ c .before .before .before .before .before .before .before .before .before .before .before .before .before .before .before .before .before .before .before .before .before .before .before .loop .inv .long
 
 returns : tie.Need-returns Inv-loop μ-loop
-returns c = let h = c .before .before .before .before .before .before .before .before .before .before .before .before .before .before .before .before .before .before .before .before .before .before .before .before .before .before .before .before .pre .1 .below _ (c .before .before .before .before .before .before .before .before .before .before .before .before .before .before .before .before .before .before .before .before .before .before .loop-test .taken) in
+returns c = let h = c .before .before .before .before .before .before .before .before .before .before .before .before .before .before .before .before .before .before .before .before .before .before .before .before .before .before .before .before .pre .lent .below _ (c .before .before .before .before .before .before .before .before .before .before .before .before .before .before .before .before .before .before .before .before .before .before .loop-test .taken) in
     links-end _ _ _ (measured (c .before .before .before .before .before .before .before .before .before .before .before .before .before .before .before .before .before .before .before .before .before .before .before .before .before .before .before .before .args .count) (c .before .before .before .before .before .before .before .before .before .before .before .before .before .before .before .before .before .before .before .before .before .before .before .before .before .before .before .before .args .index .now) (c .before .before .before .before .before .before .before .before .before .before .before .before .before .before .before .before .before .before .before .before .before .before .before .before .before .before .before .before .args .value .now) (c .before .before .before .before .before .before .before .before .before .before .before .before .before .before .before .before .before .before .before .before .before .before .before .before .before .before .before .before .args .sigma .now)) _ _ (c .before .before .before .before .before .before .before .before .before .before .before .before .before .before .before .before .before .before .before .before .before .before .before .loop .inv) (c .before .before .before .before .before .before .before .before .before .before .before .before .before .before .before .before .before .before .before .before .before .before .loop-test .taken) (omega (arith, h)) _ refl _ (c .before .before .before .before .before .before .before .before .before .before .before .before .before .before .before .before .before .before .before .float .ensures) _ _ (c .before .before .before .before .before .before .before .before .before .before .before .before .before .before .before .add-link .ensures) (c .before .before .before .before .before .before .before .before .before .before .before .before .before .before .before .add-link .kept .0) _ _ (c .before .before .before .before .before .before .before .before .before .add-link2 .ensures) (c .before .before .before .before .before .before .before .before .before .add-link2 .kept .0)
     _ _ (c .before .before .before .add-link3 .ensures) (c .before .before .before .add-link3 .kept .0) (not-true _ (c .if1 .taken))
 
 add-j : tie.Need-add-j Inv-loop μ-loop
-add-j c = omega (arith, c .before .before .before .before .before .before .before .before .before .before .before .before .before .before .before .before .before .before .before .before .before .before .loop-test .taken, c .before .before .before .before .before .before .before .before .before .before .before .before .before .before .before .before .before .before .before .before .before .before .before .before .before .before .before .before .pre .1 .values, c .before .before .before .before .before .before .before .before .before .before .before .before .before .before .before .before .before .before .before .before .before .before .before .before .before .before .before .before .pre .1 .sigmas, c .before .before .before .before .before .before .before .before .before .before .before .before .before .before .before .before .before .before .before .before .before .before .before .before .before .before .before .before .fits)
+add-j c = omega (arith, c .before .before .before .before .before .before .before .before .before .before .before .before .before .before .before .before .before .before .before .before .before .before .loop-test .taken, c .before .before .before .before .before .before .before .before .before .before .before .before .before .before .before .before .before .before .before .before .before .before .before .before .before .before .before .before .pre .lent .values, c .before .before .before .before .before .before .before .before .before .before .before .before .before .before .before .before .before .before .before .before .before .before .before .before .before .before .before .before .pre .lent .sigmas, c .before .before .before .before .before .before .before .before .before .before .before .before .before .before .before .before .before .before .before .before .before .before .before .before .before .before .before .before .fits)
 
 loop-less : tie.Need-loop-less Inv-loop μ-loop
 loop-less c = omega (arith, c .before .before .before .before .before .before .before .before .before .before .before .before .before .before .before .before .before .before .before .before .before .before .loop-test .taken)
 
 loop-again : tie.Need-loop-again Inv-loop μ-loop
-loop-again c = let h = c .before .before .before .before .before .before .before .before .before .before .before .before .before .before .before .before .before .before .before .before .before .before .before .before .before .before .before .before .pre .1 .below _ (c .before .before .before .before .before .before .before .before .before .before .before .before .before .before .before .before .before .before .before .before .before .before .loop-test .taken) in
+loop-again c = let h = c .before .before .before .before .before .before .before .before .before .before .before .before .before .before .before .before .before .before .before .before .before .before .before .before .before .before .before .before .pre .lent .below _ (c .before .before .before .before .before .before .before .before .before .before .before .before .before .before .before .before .before .before .before .before .before .before .loop-test .taken) in
     links-more _ _ _ (measured (c .before .before .before .before .before .before .before .before .before .before .before .before .before .before .before .before .before .before .before .before .before .before .before .before .before .before .before .before .args .count) (c .before .before .before .before .before .before .before .before .before .before .before .before .before .before .before .before .before .before .before .before .before .before .before .before .before .before .before .before .args .index .now) (c .before .before .before .before .before .before .before .before .before .before .before .before .before .before .before .before .before .before .before .before .before .before .before .before .before .before .before .before .args .value .now) (c .before .before .before .before .before .before .before .before .before .before .before .before .before .before .before .before .before .before .before .before .before .before .before .before .before .before .before .before .args .sigma .now)) _ _ (c .before .before .before .before .before .before .before .before .before .before .before .before .before .before .before .before .before .before .before .before .before .before .before .loop .inv) (c .before .before .before .before .before .before .before .before .before .before .before .before .before .before .before .before .before .before .before .before .before .before .loop-test .taken) (omega (arith, h)) _ refl _ (c .before .before .before .before .before .before .before .before .before .before .before .before .before .before .before .before .before .before .before .float .ensures) _ _ (c .before .before .before .before .before .before .before .before .before .before .before .before .before .before .before .add-link .ensures) (c .before .before .before .before .before .before .before .before .before .before .before .before .before .before .before .add-link .kept .0) _ _ (c .before .before .before .before .before .before .before .before .before .add-link2 .ensures) (c .before .before .before .before .before .before .before .before .before .add-link2 .kept .0)
     _ _ (c .before .before .before .add-link3 .ensures) (c .before .before .before .add-link3 .kept .0) (not-false _ (c .if1 .left))
 

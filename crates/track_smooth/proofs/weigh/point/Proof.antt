@@ -1,4 +1,5 @@
 use Rattle.track_tridiagonal.proofs.Cells.{readable}
+use native.Mathlib.Omega.{arith}
 use borrow.Author.Needs.{needs}
 use Rattle.track_smooth.proofs.weigh.point.Statement.{statement}
 use Rattle.track_smooth.proofs.weigh.point.Tie as tie
@@ -10,7 +11,7 @@ shared-slice-read-x : tie.Need-shared-slice-read-x
 shared-slice-read-x c = search needs
 
 float-from-bits-x : tie.Need-float-from-bits-x
-float-from-bits-x c = readable _ (c .before .pre .1 .first)
+float-from-bits-x c = readable _ (c .before .pre .1 .number _ (omega (arith, c .before .pre .0)))
 
 add-y : tie.Need-add-y
 add-y c = search needs
@@ -22,7 +23,7 @@ shared-slice-read-y : tie.Need-shared-slice-read-y
 shared-slice-read-y c = search needs
 
 float-from-bits-y : tie.Need-float-from-bits-y
-float-from-bits-y c = readable _ (c .before .before .pre .1 .second)
+float-from-bits-y c = readable _ (c .before .before .pre .1 .number _ (omega (arith, c .before .before .pre .0)))
 
 add-z : tie.Need-add-z
 add-z c = search needs
@@ -34,7 +35,7 @@ shared-slice-read-z : tie.Need-shared-slice-read-z
 shared-slice-read-z c = search needs
 
 float-from-bits-z : tie.Need-float-from-bits-z
-float-from-bits-z c = readable _ (c .before .before .before .pre .1 .third)
+float-from-bits-z c = readable _ (c .before .before .before .pre .1 .number _ (omega (arith, c .before .before .before .pre .0)))
 
 returns : tie.Need-returns
 returns c = search needs

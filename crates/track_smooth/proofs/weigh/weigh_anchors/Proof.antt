@@ -1,4 +1,4 @@
-use Rattle.track_smooth.proofs.Weights.{weighed-none, weighed-all, anchor-weighed, point-needs}
+use Rattle.track_smooth.proofs.Weights.{weighed-none, weighed-all, anchor-weighed, at-point}
 use Rattle.track_smooth.specs.Steps.{Weighed, fitIn}
 use Rattle.track_smooth.specs.Track.{anchorScale}
 use Rattle.track_pass.specs.Input.{measured}
@@ -26,31 +26,31 @@ shared-slice-read-i : tie.Need-shared-slice-read-i Inv-loop μ-loop
 shared-slice-read-i c = omega arith
 
 mul-i-2 : tie.Need-mul-i-2 Inv-loop μ-loop
-mul-i-2 c = let h = c .before .before .before .before .before .before .before .before .pre .1 .below _ (c .before .loop-test .taken) in omega (arith, h)
+mul-i-2 c = let h = c .before .before .before .before .before .before .before .before .pre .lent .below _ (c .before .loop-test .taken) in omega (arith, h)
 
 point-requires : tie.Need-point-requires Inv-loop μ-loop
-point-requires c κs = let h = c .before .before .before .before .before .before .before .before .pre .1 .below _ (c .before .loop-test .taken) in (omega (arith, h), point-needs _ _ (c .before .before .before .before .before .before .before .before .pre .0 .2) (omega (arith, h)))
+point-requires c κs = let h = c .before .before .before .before .before .before .before .before .pre .lent .below _ (c .before .loop-test .taken) in (omega (arith, h), c .before .before .before .before .before .before .before .before .pre .numbers)
 
 mul-scale : tie.Need-mul-scale Inv-loop μ-loop
-mul-scale c = omega (arith, c .before .before .loop-test .taken, c .before .before .before .before .before .before .before .before .before .pre .1 .values, c .before .before .before .before .before .before .before .before .before .fits)
+mul-scale c = omega (arith, c .before .before .loop-test .taken, c .before .before .before .before .before .before .before .before .before .pre .lent .values, c .before .before .before .before .before .before .before .before .before .fits)
 
 scale-requires : tie.Need-scale-requires Inv-loop μ-loop
-scale-requires c κs = (omega (arith, c .before .before .loop-test .taken, c .before .before .before .before .before .before .before .before .before .pre .1 .values), omega (arith, c .before .before .loop-test .taken, c .before .before .before .before .before .before .before .before .before .pre .1 .sigmas), c .before .before .before .before .before .before .before .before .before .pre .0 .1)
+scale-requires c κs = (omega (arith, c .before .before .loop-test .taken, c .before .before .before .before .before .before .before .before .before .pre .lent .values), omega (arith, c .before .before .loop-test .taken, c .before .before .before .before .before .before .before .before .before .pre .lent .sigmas), c .before .before .before .before .before .before .before .before .before .pre .limit)
 
 pattern-requires : tie.Need-pattern-requires Inv-loop μ-loop
 pattern-requires c κs = search needs
 
 add-w : tie.Need-add-w Inv-loop μ-loop
-add-w c = omega (arith, c .before .before .before .before .loop-test .taken, c .before .before .before .before .before .before .before .before .before .before .before .pre .0 .0)
+add-w c = omega (arith, c .before .before .before .before .loop-test .taken, c .before .before .before .before .before .before .before .before .before .before .before .pre .room)
 
 mul-w : tie.Need-mul-w Inv-loop μ-loop
 mul-w c = omega arith
 
 slice-write-w : tie.Need-slice-write-w Inv-loop μ-loop
-slice-write-w c = omega (arith, c .before .before .before .before .loop-test .taken, c .before .before .before .before .before .before .before .before .before .before .before .pre .0 .0, c .before .before .before .before .before .loop .inv .1)
+slice-write-w c = omega (arith, c .before .before .before .before .loop-test .taken, c .before .before .before .before .before .before .before .before .before .before .before .pre .room, c .before .before .before .before .before .loop .inv .1)
 
 add-j : tie.Need-add-j Inv-loop μ-loop
-add-j c = omega (arith, c .before .before .before .before .loop-test .taken, c .before .before .before .before .before .before .before .before .before .before .before .pre .0 .0)
+add-j c = omega (arith, c .before .before .before .before .loop-test .taken, c .before .before .before .before .before .before .before .before .before .before .before .pre .room)
 
 loop-less : tie.Need-loop-less Inv-loop μ-loop
 loop-less c = omega (arith, c .before .before .before .before .loop-test .taken)
@@ -59,7 +59,7 @@ loop-again : tie.Need-loop-again Inv-loop μ-loop
 loop-again c = let i = c .before .before .before .before .before .loop .inv in (
   omega (arith, c .before .before .before .before .loop-test .taken),
   simp length-set (i .1),
-  anchor-weighed (measured (c .before .before .before .before .before .before .before .before .before .before .before .args .count) (c .before .before .before .before .before .before .before .before .before .before .before .args .index .now) (c .before .before .before .before .before .before .before .before .before .before .before .args .value .now) (c .before .before .before .before .before .before .before .before .before .before .before .args .sigma .now)) _ (c .before .before .before .before .before .before .before .before .before .before .before .args .r .now) _ _ _ _ (omega (arith, c .before .before .before .before .loop-test .taken, c .before .before .before .before .before .before .before .before .before .before .before .pre .0 .0, i .1)) (c .before .scale .result) (c .before .before .point .result .x) (c .before .before .point .result .y) (c .before .before .point .result .z) _ (c .pattern .ensures) (c .before .scale .ensures) (c .before .before .point .ensures) (i .2),
+  anchor-weighed (measured (c .before .before .before .before .before .before .before .before .before .before .before .args .count) (c .before .before .before .before .before .before .before .before .before .before .before .args .index .now) (c .before .before .before .before .before .before .before .before .before .before .before .args .value .now) (c .before .before .before .before .before .before .before .before .before .before .before .args .sigma .now)) _ (c .before .before .before .before .before .before .before .before .before .before .before .args .r .now) _ _ _ _ (omega (arith, c .before .before .before .before .loop-test .taken, c .before .before .before .before .before .before .before .before .before .before .before .pre .room, i .1)) (c .before .scale .result) (c .before .before .point .result .x) (c .before .before .point .result .y) (c .before .before .point .result .z) _ (c .pattern .ensures) (c .before .scale .ensures) (at-point (c .before .before .before .before .before .before .before .before .before .before .before .args .r .now) _ _ (c .before .before .point .ensures)) (i .2),
 )
 
 same-length : tie.Need-same-length Inv-loop μ-loop

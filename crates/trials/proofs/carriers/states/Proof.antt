@@ -10,7 +10,8 @@ use Rattle.exact.specs.Pattern.{sign, exponent, digits}
 use Rattle.numeric.specs.Order.{isNanPattern, isQuiet, payload, payloadOrder, unordered, totalOrder, patternOf}
 use Rattle.median.specs.Sorted.{insertBy, sortedBy, medianOf}
 use Rattle.median.specs.Centre.{centreOf}
-use Rattle.estimate_rounds.specs.Rules.{ruled, rowRules}
+use Rattle.numeric.specs.Rules.{ruled}
+use Rattle.estimate_rounds.specs.Rules.{rowRules}
 use Rattle.records.specs.Record.{placeable, isElevation, soundCarrier, unsigned, bitSet, usable, same}
 use Rattle.clocks.specs.Clocks.{has, appearing, slotFrom, clocksIn, clocksOf}
 use Rattle.records.specs.Pair.{pairOf, firstPair, pairAt, pairsOf}

@@ -4,6 +4,7 @@ use borrow.Author.Needs.{needs}
 use Rattle.records.specs.declared.record.Epoch.{Epoch}
 use Rattle.tdcp.specs.Displacement.{general, displacementOf}
 use Rattle.tdcp.proofs.DisplacementSound.{promised}
+use Rattle.tdcp.proofs.RatedLaws.{plain-is}
 use Rattle.wire_tdcp.proofs.DisplacementLaws.{laid-count, laid-fits, laid-is}
 use Rattle.wire_tdcp.proofs.displacement.displacement_of.Statement.{statement}
 use Rattle.wire_tdcp.proofs.displacement.displacement_of.Tie as tie
@@ -49,14 +50,17 @@ displaced-requires c κs =
     let s = x .before .before .before .before .before .before in
     (laid-fits _ (x .carriers-into .ensures) (s .pre .0), laid-fits _ (y .carriers-into2 .ensures) (s .pre .1))
 
+plain-requires : tie.Need-plain-requires
+plain-requires c κs = search needs
+
 returns : tie.Need-returns
 returns c =
-    let y = c .before .before .before .before .before .before .before in
+    let y = c .before .before .before .before .before .before .before .before in
     let x = y .before .before .before .before in
     let s = x .before .before .before .before .before .before in
     let a = s .args in
     promised _ _
-    (c .displaced .ensures .answer
+    (c .plain .ensures ∙ plain-is _ (c .before .displaced .ensures .answer)
     ∙ ap₂ (λ (p q : Epoch). displacementOf (general p q (a .dt) (a .receiver) (a .settings))) (laid-is _ (x .carriers-into .ensures) (s .pre .0)) (laid-is _ (y .carriers-into2 .ensures) (s .pre .1)))
 
 pub displacement-of-spec : {M : Type 1} → statement M
@@ -74,4 +78,5 @@ displacement-of-spec =
     slice-aggregate-displaced-5
     slice-aggregate-displaced-6
     displaced-requires
+    plain-requires
     returns)

@@ -1,13 +1,12 @@
 -- `wls::valid::all_sound_observations` meets its contract. Assumes nothing.
 use Rattle.lists.specs.Walk.{every}
 use native.Mathlib.Omega.{arith}
-use lib.ListN.{length}
+use lib.ListN.{length, drop, take}
 use borrow.Author.Tests.{not-true, not-false}
 use Rattle.lists.proofs.Walk.{length-mapped, every-yes, every-no, every-end}
 use Rattle.records.proofs.RecordLaws.{blankObservation}
 use mathlib.Core.Path.{_≡_, refl}
 use Prim.Native.Nat.{_≤_, _-_}
-use lib.ListN.{drop, take}
 use borrow.Author.Needs.{needs}
 use Rattle.records.specs.Record.{soundObservation}
 use Rattle.wls.proofs.valid.all_sound_observations.Statement.{statement}

@@ -1,6 +1,6 @@
 -- `wls::valid::check_fix` meets its contract: each answer follows from the tests on the way to it. Assumes nothing.
 use borrow.Author.Tests.{lt-ltb, le-ltb}
-use Rattle.estimate_rounds.specs.Rules.{ruled}
+use Rattle.numeric.specs.Rules.{ruled}
 use Rattle.wls.specs.Valid.{fixInputRules}
 use borrow.Author.Needs.{needs}
 use Rattle.wls.proofs.valid.check_fix.Statement.{statement}

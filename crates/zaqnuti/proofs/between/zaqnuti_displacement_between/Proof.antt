@@ -11,7 +11,9 @@ answer-into-requires : tie.Need-answer-into-requires
 answer-into-requires c κs = search needs
 
 returns : tie.Need-returns
-returns c = answers _ (c .before .before .before .columns-displaced .ensures) (c .answer-into .ensures)
+returns c =
+    let a = answers _ (c .before .before .before .columns-displaced .ensures) (c .answer-into .ensures) in
+    record { leaves = record { number-is = a .leaves .number-is; delta-is = a .leaves .delta-is; counts-are = a .leaves .counts-are }; accepted = a .accepted }
 
 pub zaqnuti-displacement-between-spec : {M : Type 1} → statement M
 zaqnuti-displacement-between-spec = tie.close (tie.spec columns-displaced-requires answer-into-requires returns)

@@ -9,21 +9,6 @@ use Rattle.corrections_convert.proofs.NumberLaws.{lists-number}
 use Rattle.zaqnuti.proofs.forms.zaqnuti_signals_of.Statement.{statement}
 use Rattle.zaqnuti.proofs.forms.zaqnuti_signals_of.Tie as tie
 
-signals-of-requires : tie.Need-signals-of-requires
-signals-of-requires c κs = search needs
-
-listing-number-requires : tie.Need-listing-number-requires
-listing-number-requires c κs = search needs
-
-same-length : tie.Need-same-length
-same-length c = search needs
-
-same-length-2 : tie.Need-same-length-2
-same-length-2 c = search needs
-
-same-length-3 : tie.Need-same-length-3
-same-length-3 c = search needs
-
 returns : tie.Need-returns
 returns c =
     let a = c .before .before .before .before .before .before .before .before .before .before .before .before .before .before .before .before .before .before .before .before .before .args in
@@ -31,4 +16,4 @@ returns c =
     (lentSamples (a .constellation .now) (a .svid .now) (a .band .now) (a .table-time .now) (a .table-metres .now)) (c .before .before .before .before .before .before .before .signals-of .ensures) (c .listing-number .ensures)
 
 pub zaqnuti-signals-of-spec : {M : Type 1} → statement M
-zaqnuti-signals-of-spec = tie.close (tie.spec signals-of-requires listing-number-requires same-length same-length-2 same-length-3 returns)
+zaqnuti-signals-of-spec = tie.close (tie.spec (λ c κs. search needs) (λ c κs. search needs) (λ c. search needs) (λ c. search needs) (λ c. search needs) returns)

@@ -32,7 +32,7 @@ driven-requires c κs =
     let p = s .before .args .e .pulses in
     let a = accepted (s .before .args .e) (s .before .pre) _ (s .is-sound .ensures) (not-false _ (f .if1 .left)) in
     let moves = and-both (not (not (eqb (s .before .args .e .refused) 0)) && g .is-rated .result) (ltb 0 p) (c .if2 .taken) .1 in
-    (a .is-sound, ltb-true _ _ (a .room), leb-true _ _ (a .within), ltb-true _ _ moves, narrow (c .before))
+    (record { is-sound = a .is-sound; room = ltb-true _ _ (a .room); short = leb-true _ _ (a .within); few = narrow (c .before) }, ltb-true _ _ moves)
 
 returns-2 : tie.Need-returns-2
 returns-2 c =
@@ -46,7 +46,7 @@ grown-requires c κs =
     let f = c .before .before .before .before in
     let s = f .before .before in
     let a = accepted (s .before .args .e) (s .before .pre) _ (s .is-sound .ensures) (not-false _ (f .if1 .left)) in
-    (a .is-sound, ltb-true _ _ (a .room), leb-true _ _ (a .within), search needs)
+    record { is-sound = a .is-sound; room = ltb-true _ _ (a .room); short = leb-true _ _ (a .within); few = search needs }
 
 returns-3 : tie.Need-returns-3
 returns-3 c =

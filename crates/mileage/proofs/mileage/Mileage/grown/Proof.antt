@@ -16,37 +16,37 @@ when-requires-2 : tie.Need-when-requires-2
 when-requires-2 c κs = search needs
 
 add-t12 : tie.Need-add-t12
-add-t12 c = let a = c .before .before .before .before .before in omega (arith, bounds (a .args .self) (a .pre .0))
+add-t12 c = let a = c .before .before .before .before .before in omega (arith, bounds (a .args .self) (a .pre .is-sound))
 
 when-requires-3 : tie.Need-when-requires-3
 when-requires-3 c κs = search needs
 
 add-t16 : tie.Need-add-t16
-add-t16 c = let a = c .before .before .before .before .before .before .before in omega (arith, bounds (a .args .self) (a .pre .0))
+add-t16 c = let a = c .before .before .before .before .before .before .before in omega (arith, bounds (a .args .self) (a .pre .is-sound))
 
 when-requires-4 : tie.Need-when-requires-4
 when-requires-4 c κs = search needs
 
 add-t18 : tie.Need-add-t18
-add-t18 c = let a = c .before .before .before .before .before .before .before .before .before in omega (arith, bounds (a .args .self) (a .pre .0))
+add-t18 c = let a = c .before .before .before .before .before .before .before .before .before in omega (arith, bounds (a .args .self) (a .pre .is-sound))
 
 when-requires-5 : tie.Need-when-requires-5
 when-requires-5 c κs = search needs
 
 add-t21 : tie.Need-add-t21
-add-t21 c = let a = c .before .before .before .before .before .before .before .before .before .before in omega (arith, bounds (a .args .self) (a .pre .0))
+add-t21 c = let a = c .before .before .before .before .before .before .before .before .before .before in omega (arith, bounds (a .args .self) (a .pre .is-sound))
 
 add-t22 : tie.Need-add-t22
-add-t22 c = let a = c .before .before .before .before .before .before .before .before .before .before .before in omega (arith, bounds (a .args .self) (a .pre .0))
+add-t22 c = let a = c .before .before .before .before .before .before .before .before .before .before .before in omega (arith, bounds (a .args .self) (a .pre .is-sound))
 
 when-requires-6 : tie.Need-when-requires-6
 when-requires-6 c κs = search needs
 
 add-t25 : tie.Need-add-t25
-add-t25 c = let a = c .before .before .before .before .before .before .before .before .before .before .before .before .before in omega (arith, bounds (a .args .self) (a .pre .0))
+add-t25 c = let a = c .before .before .before .before .before .before .before .before .before .before .before .before .before in omega (arith, bounds (a .args .self) (a .pre .is-sound))
 
 add-t26 : tie.Need-add-t26
-add-t26 c = let a = c .before .before .before .before .before .before .before .before .before .before .before .before .before .before in omega (arith, bounds (a .args .self) (a .pre .0))
+add-t26 c = let a = c .before .before .before .before .before .before .before .before .before .before .before .before .before .before in omega (arith, bounds (a .args .self) (a .pre .is-sound))
 
 when-requires-7 : tie.Need-when-requires-7
 when-requires-7 c κs = search needs
