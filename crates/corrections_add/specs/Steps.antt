@@ -169,6 +169,16 @@ EntriesWritten c v b f n m samples nc nv nb k =
     → EntriesMerged (entriesUpTo rs (take m (rowsBefore c v b f n)) u m k)
     (before c) (before v) (before b) (before f) (before n) (after c) (after v) (after b) (after f) (after n)
 
+-- k new samples may be entered among m blocks of some samples: the columns have places for all the entries that they make
+abbrev pub Enterable : Slice → Slice → Slice → Slice → Slice → ℕ → ℕ → Slice → Slice → Slice → ℕ → Type 0
+Enterable c v b f n m samples nc nv nb k =
+    Countable c v b f n m samples nc nv nb k × (SomeSignals (now nc) (now nv) (now nb) k
+    × ((r : ℕ) → EntryCount (now c) (now v) (now b) (now f) (now n) m samples (now nc) (now nv) (now nb) k r → r ≤ length (rowsNow c v b f n)))
+
+-- the columns have them, and there are r
+abbrev pub Enters : LentNumbers → LentNumbers → LentNumbers → LentNumbers → LentNumbers → ℕ → ℕ → LentNumbers → LentNumbers → LentNumbers → ℕ → ℕ → Type 0
+Enters c v b f n m samples nc nv nb k r = Counted c v b f n m samples nc nv nb k r × EntriesWritten c v b f n m samples nc nv nb k
+
 -- ---- times and corrections
 
 -- k samples that are sorted

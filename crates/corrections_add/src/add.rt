@@ -8,8 +8,7 @@ ghost use Rattle.corrections_table.specs.Table.{ranged};
 ghost use Rattle.corrections_directory.specs.Lent.{lentTable, tableNow};
 ghost use Rattle.corrections_add.specs.Add.{AddsSamples};
 ghost use Rattle.corrections_add.specs.Steps.{Fitting, Gains, SortedNew, lentSamples, lentTest};
-use crate::entries::entries_after;
-use crate::entries::merge_entries;
+use crate::entries::enter;
 use crate::readings::merge_readings;
 use corrections_directory::patterns::capacity_of;
 use corrections_directory::patterns::is_sound;
@@ -107,19 +106,6 @@ fn merge(
     ensures { λ r. ⌜ Gains (lentSamples «new_count» «new_constellation» «new_svid» «new_band» «new_time» «new_metres») r blocks «table_count» (lentTable
         «block_constellation» «block_svid» «block_band» «block_first» «block_samples» «table_time» «table_metres») ⌝ }
 {
-    let count = entries_after(
-        block_constellation,
-        block_svid,
-        block_band,
-        block_first,
-        block_samples,
-        blocks,
-        table_count,
-        new_constellation,
-        new_svid,
-        new_band,
-        new_count,
-    );
     merge_readings(
         block_constellation,
         block_svid,
@@ -136,7 +122,7 @@ fn merge(
         new_metres,
         new_count,
     );
-    merge_entries(
+    enter(
         block_constellation,
         block_svid,
         block_band,
@@ -148,9 +134,7 @@ fn merge(
         new_svid,
         new_band,
         new_count,
-        count,
-    );
-    count
+    )
 }
 
 // Sorts the first new_count samples of new and merges them into a sound directory that has room for them all. Returns how many entries there are now.

@@ -1,7 +1,7 @@
 // The entries of a directory with new samples, from the back to the front.
 ghost use Prim.Native.Nat.{_≤_, _<_};
 ghost use Rattle.lists.specs.Memory.{before};
-ghost use Rattle.corrections_add.specs.Steps.{Countable, Counted, Ending, EntriesWritten, Found, NewIn, NewLast, OwnFrom, Writable};
+ghost use Rattle.corrections_add.specs.Steps.{Countable, Counted, Ending, Enterable, Enters, EntriesWritten, Found, NewIn, NewLast, OwnFrom, Writable};
 use corrections_directory::entry::signal_at;
 
 // The last entry of the first blocks with the first new samples, and how many blocks and new samples come before it.
@@ -101,7 +101,7 @@ fn last_of(
 }
 
 // Counts the entries that the directory of `blocks` entries and `table_count` samples has with the new samples.
-pub(crate) fn entries_after(
+fn entries_after(
     block_constellation: &[u8],
     block_svid: &[u16],
     block_band: &[u32],
@@ -146,7 +146,7 @@ pub(crate) fn entries_after(
 }
 
 // Writes the `count` entries of the directory of `blocks` entries and `table_count` samples with the new samples. Moves each old one at most once.
-pub(crate) fn merge_entries(
+fn merge_entries(
     block_constellation: &mut [u8],
     block_svid: &mut [u16],
     block_band: &mut [u32],
@@ -193,4 +193,53 @@ pub(crate) fn merge_entries(
         j = last.samples;
         end = last.first;
     }
+}
+
+// Writes the entries of the directory of `blocks` entries and `table_count` samples with the new samples. Returns how many there are.
+pub(crate) fn enter(
+    block_constellation: &mut [u8],
+    block_svid: &mut [u16],
+    block_band: &mut [u32],
+    block_first: &mut [usize],
+    block_samples: &mut [usize],
+    blocks: usize,
+    table_count: usize,
+    new_constellation: &[u8],
+    new_svid: &[u16],
+    new_band: &[u32],
+    new_count: usize,
+) -> usize
+    requires { ⌜ Enterable «block_constellation» «block_svid» «block_band» «block_first» «block_samples» blocks «table_count»
+        «new_constellation» «new_svid» «new_band» «new_count» ⌝ }
+    ensures { λ r. ⌜ Enters «block_constellation» «block_svid» «block_band» «block_first» «block_samples» blocks «table_count»
+        «new_constellation» «new_svid» «new_band» «new_count» r ⌝ }
+{
+    let count = entries_after(
+        block_constellation,
+        block_svid,
+        block_band,
+        block_first,
+        block_samples,
+        blocks,
+        table_count,
+        new_constellation,
+        new_svid,
+        new_band,
+        new_count,
+    );
+    merge_entries(
+        block_constellation,
+        block_svid,
+        block_band,
+        block_first,
+        block_samples,
+        blocks,
+        table_count,
+        new_constellation,
+        new_svid,
+        new_band,
+        new_count,
+        count,
+    );
+    count
 }

@@ -1,9 +1,10 @@
 -- Columns read into records, and the outcome of an entry. Assumes nothing.
 use mathlib.Core.Path.{_≡_, refl, sym, ap, subst, _∙_}
-use mathlib.Core.List.{List}
+use mathlib.Core.List.{List, []}
 use mathlib.Core.Bool.{Bool, true, false, cond, not, or-false, _&&_, _||_}
-use Prim.Native.Nat.{ℕ, _+_, _*_, _≤_}
-use borrow.Author.Tests.{ltb-false}
+use Prim.Native.Nat.{ℕ, _+_, _*_, _≤_, _<_}
+use native.Mathlib.Omega.{arith}
+use borrow.Author.Tests.{ltb-false, lt-ltb}
 use lib.Dec.{ltb}
 use lib.ListN.{length, take}
 use lib.Ieee.{Float}
@@ -22,7 +23,6 @@ use Rattle.corrections_epoch.specs.Record.{vectorInRange, rangeInRange, rangesO
 use Rattle.corrections_epoch.specs.Raw.{rawsOf}
 use Rattle.corrections_epoch.specs.Sample.{epochSamples, samplesOf}
 use Rattle.corrections_epoch.specs.AddEpoch.{tooMany, settingsInRange, recordsInRange, epochPlaced}
-use Rattle.corrections_epoch.proofs.EpochLaws.{told-nothing}
 use Rattle.corrections_epoch.specs.declared.record.Range.{Range}
 use Rattle.corrections_epoch.specs.declared.record.State.{State}
 use Rattle.corrections_epoch.specs.declared.record.BaseEpoch.{BaseEpoch}
@@ -114,6 +114,51 @@ readable k rc rv rb rp m sc sv sb sf e =
       in-sf = ltb-false (length sf) (m * 8) (h .1);
     }
 
+-- ranges alone, and states alone
+pub ranges-in : (k : ℕ) (rc rv rb : List ℕ) (rp : List Float) → rangesShort k rc rv rb rp ≡ false
+    → (k ≤ 64) × (((k ≤ length rc) × (k ≤ length rv)) × ((k ≤ length rb) × (k ≤ length rp)))
+unfolding statesShort
+ranges-in k rc rv rb rp e =
+    let l = readable k rc rv rb rp 0 [] [] [] [] (by-both k rc rv rb rp 0 [] [] [] [] e refl) in
+    (l .few-ranges, ((l .in-rc, l .in-rv), (l .in-rb, l .in-rp)))
+
+pub states-in : (m : ℕ) (sc sv sb : List ℕ) (sf : List Float) → statesShort m sc sv sb sf ≡ false
+    → (m ≤ 64) × (((m ≤ length sc) × (m ≤ length sv)) × ((m ≤ length sb) × (m * 8 ≤ length sf)))
+unfolding rangesShort
+states-in m sc sv sb sf e =
+    let l = readable 0 [] [] [] [] m sc sv sb sf (by-both 0 [] [] [] [] m sc sv sb sf refl e) in
+    (l .few-states, ((l .in-sc, l .in-sv), (l .in-sb, l .in-sf)))
+
+-- how many of k are counted and read, b telling whether they are short
+pub short-many : (b : Bool) (k : ℕ) {count : ℕ} → count ≡ cond b 65 k → b ≡ true → 64 < count
+short-many b k c e = rw (c, e) (omega arith)
+
+pub long-count : (b : Bool) (k : ℕ) {count : ℕ} → count ≡ cond b 65 k → b ≡ false → count ≡ k
+long-count b k c e = rw (c, e) refl
+
+pub long-read : (b : Bool) (k : ℕ) {read : ℕ} → read ≡ cond (not b) k 0 → b ≡ false → read ≡ k
+long-read b k r e = rw (r, e) refl
+
+-- the mark, which a refused count sets
+pub marked-many : (p b : Bool) (k : ℕ) {count : ℕ} (s : States) → s .present ≡ (p || b) → s .count ≡ count → count ≡ cond b 65 k → b ≡ true → 64 < statesCount s
+marked-many true b k s m c h e = rw (m, c, h, e) (omega arith)
+marked-many false b k s m c h e = rw (m, c, h, e) (omega arith)
+
+pub marked-same : (p b : Bool) → b ≡ false → (p || b) ≡ p
+marked-same true b e = refl
+marked-same false b e = e
+
+-- what is read lies in the columns
+pub ranges-read : (b : Bool) (k : ℕ) {read : ℕ} (rc rv rb : List ℕ) (rp : List Float) → b ≡ rangesShort k rc rv rb rp → read ≡ cond (not b) k 0
+    → (read ≤ 64) × (((read ≤ length rc) × (read ≤ length rv)) × ((read ≤ length rb) × (read ≤ length rp)))
+ranges-read true k rc rv rb rp e h = (omega arith, ((omega arith, omega arith), (omega arith, omega arith)))
+ranges-read false k rc rv rb rp e h = rw h (ranges-in k rc rv rb rp (sym e))
+
+pub states-read : (b : Bool) (m : ℕ) {read : ℕ} (sc sv sb : List ℕ) (sf : List Float) → b ≡ statesShort m sc sv sb sf → read ≡ cond (not b) m 0
+    → (read ≤ 64) × (((read ≤ length sc) × (read ≤ length sv)) × ((read ≤ length sb) × (read * 8 ≤ length sf)))
+states-read true m sc sv sb sf e h = (omega arith, ((omega arith, omega arith), (omega arith, omega arith)))
+states-read false m sc sv sb sf e h = rw h (states-in m sc sv sb sf (sym e))
+
 -- ---- an epoch is known by what counts of it
 placedBy : ℕ → ℕ → ℕ → Directory → ℕ → Float → List Range → ℕ → List State → Vec3 → Vec3 → Settings → Placed
 placedBy m n room d k time ranges j states base rover set =
@@ -142,16 +187,22 @@ module _ (m n room : ℕ) (d : Directory) (base rover : Vec3) (set : Settings) w
 
 -- ---- the outcome, way by way
 module _ (m n : ℕ) (l : Blocks) (ts xs : List ℕ) (time : Float) (k : ℕ) (rc rv rb : List ℕ) (rp : List Float) (present : Bool) (j : ℕ) (sc sv sb : List ℕ) (sf : List Float) (base rover : Vec3) (set : Settings) where
+  either : (z a b c : Bool) → (b || c) ≡ true → (z || (a || b || c)) ≡ true
+  either true a b c e = refl
+  either false true b c e = refl
+  either false false b c e = e
+
+  -- more than 64 ranges or states are refused by 2
+  placed-many : (e : BaseEpoch) (s : States) → (ltb 64 (e .count) || ltb 64 (statesCount s)) ≡ true
+      → epochPlaced m n (blockCapacity l) (directoryIn m n l) e s base rover set ≡ refusedIn TooMany
+  unfolding epochPlaced tooMany ruled
+  placed-many e s h = rw (either (ltb (blockCapacity l) m) (ltb (blockCapacity l) n) (ltb 64 (e .count)) (ltb 64 (statesCount s)) h) refl
+
   entry-unreadable : unreadable k rc rv rb rp (cond present j 0) sc sv sb sf ≡ true
       → refusedIn TooMany ≡ entryIn m n (blockCapacity l) (directoryIn m n l) time k rc rv rb rp present j sc sv sb sf base rover set
   unfolding entryIn epochPlaced tooMany unreadable ruled
   entry-unreadable h = go (recordsShort k rc rv rb rp (cond present j 0) sc sv sb sf) h
     where
-      either : (z a b c : Bool) → (b || c) ≡ true → (z || (a || b || c)) ≡ true
-      either true a b c e = refl
-      either false true b c e = refl
-      either false false b c e = e
-
       go : (b : Bool) → (ltb 64 k || ltb 64 (cond present j 0) || b) ≡ true
           → refusedIn TooMany ≡ cond b (refusedIn TooMany) (epochPlaced m n (blockCapacity l) (directoryIn m n l) (baseEpochOf time k rc rv rb rp) (statesIn present j sc sv sb sf) base rover set)
       go true e = refl
@@ -162,25 +213,19 @@ module _ (m n : ℕ) (l : Blocks) (ts xs : List ℕ) (time : Float) (k : ℕ) (r
     wanted-is : {b : Bool} → unreadable k rc rv rb rp w sc sv sb sf ≡ b → unreadable k rc rv rb rp (cond present j 0) sc sv sb sf ≡ b
     wanted-is {b} h = subst (λ (x : ℕ). unreadable k rc rv rb rp x sc sv sb sf ≡ b) ew h
 
-    pub adds-nothing : unreadable k rc rv rb rp w sc sv sb sf ≡ true
-        → (let o = entryIn m n (blockCapacity l) (directoryIn m n l) time k rc rv rb rp present j sc sv sb sf base rover set in
-        let r = Addition.Refused TooMany in
-        (r ≡ additionOf o) × (Places o (additionNumber r) m (entriesNow r m) n (samplesNow r n) l l × PatternsAfter o ts xs ts xs))
-    adds-nothing h = told-nothing TooMany m n l ts xs (entry-unreadable (wanted-is h))
-
-  entry-added : (e : BaseEpoch) (s : States) → unreadable k rc rv rb rp (cond present j 0) sc sv sb sf ≡ false → EpochRead time k (places (rangeAt rc rv rb rp) k) e
-      → StatesRead present (cond present j 0) (places (stateAt sc sv sb sf) (cond present j 0)) s
+  entry-added : (e : BaseEpoch) (s : States) → unreadable k rc rv rb rp (cond present j 0) sc sv sb sf ≡ false → EpochRead time k k (places (rangeAt rc rv rb rp) k) e
+      → StatesRead present (cond present j 0) (cond present j 0) (places (stateAt sc sv sb sf) (cond present j 0)) s
       → epochPlaced m n (blockCapacity l) (directoryIn m n l) e s base rover set ≡ entryIn m n (blockCapacity l) (directoryIn m n l) time k rc rv rb rp present j sc sv sb sf base rover set
   unfolding entryIn unreadable
   entry-added e s h er sr =
       rw (or-no (ltb 64 k || ltb 64 (cond present j 0)) _ h .1)
-      (placed-same m n (blockCapacity l) (directoryIn m n l) base rover set e (baseEpochOf time k rc rv rb rp) s (statesIn present j sc sv sb sf) (er .count) (er .time-is)
-      (ap (λ (i : ℕ). take i (e .ranges)) (er .count) ∙ er .ranges ∙ sym (places-all (rangeAt rc rv rb rp) k))
+      (placed-same m n (blockCapacity l) (directoryIn m n l) base rover set e (baseEpochOf time k rc rv rb rp) s (statesIn present j sc sv sb sf) (er .count-is) (er .time-is)
+      (ap (λ (i : ℕ). take i (e .ranges)) (er .count-is) ∙ er .ranges ∙ sym (places-all (rangeAt rc rv rb rp) k))
       count
       (ap (λ (i : ℕ). take i (s .states)) count ∙ sr .states-are ∙ states present))
     where
       count : statesCount s ≡ cond present j 0
-      count = rw (sr .mark, sr .count) (go present)
+      count = rw (sr .mark, sr .count-is) (go present)
         where
           go : (p : Bool) → cond p (cond p j 0) 0 ≡ cond p j 0
           go true = refl
@@ -190,14 +235,38 @@ module _ (m n : ℕ) (l : Blocks) (ts xs : List ℕ) (time : Float) (k : ℕ) (r
       states true = sym (places-all (stateAt sc sv sb sf) j)
       states false = unfold places in refl
 
-  pub adds-as : {w : ℕ} → w ≡ cond present j 0 → (ts′ xs′ : List ℕ) {e : BaseEpoch} {s : States} {from to : Vec3} {given : Settings} {x : Addition} {l′ : Blocks}
-      → unreadable k rc rv rb rp w sc sv sb sf ≡ false → EpochRead time k (places (rangeAt rc rv rb rp) k) e
-      → StatesRead present w (places (stateAt sc sv sb sf) w) s → from ≡ base → to ≡ rover → given ≡ set
-      → (let o = epochPlaced m n (blockCapacity l) (directoryIn m n l) e s from to given in (x ≡ additionOf o) × (Places o (additionNumber x) m (entriesNow x m) n (samplesNow x n) l l′ × PatternsAfter o ts xs ts′ xs′))
-      → (let o = entryIn m n (blockCapacity l) (directoryIn m n l) time k rc rv rb rp present j sc sv sb sf base rover set in
-      (x ≡ additionOf o) × (Places o (additionNumber x) m (entriesNow x m) n (samplesNow x n) l l′ × PatternsAfter o ts xs ts′ xs′))
-  adds-as ew ts′ xs′ {e = e} {s = s} h er sr f t g a =
-      rw (← entry-added e s (wanted-is ew h) er (subst (λ (x : ℕ). StatesRead present x (places (stateAt sc sv sb sf) x) s) ew sr), ← f, ← t, ← g) a
+  -- the epoch e and the states s as they are given, w being how many states are read
+  module _ {w : ℕ} (ew : w ≡ cond present j 0) {e : BaseEpoch} {s : States}
+      (er : (rangesShort k rc rv rb rp ≡ true → 64 < e .count) × (rangesShort k rc rv rb rp ≡ false → EpochRead time k k (places (rangeAt rc rv rb rp) k) e))
+      (sr : (statesShort w sc sv sb sf ≡ true → 64 < statesCount s) × (statesShort w sc sv sb sf ≡ false → StatesRead present w w (places (stateAt sc sv sb sf) w) s)) where
+    entry-given : epochPlaced m n (blockCapacity l) (directoryIn m n l) e s base rover set
+        ≡ entryIn m n (blockCapacity l) (directoryIn m n l) time k rc rv rb rp present j sc sv sb sf base rover set
+    entry-given = go (rangesShort k rc rv rb rp) (statesShort w sc sv sb sf) refl refl
+      where
+        left : (x y : Bool) → x ≡ true → (x || y) ≡ true
+        left x y h = rw h refl
+
+        right : (x y : Bool) → y ≡ true → (x || y) ≡ true
+        right true y h = refl
+        right false y h = h
+
+        go : (x y : Bool) → rangesShort k rc rv rb rp ≡ x → statesShort w sc sv sb sf ≡ y → epochPlaced m n (blockCapacity l) (directoryIn m n l) e s base rover set
+            ≡ entryIn m n (blockCapacity l) (directoryIn m n l) time k rc rv rb rp present j sc sv sb sf base rover set
+        go true y p q =
+            placed-many e s (left (ltb 64 (e .count)) (ltb 64 (statesCount s)) (lt-ltb 64 (e .count) (er .0 p)))
+            ∙ entry-unreadable (wanted-is ew (by-ranges k rc rv rb rp w sc sv sb sf p))
+        go false true p q =
+            placed-many e s (right (ltb 64 (e .count)) (ltb 64 (statesCount s)) (lt-ltb 64 (statesCount s) (sr .0 q)))
+            ∙ entry-unreadable (wanted-is ew (by-states k rc rv rb rp w sc sv sb sf q))
+        go false false p q =
+            entry-added e s (wanted-is ew (by-both k rc rv rb rp w sc sv sb sf p q)) (er .1 p)
+            (subst (λ (x : ℕ). StatesRead present x x (places (stateAt sc sv sb sf) x) s) ew (sr .1 q))
+
+    pub adds-given : (ts′ xs′ : List ℕ) {from to : Vec3} {given : Settings} {x : Addition} {l′ : Blocks} → from ≡ base → to ≡ rover → given ≡ set
+        → (let o = epochPlaced m n (blockCapacity l) (directoryIn m n l) e s from to given in (x ≡ additionOf o) × (Places o (additionNumber x) m (entriesNow x m) n (samplesNow x n) l l′ × PatternsAfter o ts xs ts′ xs′))
+        → (let o = entryIn m n (blockCapacity l) (directoryIn m n l) time k rc rv rb rp present j sc sv sb sf base rover set in
+        (x ≡ additionOf o) × (Places o (additionNumber x) m (entriesNow x m) n (samplesNow x n) l l′ × PatternsAfter o ts xs ts′ xs′))
+    adds-given ts′ xs′ f t g a = rw (← entry-given, ← f, ← t, ← g) a
 
 -- an answer by value, written out
 pub answer-written : {o : Placed} {x : Addition} {m m′ n n′ number : ℕ} {l l′ : Blocks} (ts xs ts′ xs′ : List ℕ)

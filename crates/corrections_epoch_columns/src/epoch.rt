@@ -3,7 +3,7 @@
 // and sf has eight floats for each state: position, velocity, clock, modelled.
 ghost use mathlib.Core.Path.{_≡_};
 ghost use mathlib.Core.Bool.{cond};
-ghost use Rattle.corrections_epoch_columns.specs.Steps.{RangesIn, ReadsEpoch, ReadsStates, StateIn, StatesIn, lentRangesShort, lentState, lentStatesShort};
+ghost use Rattle.corrections_epoch_columns.specs.Steps.{GivesEpoch, GivesStates, RangesIn, ReadsEpoch, ReadsStates, StateIn, StatesIn, lentRangesShort, lentState, lentStatesShort};
 use corrections_epoch::record::BaseEpoch;
 use corrections_epoch::record::Range;
 use corrections_epoch::record::State;
@@ -11,9 +11,10 @@ use corrections_epoch::record::States;
 use numeric::vec3::Vec3;
 use numeric::vec3::vector_at;
 
-// Reads the epoch of the first k ranges.
-pub(crate) fn epoch_from(
+// Reads the first k ranges, and returns an epoch with this count.
+fn epoch_from(
     time: f64,
+    count: usize,
     k: usize,
     range_constellation: &[u8],
     range_svid: &[u16],
@@ -21,7 +22,7 @@ pub(crate) fn epoch_from(
     range_pseudorange: &[f64],
 ) -> BaseEpoch
     requires { ⌜ RangesIn k «range_constellation» «range_svid» «range_band» «range_pseudorange» ⌝ }
-    ensures { λ r. ⌜ ReadsEpoch time k «range_constellation» «range_svid» «range_band» «range_pseudorange» r ⌝ }
+    ensures { λ r. ⌜ ReadsEpoch time count k «range_constellation» «range_svid» «range_band» «range_pseudorange» r ⌝ }
 {
     let nothing = Range {
         constellation: 0,
@@ -42,7 +43,7 @@ pub(crate) fn epoch_from(
         i += 1;
     }
     BaseEpoch {
-        count: k,
+        count: count,
         time: time,
         ranges: ranges,
     }
@@ -80,9 +81,10 @@ pub(crate) fn wanted(present: bool, j: usize) -> usize
     if present { j } else { 0 }
 }
 
-// Reads the first m states, or the mark that there are none.
-pub(crate) fn states_from(
+// Reads the first m states, and returns them with the mark and this count.
+fn states_from(
     present: bool,
+    count: usize,
     m: usize,
     state_constellation: &[u8],
     state_svid: &[u16],
@@ -90,7 +92,7 @@ pub(crate) fn states_from(
     state_floats: &[f64],
 ) -> States
     requires { ⌜ StatesIn m «state_constellation» «state_svid» «state_band» «state_floats» ⌝ }
-    ensures { λ r. ⌜ ReadsStates present m «state_constellation» «state_svid» «state_band» «state_floats» r ⌝ }
+    ensures { λ r. ⌜ ReadsStates present count m «state_constellation» «state_svid» «state_band» «state_floats» r ⌝ }
 {
     let zero = Vec3 {
         x: 0.0,
@@ -112,13 +114,13 @@ pub(crate) fn states_from(
     }
     States {
         present: present,
-        count: m,
+        count: count,
         states: states,
     }
 }
 
 // Checks whether there are more than 64 ranges, or a lent column is shorter than they need.
-pub(crate) fn ranges_short(
+fn ranges_short(
     k: usize,
     range_constellation: &[u8],
     range_svid: &[u16],
@@ -135,7 +137,7 @@ pub(crate) fn ranges_short(
 }
 
 // Checks whether there are more than 64 states, or a lent column is shorter than they need.
-pub(crate) fn states_short(
+fn states_short(
     m: usize,
     state_constellation: &[u8],
     state_svid: &[u16],
@@ -151,4 +153,67 @@ pub(crate) fn states_short(
         | (state_svid.len() < m)
         | (state_band.len() < m)
         | (state_floats.len() < m * 8)
+}
+
+// Returns how many there are, or 65, which 2 refuses, where there are too many or a column is too short.
+fn counted(short: bool, k: usize) -> usize
+    ensures { λ r. ⌜ r ≡ cond short 65 k ⌝ }
+{
+    if short { 65 } else { k }
+}
+
+// Returns the epoch of the first k ranges. If there are more than 64 or a column is too short, it counts 65.
+pub(crate) fn epoch_given(
+    time: f64,
+    k: usize,
+    range_constellation: &[u8],
+    range_svid: &[u16],
+    range_band: &[u32],
+    range_pseudorange: &[f64],
+) -> BaseEpoch
+    ensures { λ r. ⌜ GivesEpoch time k «range_constellation» «range_svid» «range_band» «range_pseudorange» r ⌝ }
+{
+    let short = ranges_short(
+        k,
+        range_constellation,
+        range_svid,
+        range_band,
+        range_pseudorange,
+    );
+    let count = counted(short, k);
+    let read = wanted(!short, k);
+    epoch_from(
+        time,
+        count,
+        read,
+        range_constellation,
+        range_svid,
+        range_band,
+        range_pseudorange,
+    )
+}
+
+// Returns the first m states, or the mark that there are none. If there are more than 64 or a column is too short, they count 65.
+pub(crate) fn states_given(
+    present: bool,
+    m: usize,
+    state_constellation: &[u8],
+    state_svid: &[u16],
+    state_band: &[u32],
+    state_floats: &[f64],
+) -> States
+    ensures { λ r. ⌜ GivesStates present m «state_constellation» «state_svid» «state_band» «state_floats» r ⌝ }
+{
+    let short = states_short(m, state_constellation, state_svid, state_band, state_floats);
+    let count = counted(short, m);
+    let read = wanted(!short, m);
+    states_from(
+        present | short,
+        count,
+        read,
+        state_constellation,
+        state_svid,
+        state_band,
+        state_floats,
+    )
 }

@@ -5,15 +5,12 @@ ghost use Rattle.corrections_directory.specs.Lent.{lentTable};
 ghost use Rattle.corrections_add.specs.Add.{AddedBy};
 ghost use Rattle.corrections_epoch_columns.specs.Epoch.{lentEntry, settingsOf};
 ghost use Rattle.corrections_epoch_columns.specs.Steps.{CountsWritten};
-use crate::epoch::epoch_from;
-use crate::epoch::ranges_short;
-use crate::epoch::states_from;
-use crate::epoch::states_short;
+use crate::epoch::epoch_given;
+use crate::epoch::states_given;
 use crate::epoch::wanted;
 use corrections_add::add::Addition;
 use corrections_epoch::add_epoch::add_epoch;
 use corrections_epoch::record::Settings;
-use numeric::refusal::Refusal;
 use numeric::vec3::vector;
 
 // Writes both counts and returns 0. On refusal, returns its number and changes nothing.
@@ -76,26 +73,7 @@ pub fn add_into(
         «states_present» states «state_constellation» «state_svid» «state_band» «state_floats» base rover «max_gap» «max_correction» corrected in
         AddedBy o r blocks «table_count» t) ⌝ }
 {
-    let given = wanted(states_present, states);
-    if ranges_short(
-        ranges,
-        range_constellation,
-        range_svid,
-        range_band,
-        range_pseudorange,
-    ) {
-        return Addition::Refused(Refusal::TooMany);
-    }
-    if states_short(
-        given,
-        state_constellation,
-        state_svid,
-        state_band,
-        state_floats,
-    ) {
-        return Addition::Refused(Refusal::TooMany);
-    }
-    let epoch = epoch_from(
+    let epoch = epoch_given(
         time,
         ranges,
         range_constellation,
@@ -103,7 +81,8 @@ pub fn add_into(
         range_band,
         range_pseudorange,
     );
-    let satellites = states_from(
+    let given = wanted(states_present, states);
+    let satellites = states_given(
         states_present,
         given,
         state_constellation,

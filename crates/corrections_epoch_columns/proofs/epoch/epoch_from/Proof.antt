@@ -9,34 +9,34 @@ use Rattle.corrections_epoch_columns.proofs.epoch.epoch_from.Statement.
 use Rattle.corrections_epoch_columns.proofs.epoch.epoch_from.Tie as tie
 
 abbrev Inv-loop : tie.InvT-loop
-Inv-loop time k rc rv rb rp ranges₀ i₀ ranges i = Filling (rangeAt rc rv rb rp) k ranges k i
+Inv-loop time count k rc rv rb rp ranges₀ i₀ ranges i = Filling (rangeAt rc rv rb rp) k ranges k i
 
 abbrev μ-loop : tie.MeasureT-loop
-μ-loop time k rc rv rb rp ranges₀ i₀ ranges i = k - i
+μ-loop time count k rc rv rb rp ranges₀ i₀ ranges i = k - i
 
 loop-holds : tie.Need-loop-holds Inv-loop μ-loop
 loop-holds c = filling-start _ _ _ refl
 
-shared-slice-read-t13 : tie.Need-shared-slice-read-t13 Inv-loop μ-loop
-shared-slice-read-t13 c = omega (arith, c .before .before .before, c .before .before .loop .inv .within)
+shared-slice-read-t14 : tie.Need-shared-slice-read-t14 Inv-loop μ-loop
+shared-slice-read-t14 c = omega (arith, c .before .before .before, c .before .before .loop .inv .within)
 
-mul-t14 : tie.Need-mul-t14 Inv-loop μ-loop
-mul-t14 c = omega (arith, c .before .before .before, c .before .before .loop .inv .within)
+mul-t15 : tie.Need-mul-t15 Inv-loop μ-loop
+mul-t15 c = omega (arith, c .before .before .before, c .before .before .loop .inv .within)
 
-shared-slice-read-t16 : tie.Need-shared-slice-read-t16 Inv-loop μ-loop
-shared-slice-read-t16 c = omega (arith, c .before .before .before .before, c .before .before .before .loop .inv .within)
+shared-slice-read-t17 : tie.Need-shared-slice-read-t17 Inv-loop μ-loop
+shared-slice-read-t17 c = omega (arith, c .before .before .before .before, c .before .before .before .loop .inv .within)
 
-mul-t17 : tie.Need-mul-t17 Inv-loop μ-loop
-mul-t17 c = omega (arith, c .before .before .before .before, c .before .before .before .loop .inv .within)
+mul-t18 : tie.Need-mul-t18 Inv-loop μ-loop
+mul-t18 c = omega (arith, c .before .before .before .before, c .before .before .before .loop .inv .within)
 
-shared-slice-read-t19 : tie.Need-shared-slice-read-t19 Inv-loop μ-loop
-shared-slice-read-t19 c = omega (arith, c .before .before .before .before .before, c .before .before .before .before .loop .inv .within)
+shared-slice-read-t20 : tie.Need-shared-slice-read-t20 Inv-loop μ-loop
+shared-slice-read-t20 c = omega (arith, c .before .before .before .before .before, c .before .before .before .before .loop .inv .within)
 
-mul-t20 : tie.Need-mul-t20 Inv-loop μ-loop
-mul-t20 c = omega (arith, c .before .before .before .before .before, c .before .before .before .before .loop .inv .within)
+mul-t21 : tie.Need-mul-t21 Inv-loop μ-loop
+mul-t21 c = omega (arith, c .before .before .before .before .before, c .before .before .before .before .loop .inv .within)
 
-shared-slice-read-t22 : tie.Need-shared-slice-read-t22 Inv-loop μ-loop
-shared-slice-read-t22 c = omega (arith, c .before .before .before .before .before .before, c .before .before .before .before .before .loop .inv .within)
+shared-slice-read-t23 : tie.Need-shared-slice-read-t23 Inv-loop μ-loop
+shared-slice-read-t23 c = omega (arith, c .before .before .before .before .before .before, c .before .before .before .before .before .loop .inv .within)
 
 mul-ranges : tie.Need-mul-ranges Inv-loop μ-loop
 mul-ranges c = omega (arith, c .before .before .before .before .before .before, c .before .before .before .before .before .loop .inv .within)
@@ -54,7 +54,7 @@ loop-again : tie.Need-loop-again Inv-loop μ-loop
 loop-again c = filling-next _ _ _ (c .before .before .before .before .before .before .pre .0) (c .before .before .before .before .before .loop .inv) (c .before .before .before .before .loop-test .taken)
 
 returns : tie.Need-returns Inv-loop μ-loop
-returns c = record { count = refl; time-is = refl; ranges = filled _ _ _ (c .before .loop .inv) (c .loop-test .left) }
+returns c = record { count-is = refl; time-is = refl; ranges = filled _ _ _ (c .before .loop .inv) (c .loop-test .left) }
 
 pub epoch-from-spec : {M : Type 1} → statement M
-epoch-from-spec = tie.close (tie.spec Inv-loop μ-loop loop-holds shared-slice-read-t13 mul-t14 shared-slice-read-t16 mul-t17 shared-slice-read-t19 mul-t20 shared-slice-read-t22 mul-ranges array-set-from-ranges add-i loop-less loop-again returns)
+epoch-from-spec = tie.close (tie.spec Inv-loop μ-loop loop-holds shared-slice-read-t14 mul-t15 shared-slice-read-t17 mul-t18 shared-slice-read-t20 mul-t21 shared-slice-read-t23 mul-ranges array-set-from-ranges add-i loop-less loop-again returns)

@@ -8,10 +8,10 @@ use Rattle.corrections_epoch_columns.proofs.epoch.states_from.Statement
 use Rattle.corrections_epoch_columns.proofs.epoch.states_from.Tie as tie
 
 abbrev Inv-loop : tie.InvT-loop
-Inv-loop present m sc sv sb sf states₀ i₀ states i = Filling (stateAt sc sv sb sf) m states m i
+Inv-loop present count m sc sv sb sf states₀ i₀ states i = Filling (stateAt sc sv sb sf) m states m i
 
 abbrev μ-loop : tie.MeasureT-loop
-μ-loop present m sc sv sb sf states₀ i₀ states i = m - i
+μ-loop present count m sc sv sb sf states₀ i₀ states i = m - i
 
 loop-holds : tie.Need-loop-holds Inv-loop μ-loop
 loop-holds c = filling-start _ _ _ refl
@@ -37,7 +37,7 @@ loop-again c =
     rw (c .state-at .ensures) (filling-next _ _ _ (s .pre .0) (c .before .before .loop .inv) (c .before .loop-test .taken))
 
 returns : tie.Need-returns Inv-loop μ-loop
-returns c = record { mark = refl; count = refl; states-are = filled _ _ _ (c .before .loop .inv) (c .loop-test .left) }
+returns c = record { mark = refl; count-is = refl; states-are = filled _ _ _ (c .before .loop .inv) (c .loop-test .left) }
 
 pub states-from-spec : {M : Type 1} → statement M
 states-from-spec =
