@@ -12,7 +12,7 @@ use numeric::refusal::Refusal;
 use root::tangent::{no_tangent, sqrt_near, tangent_at};
 
 // The answer of factoring; the factor itself is written to the lent rows.
-#[derive(Drop)]
+#[derive(Clone, Copy)]
 pub enum Factoring {
     Refused(Refusal),
     Done,
@@ -55,7 +55,7 @@ fn few(j: usize) -> usize
 }
 
 // The next pivot's row: the sum of its element in column j, and its pivot less the products of the columns before j.
-#[derive(Drop)]
+#[derive(Clone, Copy)]
 struct Next {
     sum: f64,
     pivot: f64,

@@ -3,7 +3,7 @@ ghost use Rattle.std.specs.Prelude.{◌≡◌};
 ghost use Rattle.clocks.specs.Clocks as spec;
 
 // The slot of each place, and how many constellations have been given.
-#[derive(Drop)]
+#[derive(Clone, Copy)]
 pub struct Clocks {
     pub slot: [usize; 8],
     pub count: usize,

@@ -14,14 +14,14 @@ use corrections_table::sample::Sample;
 use numeric::refusal::Refusal;
 
 // How many entries and samples a directory has.
-#[derive(Drop)]
+#[derive(Clone, Copy)]
 pub struct Counts {
     pub entries: usize,
     pub samples: usize,
 }
 
 // The answer to adding: why nothing was added, or how many entries and samples there are now.
-#[derive(Drop)]
+#[derive(Clone, Copy)]
 pub enum Addition {
     Refused(Refusal),
     Added(Counts),

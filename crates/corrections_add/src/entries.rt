@@ -6,7 +6,7 @@ ghost use Rattle.corrections_add.specs.Steps.{Countable, Counted, Ending, Entera
 use corrections_directory::entry::signal_at;
 
 // The last entry of the first blocks with the first new samples, and how many blocks and new samples come before it.
-#[derive(Drop)]
+#[derive(Clone, Copy)]
 pub struct Last {
     pub entries: usize,
     pub samples: usize,

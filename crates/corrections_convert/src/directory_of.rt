@@ -9,7 +9,7 @@ use corrections_table::sample::{capacity_of, is_sound};
 use numeric::refusal::Refusal;
 
 // The answer: why nothing was written, or how many entries the directory has.
-#[derive(Drop)]
+#[derive(Clone, Copy)]
 pub enum Filing {
     Refused(Refusal),
     Entries(usize),

@@ -10,7 +10,7 @@ use corrections_directory::sound::is_sound_directory;
 use numeric::refusal::Refusal;
 
 // The answer: why nothing was written, or that the signals are.
-#[derive(Drop)]
+#[derive(Clone, Copy)]
 pub enum Listing {
     Refused(Refusal),
     Listed,

@@ -9,7 +9,7 @@ use numeric::vec3::Vec3;
 use root::sqrt::sqrt;
 
 // A raw correction of a signal, in metres.
-#[derive(Drop)]
+#[derive(Clone, Copy)]
 pub struct Raw {
     pub constellation: u8,
     pub svid: u16,
@@ -18,7 +18,7 @@ pub struct Raw {
 }
 
 // The first `count` of the raw corrections count.
-#[derive(Drop)]
+#[derive(Clone, Copy)]
 pub struct Raws {
     pub count: usize,
     pub raws: [Raw; 64],

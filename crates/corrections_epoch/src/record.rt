@@ -7,7 +7,7 @@ use numeric::real::in_range;
 use numeric::vec3::Vec3;
 
 // A pseudorange that the base measured.
-#[derive(Drop)]
+#[derive(Clone, Copy)]
 pub struct Range {
     pub constellation: u8,
     pub svid: u16,
@@ -16,7 +16,7 @@ pub struct Range {
 }
 
 // A base epoch: the first `count` of the ranges count.
-#[derive(Drop)]
+#[derive(Clone, Copy)]
 pub struct BaseEpoch {
     pub count: usize,
     pub time: f64,
@@ -24,7 +24,7 @@ pub struct BaseEpoch {
 }
 
 // A satellite's state at the rover's epoch.
-#[derive(Drop)]
+#[derive(Clone, Copy)]
 pub struct State {
     pub constellation: u8,
     pub svid: u16,
@@ -36,7 +36,7 @@ pub struct State {
 }
 
 // The states beside an epoch: the first `count` count, and none where `present` is false, the mark that there are no states.
-#[derive(Drop)]
+#[derive(Clone, Copy)]
 pub struct States {
     pub present: bool,
     pub count: usize,
@@ -44,7 +44,7 @@ pub struct States {
 }
 
 // How corrections are made: the gap limit, the largest correction, and the constellations that are enabled.
-#[derive(Drop)]
+#[derive(Clone, Copy)]
 pub struct Settings {
     pub max_gap: f64,
     pub max_correction: f64,

@@ -11,7 +11,7 @@ use numeric::real::is_finite;
 use numeric::refusal::Refusal;
 
 // The answer to forgetting: why nothing was dropped, or how many samples there are now.
-#[derive(Drop)]
+#[derive(Clone, Copy)]
 pub enum Forgetting {
     Refused(Refusal),
     Count(usize),

@@ -11,14 +11,14 @@ use numeric::refusal::Refusal;
 use signal::signal::signal_of;
 
 // The answer to a call of many queries: why it answers none, or that each place has its answer.
-#[derive(Drop)]
+#[derive(Clone, Copy)]
 pub enum Asking {
     Refused(Refusal),
     Answered,
 }
 
 // The answer to one query on lent memory: its number, and the pattern of its correction or the old one.
-#[derive(Drop)]
+#[derive(Clone, Copy)]
 pub struct OneAnswer {
     pub number: u8,
     pub metres: u64,

@@ -17,7 +17,7 @@ use numeric::real::{abs, in_range, is_finite};
 use numeric::refusal::Refusal;
 
 // The answer to a query: why there is none, or the correction in metres.
-#[derive(Drop)]
+#[derive(Clone, Copy)]
 pub enum Correction {
     Refused(Refusal),
     Metres(f64),

@@ -11,14 +11,14 @@ use crate::sample::{Sample, is_ranged, precedes, sample_at};
 use numeric::refusal::Refusal;
 
 // Up to 64 samples, in the order in which they arrive.
-#[derive(Drop)]
+#[derive(Clone, Copy)]
 pub struct Samples {
     pub count: usize,
     pub samples: [Sample; 64],
 }
 
 // The outcome of tests: the refusal of the first that fails, or that all passed.
-#[derive(Drop)]
+#[derive(Clone, Copy)]
 pub enum Test {
     Refused(Refusal),
     Passed,

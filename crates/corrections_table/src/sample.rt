@@ -8,7 +8,7 @@ use numeric::real::in_range;
 use signal::signal::signal_of;
 
 // A correction of one signal at one time.
-#[derive(Drop)]
+#[derive(Clone, Copy)]
 pub struct Sample {
     pub constellation: u8,
     pub svid: u16,

@@ -6,7 +6,7 @@ ghost use Rattle.corrections_table.specs.Widen.{widened, widen_of, bands_after};
 use numeric::refusal::Refusal;
 
 // The answer to widening: why nothing was written, or that the bands are.
-#[derive(Drop)]
+#[derive(Clone, Copy)]
 pub enum Widening {
     Refused(Refusal),
     Widened,

@@ -6,7 +6,7 @@ ghost use Rattle.estimate_rounds.specs.Rules.{row_rules};
 use numeric::refusal::Refusal;
 
 // The result of rules or rounds: the first refusal, or none.
-#[derive(Drop)]
+#[derive(Clone, Copy)]
 pub enum Check {
     Refused(Refusal),
     Passed,

@@ -7,19 +7,19 @@ ghost use Rattle.line_form.specs.Steps.{ReadsNumber, ReadsState, ReadsPattern, R
 use numeric::order::float;
 
 // A field's value, and whether the field has its form; the value is 0 where it has not.
-#[derive(Drop)]
+#[derive(Clone, Copy)]
 pub(crate) struct Number {
     pub formed: bool,
     pub value: u64,
 }
 
-#[derive(Drop)]
+#[derive(Clone, Copy)]
 pub(crate) struct Signed {
     pub formed: bool,
     pub value: i32,
 }
 
-#[derive(Drop)]
+#[derive(Clone, Copy)]
 pub(crate) struct Real {
     pub formed: bool,
     pub value: f64,

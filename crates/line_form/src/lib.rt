@@ -13,7 +13,7 @@ use crate::text::displacement_in;
 use numeric::refusal::Refusal;
 
 // The outcome of writing a line: its length, or 2 where the buffer is shorter than the line.
-#[derive(Drop)]
+#[derive(Clone, Copy)]
 pub enum Printed {
     Line(usize),
     Refused(Refusal),

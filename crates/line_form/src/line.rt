@@ -10,40 +10,40 @@ use numeric::vec3::Vec3;
 use records::record::Carrier;
 use tdcp::displacement::Settings;
 
-#[derive(Drop)]
+#[derive(Clone, Copy)]
 pub(crate) struct Place {
     pub formed: bool,
     pub value: Vec3,
 }
 
-#[derive(Drop)]
+#[derive(Clone, Copy)]
 pub(crate) struct Carried {
     pub formed: bool,
     pub value: Carrier,
 }
 
 // The values of the first line.
-#[derive(Drop)]
+#[derive(Clone, Copy)]
 pub(crate) struct Given {
     pub dt: f64,
     pub receiver: Vec3,
     pub settings: Settings,
 }
 
-#[derive(Drop)]
+#[derive(Clone, Copy)]
 pub(crate) struct Giving {
     pub formed: bool,
     pub value: Given,
 }
 
-#[derive(Drop)]
+#[derive(Clone, Copy)]
 pub(crate) enum First {
     Is(Given),
     Broken,
 }
 
 // A line after the first.
-#[derive(Drop)]
+#[derive(Clone, Copy)]
 pub(crate) enum Line {
     Previous(Carrier),
     Current(Carrier),

@@ -20,7 +20,7 @@ pub(crate) fn find(s: &[u8], at: usize, c: u8) -> usize
 }
 
 // Whether a line has eleven fields, and where each begins; the twelfth place is past the line's end.
-#[derive(Drop)]
+#[derive(Clone, Copy)]
 pub(crate) struct Fields {
     pub eleven: bool,
     pub from: [usize; 12],

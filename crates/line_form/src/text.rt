@@ -13,7 +13,7 @@ use records::record::Carrier;
 use tdcp::displacement::{Displacement, Interval, Settings, displaced, plain};
 
 // A line, and the place after its LF; a last line without one is broken.
-#[derive(Drop)]
+#[derive(Clone, Copy)]
 struct Next {
     line: Line,
     at: usize,

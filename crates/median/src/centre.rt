@@ -10,14 +10,14 @@ use numeric::real::abs;
 use numeric::refusal::Refusal;
 
 // The centre and the scale.
-#[derive(Drop)]
+#[derive(Clone, Copy)]
 pub struct CentreScale {
     pub centre: f64,
     pub scale: f64,
 }
 
 // The centre and the scale, or the refusal.
-#[derive(Drop)]
+#[derive(Clone, Copy)]
 pub enum Centre {
     Refused(Refusal),
     Of(CentreScale),

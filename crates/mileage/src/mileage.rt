@@ -10,7 +10,7 @@ use numeric::vec3::Vec3;
 use trip::measure::way_of_square;
 
 // One epoch: the number that refused its displacement (0: none), the displacement in metres, its quality, and its odometer pulses.
-#[derive(Drop)]
+#[derive(Clone, Copy)]
 pub struct Epoch {
     pub refused: u8,
     pub displacement: Vec3,
@@ -22,7 +22,7 @@ pub struct Epoch {
 // The limit of the predicted error in metres; the epochs, and of them those refused and set aside; the millimetres and pulses of counted epochs; the
 // millimetres of standing ones without the last epoch's; all pulses; whether the last epoch had a pulse (1 or 0); and the last epoch's millimetres where it
 // stands so far.
-#[derive(Drop)]
+#[derive(Clone, Copy)]
 pub struct Mileage {
     pub limit: f64,
     pub epochs: u64,
@@ -37,7 +37,7 @@ pub struct Mileage {
 }
 
 // The epochs, those refused and set aside, the millimetres and pulses of counted epochs, the millimetres of standing ones, and all pulses.
-#[derive(Drop)]
+#[derive(Clone, Copy)]
 pub struct Report {
     pub epochs: u64,
     pub refused: u64,
@@ -48,25 +48,25 @@ pub struct Report {
     pub pulses: u64,
 }
 
-#[derive(Drop)]
+#[derive(Clone, Copy)]
 pub enum Step {
     Refused(Refusal),
     Goes(Mileage),
 }
 
-#[derive(Drop)]
+#[derive(Clone, Copy)]
 pub enum Reported {
     Refused(Refusal),
     Totals(Report),
 }
 
-#[derive(Drop)]
+#[derive(Clone, Copy)]
 pub enum Distance {
     Refused(Refusal),
     Millimetres(u64),
 }
 
-#[derive(Drop)]
+#[derive(Clone, Copy)]
 pub enum Fuel {
     Refused(Refusal),
     PerKilometre(u64),

@@ -124,7 +124,7 @@ fn form(
 }
 
 // The sums over the rows of the products of two of the first three places.
-#[derive(Drop)]
+#[derive(Clone, Copy)]
 pub struct Corner {
     pub xx: f64,
     pub yx: f64,

@@ -6,7 +6,7 @@ ghost use Rattle.normal_equations.specs.Equations as spec;
 use numeric::vec3::Vec3;
 
 // One observation's part in a round: the line of sight, the column of its clock, the pattern of measured minus predicted, and the one-sigma.
-#[derive(Drop)]
+#[derive(Clone, Copy)]
 pub struct Row {
     pub unit: Vec3,
     pub clock: usize,
@@ -15,7 +15,7 @@ pub struct Row {
 }
 
 // Holds rows; the first `count` are used.
-#[derive(Drop)]
+#[derive(Clone, Copy)]
 pub struct Rows {
     pub count: usize,
     pub row: [Row; 64],

@@ -6,14 +6,14 @@ ghost use Rattle.numeric.specs.declared.order.Class.TheVariants.{Number, Signali
 ghost use Rattle.numeric.specs.Order.{payload, sign_of, class_of, total_order, pattern_of};
 
 // The sign of a pattern.
-#[derive(Drop)]
+#[derive(Clone, Copy)]
 pub enum Sign {
     Minus,
     Plus,
 }
 
 // What a pattern stands for, its sign apart (3.4, 6.2.1). A number here is finite and not 0.
-#[derive(Drop)]
+#[derive(Clone, Copy)]
 pub enum Class {
     Zero,
     Number,

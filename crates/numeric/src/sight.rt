@@ -8,7 +8,7 @@ use crate::vec3::Vec3;
 use root::sqrt::sqrt;
 
 // The unit vector from the satellite to the receiver, and the range.
-#[derive(Drop)]
+#[derive(Clone, Copy)]
 pub struct Sight {
     pub x: f64,
     pub y: f64,
@@ -17,7 +17,7 @@ pub struct Sight {
 }
 
 // The line of sight, or why it is not given.
-#[derive(Drop)]
+#[derive(Clone, Copy)]
 pub enum Sighting {
     Refused(Refusal),
     Seen(Sight),
@@ -92,7 +92,7 @@ pub fn geometry(satellite: Vec3, receiver: Vec3) -> Sighting
 }
 
 // The lines of sight of one satellite's places at two epochs.
-#[derive(Drop)]
+#[derive(Clone, Copy)]
 pub struct Sights {
     pub now: Sight,
     pub then: Sight,

@@ -5,7 +5,7 @@ ghost use Rattle.numeric.specs.Vec3 as spec;
 
 use root::sqrt::{sqrt, sqrt_beside};
 
-#[derive(Drop)]
+#[derive(Clone, Copy)]
 pub struct Vec3 {
     pub x: f64,
     pub y: f64,

@@ -17,21 +17,21 @@ use numeric::refusal::Refusal;
 use root::sqrt::sqrt;
 
 // The root of the reduced chi-squared, and the dilution of precision.
-#[derive(Drop)]
+#[derive(Clone, Copy)]
 pub struct Figures {
     pub chi: f64,
     pub pdop: f64,
 }
 
 // The dilution of precision, or the refusal.
-#[derive(Drop)]
+#[derive(Clone, Copy)]
 pub enum Dilution {
     Refused(Refusal),
     Of(f64),
 }
 
 // Both figures, or the refusal.
-#[derive(Drop)]
+#[derive(Clone, Copy)]
 pub enum Quality {
     Refused(Refusal),
     Rated(Figures),

@@ -15,7 +15,7 @@ use numeric::vec3::Vec3;
 
 // What a current carrier and its previous one give: `observed` is the phase change less the geometric one, which is the measurement,
 // `detector` the phase change less what the rates predict, by which a slip is found, and the ranges those of the two satellite places.
-#[derive(Drop)]
+#[derive(Clone, Copy)]
 pub struct Pair {
     pub unit: Vec3,
     pub constellation: u8,
@@ -28,7 +28,7 @@ pub struct Pair {
 
 // The first `count` of the pairs count, and `seen` is whether rule 15 lets each of them pass: where a caller asks that of the array, the compiler copies it.
 // It comes after the array; before the array it would cost a copy.
-#[derive(Drop)]
+#[derive(Clone, Copy)]
 pub struct Pairs {
     pub count: usize,
     pub pair: [Pair; 64],
@@ -62,7 +62,7 @@ pub fn no_pairs() -> Pairs
 }
 
 // Which carriers a displacement looks at: all, or GPS (1) and Galileo (6) on one band.
-#[derive(Drop)]
+#[derive(Clone, Copy)]
 pub enum Profile {
     General,
     City(u32),

@@ -6,7 +6,7 @@ use numeric::real::{in_range, is_finite};
 use numeric::vec3::Vec3;
 
 // One satellite signal's carrier phase at one epoch.
-#[derive(Drop)]
+#[derive(Clone, Copy)]
 pub struct Carrier {
     pub constellation: u8,
     pub svid: u16,
@@ -19,14 +19,14 @@ pub struct Carrier {
 }
 
 // The first `count` of the carriers count.
-#[derive(Drop)]
+#[derive(Clone, Copy)]
 pub struct Epoch {
     pub count: usize,
     pub carriers: [Carrier; 64],
 }
 
 // One satellite's pseudorange at one epoch.
-#[derive(Drop)]
+#[derive(Clone, Copy)]
 pub struct Observation {
     pub constellation: u8,
     pub band: u32,
@@ -38,7 +38,7 @@ pub struct Observation {
 }
 
 // The first `count` of the observations count.
-#[derive(Drop)]
+#[derive(Clone, Copy)]
 pub struct Observations {
     pub count: usize,
     pub observation: [Observation; 64],

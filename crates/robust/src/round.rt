@@ -13,7 +13,7 @@ use normal_equations::row::Rows;
 use numeric::refusal::Refusal;
 
 // The answer of a round; the step itself is written to the lent dx.
-#[derive(Drop)]
+#[derive(Clone, Copy)]
 pub enum Stepping {
     Refused(Refusal),
     Done,

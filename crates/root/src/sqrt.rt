@@ -10,7 +10,7 @@ use root_table::place_of;
 use std::num::{wrapping_add_u64, wrapping_sub_u64};
 
 // x = m * 2 ^ y / 2 ^ 1126, with m of 53 binary digits.
-#[derive(Drop)]
+#[derive(Clone, Copy)]
 struct Parts {
     m: u64,
     y: u64,

@@ -9,7 +9,7 @@ use root_table::wide_place_of;
 
 // A guess of the roots of the floats x next to `at`, by the tangent there: high + (low + (x - at) * slope). high is a root's first digits, low is
 // small beside it, and slope is near 1 / (2 * √at). Nothing is proved of how near a guess is: `is_root` tests it.
-#[derive(Drop)]
+#[derive(Clone, Copy)]
 pub struct Tangent {
     pub at: f64,
     pub high: f64,

@@ -6,7 +6,7 @@ ghost use Rattle.std.specs.Float.Ieee.{mul};
 
 // What the guess takes for a range of floats: root has at most 26 digits and is near the root of the range's middle, square is root * root, which is exact, and half is
 // near 1 / (2 * square). Nothing is proved of how near they are, since every guess is tested.
-#[derive(Drop)]
+#[derive(Clone, Copy)]
 pub struct Place {
     pub square: f64,
     pub half: f64,
@@ -14,7 +14,7 @@ pub struct Place {
 }
 
 // What a table holds of a place.
-#[derive(Drop)]
+#[derive(Clone, Copy)]
 struct Entry {
     half: f64,
     root: f64,

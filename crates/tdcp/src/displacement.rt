@@ -14,7 +14,7 @@ use records::record::{Epoch, is_placeable};
 use time::time::{GpsTime, Seconds};
 
 // Weighting, screening and robustness; `agreement` is neither read nor checked.
-#[derive(Drop)]
+#[derive(Clone, Copy)]
 pub struct Settings {
     pub screen: f64,
     pub sigma_a: f64,
@@ -26,7 +26,7 @@ pub struct Settings {
 }
 
 // How far the receiver moved, and how many pairs were used and screened out.
-#[derive(Drop)]
+#[derive(Clone, Copy)]
 pub struct Delta {
     pub delta: Vec3,
     pub used: usize,
@@ -34,27 +34,27 @@ pub struct Delta {
 }
 
 // The interval between two epochs: its seconds, or the previous time and the current one.
-#[derive(Drop)]
+#[derive(Clone, Copy)]
 pub enum Interval {
     Seconds(f64),
     Between(GpsTime, GpsTime),
 }
 
-#[derive(Drop)]
+#[derive(Clone, Copy)]
 pub enum Displacement {
     Refused(Refusal),
     Moved(Delta),
 }
 
 // A displacement with the quality of its fit: chi, the root of the reduced chi-squared, and pdop, the dilution of precision.
-#[derive(Drop)]
+#[derive(Clone, Copy)]
 pub struct RatedDelta {
     pub moved: Delta,
     pub chi: f64,
     pub pdop: f64,
 }
 
-#[derive(Drop)]
+#[derive(Clone, Copy)]
 pub enum Rated {
     Refused(Refusal),
     Moved(RatedDelta),

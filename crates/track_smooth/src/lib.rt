@@ -14,14 +14,14 @@ use numeric::refusal::Refusal;
 use track_tridiagonal::fill::fill;
 
 // `Settings`: a threshold in sigmas and the number of passes.
-#[derive(Drop)]
+#[derive(Clone, Copy)]
 pub struct Settings {
     pub huber: f64,
     pub iterations: usize,
 }
 
 // The refusal, or that the result holds the track.
-#[derive(Drop)]
+#[derive(Clone, Copy)]
 pub enum Track {
     Refused(Refusal),
     Smoothed,

@@ -9,7 +9,7 @@ ghost use Rattle.track_tridiagonal.specs.Steps.{NumbersAt, FirstRow, RowEliminat
 use numeric::real::{abs, is_finite};
 
 // A row of one system once the rows above are eliminated, and whether the elimination can go on.
-#[derive(Drop)]
+#[derive(Clone, Copy)]
 pub struct Row {
     pub pivot: f64,
     pub right: f64,

@@ -11,27 +11,27 @@ use tdcp::displacement::{Delta, Displacement, Settings, delta_position};
 use tdcp::valid::settings_pass;
 use trip::trip::{Fuel, Reported, Step, Trip};
 
-#[derive(Drop)]
+#[derive(Clone, Copy)]
 pub struct Drive {
     pub trip: Trip,
     pub settings: Settings,
 }
 
 // A drive begun or with new settings, or why not.
-#[derive(Drop)]
+#[derive(Clone, Copy)]
 pub enum Driving {
     Refused(Refusal),
     Goes(Drive),
 }
 
 // The trip with a displacement, and that displacement.
-#[derive(Drop)]
+#[derive(Clone, Copy)]
 pub struct Travelled {
     pub trip: Trip,
     pub moved: Delta,
 }
 
-#[derive(Drop)]
+#[derive(Clone, Copy)]
 pub enum Travel {
     Refused(Refusal),
     Goes(Travelled),

@@ -8,7 +8,7 @@ ghost use Rattle.wire.specs.Record as spec;
 use crate::number::{number_at, put_number, signed, unsigned};
 
 // A carrier record, with each float as its 64 bits.
-#[derive(Drop)]
+#[derive(Clone, Copy)]
 pub struct CarrierRecord {
     pub constellation: u8,
     pub svid: u16,

@@ -16,7 +16,7 @@ use records::record::Observations;
 use root::sqrt::sqrt;
 
 // Chi at a state, or the refusal of a line of sight there.
-#[derive(Drop)]
+#[derive(Clone, Copy)]
 pub enum Chi {
     Refused(Refusal),
     Of(f64),

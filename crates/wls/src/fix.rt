@@ -24,7 +24,7 @@ use robust::round::{Stepping, round_step};
 use robust::sigma::elevation_sigma;
 
 // The settings of a fix: weighting and robustness.
-#[derive(Drop)]
+#[derive(Clone, Copy)]
 pub struct Settings {
     pub sigma_a: f64,
     pub sigma_b: f64,
@@ -34,7 +34,7 @@ pub struct Settings {
 }
 
 // The position, the number of observations used, and the quality of the fit.
-#[derive(Drop)]
+#[derive(Clone, Copy)]
 pub struct Solution {
     pub position: Vec3,
     pub used: usize,
@@ -43,14 +43,14 @@ pub struct Solution {
 }
 
 // A fix, or the refusal.
-#[derive(Drop)]
+#[derive(Clone, Copy)]
 pub enum Fix {
     Refused(Refusal),
     At(Solution),
 }
 
 // The position of a fix, or the refusal.
-#[derive(Drop)]
+#[derive(Clone, Copy)]
 pub enum Position {
     Refused(Refusal),
     At(Vec3),
@@ -110,7 +110,7 @@ pub(crate) fn rows_at(
 }
 
 // The end of the rounds: a refusal, or the number of rows of the last round, 0 where there was none.
-#[derive(Drop)]
+#[derive(Clone, Copy)]
 pub enum Ending {
     Refused(Refusal),
     Rows(usize),
