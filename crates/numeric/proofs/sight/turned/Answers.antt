@@ -1,0 +1,8 @@
+-- `numeric::sight::turned` meets its contract. Assumes nothing.
+use Rattle.numeric.specs.Sight.{turned}
+use borrow.Author.Rules.{rules}
+use Rattle.numeric.proofs.sight.turned.Goals as goal
+
+pub returns : goal.returns
+unfolding turned
+returns c = let d = c in rw (d.travel_cosine-cos.ensures, d.travel_sine-sin.ensures)
