@@ -1,0 +1,16 @@
+-- `median::centre::deviations` meets its contract: the first i numbers are the deviations of the first i residuals. Assumes nothing.
+use Prim.Native.Nat.{◌≤◌, ◌<◌, ◌-◌}
+use native.Mathlib.Omega.{arith}
+use mathlib.Core.Path.{◌≡◌, refl, ◌∙◌}
+use lib.ListN.{take, length, length-set}
+use borrow.Author.Rules.{rules}
+use mathlib.Core.List.{map}
+use Rattle.median.specs.Centre.{deviation_of}
+use Rattle.median.proofs.SelectLoops.{map_next, map-all}
+use Rattle.median.proofs.centre.deviations.Given as goal
+
+abbrev pub invariant-loop-i : goal.invariant-loop-i
+invariant-loop-i l = (l.i ≤ length l.residuals) × (length l.k ≡ 64) × (take l.i l.k ≡ map (deviation_of l.centre) (take l.i l.residuals))
+
+abbrev pub decreases-loop-i : goal.decreases-loop-i
+decreases-loop-i l = length l.residuals - l.i

@@ -1,0 +1,13 @@
+-- `median::median::pivot` meets its contract. Assumes nothing.
+use Prim.Native.Nat.{◌-◌, ◌/◌}
+use native.Mathlib.Omega.{arith}
+use borrow.Author.Rules.{rules}
+use Rattle.median.proofs.SelectSplit.{middle-counts}
+use borrow.Author.Rules.{rules}
+use Rattle.median.proofs.median.pivot.Goals as goal
+
+pub returns : goal.returns
+returns c = let s = c in
+    let n = s.args.n in
+    rw (c.greater.ensures, c.lesser.ensures, c.greater-high.ensures, c.lesser-low.ensures)
+    (middle-counts s.args.k.now n (omega arith) 0 (n / 2) (n - 1) (omega arith) (omega arith) (omega arith))

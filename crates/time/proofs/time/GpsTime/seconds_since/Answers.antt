@@ -1,0 +1,23 @@
+-- `time::time::GpsTime::seconds_since` meets its contract. Assumes nothing.
+use Rattle.std.proofs.Common.{◌≡◌, true, ◌&&◌, sym, ap, ◌∙◌, ap₂, rules}
+use lib.Ieee.{Float}
+use Rattle.time.specs.Time.{is_dated}
+use Rattle.time.specs.declared.time.Seconds.TheVariants.{Since as SecondsSince}
+use Rattle.time.proofs.WeekLaws.{both}
+use Rattle.time.proofs.DifferenceLaws.{seconds-given, seconds-refused}
+use Rattle.time.proofs.time.GpsTime.seconds_since.Goals as goal
+
+dated : (c : goal.Then-is_dated) → (is_dated c.args.self ≡ true) × (is_dated c.args.earlier ≡ true)
+dated c = both _ _ (ap₂ ◌&&◌ (sym c.is_dated.ensures) (sym c.is_dated-2.ensures) ∙ c.if-is_dated.true)
+
+pub seconds_after-requires : goal.seconds_after-requires
+seconds_after-requires c = dated c
+
+pub returns-then-is_dated : goal.returns-then-is_dated
+returns-then-is_dated c = let d = c in
+    let a = d.args in
+    ap (λ (z : Float). SecondsSince z) c.seconds_after.ensures ∙ sym (seconds-given a.self a.earlier (dated d.before).0 (dated d.before).1)
+
+pub returns : goal.returns
+returns c = let a = c.args in
+    sym (seconds-refused a.self a.earlier (ap₂ ◌&&◌ (sym c.is_dated.ensures) (sym c.is_dated-2.ensures) ∙ c.if-is_dated.false))

@@ -1,0 +1,12 @@
+use Rattle.track_tridiagonal.proofs.Elimination.{Eliminating, reached-none, eliminating_ends, eliminating_all, row-x-needs, row-y-needs, row-z-needs, eliminating_more, first-needs}
+use Rattle.track_tridiagonal.proofs.Cells.{kept-none}
+use Prim.Native.Nat.{◌-◌}
+use mathlib.Core.Path.{refl}
+use native.Mathlib.Omega.{arith}
+use Rattle.track_tridiagonal.proofs.solve.eliminate.Given as goal
+
+abbrev pub invariant-loop-x : goal.invariant-loop-x
+invariant-loop-x l = Eliminating l.initial.w l.n l.i l.w l.x l.y l.z
+
+abbrev pub decreases-loop-x : goal.decreases-loop-x
+decreases-loop-x l = l.n - l.i

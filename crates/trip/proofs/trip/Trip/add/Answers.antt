@@ -1,0 +1,8 @@
+-- `trip::trip::Trip::add` meets its contract. Assumes nothing.
+use Rattle.numeric.specs.Vec3.{norm}
+use borrow.Author.Rules.{rules}
+use Rattle.trip.proofs.trip.Trip.add.Goals as goal
+
+pub returns : goal.returns
+unfolding norm
+returns c = c.add_way.ensures c.args.displacement c.by_root-way.ensures
