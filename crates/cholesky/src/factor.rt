@@ -2,7 +2,7 @@
 ghost use Rattle.std.specs.Prelude.{◌≡◌, ◌-◌, ◌≤◌, ◌<◌, T, replicate};
 ghost use Rattle.std.specs.Float.{binary64};
 ghost use Rattle.std.specs.Float.Ieee.{fits};
-ghost use Rattle.lists.specs.Memory.{before, after};
+
 ghost use Rattle.cholesky.specs.Factor.{zeros, is_pivot, forward_to, back_to, solution_of, at, Unused, UnusedPlaces};
 ghost use Rattle.cholesky.specs.Steps.{sum_of, filled, ones_marked, FactoredUsed};
 ghost use Rattle.cholesky.specs.Answer.{factoring_number, FactorPromised};
@@ -64,7 +64,7 @@ struct Next {
 // Returns row m of the matrix at column j and at its diagonal, less the first j products of rows m and j and of row m with itself.
 fn ahead(m: usize, j: usize, a: &[[f64; 9]; 9], l: &[[f64; 9]; 9]) -> Next
     requires { (m < 9) × (j ≤ 7) }
-    ensures { (result.sum ≡ sum_of j m j (before a) (before l)) × (result.pivot ≡ sum_of j m m (before a) (before l)) }
+    ensures { (result.sum ≡ sum_of j m j a.now l.now) × (result.pivot ≡ sum_of j m m a.now l.now) }
 {
     let c = few(j);
     let mut s = a[m][j];
@@ -80,7 +80,7 @@ fn ahead(m: usize, j: usize, a: &[[f64; 9]; 9], l: &[[f64; 9]; 9]) -> Next
 // Returns row i of the matrix at column j, less the first j products of rows i and j.
 fn sum(i: usize, j: usize, a: &[[f64; 9]; 9], l: &[[f64; 9]; 9]) -> f64
     requires { (i < 9) × (j ≤ 7) }
-    ensures { result ≡ sum_of j i j (before a) (before l) }
+    ensures { result ≡ sum_of j i j a.now l.now }
 {
     let c = few(j);
     let mut s = a[i][j];
@@ -93,7 +93,7 @@ fn sum(i: usize, j: usize, a: &[[f64; 9]; 9], l: &[[f64; 9]; 9]) -> f64
 // Computes the elements of column j in the rows from i up to, not including, n; d is the column's diagonal.
 fn fill(j: usize, d: f64, i: usize, n: usize, a: &[[f64; 9]; 9], l: &mut [[f64; 9]; 9])
     requires { (j ≤ 7) × (j < i) × (i ≤ n) × (n ≤ 9) }
-    ensures { after l ≡ filled (n - i) j d i (before a) (before l) }
+    ensures { l.new ≡ filled (n - i) j d i a.now l.old }
 {
     for r in i..n {
         let s = sum(r, j, a, l);
@@ -104,7 +104,7 @@ fn fill(j: usize, d: f64, i: usize, n: usize, a: &[[f64; 9]; 9], l: &mut [[f64; 
 // Writes 1 on the diagonal of the rows from n on.
 fn mark(n: usize, l: &mut [[f64; 9]; 9])
     requires { n ≤ 9 }
-    ensures { after l ≡ ones_marked (9 - n) n (before l) }
+    ensures { l.new ≡ ones_marked (9 - n) n l.old }
 {
     for i in n..9 {
         l[i][i] = 1.0;
@@ -117,7 +117,7 @@ fn mark(n: usize, l: &mut [[f64; 9]; 9])
 // pivot less the products of the columns before j: q - s * s / p is so near that pivot that the tangent there gives its root at once.
 pub fn factor_used(n: usize, a: &[[f64; 9]; 9], l: &mut [[f64; 9]; 9]) -> bool
     requires { (0 < n) × (n ≤ 9) × Unused n a.now × (l.old ≡ replicate 9 zeros) }
-    ensures { FactoredUsed n (before a) (before l) result (after l) }
+    ensures { FactoredUsed n a.now l.old result l.new }
 {
     let mut p = held(a[0][0]);
     let mut t = no_tangent();
@@ -150,7 +150,7 @@ pub fn factor_used(n: usize, a: &[[f64; 9]; 9], l: &mut [[f64; 9]; 9]) -> bool
 // Returns `Done` and writes the factor of a to l, or returns the refusal and leaves l unchanged. Only the lower triangle of a is read.
 // The factor is made in l itself: made beside it and copied at the end, factor and solution together took 7 percent longer.
 pub fn factor(a: [[f64; 9]; 9], l: &mut [[f64; 9]; 9]) -> Factoring
-    ensures { FactorPromised a result (before l) (after l) }
+    ensures { FactorPromised a result l.old l.new }
 {
     let kept = *l;
     *l = [[0.0; 9]; 9];
@@ -165,7 +165,7 @@ pub fn factor(a: [[f64; 9]; 9], l: &mut [[f64; 9]; 9]) -> Factoring
 // Solves l y = b for the first n unknowns by forward substitution: x holds b, and then y. The other places are unchanged.
 fn forward(n: usize, l: &[[f64; 9]; 9], x: &mut [f64; 9])
     requires { n ≤ 9 }
-    ensures { after x ≡ forward_to n (before l) (before x) }
+    ensures { x.new ≡ forward_to n l.now x.old }
 {
     for i in 0..n {
         let mut s = x[i];
@@ -179,7 +179,7 @@ fn forward(n: usize, l: &[[f64; 9]; 9], x: &mut [f64; 9])
 // Solves lᵀ x = y by back substitution, from the last row up: x holds y, and then the solution. The unknowns from n on are unused: they stay 0 and add nothing.
 fn back(n: usize, l: &[[f64; 9]; 9], x: &mut [f64; 9])
     requires { (n ≤ 9) × Unused n l.now × UnusedPlaces n x.old × T (fits binary64 (at x.old (n - 1))) }
-    ensures { after x ≡ back_to 9 (before l) (before x) }
+    ensures { x.new ≡ back_to 9 l.now x.old }
 {
     for m in 0..n {
         let i = n - 1 - m;
@@ -193,7 +193,7 @@ fn back(n: usize, l: &[[f64; 9]; 9], x: &mut [f64; 9])
 
 // Solves l lᵀ x = b in place: x holds b, and then the solution.
 pub fn solve_into(l: &[[f64; 9]; 9], x: &mut [f64; 9])
-    ensures { after x ≡ solution_of (before l) (before x) }
+    ensures { x.new ≡ solution_of l.now x.old }
 {
     forward(9, l, x);
     back(9, l, x);
@@ -201,7 +201,7 @@ pub fn solve_into(l: &[[f64; 9]; 9], x: &mut [f64; 9])
 
 // Returns the solution x of l lᵀ x = b.
 pub fn solve_lent(l: &[[f64; 9]; 9], b: [f64; 9]) -> [f64; 9]
-    ensures { result ≡ solution_of (before l) b }
+    ensures { result ≡ solution_of l.now b }
 {
     let mut x = b;
     solve_into(l, &mut x);
@@ -212,7 +212,7 @@ pub fn solve_lent(l: &[[f64; 9]; 9], b: [f64; 9]) -> [f64; 9]
 // places are 0; otherwise they may be NaN, since 0 times infinity is.
 pub fn solve_used(n: usize, l: &[[f64; 9]; 9], b: [f64; 9]) -> [f64; 9]
     requires { (0 < n) × (n ≤ 9) × Unused n l.now × UnusedPlaces n b }
-    ensures { result ≡ solution_of (before l) b }
+    ensures { result ≡ solution_of l.now b }
 {
     let mut x = b;
     forward(n, l, &mut x);

@@ -1,5 +1,6 @@
 // New samples to a directory, or the refusal.
 ghost use Rattle.std.specs.Prelude.{◌≡◌, true, ◌≤◌, take};
+ghost use Rattle.lists.specs.Memory.{held, lent};
 ghost use Rattle.lists.specs.Walk.{every};
 ghost use Rattle.corrections_table.specs.Table.{ranged};
 ghost use Rattle.corrections_directory.specs.Lent.{lent_table, table_now};
@@ -97,10 +98,10 @@ fn merge(
     new_count: usize,
 ) -> usize
     requires fitting { Fitting blocks table_count new_count
-        (table_now block_constellation block_svid block_band block_first block_samples table_time table_metres) }
+        (table_now (held block_constellation) (held block_svid) (held block_band) (held block_first) (held block_samples) (held table_time) (held table_metres)) }
     requires sorted_new { SortedNew new_count new_constellation new_svid new_band new_time new_metres }
     ensures { Gains (lent_samples new_count new_constellation new_svid new_band new_time new_metres) result blocks table_count (lent_table
-        block_constellation block_svid block_band block_first block_samples table_time table_metres) }
+        (lent block_constellation) (lent block_svid) (lent block_band) (lent block_first) (lent block_samples) (lent table_time) (lent table_metres)) }
 {
     merge_readings(
         block_constellation,
@@ -149,9 +150,9 @@ fn place(
 ) -> usize
     requires new_count_bound { (new_count ≤ 64) × (every ranged (take new_count new) ≡ true) }
     requires fitting { Fitting blocks table_count new_count
-        (table_now block_constellation block_svid block_band block_first block_samples table_time table_metres) }
+        (table_now (held block_constellation) (held block_svid) (held block_band) (held block_first) (held block_samples) (held table_time) (held table_metres)) }
     ensures { Gains (take new_count new) result blocks table_count (lent_table
-        block_constellation block_svid block_band block_first block_samples table_time table_metres) }
+        (lent block_constellation) (lent block_svid) (lent block_band) (lent block_first) (lent block_samples) (lent table_time) (lent table_metres)) }
 {
     let mut new_constellation = [0u8; 64];
     let mut new_svid = [0u16; 64];
@@ -201,7 +202,7 @@ pub fn add(
     new: Samples,
 ) -> Addition
     ensures { AddsSamples new result blocks table_count (lent_table
-        block_constellation block_svid block_band block_first block_samples table_time table_metres) }
+        (lent block_constellation) (lent block_svid) (lent block_band) (lent block_first) (lent block_samples) (lent table_time) (lent table_metres)) }
 {
     let test = tested(
         block_constellation,

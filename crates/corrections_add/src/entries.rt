@@ -1,6 +1,6 @@
 // The entries of a directory with new samples, from the back to the front.
 ghost use Rattle.std.specs.Prelude.{◌≤◌, ◌<◌};
-ghost use Rattle.lists.specs.Memory.{before};
+ghost use Rattle.lists.specs.Memory.{held, lent};
 ghost use Rattle.corrections_add.specs.Steps.{Countable, Counted, Ending, Enterable, Enters, EntriesWritten, Found, NewIn, NewLast, OwnFrom, Writable};
 
 use corrections_directory::entry::signal_at;
@@ -26,7 +26,7 @@ fn own_start(
     g: u64,
 ) -> usize
     requires { NewIn j new_constellation new_svid new_band }
-    ensures { OwnFrom (before new_constellation) (before new_svid) (before new_band) g result j }
+    ensures { OwnFrom new_constellation.now new_svid.now new_band.now g result j }
 {
     let mut a = j;
     while 0 < a {
@@ -49,7 +49,7 @@ fn new_last(
     end: usize,
 ) -> Last
     requires { (0 < j) × ((j ≤ end) × NewIn j new_constellation new_svid new_band) }
-    ensures { NewLast (before new_constellation) (before new_svid) (before new_band) i j end result }
+    ensures { NewLast new_constellation.now new_svid.now new_band.now i j end result }
 {
     let g = signal_at(new_constellation, new_svid, new_band, j - 1);
     let a = own_start(new_constellation, new_svid, new_band, j, g);
@@ -162,9 +162,9 @@ fn merge_entries(
     new_count: usize,
     count: usize,
 )
-    requires { Writable block_constellation block_svid block_band block_first block_samples blocks table_count
+    requires { Writable (held block_constellation) (held block_svid) (held block_band) (held block_first) (held block_samples) blocks table_count
         new_constellation new_svid new_band new_count count }
-    ensures { EntriesWritten block_constellation block_svid block_band block_first block_samples blocks table_count
+    ensures { EntriesWritten (lent block_constellation) (lent block_svid) (lent block_band) (lent block_first) (lent block_samples) blocks table_count
         new_constellation new_svid new_band new_count }
 {
     let mut i = blocks;
@@ -211,9 +211,9 @@ pub(crate) fn enter(
     new_band: &[u32],
     new_count: usize,
 ) -> usize
-    requires { Enterable block_constellation block_svid block_band block_first block_samples blocks table_count
+    requires { Enterable (held block_constellation) (held block_svid) (held block_band) (held block_first) (held block_samples) blocks table_count
         new_constellation new_svid new_band new_count }
-    ensures { Enters block_constellation block_svid block_band block_first block_samples blocks table_count
+    ensures { Enters (lent block_constellation) (lent block_svid) (lent block_band) (lent block_first) (lent block_samples) blocks table_count
         new_constellation new_svid new_band new_count result }
 {
     let count = entries_after(

@@ -1,6 +1,6 @@
 // The times and corrections of a directory with those of new samples, from the back to the front.
 ghost use Rattle.std.specs.Prelude.{◌≡◌, ◌+◌, ◌≤◌, ◌<◌, length};
-ghost use Rattle.lists.specs.Memory.{before, after};
+ghost use Rattle.lists.specs.Memory.{held, lent};
 ghost use Rattle.corrections_add.specs.Steps.{HeldBy, InLast, Mergeable, ReadingsWritten, StaysIn, TimesStay, lent_samples, shifted};
 
 use corrections_directory::entry::signal_at;
@@ -10,7 +10,7 @@ use numeric::order::{float, pattern};
 // Returns the number of the first i times that are not after t, in a block in order that begins at the place first.
 fn times_stay(table_time: &[u64], first: usize, i: usize, t: f64) -> usize
     requires { (first ≤ i) × (i ≤ length table_time.now) }
-    ensures { TimesStay (before table_time) first i t result }
+    ensures { TimesStay table_time.now first i t result }
 {
     let mut p = i;
     while first < p {
@@ -54,7 +54,7 @@ fn old_stay(
 // Moves the count values from the place first on up by so many places, the last of them first.
 fn shift(d: &mut [u64], first: usize, count: usize, by: usize)
     requires { first + count + by ≤ length d.old }
-    ensures { after d ≡ shifted first by count 0 (before d) }
+    ensures { d.new ≡ shifted first by count 0 d.old }
 {
     let mut c = count;
     while 0 < c {
@@ -67,7 +67,7 @@ fn shift(d: &mut [u64], first: usize, count: usize, by: usize)
 // Returns how many of the first e entries hold the first i samples: the last one goes if its block begins at i.
 fn blocks_left(block_first: &[usize], e: usize, i: usize) -> usize
     requires { (0 < e) × (e ≤ length block_first.now) }
-    ensures { HeldBy (before block_first) e i result }
+    ensures { HeldBy block_first.now e i result }
 {
     if block_first[e - 1] == i {
         return e - 1;
@@ -92,9 +92,9 @@ pub(crate) fn merge_readings(
     new_metres: &[f64],
     new_count: usize,
 )
-    requires { Mergeable block_constellation block_svid block_band block_first blocks table_time table_metres table_count
+    requires { Mergeable block_constellation block_svid block_band block_first blocks (held table_time) (held table_metres) table_count
         new_constellation new_svid new_band new_time new_metres new_count }
-    ensures { ReadingsWritten block_constellation block_svid block_band block_first blocks table_time table_metres table_count
+    ensures { ReadingsWritten block_constellation block_svid block_band block_first blocks (lent table_time) (lent table_metres) table_count
         (lent_samples new_count new_constellation new_svid new_band new_time new_metres) }
 {
     let mut e = blocks;

@@ -1,6 +1,6 @@
 // The directory of a sorted table.
 ghost use Rattle.std.specs.Prelude.{◌≡◌, ◌≤◌, ◌<◌, min, length};
-ghost use Rattle.lists.specs.Memory.{before};
+ghost use Rattle.lists.specs.Memory.{held, lent};
 ghost use Rattle.corrections_table.specs.Lent.{columns_before};
 ghost use Rattle.corrections_convert.specs.Lent.{FiledAs, lent_directory};
 ghost use Rattle.corrections_convert.specs.Steps.{Run, SignalsHold, WritesEntries, entries_before, entries_now};
@@ -47,7 +47,7 @@ fn entry_room(
 // Returns where the samples of the signal at the place i end.
 fn run_end(constellation: &[u8], svid: &[u16], band: &[u32], i: usize, table_count: usize) -> usize
     requires { (i < table_count) × SignalsHold table_count constellation svid band }
-    ensures { Run (before constellation) (before svid) (before band) i table_count result }
+    ensures { Run constellation.now svid.now band.now i table_count result }
 {
     let c = constellation[i];
     let v = svid[i];
@@ -75,9 +75,9 @@ fn file_all(
     block_samples: &mut [usize],
 ) -> usize
     requires signals_hold { SignalsHold table_count constellation svid band }
-    requires table_count_in_bounds { table_count ≤ length (entries_now block_constellation block_svid block_band block_first block_samples) }
+    requires table_count_in_bounds { table_count ≤ length (entries_now (held block_constellation) (held block_svid) (held block_band) (held block_first) (held block_samples)) }
     ensures { WritesEntries constellation svid band table_count
-        block_constellation block_svid block_band block_first block_samples result }
+        (lent block_constellation) (lent block_svid) (lent block_band) (lent block_first) (lent block_samples) result }
 {
     let mut entries: usize = 0;
     let mut i: usize = 0;
@@ -109,7 +109,7 @@ pub fn directory_of(
     block_samples: &mut [usize],
 ) -> Filing
     ensures { let t = columns_before constellation svid band table_time table_metres in
-        FiledAs table_count t (lent_directory block_constellation block_svid block_band block_first block_samples t) result }
+        FiledAs table_count t (lent_directory (lent block_constellation) (lent block_svid) (lent block_band) (lent block_first) (lent block_samples) t) result }
 {
     let room = lesser(
         entry_room(

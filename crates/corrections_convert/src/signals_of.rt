@@ -1,5 +1,6 @@
 // The table that a directory stands for.
 ghost use Rattle.std.specs.Prelude.{◌≤◌, length};
+ghost use Rattle.lists.specs.Memory.{held, lent};
 ghost use Rattle.corrections_directory.specs.Read.{read_table};
 ghost use Rattle.corrections_convert.specs.Lent.{ListedAs, lent_signal_columns};
 ghost use Rattle.corrections_convert.specs.Steps.{Lays, SignalsHold, Spreads, start_of};
@@ -27,8 +28,8 @@ fn list_block(
     v: u16,
     b: u32,
 )
-    requires { (first ≤ end) × SignalsHold end constellation svid band }
-    ensures { Spreads c first end constellation × (Spreads v first end svid × Spreads b first end band) }
+    requires { (first ≤ end) × SignalsHold end (held constellation) (held svid) (held band) }
+    ensures { Spreads c first end (lent constellation) × (Spreads v first end (lent svid) × Spreads b first end (lent band)) }
 {
     let mut i = first;
     while i < end {
@@ -51,9 +52,9 @@ fn list_all(
     band: &mut [u32],
 )
     requires signals_hold { SignalsHold blocks block_constellation block_svid block_band × (blocks ≤ length block_samples.now) }
-    requires signals_hold_2 { SignalsHold (start_of block_samples.now blocks) constellation svid band }
-    ensures { Lays block_constellation block_samples blocks constellation
-        × (Lays block_svid block_samples blocks svid × Lays block_band block_samples blocks band) }
+    requires signals_hold_2 { SignalsHold (start_of block_samples.now blocks) (held constellation) (held svid) (held band) }
+    ensures { Lays block_constellation block_samples blocks (lent constellation)
+        × (Lays block_svid block_samples blocks (lent svid) × Lays block_band block_samples blocks (lent band)) }
 {
     let mut place: usize = 0;
     let mut i: usize = 0;
@@ -85,7 +86,7 @@ pub fn signals_of(
 ) -> Listing
     ensures { let table = read_table
         block_constellation block_svid block_band block_first block_samples blocks table_time table_metres table_count in
-        ListedAs table (lent_signal_columns constellation svid band table) result }
+        ListedAs table (lent_signal_columns (lent constellation) (lent svid) (lent band) table) result }
 {
     let long = lesser(constellation.len(), lesser(svid.len(), band.len()));
     let room = block_capacity(

@@ -1,6 +1,6 @@
 // The entries of a directory in its columns: their satellites, and how many the columns have room for.
 ghost use Rattle.std.specs.Prelude.{◌≡◌, ◌^◌, ◌<◌, min};
-ghost use Rattle.lists.specs.Memory.{before};
+
 ghost use Rattle.corrections_directory.specs.Directory.{block_capacity};
 ghost use Rattle.corrections_directory.specs.Read.{blocks_before};
 ghost use Rattle.corrections_directory.specs.Steps.{InSignals, signal_at};
@@ -61,7 +61,7 @@ pub fn block_capacity(
 // Returns the signal at the place i of three columns, as one number.
 pub fn signal_at(constellation: &[u8], svid: &[u16], band: &[u32], i: usize) -> u64
     requires { InSignals constellation.now svid.now band.now i }
-    ensures { (result ≡ signal_at (before constellation) (before svid) (before band) i) × (result < 2 ^ 56) }
+    ensures { (result ≡ signal_at constellation.now svid.now band.now i) × (result < 2 ^ 56) }
 {
     signal_of(constellation[i], svid[i], band[i])
 }

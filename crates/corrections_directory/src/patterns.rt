@@ -1,6 +1,6 @@
 // Number 4 of a directory whose times and corrections are lent as 64-bit patterns, and how many samples such columns have room for.
 ghost use Rattle.std.specs.Prelude.{◌≡◌, true, false, ◌^◌, ◌≤◌, ltb, length, take};
-ghost use Rattle.lists.specs.Memory.{before};
+
 ghost use Rattle.exact.specs.Float.{bits};
 ghost use Rattle.numeric.specs.Order.{is_nan_pattern};
 ghost use Rattle.numeric.specs.Real.{in_range};
@@ -117,7 +117,7 @@ fn in_order(
     table_time: &[u64],
 ) -> bool
     requires { EachBlock (Timed table_time.now) block_first.now block_samples.now blocks }
-    ensures { result ≡ timely_blocks (before block_first) (before block_samples) (floats (before table_time)) blocks }
+    ensures { result ≡ timely_blocks block_first.now block_samples.now (floats table_time.now) blocks }
 {
     let mut i: usize = 0;
     while i < blocks {

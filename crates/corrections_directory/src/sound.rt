@@ -1,6 +1,6 @@
 // Number 4 of a directory: its faults, and the range of its times and corrections.
 ghost use Rattle.std.specs.Prelude.{◌≡◌, true, ◌&&◌, ◌≤◌, length, take, drop};
-ghost use Rattle.lists.specs.Memory.{before};
+
 ghost use Rattle.lists.specs.Walk.{every};
 ghost use Rattle.corrections_directory.specs.Directory.{ascends, directory_in, in_reach, reading_rows, sound_directory, tiles, timely};
 ghost use Rattle.corrections_directory.specs.Lent.{TableIn, blocks_now};
@@ -14,7 +14,7 @@ use numeric::real::in_range;
 // Tests whether the first table_count times and corrections are in range. The loop goes on past one that is not, so that several are tested at once.
 fn all_in_reach(table_time: &[f64], table_metres: &[f64], table_count: usize) -> bool
     requires { table_count ≤ length (reading_rows table_time.now table_metres.now) }
-    ensures { result ≡ every in_reach (take table_count (reading_rows (before table_time) (before table_metres))) }
+    ensures { result ≡ every in_reach (take table_count (reading_rows table_time.now table_metres.now)) }
 {
     let mut all = true;
     let mut i: usize = 0;
@@ -59,7 +59,7 @@ pub(crate) fn is_tiled(
 // Tests whether each of count times, from the place first on, is below the next; if so, they are in order. Several are tested at once.
 fn is_rising(table_time: &[f64], first: usize, count: usize) -> bool
     requires { Filled (length table_time.now) first count }
-    ensures { result ≡ true → true ≡ timely (take count (drop first (before table_time))) }
+    ensures { result ≡ true → true ≡ timely (take count (drop first table_time.now)) }
 {
     let end = first + count;
     let mut all = true;
@@ -74,7 +74,7 @@ fn is_rising(table_time: &[f64], first: usize, count: usize) -> bool
 // Tests one by one whether count times, from the place first on, are in order.
 fn is_timely(table_time: &[f64], first: usize, count: usize) -> bool
     requires { Filled (length table_time.now) first count }
-    ensures { result ≡ timely (take count (drop first (before table_time))) }
+    ensures { result ≡ timely (take count (drop first table_time.now)) }
 {
     let end = first + count;
     let mut i = first + 1;
@@ -90,7 +90,7 @@ fn is_timely(table_time: &[f64], first: usize, count: usize) -> bool
 // Tests the same, faster for a block that has no time twice.
 fn in_turn(table_time: &[f64], first: usize, count: usize) -> bool
     requires { Filled (length table_time.now) first count }
-    ensures { result ≡ timely (take count (drop first (before table_time))) }
+    ensures { result ≡ timely (take count (drop first table_time.now)) }
 {
     if is_rising(table_time, first, count) {
         return true;
@@ -106,7 +106,7 @@ fn in_order(
     table_time: &[f64],
 ) -> bool
     requires { EachBlock (Filled (length table_time.now)) block_first.now block_samples.now blocks }
-    ensures { result ≡ timely_blocks (before block_first) (before block_samples) (before table_time) blocks }
+    ensures { result ≡ timely_blocks block_first.now block_samples.now table_time.now blocks }
 {
     let mut i: usize = 0;
     while i < blocks {

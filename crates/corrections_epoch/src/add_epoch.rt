@@ -1,5 +1,6 @@
 // One base epoch added to the table, which is a directory beside the columns of times and corrections.
 ghost use Rattle.std.specs.Prelude.{◌≡◌};
+ghost use Rattle.lists.specs.Memory.{lent};
 ghost use Rattle.corrections_directory.specs.Lent.{lent_table};
 ghost use Rattle.corrections_epoch.specs.AddEpoch.{AddsBaseEpoch};
 ghost use Rattle.corrections_epoch.specs.Steps.{records_test};
@@ -67,7 +68,7 @@ pub fn add_epoch(
     settings: Settings,
 ) -> Addition
     ensures { AddsBaseEpoch epoch states base rover settings result blocks table_count (lent_table
-        block_constellation block_svid block_band block_first block_samples table_time table_metres) }
+        (lent block_constellation) (lent block_svid) (lent block_band) (lent block_first) (lent block_samples) (lent table_time) (lent table_metres)) }
 {
     let room = capacity_of(
         block_constellation,

@@ -1,7 +1,7 @@
 // The samples that an epoch's raw corrections give, once the base receiver's clock is removed.
 ghost use Rattle.std.specs.Prelude.{◌≡◌, ℕ, ◌≤◌, ◌<◌, take, get_or, length};
 ghost use Rattle.std.specs.Float.{nan};
-ghost use Rattle.lists.specs.Memory.{before};
+
 ghost use Rattle.lists.specs.Walk.{Holds};
 ghost use Rattle.corrections_epoch.specs.Sample as spec;
 ghost use Rattle.corrections_epoch.specs.Steps.{clock_or_nan};
@@ -16,7 +16,7 @@ use numeric::real::{abs, is_finite};
 // Returns the base receiver's clock by the patterns of a group's values, or a NaN if there are fewer than three.
 fn clock_of(values: &[u64]) -> f64
     requires { length values.now ≤ 64 }
-    ensures { result ≡ clock_or_nan (before values) }
+    ensures { result ≡ clock_or_nan values.now }
 {
     if values.len() < 3 {
         return 0.0 / 0.0;

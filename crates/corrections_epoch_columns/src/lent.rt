@@ -1,6 +1,6 @@
 // A base epoch of lent columns added to a lent directory, with both counts.
 ghost use Rattle.std.specs.Prelude.{◌≡◌};
-ghost use Rattle.lists.specs.Memory.{before, after};
+ghost use Rattle.lists.specs.Memory.{lent};
 ghost use Rattle.corrections_directory.specs.Lent.{lent_table};
 ghost use Rattle.corrections_add.specs.Add.{AddedBy};
 ghost use Rattle.corrections_epoch_columns.specs.Epoch.{lent_entry, settings_of};
@@ -14,7 +14,7 @@ use numeric::vec3::vector;
 
 // Writes both counts and returns 0. On refusal, returns its number and changes nothing.
 pub fn counts_into(answer: Addition, blocks: &mut usize, table_count: &mut usize) -> u8
-    ensures { CountsWritten answer result (before blocks) (after blocks) (before table_count) (after table_count) }
+    ensures { CountsWritten answer result blocks.old blocks.new table_count.old table_count.new }
 {
     match answer {
         Addition::Refused(why) => why.number(),
@@ -28,7 +28,7 @@ pub fn counts_into(answer: Addition, blocks: &mut usize, table_count: &mut usize
 
 // Returns the settings of the greatest gap and correction, and of the constellations in use.
 fn settings_of(max_gap: f64, max_correction: f64, corrected: &[bool; 8]) -> Settings
-    ensures { result ≡ settings_of max_gap max_correction (before corrected) }
+    ensures { result ≡ settings_of max_gap max_correction corrected.now }
 {
     Settings {
         max_gap: max_gap,
@@ -67,7 +67,7 @@ pub fn add_into(
     max_correction: f64,
     corrected: &[bool; 8],
 ) -> Addition
-    ensures { let t = lent_table block_constellation block_svid block_band block_first block_samples table_time table_metres in
+    ensures { let t = lent_table (lent block_constellation) (lent block_svid) (lent block_band) (lent block_first) (lent block_samples) (lent table_time) (lent table_metres) in
         let o = lent_entry blocks table_count t.before time ranges range_constellation range_svid range_band range_pseudorange
         states_present states state_constellation state_svid state_band state_floats base rover max_gap max_correction corrected in
         AddedBy o result blocks table_count t }

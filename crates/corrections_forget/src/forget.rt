@@ -1,5 +1,6 @@
 // Forgetting in a directory, or the refusal.
 ghost use Rattle.std.specs.Prelude.{◌≡◌};
+ghost use Rattle.lists.specs.Memory.{lent};
 ghost use Rattle.corrections_directory.specs.Lent.{lent_table};
 ghost use Rattle.corrections_forget.specs.Forget.{Forgot};
 ghost use Rattle.corrections_forget.specs.Steps.{forget_test};
@@ -78,7 +79,7 @@ pub fn forget(
     time: f64,
 ) -> Forgetting
     ensures { Forgot blocks table_count
-        (lent_table block_constellation block_svid block_band block_first block_samples table_time table_metres) time result }
+        (lent_table block_constellation block_svid block_band (lent block_first) (lent block_samples) (lent table_time) (lent table_metres)) time result }
 {
     let test = tested(
         block_constellation,

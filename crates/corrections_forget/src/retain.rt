@@ -1,6 +1,6 @@
 // Keeps what a drop retains of each block, moved down to where the block before it ends.
 ghost use Rattle.std.specs.Prelude.{◌≡◌, ◌+◌, ◌-◌, ◌≤◌, length};
-ghost use Rattle.lists.specs.Memory.{before};
+ghost use Rattle.lists.specs.Memory.{held, lent};
 ghost use Rattle.corrections_directory.specs.Directory.{floats};
 ghost use Rattle.corrections_directory.specs.Steps.{Timed};
 ghost use Rattle.corrections_forget.specs.Steps.{MovesDown, Outdated, SomeDirectory, Trims};
@@ -10,7 +10,7 @@ use corrections_directory::patterns::number;
 // Counts the samples before the time at the front of the block of count samples from the place first on.
 fn front_of(table_time: &[u64], first: usize, count: usize, time: f64) -> usize
     requires { Timed table_time.now first count }
-    ensures { Outdated (floats (before table_time)) first count time result }
+    ensures { Outdated (floats table_time.now) first count time result }
 {
     let mut k: usize = 0;
     while k < count {
@@ -33,7 +33,7 @@ fn all_but_one(k: usize) -> usize
 // Moves the count readings at the place from down to the place to.
 fn move_down(table_time: &mut [u64], table_metres: &mut [u64], from: usize, to: usize, count: usize)
     requires { (to ≤ from) × ((from + count ≤ length table_time.old) × (from + count ≤ length table_metres.old)) }
-    ensures { MovesDown to from count table_time × MovesDown to from count table_metres }
+    ensures { MovesDown to from count (lent table_time) × MovesDown to from count (lent table_metres) }
 {
     let mut i: usize = 0;
     while i < count {
@@ -54,8 +54,8 @@ pub(crate) fn trim(
     table_metres: &mut [u64],
     time: f64,
 ) -> usize
-    requires { SomeDirectory blocks block_first block_samples table_time table_metres }
-    ensures { Trims blocks block_first block_samples table_time table_metres time result }
+    requires { SomeDirectory blocks (held block_first) (held block_samples) (held table_time) (held table_metres) }
+    ensures { Trims blocks (lent block_first) (lent block_samples) (lent table_time) (lent table_metres) time result }
 {
     let mut place: usize = 0;
     let mut i: usize = 0;

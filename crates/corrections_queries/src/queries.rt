@@ -1,6 +1,6 @@
 // Many queries of one table, which is tested once.
 ghost use Rattle.std.specs.Prelude.{◌≡◌};
-ghost use Rattle.lists.specs.Memory.{before};
+ghost use Rattle.lists.specs.Memory.{lent};
 ghost use Rattle.corrections_directory.specs.Read.{read_table};
 ghost use Rattle.corrections_query.specs.Query.{lent_query, query_number, pattern_after, Answers, GivesFinite};
 ghost use Rattle.corrections_queries.specs.Queries.{Replied, asked, asking_number, places_short};
@@ -65,7 +65,7 @@ fn is_short(
     numbers: &[u8],
     metres: &[u64],
 ) -> bool
-    ensures { result ≡ places_short (asked constellation svid band time count) (before numbers) (before metres) }
+    ensures { result ≡ places_short (asked constellation svid band time count) numbers.now metres.now }
 {
     (constellation.len() < count)
         | (svid.len() < count)
@@ -98,7 +98,7 @@ pub fn queries(
 ) -> Asking
     ensures { Replied
         (read_table block_constellation block_svid block_band block_first block_samples blocks table_time table_metres table_count) max_gap
-        (asked constellation svid band time count) result numbers metres }
+        (asked constellation svid band time count) result (lent numbers) (lent metres) }
 {
     if is_short(count, constellation, svid, band, time, numbers, metres) {
         return Asking::Refused(Refusal::TooMany);

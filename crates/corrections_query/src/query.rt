@@ -1,7 +1,7 @@
 // The correction of a signal at a time: `Corrections::at` of differential.rs, with a near sample before the ends.
 ghost use Rattle.std.specs.Prelude.{◌≡◌, ◌&&◌, ◌+◌, ◌-◌, ◌≤◌, length, get_or, ltb};
 ghost use Rattle.std.specs.Float.{nan};
-ghost use Rattle.lists.specs.Memory.{before};
+
 ghost use Rattle.corrections_directory.specs.Directory.{reading_rows};
 ghost use Rattle.corrections_directory.specs.Lent.{blocks_now};
 ghost use Rattle.corrections_directory.specs.Read.{blocks_before, read_table};
@@ -33,7 +33,7 @@ fn is_near(x: f64, t: f64) -> bool
 // Tests whether the place lies before the end of a block, and its time is near.
 fn near_since(table_time: &[f64], place: usize, end: usize, time: f64) -> bool
     requires { end ≤ length table_time.now }
-    ensures { result ≡ (ltb place end && near (get_or (before table_time) place nan) time) }
+    ensures { result ≡ (ltb place end && near (get_or table_time.now place nan) time) }
 {
     if place < end {
         return is_near(table_time[place], time);
@@ -44,7 +44,7 @@ fn near_since(table_time: &[f64], place: usize, end: usize, time: f64) -> bool
 // Tests whether the place before this one lies in a block from first on, and its time is near.
 fn near_before(table_time: &[f64], first: usize, place: usize, time: f64) -> bool
     requires { place ≤ length table_time.now }
-    ensures { result ≡ (ltb first place && near (get_or (before table_time) (place - 1) nan) time) }
+    ensures { result ≡ (ltb first place && near (get_or table_time.now (place - 1) nan) time) }
 {
     if first < place {
         return is_near(table_time[place - 1], time);
@@ -70,7 +70,7 @@ fn answer_in(
 ) -> Correction
     requires filled { Filled (length (reading_rows table_time.now table_metres.now)) first count }
     requires falling { Falling (is_before table_time.now time) first (first + count) }
-    ensures { BlockAnswer (reading_rows (before table_time) (before table_metres)) first count max_gap time result }
+    ensures { BlockAnswer (reading_rows table_time.now table_metres.now) first count max_gap time result }
 {
     let end = first + count;
     let place = front_of(table_time, first, end, time);

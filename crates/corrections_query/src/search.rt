@@ -2,7 +2,7 @@
 // so that the compiler makes no branch that what is asked decides.
 ghost use Rattle.std.specs.Prelude.{◌≡◌, cond, ◌+◌, ◌≤◌, leb};
 ghost use Rattle.std.specs.Float.Ieee.{lt};
-ghost use Rattle.lists.specs.Memory.{before};
+
 ghost use Rattle.corrections_query.specs.Steps.{Split, is_before, SignalsSplit, LastUpTo, TimesSplit};
 
 use corrections_directory::entry::signal_at;
@@ -35,7 +35,7 @@ fn entry_within(
     requires size_bound { size ≤ 32 }
     requires signals_split { SignalsSplit block_constellation.now block_svid.now block_band.now signal from (from + size) }
     ensures { LastUpTo
-        (before block_constellation) (before block_svid) (before block_band) signal from (from + size) result }
+        block_constellation.now block_svid.now block_band.now signal from (from + size) result }
 {
     let mut lo = from;
     let mut len = size;
@@ -60,7 +60,7 @@ pub(crate) fn entry_of(
     signal: u64,
 ) -> usize
     requires { SignalsSplit block_constellation.now block_svid.now block_band.now signal 0 blocks }
-    ensures { LastUpTo (before block_constellation) (before block_svid) (before block_band) signal 0 blocks result }
+    ensures { LastUpTo block_constellation.now block_svid.now block_band.now signal 0 blocks result }
 {
     let mut lo: usize = 0;
     let mut len = blocks;
@@ -78,7 +78,7 @@ pub(crate) fn entry_of(
 fn front_within(table_time: &[f64], time: f64, from: usize, size: usize) -> usize
     requires size_bound { size ≤ 64 }
     requires times_split { TimesSplit table_time.now time from (from + size) }
-    ensures { Split (is_before (before table_time) time) from (from + size) result }
+    ensures { Split (is_before table_time.now time) from (from + size) result }
 {
     let mut lo = from;
     let mut len = size;
@@ -98,7 +98,7 @@ fn front_within(table_time: &[f64], time: f64, from: usize, size: usize) -> usiz
 // Returns the first place of a block, from first up to end, whose time is not before `time`, or its end.
 pub(crate) fn front_of(table_time: &[f64], first: usize, end: usize, time: f64) -> usize
     requires { TimesSplit table_time.now time first end }
-    ensures { Split (is_before (before table_time) time) first end result }
+    ensures { Split (is_before table_time.now time) first end result }
 {
     let mut lo = first;
     let mut len = end - first;

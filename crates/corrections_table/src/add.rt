@@ -1,6 +1,6 @@
 // Samples added to a table, each after those that it does not precede.
 ghost use Rattle.std.specs.Prelude.{◌≡◌, [], ◌∷◌, ◌-◌, ◌≤◌, ◌<◌, length, take};
-ghost use Rattle.lists.specs.Memory.{before, after};
+ghost use Rattle.lists.specs.Memory.{held, lent};
 ghost use Rattle.lists.specs.Walk.{every};
 ghost use Rattle.corrections_table.specs.Table.{ranged, table_of};
 ghost use Rattle.corrections_table.specs.Add.{counted_samples};
@@ -43,7 +43,7 @@ fn spot_of(cs: &[u8], vs: &[u16], bs: &[u32], ts: &[f64], xs: &[f64], n: usize, 
 // Inserts x at the place p of a column with n places in use, moving those from p on up by one.
 fn open_u8(d: &mut [u8], p: usize, n: usize, x: u8)
     requires { (p ≤ n) × (n < length d.old) }
-    ensures { after d ≡ opened p (n - p) x (before d) }
+    ensures { d.new ≡ opened p (n - p) x d.old }
 {
     let mut i = n;
     while i > p {
@@ -56,7 +56,7 @@ fn open_u8(d: &mut [u8], p: usize, n: usize, x: u8)
 // Inserts a 16-bit number likewise.
 fn open_u16(d: &mut [u16], p: usize, n: usize, x: u16)
     requires { (p ≤ n) × (n < length d.old) }
-    ensures { after d ≡ opened p (n - p) x (before d) }
+    ensures { d.new ≡ opened p (n - p) x d.old }
 {
     let mut i = n;
     while i > p {
@@ -69,7 +69,7 @@ fn open_u16(d: &mut [u16], p: usize, n: usize, x: u16)
 // Inserts a 32-bit number likewise.
 fn open_u32(d: &mut [u32], p: usize, n: usize, x: u32)
     requires { (p ≤ n) × (n < length d.old) }
-    ensures { after d ≡ opened p (n - p) x (before d) }
+    ensures { d.new ≡ opened p (n - p) x d.old }
 {
     let mut i = n;
     while i > p {
@@ -82,7 +82,7 @@ fn open_u32(d: &mut [u32], p: usize, n: usize, x: u32)
 // Inserts a float likewise.
 fn open_f64(d: &mut [f64], p: usize, n: usize, x: f64)
     requires { (p ≤ n) × (n < length d.old) }
-    ensures { after d ≡ opened p (n - p) x (before d) }
+    ensures { d.new ≡ opened p (n - p) x d.old }
 {
     let mut i = n;
     while i > p {
@@ -102,8 +102,8 @@ fn insert(
     n: usize,
     s: Sample,
 )
-    requires { RoomForOne n (columns_now cs vs bs ts xs) }
-    ensures { Inserts n 1 (s ∷ []) cs vs bs ts xs }
+    requires { RoomForOne n (columns_now (held cs) (held vs) (held bs) (held ts) (held xs)) }
+    ensures { Inserts n 1 (s ∷ []) (lent cs) (lent vs) (lent bs) (lent ts) (lent xs) }
 {
     let p = spot_of(cs, vs, bs, ts, xs, n, s);
     open_u8(cs, p, n, s.constellation);
@@ -124,8 +124,8 @@ pub fn insert_all(
     new: [Sample; 64],
     m: usize,
 )
-    requires { RoomForAll n new m (columns_now cs vs bs ts xs) }
-    ensures { Inserts n m (take m new) cs vs bs ts xs }
+    requires { RoomForAll n new m (columns_now (held cs) (held vs) (held bs) (held ts) (held xs)) }
+    ensures { Inserts n m (take m new) (lent cs) (lent vs) (lent bs) (lent ts) (lent xs) }
 {
     let mut i: usize = 0;
     while i < m {

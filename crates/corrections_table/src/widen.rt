@@ -1,6 +1,6 @@
 // An old table's column of bands, of 8 bits each, as the column of 32 bits that a table has now.
 ghost use Rattle.std.specs.Prelude.{◌≡◌, ◌≤◌, length};
-ghost use Rattle.lists.specs.Memory.{before, after};
+
 ghost use Rattle.corrections_table.specs.Widen.{widened, widen_of, bands_after};
 
 use numeric::refusal::Refusal;
@@ -15,7 +15,7 @@ pub enum Widening {
 // Writes the first n bands.
 fn widen_all(narrow: &[u8], n: usize, wide: &mut [u32])
     requires { (n ≤ length narrow.now) × (n ≤ length wide.old) }
-    ensures { after wide ≡ widened n (before narrow) (before wide) }
+    ensures { wide.new ≡ widened n narrow.now wide.old }
 {
     let mut i: usize = 0;
     while i < n {
@@ -26,8 +26,8 @@ fn widen_all(narrow: &[u8], n: usize, wide: &mut [u32])
 
 // Writes the first n bands of narrow to the front of wide. On refusal, returns it and changes nothing.
 pub fn widen_bands(narrow: &[u8], n: usize, wide: &mut [u32]) -> Widening
-    ensures { let old = before narrow in
-        (result ≡ widen_of n old (before wide)) × (after wide ≡ bands_after result n old (before wide)) }
+    ensures { let old = narrow.now in
+        (result ≡ widen_of n old wide.old) × (wide.new ≡ bands_after result n old wide.old) }
 {
     if (2048 < n) | (narrow.len() < n) | (wide.len() < n) {
         return Widening::Refused(Refusal::TooMany);

@@ -1,6 +1,6 @@
 // The fields of a line: numbers in decimal, and floats as sixteen hexadecimal digits.
 ghost use Rattle.std.specs.Prelude.{◌≡◌, true, ◌≤◌, ◌<◌, ◌^◌, pos, neg_ℤ};
-ghost use Rattle.lists.specs.Memory.{before};
+
 ghost use Rattle.line_form.specs.Field.{plain, is_hex_digit, hex_value};
 ghost use Rattle.line_form.specs.Steps.{ReadsNumber, ReadsState, ReadsPattern, ReadsFloat};
 
@@ -27,7 +27,7 @@ pub(crate) struct Real {
 
 // Checks that a field is not empty and has no leading zero.
 fn is_plain(s: &[u8]) -> bool
-    ensures { result ≡ plain (before s) }
+    ensures { result ≡ plain s.now }
 {
     let n = s.len();
     if n == 0 {
@@ -43,7 +43,7 @@ fn is_plain(s: &[u8]) -> bool
 pub(crate) fn number_of(s: &[u8], limit: u64) -> Number
     requires limit_nonzero { 0 < limit }
     requires limit_bound { limit ≤ 2 ^ 32 }
-    ensures { ReadsNumber limit (before s) result }
+    ensures { ReadsNumber limit s.now result }
 {
     if !is_plain(s) {
         return Number {
@@ -95,7 +95,7 @@ fn negated(n: u64) -> i32
 
 // Reads a signed number of 32 bits.
 pub(crate) fn state_of(s: &[u8]) -> Signed
-    ensures { ReadsState (before s) result }
+    ensures { ReadsState s.now result }
 {
     if s.len() == 0 {
         return Signed {
@@ -137,7 +137,7 @@ fn hex_value(b: u8) -> u64
 
 // Reads sixteen hexadecimal digits.
 pub(crate) fn pattern_of(s: &[u8]) -> Number
-    ensures { ReadsPattern (before s) result }
+    ensures { ReadsPattern s.now result }
 {
     if s.len() != 16 {
         return Number {
@@ -166,7 +166,7 @@ pub(crate) fn pattern_of(s: &[u8]) -> Number
 
 // Reads a float by its pattern.
 pub(crate) fn float_of(s: &[u8]) -> Real
-    ensures { ReadsFloat (before s) result }
+    ensures { ReadsFloat s.now result }
 {
     let p = pattern_of(s);
     let x = float(p.value);

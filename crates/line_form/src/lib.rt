@@ -5,7 +5,7 @@ mod print;
 mod split;
 mod text;
 
-ghost use Rattle.lists.specs.Memory.{before, after};
+
 ghost use Rattle.line_form.specs.Answer.{LineAnswered};
 
 use crate::print::print_to;
@@ -21,7 +21,7 @@ pub enum Printed {
 
 // Writes the line that answers `text` to the start of `line` and returns its length. On refusal, changes nothing.
 pub fn answer(text: &[u8], line: &mut [u8]) -> Printed
-    ensures { LineAnswered (before text) (before line) (after line) result }
+    ensures { LineAnswered text.now line.old line.new result }
 {
     let d = displacement_in(text);
     let mut out = [0u8; 128];

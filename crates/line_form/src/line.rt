@@ -1,6 +1,6 @@
 // One line of the form.
 ghost use Rattle.std.specs.Prelude.{◌≡◌, ◌≤◌, length};
-ghost use Rattle.lists.specs.Memory.{before};
+
 ghost use Rattle.line_form.specs.Line.{letter, line_of};
 ghost use Rattle.line_form.specs.Steps.{first_line, Parted, ReadsPlace, ReadsCarrier, ReadsGiven};
 
@@ -52,7 +52,7 @@ pub(crate) enum Line {
 
 // Returns the byte of a field of one byte, and 0 for any other field.
 fn letter_of(s: &[u8]) -> u8
-    ensures { result ≡ letter (before s) }
+    ensures { result ≡ letter s.now }
 {
     if s.len() == 1 { s[0] } else { 0 }
 }
@@ -61,7 +61,7 @@ fn letter_of(s: &[u8]) -> u8
 fn place_of(line: &[u8], from: [usize; 12], k: usize) -> Place
     requires parted { Parted line.now from }
     requires k_bound { k ≤ 8 }
-    ensures { ReadsPlace (before line) k result }
+    ensures { ReadsPlace line.now k result }
 {
     let x = float_of(field_at(line, from, k));
     let y = float_of(field_at(line, from, k + 1));
@@ -79,7 +79,7 @@ fn place_of(line: &[u8], from: [usize; 12], k: usize) -> Place
 // Reads the ten fields of a carrier.
 fn carrier_of(line: &[u8], from: [usize; 12]) -> Carried
     requires { Parted line.now from }
-    ensures { ReadsCarrier (before line) result }
+    ensures { ReadsCarrier line.now result }
 {
     let constellation = number_of(field_at(line, from, 1), 256);
     let svid = number_of(field_at(line, from, 2), 65536);
@@ -114,7 +114,7 @@ fn carrier_of(line: &[u8], from: [usize; 12]) -> Carried
 
 pub(crate) fn line_of(line: &[u8]) -> Line
     requires { length line.now ≤ 32768 }
-    ensures { result ≡ line_of (before line) }
+    ensures { result ≡ line_of line.now }
 {
     let fields = fields_of(line);
     if !fields.eleven {
@@ -139,7 +139,7 @@ pub(crate) fn line_of(line: &[u8]) -> Line
 // Reads the ten fields of the first line.
 fn given_of(line: &[u8], from: [usize; 12]) -> Giving
     requires { Parted line.now from }
-    ensures { ReadsGiven (before line) result }
+    ensures { ReadsGiven line.now result }
 {
     let dt = float_of(field_at(line, from, 1));
     let receiver = place_of(line, from, 2);
@@ -177,7 +177,7 @@ fn given_of(line: &[u8], from: [usize; 12]) -> Giving
 
 pub(crate) fn first_of(line: &[u8]) -> First
     requires { length line.now ≤ 32768 }
-    ensures { result ≡ first_line (before line) }
+    ensures { result ≡ first_line line.now }
 {
     let fields = fields_of(line);
     if !fields.eleven {

@@ -1,6 +1,6 @@
 // The answer as a line.
 ghost use Rattle.std.specs.Prelude.{◌≡◌, [], ◌∷◌, ◌++◌, ◌+◌, ◌≤◌, ◌<◌, length};
-ghost use Rattle.lists.specs.Memory.{before, after};
+
 ghost use Rattle.line_form.specs.Print.{glyph, digits_text, digit_count, decimal_text, hex_text, answer_text};
 ghost use Rattle.line_form.specs.Steps.{Numbers, Printable, vector_text, overwritten, PutBytes};
 
@@ -19,7 +19,7 @@ fn spell(out: &mut [u8], at: usize, k: usize, base: u64, n: u64)
     requires base_nonzero { 0 < base }
     requires base_bound { base ≤ 16 }
     requires k_in_bounds { at + k ≤ length out.old }
-    ensures { after out ≡ overwritten (before out) at (digits_text base k n) }
+    ensures { out.new ≡ overwritten out.old at (digits_text base k n) }
 {
     let mut i = k;
     let mut rest = n;
@@ -47,7 +47,7 @@ fn places_of(n: u64) -> usize
 // Writes a number in decimal and one more byte, and returns the next place.
 fn put_decimal(out: &mut [u8], at: usize, n: u64, end: u8) -> usize
     requires { at + 22 ≤ length out.old }
-    ensures put_bytes { PutBytes (before out) (after out) at (decimal_text n ++ (end ∷ [])) result }
+    ensures put_bytes { PutBytes out.old out.new at (decimal_text n ++ (end ∷ [])) result }
     ensures upper_bound { result ≤ at + 22 }
 {
     let k = places_of(n);
@@ -59,7 +59,7 @@ fn put_decimal(out: &mut [u8], at: usize, n: u64, end: u8) -> usize
 // Writes 64 bits in hexadecimal and one more byte, and returns the next place.
 fn put_hex(out: &mut [u8], at: usize, p: u64, end: u8) -> usize
     requires { at + 17 ≤ length out.old }
-    ensures put_bytes { PutBytes (before out) (after out) at (hex_text p ++ (end ∷ [])) result }
+    ensures put_bytes { PutBytes out.old out.new at (hex_text p ++ (end ∷ [])) result }
     ensures upper_bound { result ≤ at + 17 }
 {
     spell(out, at, 16, 16, p);
@@ -70,7 +70,7 @@ fn put_hex(out: &mut [u8], at: usize, p: u64, end: u8) -> usize
 // Writes a letter and a comma at the start, and returns the next place.
 fn put_letter(out: &mut [u8], b: u8) -> usize
     requires { 2 ≤ length out.old }
-    ensures put_bytes { PutBytes (before out) (after out) 0 (b ∷ 44 ∷ []) result }
+    ensures put_bytes { PutBytes out.old out.new 0 (b ∷ 44 ∷ []) result }
     ensures upper_bound { result ≤ 2 }
 {
     out[0] = b;
@@ -82,7 +82,7 @@ fn put_letter(out: &mut [u8], b: u8) -> usize
 fn put_vector(out: &mut [u8], at: usize, v: Vec3) -> usize
     requires at_in_bounds { at + 51 ≤ length out.old }
     requires numbers { Numbers v }
-    ensures { PutBytes (before out) (after out) at (vector_text v) result }
+    ensures { PutBytes out.old out.new at (vector_text v) result }
 {
     let a = put_hex(out, at, f64::to_bits(v.x), 44);
     let b = put_hex(out, a, f64::to_bits(v.y), 44);
@@ -93,7 +93,7 @@ fn put_vector(out: &mut [u8], at: usize, v: Vec3) -> usize
 pub(crate) fn print_to(out: &mut [u8], d: Displacement) -> usize
     requires in_bounds { 128 ≤ length out.old }
     requires printable { Printable d }
-    ensures { PutBytes (before out) (after out) 0 (answer_text d) result }
+    ensures { PutBytes out.old out.new 0 (answer_text d) result }
 {
     match d {
         Displacement::Refused(r) => {

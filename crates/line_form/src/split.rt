@@ -1,13 +1,13 @@
 // The lines of a text and the fields of a line, by their places.
 ghost use Rattle.std.specs.Prelude.{◌≡◌, ◌+◌, ◌≤◌, length, drop};
-ghost use Rattle.lists.specs.Memory.{before};
+
 ghost use Rattle.line_form.specs.Split.{field};
 ghost use Rattle.line_form.specs.Steps.{count_before, FieldsOf, Parted};
 
 // Returns the place of the first byte c at or after `at`, or the length where there is none.
 pub(crate) fn find(s: &[u8], at: usize, c: u8) -> usize
     requires { at ≤ length s.now }
-    ensures { result ≡ at + count_before c (drop at (before s)) }
+    ensures { result ≡ at + count_before c (drop at s.now) }
 {
     let mut i = at;
     while i < s.len() {
@@ -28,7 +28,7 @@ pub(crate) struct Fields {
 
 pub(crate) fn fields_of(line: &[u8]) -> Fields
     requires { length line.now ≤ 32768 }
-    ensures { FieldsOf (before line) result }
+    ensures { FieldsOf line.now result }
 {
     let mut from = [0usize; 12];
     let mut at: usize = 0;
@@ -57,7 +57,7 @@ pub(crate) fn fields_of(line: &[u8]) -> Fields
 pub(crate) fn field_at(line: &[u8], from: [usize; 12], k: usize) -> &[u8]
     requires parted { Parted line.now from }
     requires k_bound { k ≤ 10 }
-    ensures { result.now ≡ field (before line) k }
+    ensures { result.now ≡ field line.now k }
 {
     let a = from[k];
     let e = from[k + 1] - 1;

@@ -1,6 +1,6 @@
 // A whole text of the form.
 ghost use Rattle.std.specs.Prelude.{◌≡◌, ◌<◌, ◌≤◌, length, drop};
-ghost use Rattle.lists.specs.Memory.{before, after};
+
 ghost use Rattle.line_form.specs.Steps.{Displaces, LinesDisplace, Keeps, ReadsNext};
 
 use crate::line::{First, Line, first_of, line_of};
@@ -22,7 +22,7 @@ struct Next {
 // Reads the line that begins at this place.
 fn next_line(text: &[u8], at: usize) -> Next
     requires { (at < length text.now) × (length text.now ≤ 32768) }
-    ensures { ReadsNext (before text) at result }
+    ensures { ReadsNext text.now at result }
 {
     let n = text.len();
     let e = find(text, at, 10);
@@ -48,8 +48,8 @@ fn keep(
     floats: &mut [f64; 384],
 ) -> usize
     requires { (n ≤ 32768) × (length signals.old ≡ 64) × (length states.old ≡ 64) × (length floats.old ≡ 384) }
-    ensures { Keeps c n result (before signals) (before states) (before floats)
-        (after signals) (after states) (after floats) }
+    ensures { Keeps c n result signals.old states.old floats.old
+        signals.new states.new floats.new }
 {
     if n < 64 {
         put_carrier(c, n, signals, states, floats);
@@ -66,7 +66,7 @@ fn displacement_after(
     settings: Settings,
 ) -> Displacement
     requires { (from ≤ length text.now) × (length text.now ≤ 32768) }
-    ensures { LinesDisplace (drop from (before text)) dt receiver settings result }
+    ensures { LinesDisplace (drop from text.now) dt receiver settings result }
 {
     let mut then_signals = [0u64; 64];
     let mut then_states = [0i32; 64];
@@ -112,7 +112,7 @@ fn displacement_after(
 
 // Returns the displacement that the text asks for.
 pub(crate) fn displacement_in(text: &[u8]) -> Displacement
-    ensures { Displaces (before text) result }
+    ensures { Displaces text.now result }
 {
     let n = text.len();
     if n > 32768 {

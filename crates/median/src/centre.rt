@@ -1,6 +1,5 @@
 // The centre of residuals and their scale.
 ghost use Rattle.std.specs.Prelude.{◌≡◌, length};
-ghost use Rattle.lists.specs.Memory.{before, after};
 ghost use Rattle.median.specs.Steps.{Front, Room};
 ghost use Rattle.median.specs.Centre.{deviations_of, centre_number, Centred};
 
@@ -38,7 +37,7 @@ impl Centre {
 // Writes the absolute deviations of the residuals from the centre to the front of k. Their signs are clear.
 fn deviations(residuals: &[u64], centre: f64, k: &mut [u64; 64])
     requires { Room (length residuals.now) k.old }
-    ensures { Front (deviations_of centre (before residuals)) (length (before residuals)) (after k) }
+    ensures { Front (deviations_of centre residuals.now) (length residuals.now) k.new }
 {
     let n = residuals.len();
     for i in 0..n {
@@ -50,7 +49,7 @@ fn deviations(residuals: &[u64], centre: f64, k: &mut [u64; 64])
 
 // Returns the residual at place len/2 in order, and as scale 1.4826 times the deviation at that place plus 1e-6. Refuses more than 64 residuals by 2.
 pub fn centre_scale(residuals: &[u64]) -> Centre
-    ensures { Centred (before residuals) result }
+    ensures { Centred residuals.now result }
 {
     let n = residuals.len();
     if 64 < n {

@@ -2,7 +2,7 @@
 // the part that has the place is searched further. They are split by sign, then into numbers, infinities and NaNs, and then by a pivot of the list: those
 // below it, equal to it and above it. Among at most 16 numbers, the four lowest or the four highest are found in one pass.
 ghost use Rattle.std.specs.Prelude.{◌≡◌, [], ◌∷◌, ◌-◌, ◌≤◌, ◌<◌, min, max, get_or, take, length};
-ghost use Rattle.lists.specs.Memory.{before, after};
+ghost use Rattle.lists.specs.Memory.{lent};
 ghost use Rattle.median.specs.Sorted.{median_of, occurrences};
 ghost use Rattle.median.specs.Steps.{pattern_at, number_at, lows, highs, of_sign, Front, Room, Among, AmongFour, FoundBy, OneTo64};
 
@@ -23,7 +23,7 @@ fn greater(a: u64, b: u64) -> u64
 // Returns one of the first n numbers of k: the median of the first, the middle and the last of them.
 fn pivot(k: &[u64; 64], n: usize) -> u64
     requires { (0 < n) × (n ≤ 64) × (length k.now ≡ 64) }
-    ensures { 1 ≤ occurrences result (take n (before k)) }
+    ensures { 1 ≤ occurrences result (take n k.now) }
 {
     let a = k[0];
     let b = k[n / 2];
@@ -36,7 +36,7 @@ fn pivot(k: &[u64; 64], n: usize) -> u64
 // Counts those of the first n numbers of k that are below p.
 fn count_low(k: &[u64; 64], n: usize, p: u64) -> usize
     requires { Room n k.now }
-    ensures { result ≡ length (lows p (take n (before k))) }
+    ensures { result ≡ length (lows p (take n k.now)) }
 {
     let mut w = 0usize;
     for j in 0..n {
@@ -50,7 +50,7 @@ fn count_low(k: &[u64; 64], n: usize, p: u64) -> usize
 // Moves those of the first n numbers of k that are below p to the front, and returns their count.
 fn keep_low(k: &mut [u64; 64], n: usize, p: u64) -> usize
     requires { Room n k.old }
-    ensures { Front (lows p (take n (before k))) result (after k) }
+    ensures { Front (lows p (take n k.old)) result k.new }
 {
     let mut w = 0usize;
     for j in 0..n {
@@ -66,7 +66,7 @@ fn keep_low(k: &mut [u64; 64], n: usize, p: u64) -> usize
 // Moves those of the first n numbers of k that are above p to the front, and returns their count.
 fn keep_high(k: &mut [u64; 64], n: usize, p: u64) -> usize
     requires { Room n k.old }
-    ensures { Front (highs p (take n (before k))) result (after k) }
+    ensures { Front (highs p (take n k.old)) result k.new }
 {
     let mut w = 0usize;
     for j in 0..n {
@@ -94,7 +94,7 @@ fn one_of(a: u64, b: u64, c: u64, d: u64, m: usize) -> u64
 // ascending order, filled up with the highest such pattern: no branch depends on the numbers.
 fn of_lowest(k: &[u64; 64], n: usize, m: usize) -> u64
     requires { AmongFour m n k.now }
-    ensures { result ≡ number_at m (take n (before k)) }
+    ensures { result ≡ number_at m (take n k.now) }
 {
     let mut a = 0x7FFF_FFFF_FFFF_FFFFu64;
     let mut b = 0x7FFF_FFFF_FFFF_FFFFu64;
@@ -115,7 +115,7 @@ fn of_lowest(k: &[u64; 64], n: usize, m: usize) -> u64
 // Returns the number m places below the highest, one of the four highest. a, b, c, d are the four highest so far, filled up with 0.
 fn of_highest(k: &[u64; 64], n: usize, m: usize) -> u64
     requires { AmongFour m n k.now }
-    ensures { result ≡ number_at (n - 1 - m) (take n (before k)) }
+    ensures { result ≡ number_at (n - 1 - m) (take n k.now) }
 {
     let mut a = 0u64;
     let mut b = 0u64;
@@ -138,7 +138,7 @@ fn of_highest(k: &[u64; 64], n: usize, m: usize) -> u64
 // the first tells signaling from quiet, the others are the payload.
 fn select(k: &mut [u64; 64], n: usize, m: usize) -> u64
     requires { Among m n k.old }
-    ensures { FoundBy number_at m n k result }
+    ensures { FoundBy number_at m n (lent k) result }
 {
     let mut len = n;
     let mut at = m;
@@ -171,7 +171,7 @@ fn select(k: &mut [u64; 64], n: usize, m: usize) -> u64
 // Writes the patterns of one sign, without it, to the front of k, and returns their count.
 fn part(patterns: &[u64], negative: bool, k: &mut [u64; 64]) -> usize
     requires { Room (length patterns.now) k.old }
-    ensures { Front (of_sign negative (before patterns)) result (after k) }
+    ensures { Front (of_sign negative patterns.now) result k.new }
 {
     let n = patterns.len();
     let mut w = 0usize;
@@ -189,7 +189,7 @@ fn part(patterns: &[u64], negative: bool, k: &mut [u64; 64]) -> usize
 // Returns the pattern at place m, in total_order, of the first n patterns of k, whose signs are clear, and overwrites k.
 pub(crate) fn of_like_sign(k: &mut [u64; 64], n: usize, m: usize) -> u64
     requires { Among m n k.old }
-    ensures { FoundBy pattern_at m n k result }
+    ensures { FoundBy pattern_at m n (lent k) result }
 {
     let numbers = count_low(k, n, 0x7FF0_0000_0000_0000);
     // numbers alone, zeros among them: by magnitude (a, b, c 3)
@@ -214,7 +214,7 @@ pub(crate) fn of_like_sign(k: &mut [u64; 64], n: usize, m: usize) -> u64
 // Returns the median of one to 64 patterns, and overwrites k.
 pub(crate) fn middle(patterns: &[u64], k: &mut [u64; 64]) -> u64
     requires { (0 < length patterns.now) × (length patterns.now ≤ 64) × (length k.old ≡ 64) }
-    ensures { (result ≡ median_of (before patterns)) × (length (after k) ≡ 64) }
+    ensures { (result ≡ median_of patterns.now) × (length k.new ≡ 64) }
 {
     let n = patterns.len();
     let at = n / 2;
@@ -233,7 +233,7 @@ pub(crate) fn middle(patterns: &[u64], k: &mut [u64; 64]) -> u64
 // Returns the median of one to 64 patterns.
 fn median_of(patterns: &[u64]) -> u64
     requires { OneTo64 patterns.now }
-    ensures { result ≡ median_of (before patterns) }
+    ensures { result ≡ median_of patterns.now }
 {
     let mut k = [0u64; 64];
     middle(patterns, &mut k)
@@ -241,7 +241,7 @@ fn median_of(patterns: &[u64]) -> u64
 
 // Returns the median of the patterns. Of more than 64 only the first 64 count; no caller here has more.
 pub fn median(patterns: &[u64]) -> u64
-    ensures { result ≡ median_of (take 64 (before patterns)) }
+    ensures { result ≡ median_of (take 64 patterns.now) }
 {
     let n = patterns.len();
     if n == 0 {

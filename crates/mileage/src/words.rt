@@ -1,7 +1,7 @@
 // A mileage that the caller holds as ten words: the limit's bits, epochs, refused, set aside, counted millimetres, counted pulses, standing millimetres, all
 // pulses, whether the last epoch had a pulse, and the last epoch's millimetres where it stands so far.
 ghost use Rattle.std.specs.Prelude.{◌≡◌};
-ghost use Rattle.lists.specs.Memory.{before};
+ghost use Rattle.lists.specs.Memory.{lent};
 ghost use Rattle.mileage.specs.Words as spec;
 
 use crate::mileage::{Distance, Epoch, Fuel, Mileage, Reported, Step, way_for};
@@ -54,7 +54,7 @@ pub fn add_held(
     quality: &[f64; 2],
     pulses: u16,
 ) -> Step
-    ensures { result ≡ spec.mileage_added_words (before mileage) (spec.lent_epoch refused_by delta quality pulses) }
+    ensures { result ≡ spec.mileage_added_words mileage.now (spec.lent_epoch refused_by delta quality pulses) }
 {
     let displacement = Vec3 {
         x: delta[0],
@@ -76,7 +76,7 @@ pub fn add_held(
 
 // Writes the mileage of a step to the lent words and returns 0. On refusal, returns its number and changes nothing.
 pub fn put_step(step: Step, mileage: &mut [u64; 10]) -> u8
-    ensures { spec.MileageAnswers step result mileage }
+    ensures { spec.MileageAnswers step result (lent mileage) }
 {
     match step {
         Step::Refused(r) => r.number(),
@@ -89,7 +89,7 @@ pub fn put_step(step: Step, mileage: &mut [u64; 10]) -> u8
 
 // Writes a report to the lent words and returns 0. On refusal, returns its number and changes nothing.
 pub fn put_report(reported: Reported, report: &mut [u64; 7]) -> u8
-    ensures { spec.MileageReportAnswers reported result report }
+    ensures { spec.MileageReportAnswers reported result (lent report) }
 {
     match reported {
         Reported::Refused(r) => r.number(),
@@ -104,7 +104,7 @@ pub fn put_report(reported: Reported, report: &mut [u64; 7]) -> u8
 
 // Writes a distance in millimetres to the lent number and returns 0. On refusal, returns its number and changes nothing.
 pub fn put_distance(distance: Distance, millimetres: &mut u64) -> u8
-    ensures { spec.DistanceAnswers distance result millimetres }
+    ensures { spec.DistanceAnswers distance result (lent millimetres) }
 {
     match distance {
         Distance::Refused(r) => r.number(),
@@ -117,7 +117,7 @@ pub fn put_distance(distance: Distance, millimetres: &mut u64) -> u8
 
 // Writes the millilitres for a kilometre to the lent number and returns 0. On refusal, returns its number and changes nothing.
 pub fn put_fuel(fuel: Fuel, per_km: &mut u64) -> u8
-    ensures { spec.MileageFuelAnswers fuel result per_km }
+    ensures { spec.MileageFuelAnswers fuel result (lent per_km) }
 {
     match fuel {
         Fuel::Refused(r) => r.number(),

@@ -1,6 +1,6 @@
 // The normal equations of a round's rows.
 ghost use Rattle.std.specs.Prelude.{◌≡◌, true, ◌≤◌, ◌<◌, length};
-ghost use Rattle.lists.specs.Memory.{before, after};
+
 ghost use Rattle.normal_equations.specs.Nine.{Square};
 ghost use Rattle.normal_equations.specs.Weight as spec;
 ghost use Rattle.normal_equations.specs.Steps as code;
@@ -15,7 +15,7 @@ use numeric::vec3::Vec3;
 
 // Writes to a the matrix of n unknowns before any row is added: 1 on the diagonal of the unused ones.
 pub fn unused(n: usize, a: &mut [[f64; 9]; 9])
-    ensures { after a ≡ code.unused n }
+    ensures { a.new ≡ code.unused n }
 {
     *a = [[0.0; 9]; 9];
     for i in n..9 {
@@ -52,7 +52,7 @@ pub fn row_at(
 
 // Returns a row nine wide times its weight.
 fn times(w: f64, e: &[f64; 9]) -> [f64; 9]
-    ensures { result ≡ code.times w (before e) }
+    ensures { result ≡ code.times w e.now }
 {
     let mut t = [0.0; 9];
     for i in 0..9 {
@@ -64,7 +64,7 @@ fn times(w: f64, e: &[f64; 9]) -> [f64; 9]
 // Adds t_i · d to each of the first n places of b.
 fn add_side(n: usize, t: &[f64; 9], d: f64, b: &mut [f64; 9])
     requires { (n ≤ 9) × (length b.old ≡ 9) }
-    ensures { after b ≡ code.side_added n (before t) d (before b) }
+    ensures { b.new ≡ code.side_added n t.now d b.old }
 {
     for i in 0..n {
         b[i] = b[i] + t[i] * d;
@@ -74,7 +74,7 @@ fn add_side(n: usize, t: &[f64; 9], d: f64, b: &mut [f64; 9])
 // Adds t · e_j to each of the first m cells of row i.
 fn add_row(i: usize, m: usize, t: f64, e: &[f64; 9], a: &mut [[f64; 9]; 9])
     requires { (i < 9) × (m ≤ 9) × Square a.old }
-    ensures { after a ≡ code.row_added i m t (before e) (before a) }
+    ensures { a.new ≡ code.row_added i m t e.now a.old }
 {
     for j in 0..m {
         a[i][j] = a[i][j] + t * e[j];
@@ -84,7 +84,7 @@ fn add_row(i: usize, m: usize, t: f64, e: &[f64; 9], a: &mut [[f64; 9]; 9])
 // Adds t_i · e_j to each cell of the lower triangle of n unknowns.
 pub fn add_triangle(n: usize, t: &[f64; 9], e: &[f64; 9], a: &mut [[f64; 9]; 9])
     requires { (n ≤ 9) × Square a.old }
-    ensures { after a ≡ code.triangle_added n (before t) (before e) (before a) }
+    ensures { a.new ≡ code.triangle_added n t.now e.now a.old }
 {
     for i in 0..n {
         add_row(i, i + 1, t[i], e, a);
@@ -106,7 +106,7 @@ fn form(
     b: &mut [f64; 9],
 )
     requires { (length residual.now ≤ 64) × (n ≤ 9) }
-    ensures { code.Formed (spec.weight c huber) (lent_rows x y z clock sigma residual) n (after a) (after b) }
+    ensures { code.Formed (spec.weight c huber) (lent_rows x y z clock sigma residual) n a.new b.new }
 {
     unused(n, a);
     *b = [0.0; 9];
@@ -165,7 +165,7 @@ pub fn with_row(s: Corner, t: Vec3, unit: Vec3) -> Corner
 // Adds a row's products at its clock to the clock's row of a; t is the weight there.
 pub fn add_clock(i: usize, t: f64, unit: Vec3, a: &mut [[f64; 9]; 9])
     requires { i < 9 }
-    ensures { after a ≡ code.clock_added i t unit (before a) }
+    ensures { a.new ≡ code.clock_added i t unit a.old }
 {
     a[i][0] = a[i][0] + t * unit.x;
     a[i][1] = a[i][1] + t * unit.y;
@@ -175,7 +175,7 @@ pub fn add_clock(i: usize, t: f64, unit: Vec3, a: &mut [[f64; 9]; 9])
 
 // Writes the sums over the first three places to a.
 pub fn put_corner(s: Corner, a: &mut [[f64; 9]; 9])
-    ensures { after a ≡ code.corner_put s (before a) }
+    ensures { a.new ≡ code.corner_put s a.old }
 {
     a[0][0] = s.xx;
     a[1][0] = s.yx;
@@ -209,7 +209,7 @@ fn with_side(v: Vec3, t: Vec3, d: f64) -> Vec3
 
 // Writes the sums over the first three places to b.
 fn put_side(v: Vec3, b: &mut [f64; 9])
-    ensures { after b ≡ code.corner_sides v (before b) }
+    ensures { b.new ≡ code.corner_sides v b.old }
 {
     b[0] = v.x;
     b[1] = v.y;
@@ -232,7 +232,7 @@ fn form_by_places(
     b: &mut [f64; 9],
 ) -> bool
     requires { (length residual.now ≤ 64) × (n ≤ 9) }
-    ensures { result ≡ true → code.Formed (spec.weight c huber) (lent_rows x y z clock sigma residual) n (after a) (after b) }
+    ensures { result ≡ true → code.Formed (spec.weight c huber) (lent_rows x y z clock sigma residual) n a.new b.new }
 {
     if n < 3 {
         return false;
@@ -284,7 +284,7 @@ pub fn normal(
     b: &mut [f64; 9],
 )
     requires { (length residual.now ≤ 64) × (n ≤ 9) }
-    ensures { code.Formed (spec.weight c huber) (lent_rows x y z clock sigma residual) n (after a) (after b) }
+    ensures { code.Formed (spec.weight c huber) (lent_rows x y z clock sigma residual) n a.new b.new }
 {
     if form_by_places(x, y, z, clock, sigma, residual, n, c, huber, a, b) {
         return;

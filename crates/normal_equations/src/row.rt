@@ -1,6 +1,6 @@
 // The rows of a round.
 ghost use Rattle.std.specs.Prelude.{◌≡◌};
-ghost use Rattle.lists.specs.Memory.{after};
+
 ghost use Rattle.normal_equations.specs.Equations as spec;
 
 use numeric::vec3::Vec3;
@@ -23,7 +23,7 @@ pub struct Rows {
 
 // Writes the row nine wide to e: the line of sight, and 1 in the column of the clock.
 pub fn wide(r: Row, e: &mut [f64; 9])
-    ensures { after e ≡ spec.wide r }
+    ensures { e.new ≡ spec.wide r }
 {
     *e = [0.0; 9];
     e[0] = r.unit.x;

@@ -1,6 +1,6 @@
 // Vectors of three floats.
 ghost use Rattle.std.specs.Prelude.{◌≡◌, ◌+◌, ◌<◌, length};
-ghost use Rattle.lists.specs.Memory.{before};
+
 ghost use Rattle.numeric.specs.Vec3 as spec;
 
 use root::sqrt::{sqrt, sqrt_beside};
@@ -53,7 +53,7 @@ impl Vec3 {
 // The vector of the three floats from k on.
 pub fn vector_at(v: &[f64], k: usize) -> Vec3
     requires { k + 2 < length v.now }
-    ensures { result ≡ spec.vector_at (before v) k }
+    ensures { result ≡ spec.vector_at v.now k }
 {
     Vec3 {
         x: v[k],
@@ -64,7 +64,7 @@ pub fn vector_at(v: &[f64], k: usize) -> Vec3
 
 // Three floats as a vector.
 pub fn vector(v: &[f64; 3]) -> Vec3
-    ensures { result ≡ spec.vector_at (before v) 0 }
+    ensures { result ≡ spec.vector_at v.now 0 }
 {
     Vec3 {
         x: v[0],

@@ -1,6 +1,6 @@
 // Chi and pdop of a fit's rows.
 ghost use Rattle.std.specs.Prelude.{◌≡◌, true, List, Float, ℕ, ◌≤◌, length};
-ghost use Rattle.lists.specs.Memory.{before, after};
+
 ghost use Rattle.normal_equations.specs.Steps.{columns, lent_rows, rows_in};
 ghost use Rattle.quality.specs.Quality as spec;
 ghost use Rattle.quality.specs.Steps.{Diluted, Qualified};
@@ -52,7 +52,7 @@ pub fn freedom_of(count: usize, n: usize) -> f64
 // Returns chi of the rows with these residuals and sigmas, whatever their lines of sight.
 pub fn chi_of(sigma: &[f64; 64], residual: &[u64], n: usize) -> f64
     requires { length residual.now ≤ 64 }
-    ensures { (x y z : List Float) (clock : List ℕ) → result ≡ spec.chi_of n (rows_in (columns x y z clock (before sigma) (before residual))) }
+    ensures { (x y z : List Float) (clock : List ℕ) → result ≡ spec.chi_of n (rows_in (columns x y z clock sigma.now residual.now)) }
 {
     let count = residual.len();
     let mut t = 0.0;
@@ -77,7 +77,7 @@ fn unweighted_in_full(
     a: &mut [[f64; 9]; 9],
 )
     requires { (length residual.now ≤ 64) × (n ≤ 9) }
-    ensures { after a ≡ spec.unweighted_matrix n (lent_rows x y z clock sigma residual) }
+    ensures { a.new ≡ spec.unweighted_matrix n (lent_rows x y z clock sigma residual) }
 {
     let count = residual.len();
     unused(n, a);
@@ -102,7 +102,7 @@ fn unweighted_by_places(
     a: &mut [[f64; 9]; 9],
 ) -> bool
     requires { (length residual.now ≤ 64) × (3 ≤ n) × (n ≤ 9) }
-    ensures { result ≡ true → after a ≡ spec.unweighted_matrix n (lent_rows x y z clock sigma residual) }
+    ensures { result ≡ true → a.new ≡ spec.unweighted_matrix n (lent_rows x y z clock sigma residual) }
 {
     unused(n, a);
     let count = residual.len();
@@ -136,7 +136,7 @@ fn unweighted_matrix(
     a: &mut [[f64; 9]; 9],
 )
     requires { (length residual.now ≤ 64) × (3 ≤ n) × (n ≤ 9) }
-    ensures { after a ≡ spec.unweighted_matrix n (lent_rows x y z clock sigma residual) }
+    ensures { a.new ≡ spec.unweighted_matrix n (lent_rows x y z clock sigma residual) }
 {
     if unweighted_by_places(x, y, z, clock, sigma, residual, n, a) {
         return;

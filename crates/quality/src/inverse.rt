@@ -1,6 +1,6 @@
 // The diagonal of an inverse, by the factor.
 ghost use Rattle.std.specs.Prelude.{◌≡◌, ◌≤◌};
-ghost use Rattle.lists.specs.Memory.{before};
+ghost use Rattle.lists.specs.Memory.{lent};
 ghost use Rattle.cholesky.specs.Factor.{Unused};
 ghost use Rattle.quality.specs.Quality as spec;
 ghost use Rattle.quality.specs.Steps.{Forwarded, SolvedForward, SolvedBack};
@@ -13,7 +13,7 @@ use root::sqrt::sqrt;
 // Side by side they take half the time that they take one after the other, since a division waits for the one before it.
 fn forward_three(n: usize, l: &[[f64; 9]; 9], x: &mut [f64; 9], y: &mut [f64; 9], z: &mut [f64; 9])
     requires { n ≤ 9 }
-    ensures { SolvedForward n l x × SolvedForward n l y × SolvedForward n l z }
+    ensures { SolvedForward n l (lent x) × SolvedForward n l (lent y) × SolvedForward n l (lent z) }
 {
     for i in 0..n {
         let mut s = x[i];
@@ -35,7 +35,7 @@ fn forward_three(n: usize, l: &[[f64; 9]; 9], x: &mut [f64; 9], y: &mut [f64; 9]
 // Solves lᵀ x = y for three right sides by back substitution, from the last row up. The unknowns from n on are unused: they stay 0 and add nothing.
 fn back_three(n: usize, l: &[[f64; 9]; 9], x: &mut [f64; 9], y: &mut [f64; 9], z: &mut [f64; 9])
     requires { (n ≤ 9) × Unused n l.now × Forwarded n x.old × Forwarded n y.old × Forwarded n z.old }
-    ensures { SolvedBack l x × SolvedBack l y × SolvedBack l z }
+    ensures { SolvedBack l (lent x) × SolvedBack l (lent y) × SolvedBack l (lent z) }
 {
     for m in 0..n {
         let i = n - 1 - m;
@@ -59,7 +59,7 @@ fn back_three(n: usize, l: &[[f64; 9]; 9], x: &mut [f64; 9], y: &mut [f64; 9], z
 // Returns the root of the sum of the inverse's first three diagonal elements, one column after the other, given the factor l of n unknowns.
 fn pdop_by_columns(n: usize, l: &[[f64; 9]; 9]) -> f64
     requires { (3 ≤ n) × (n ≤ 9) × Unused n l.now }
-    ensures { result ≡ spec.pdop_of (before l) }
+    ensures { result ≡ spec.pdop_of l.now }
 {
     let mut x = [0.0; 9];
     x[0] = 1.0;
@@ -76,7 +76,7 @@ fn pdop_by_columns(n: usize, l: &[[f64; 9]; 9]) -> f64
 // Returns the same from the three columns side by side, or one after the other where a place is not finite.
 pub(crate) fn pdop_of(n: usize, l: &[[f64; 9]; 9]) -> f64
     requires { (3 ≤ n) × (n ≤ 9) × Unused n l.now }
-    ensures { result ≡ spec.pdop_of (before l) }
+    ensures { result ≡ spec.pdop_of l.now }
 {
     let mut x = [0.0; 9];
     x[0] = 1.0;

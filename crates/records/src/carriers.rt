@@ -1,6 +1,6 @@
 // The carriers of an epoch as signals, states and floats: one signal and one state for each carrier, and six floats.
 ghost use Rattle.std.specs.Prelude.{◌≡◌, ◌<◌, ◌≤◌, length};
-ghost use Rattle.lists.specs.Memory.{before, after};
+ghost use Rattle.lists.specs.Memory.{held};
 ghost use Rattle.lists.specs.Walk.{every};
 ghost use Rattle.records.specs.Record.{sound_carrier};
 ghost use Rattle.records.specs.Lent.{lent_carriers, SignalsLent};
@@ -19,7 +19,7 @@ pub fn signals_into(
     signals: &mut [u64; 64],
 )
     requires { (n ≤ 64) × (n ≤ length constellation.now) × (n ≤ length svid.now) × (n ≤ length band.now) × (length signals.old ≡ 64) }
-    ensures { Signalled (before constellation) (before svid) (before band) n (after signals) }
+    ensures { Signalled constellation.now svid.now band.now n signals.new }
 {
     let mut i: usize = 0;
     while i < n {
@@ -77,9 +77,9 @@ pub fn put_carrier(
     states: &mut [i32; 64],
     floats: &mut [f64; 384],
 )
-    requires { (i < 64) × HasRoom signals states floats }
-    ensures { Put c i (before signals) (before states) (before floats)
-        (after signals) (after states) (after floats) }
+    requires { (i < 64) × HasRoom (held signals) (held states) (held floats) }
+    ensures { Put c i signals.old states.old floats.old
+        signals.new states.new floats.new }
 {
     let v = c.satellite;
     let bits = c.state;
@@ -101,8 +101,8 @@ pub fn epoch_into(
     states: &mut [i32; 64],
     floats: &mut [f64; 384],
 )
-    requires { (e.count ≤ 64) × HasRoom signals states floats }
-    ensures { Laid e.carriers e.count (after signals) (after states) (after floats) }
+    requires { (e.count ≤ 64) × HasRoom (held signals) (held states) (held floats) }
+    ensures { Laid e.carriers e.count signals.new states.new floats.new }
 {
     let n = e.count;
     let mut i: usize = 0;

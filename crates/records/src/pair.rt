@@ -1,7 +1,7 @@
 // The carrier pairs of two epochs.
 ghost use Rattle.std.specs.Prelude.{◌≡◌, true, ◌&&◌, eqb, get_or};
 ghost use Rattle.std.specs.Float.Ieee.{le};
-ghost use Rattle.lists.specs.Memory.{before};
+
 ghost use Rattle.records.specs.Record.{usable};
 ghost use Rattle.records.specs.Lent.{lent_carriers, SignalsLent};
 ghost use Rattle.records.specs.City.{looked};
@@ -90,7 +90,7 @@ pub fn is_wanted(c: Carrier, mask: f64, profile: Profile) -> bool
 // Whether previous carrier j has this signal and is usable. Most have another signal, so that is asked first.
 fn is_partner(signal: u64, signals: &[u64], states: &[i32], floats: &[f64], j: usize) -> bool
     requires { HasCarrier signals states floats j }
-    ensures { result ≡ (eqb (get_or (before signals) j 0) signal && usable (lent_carrier signals states floats j)) }
+    ensures { result ≡ (eqb (get_or signals.now j 0) signal && usable (lent_carrier signals states floats j)) }
 {
     if signals[j] != signal {
         return false;
@@ -102,7 +102,7 @@ fn is_partner(signal: u64, signals: &[u64], states: &[i32], floats: &[f64], j: u
 // Where the first of them stands, or past the last.
 fn partner_in(signal: u64, signals: &[u64], states: &[i32], floats: &[f64]) -> usize
     requires { SignalsLent signals states floats }
-    ensures { Finds signal (before signals) (before states) (before floats) result }
+    ensures { Finds signal signals.now states.now floats.now result }
 {
     let n = signals.len();
     let mut j: usize = 0;

@@ -1,6 +1,6 @@
 // The pairs that the screen keeps, and their clocks.
 ghost use Rattle.std.specs.Prelude.{◌≡◌, ◌≤◌};
-ghost use Rattle.lists.specs.Memory.{before, after};
+
 ghost use Rattle.clocks.specs.Clocks.{clocks_of};
 ghost use Rattle.records.specs.Kept.{Kept};
 ghost use Rattle.records.specs.Pair.{counted_pairs};
@@ -25,7 +25,7 @@ pub fn keep_into(
 ) -> usize
     requires { p.count ≤ 64 }
     ensures { Kept (spec.kept_of screen (counted_pairs p)) result
-        (after x) (after y) (after z) (after constellation) (after elevation) (after observed) }
+        x.new y.new z.new constellation.new elevation.new observed.new }
 {
     let n = p.count;
     let mut d = [0u64; 64];
@@ -62,7 +62,7 @@ pub fn keep_into(
 
 // The clocks of these constellations.
 pub fn clocks_of(constellation: &[u8]) -> Clocks
-    ensures { result ≡ clocks_of (before constellation) }
+    ensures { result ≡ clocks_of constellation.now }
 {
     let mut k = Clocks::new();
     let n = constellation.len();

@@ -1,6 +1,6 @@
 // One round of the robust least squares.
 ghost use Rattle.std.specs.Prelude.{◌≡◌, ◌≤◌, ◌<◌, length};
-ghost use Rattle.lists.specs.Memory.{before, after};
+
 ghost use Rattle.robust.specs.Round as spec;
 ghost use Rattle.robust.specs.Steps.{Solving};
 ghost use Rattle.normal_equations.specs.Steps.{lent_rows};
@@ -55,7 +55,7 @@ pub fn round_step(
     dx: &mut [f64; 9],
 ) -> Stepping
     requires { (length residual.now ≤ 64) × (n ≤ 9) }
-    ensures { Solving (spec.round_of (lent_rows x y z clock sigma residual) n huber) result (before dx) (after dx) }
+    ensures { Solving (spec.round_of (lent_rows x y z clock sigma residual) n huber) result dx.old dx.new }
 {
     let Centre::Of(c) = centre_scale(residual) else {
         return Stepping::Refused(Refusal::TooMany);
@@ -88,7 +88,7 @@ fn first_of(n: usize, step: [f64; 9]) -> [f64; 9]
 
 // Runs one round by itself. Returns `Done` and writes the step to dx, zeros beyond the unknowns; refused by 2, 4 or 10, leaves dx unchanged.
 pub fn step(rows: Rows, n: usize, huber: f64, dx: &mut [f64; 9]) -> Stepping
-    ensures { StepPromised (step_of rows n huber (before dx)) result (after dx) }
+    ensures { StepPromised (step_of rows n huber dx.old) result dx.new }
 {
     if rows.count > 64 {
         return Stepping::Refused(Refusal::TooMany);

@@ -1,6 +1,6 @@
 // The quality of a displacement's fit: chi and pdop of its pairs.
 ghost use Rattle.std.specs.Prelude.{◌≡◌, length, ◌≤◌};
-ghost use Rattle.lists.specs.Memory.{before};
+
 ghost use Rattle.tdcp.specs.Rated as rated;
 ghost use Rattle.tdcp.specs.Steps as code;
 
@@ -20,8 +20,8 @@ pub(crate) fn quality_at(
     at: [f64; 9],
 ) -> Quality
     requires { (length observed.now ≤ 64) × (3 ≤ n) × (n ≤ 9) }
-    ensures { code.QualityIs n (before x) (before y) (before z) (before clock) (before sigma)
-        (before observed) at result }
+    ensures { code.QualityIs n x.now y.now z.now clock.now sigma.now
+        observed.now at result }
 {
     let count = observed.len();
     let mut residual = [0u64; 64];

@@ -1,6 +1,6 @@
 // The rounds over the carrier pairs of a displacement.
 ghost use Rattle.std.specs.Prelude.{◌≡◌, length, ◌≤◌};
-ghost use Rattle.lists.specs.Memory.{before, after};
+
 ghost use Rattle.tdcp.specs.Steps as code;
 
 use crate::displacement::Settings;
@@ -29,8 +29,8 @@ pub(crate) fn residuals_at(
     residual: &mut [u64; 64],
 )
     requires { (length observed.now ≤ 64) × (length residual.old ≡ 64) }
-    ensures { code.ResidualsAt (before x) (before y) (before z) (before clock) (before observed) at
-        (after residual) }
+    ensures { code.ResidualsAt x.now y.now z.now clock.now observed.now at
+        residual.new }
 {
     let count = observed.len();
     for j in 0..count {
@@ -52,7 +52,7 @@ pub(crate) fn clocks_into(
     clock: &mut [usize; 64],
 )
     requires { (count ≤ 64) × (length clock.old ≡ 64) }
-    ensures { code.ClocksAt k (before constellation) count (after clock) }
+    ensures { code.ClocksAt k constellation.now count clock.new }
 {
     for j in 0..count {
         let c = constellation[j];
@@ -69,7 +69,7 @@ pub(crate) fn sigmas_into(
     sigma: &mut [f64; 64],
 )
     requires { (count ≤ 64) × (length sigma.old ≡ 64) }
-    ensures { code.SigmasAt settings (before elevation) count (after sigma) }
+    ensures { code.SigmasAt settings elevation.now count sigma.new }
 {
     for j in 0..count {
         let e = elevation[j];
@@ -91,8 +91,8 @@ pub(crate) fn fit_pairs(
     state: &mut [f64; 9],
 ) -> Check
     requires { (length observed.now ≤ 64) × (k.count ≤ 6) }
-    ensures { code.FitEnds settings k (before x) (before y) (before z) (before clock) (before sigma)
-        (before observed) result (before state) (after state) }
+    ensures { code.FitEnds settings k x.now y.now z.now clock.now sigma.now
+        observed.now result state.old state.new }
 {
     let count = observed.len();
     let mut residual = [0u64; 64];

@@ -1,6 +1,6 @@
 // The rules of a displacement: on its settings, records and interval, and on its pairs.
 ghost use Rattle.std.specs.Prelude.{◌≡◌, true, not, ◌&&◌, [], ◌∷◌, ◌++◌};
-ghost use Rattle.lists.specs.Memory.{before};
+
 ghost use Rattle.numeric.specs.declared.refusal.Refusal.TheVariants.{BadTime, NotCertified};
 ghost use Rattle.clocks.specs.Clocks.{has};
 ghost use Rattle.records.specs.City.{is_city};
@@ -68,7 +68,7 @@ pub(crate) fn seconds_of(settings: Settings, sound: bool, since: Interval) -> Se
 
 // Checks whether, in the city profile, GPS (1) or Galileo (6) is absent among these constellations.
 pub(crate) fn is_uncertified(profile: Profile, constellation: &[u8]) -> bool
-    ensures { result ≡ (is_city profile && not (has (before constellation) 1 && has (before constellation) 6)) }
+    ensures { result ≡ (is_city profile && not (has constellation.now 1 && has constellation.now 6)) }
 {
     if let Profile::General = profile {
         return false;

@@ -1,6 +1,6 @@
 // Displacements of two epochs' columns: refused by 2 where they do not fit, otherwise that of their signals, states and floats.
 ghost use Rattle.std.specs.Prelude.{◌≡◌, length};
-ghost use Rattle.lists.specs.Memory.{after};
+
 ghost use Rattle.records.specs.Carriers.{epoch_fits};
 ghost use Rattle.records.specs.Lent.{lent_columns, lent_vector};
 ghost use Rattle.tdcp_columns.specs.Displacement as spec;
@@ -45,7 +45,7 @@ fn fit_into(
     signals: &mut [u64; 64],
 ) -> bool
     requires { length signals.old ≡ 64 }
-    ensures { FitInto (lent_columns constellation svid band state floats) n result (after signals) }
+    ensures { FitInto (lent_columns constellation svid band state floats) n result signals.new }
 {
     if !epoch_fits(constellation, svid, band, state, floats, n) {
         return false;

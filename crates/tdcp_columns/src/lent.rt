@@ -1,5 +1,6 @@
 // The answer of a displacement in lent memory. Doubles are lent as their patterns, so that a refusal is promised to change no bit.
 ghost use Rattle.std.specs.Prelude.{◌≡◌};
+ghost use Rattle.lists.specs.Memory.{lent};
 ghost use Rattle.tdcp.specs.Rated.{plain_of};
 ghost use Rattle.tdcp_columns.specs.Displacement as spec;
 ghost use Rattle.tdcp_columns.specs.Rated as rated;
@@ -9,7 +10,7 @@ use tdcp::displacement::Rated;
 
 // Returns 0 and writes the displacement in metres, without its figures, to `delta` and how many pairs were used and screened out to `counts`. On refusal, returns its number and changes nothing.
 pub fn answer_into(answer: Rated, delta: &mut [u64; 3], counts: &mut [usize; 2]) -> u8
-    ensures { spec.Leaves (plain_of answer) result delta counts }
+    ensures { spec.Leaves (plain_of answer) result (lent delta) (lent counts) }
 {
     match answer {
         Rated::Moved(a) => {
@@ -33,7 +34,7 @@ pub fn rated_into(
     quality: &mut [u64; 2],
     counts: &mut [usize; 2],
 ) -> u8
-    ensures { rated.RatedLeaves answer result delta quality counts }
+    ensures { rated.RatedLeaves answer result (lent delta) (lent quality) (lent counts) }
 {
     match answer {
         Rated::Moved(d) => {

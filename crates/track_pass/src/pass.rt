@@ -1,5 +1,6 @@
 // One pass: the equations of the three axes, solved side by side.
 ghost use Rattle.track_pass.specs.Input.{lent_track};
+ghost use Rattle.lists.specs.Memory.{lent};
 ghost use Rattle.track_pass.specs.Steps.{track_now, Ready, Passed};
 
 use crate::publish::publish;
@@ -22,7 +23,7 @@ pub fn pass(
     r: &mut [u64],
 ) -> bool
     requires { Ready (track_now n anchors anchor_epoch anchor_position anchor_sigma links link_epoch link_change link_sigma) w.old r.old }
-    ensures { Passed (lent_track n anchors anchor_epoch anchor_position anchor_sigma links link_epoch link_change link_sigma) w r result }
+    ensures { Passed (lent_track n anchors anchor_epoch anchor_position anchor_sigma links link_epoch link_change link_sigma) (lent w) (lent r) result }
 {
     fill(&mut *w, 0, n * 9, 0);
     if !add_anchors(

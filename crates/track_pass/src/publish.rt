@@ -1,7 +1,7 @@
 // The fit of a pass: its unknowns, counted from the origin.
 ghost use Rattle.std.specs.Prelude.{◌≡◌, true};
 ghost use Rattle.std.specs.Float.Ieee.Scale.{finite};
-ghost use Rattle.lists.specs.Memory.{before, after};
+
 ghost use Rattle.exact.specs.Float.{◌⊕◌, bits};
 ghost use Rattle.numeric.specs.Order.{pattern_of};
 ghost use Rattle.numeric.specs.Real.{in_range};
@@ -18,7 +18,7 @@ fn place(b: u64, o: f64) -> u64
 // Puts the unknowns of n rows, with the origin (x, y, z) added, into the result.
 pub(crate) fn publish(w: &[u64], n: usize, x: f64, y: f64, z: f64, r: &mut [u64])
     requires { Publishable w.now n x y z r.old }
-    ensures { Published (before w) n x y z (before r) (after r) }
+    ensures { Published w.now n x y z r.old r.new }
 {
     let mut k: usize = 0;
     while k < n {

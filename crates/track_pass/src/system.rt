@@ -1,6 +1,6 @@
 // The equations of the three axes, put together in rows of nine.
 ghost use Rattle.std.specs.Prelude.{◌≡◌, ◌+◌, ◌-◌, ◌*◌, ◌<◌, ◌≤◌, length};
-ghost use Rattle.lists.specs.Memory.{before, after};
+ghost use Rattle.lists.specs.Memory.{lent};
 ghost use Rattle.exact.specs.Float.{◌⊗◌, ◌⊘◌};
 ghost use Rattle.track_tridiagonal.specs.Steps.{NumbersAt};
 ghost use Rattle.track_pass.specs.Input.{lent_measured};
@@ -11,7 +11,7 @@ use numeric::order::float;
 // Adds an anchor to the row of one axis with its diagonal at `at`: its scale c, sigma s and place v from the origin. False where a NaN would be stored.
 fn add_anchor(w: &mut [u64], at: usize, c: f64, s: f64, v: f64) -> bool
     requires { (at + 6 < length w.old) × NumbersAt w.old at (at + 6) (at + 6) }
-    ensures { AnchorAdded (before w) at (c ⊘ (s ⊗ s)) (c ⊘ (s ⊗ s) ⊗ v) result (after w) }
+    ensures { AnchorAdded w.old at (c ⊘ (s ⊗ s)) (c ⊘ (s ⊗ s) ⊗ v) result w.new }
 {
     let a = c / (s * s);
     let d = f64::from_bits(w[at]) + a;
@@ -27,7 +27,7 @@ fn add_anchor(w: &mut [u64], at: usize, c: f64, s: f64, v: f64) -> bool
 // Adds a link to the row of one axis with its diagonal at `at` and to the next: its scale c, sigma s and change in position v. False where a NaN would be stored.
 fn add_link(w: &mut [u64], at: usize, c: f64, s: f64, v: f64) -> bool
     requires { (at + 15 < length w.old) × NumbersAt w.old at (at + 3) (at + 6) × NumbersAt w.old (at + 9) (at + 9) (at + 15) }
-    ensures { LinkAdded (before w) at (c ⊘ (s ⊗ s)) (c ⊘ (s ⊗ s) ⊗ v) result (after w) }
+    ensures { LinkAdded w.old at (c ⊘ (s ⊗ s)) (c ⊘ (s ⊗ s) ⊗ v) result w.new }
 {
     let a = c / (s * s);
     let b = a * v;
@@ -57,7 +57,7 @@ pub(crate) fn add_anchors(
     sigma: &[f64],
 ) -> bool
     requires { (0 < count) × Addable (measured_now count index value sigma) n n (n * 9) w.old }
-    ensures { AddedBy anchor_change (lent_measured count index value sigma) n (n * 9) w result }
+    ensures { AddedBy anchor_change (lent_measured count index value sigma) n (n * 9) (lent w) result }
 {
     let from = n * 9;
     let ox = value[0];
@@ -92,7 +92,7 @@ pub(crate) fn add_links(
     sigma: &[f64],
 ) -> bool
     requires { Addable (measured_now count index value sigma) (n - 1) n (n * 9 + skip) w.old }
-    ensures { AddedBy link_change (lent_measured count index value sigma) n (n * 9 + skip) w result }
+    ensures { AddedBy link_change (lent_measured count index value sigma) n (n * 9 + skip) (lent w) result }
 {
     let from = n * 9 + skip;
     let mut j: usize = 0;

@@ -2,7 +2,7 @@
 ghost use Rattle.std.specs.Prelude.{◌≡◌, ◌≤◌, ltb, length, get_or};
 ghost use Rattle.std.specs.Float.{nan};
 ghost use Rattle.std.specs.Float.Ieee as Ieee;
-ghost use Rattle.lists.specs.Memory.{before};
+
 ghost use Rattle.exact.specs.Float.{+0};
 ghost use Rattle.track_tridiagonal.specs.Tridiagonal.{each_below};
 ghost use Rattle.track_pass.specs.Input.{lent_measured, lent_track};
@@ -33,7 +33,7 @@ fn allows(set: Settings) -> bool
 // Tells whether the first `count` floats are finite and at most 1e9 in magnitude.
 fn are_in_range(v: &[f64], count: usize) -> bool
     requires { count ≤ length v.now }
-    ensures { result ≡ in_range_below (before v) count }
+    ensures { result ≡ in_range_below v.now count }
 {
     let mut k: usize = 0;
     while k < count {
@@ -48,7 +48,7 @@ fn are_in_range(v: &[f64], count: usize) -> bool
 // Tells whether the first `count` floats are above 0.
 fn are_above_zero(v: &[f64], count: usize) -> bool
     requires { count ≤ length v.now }
-    ensures { result ≡ each_below (λ k. Ieee.lt +0 (get_or (before v) k nan)) count }
+    ensures { result ≡ each_below (λ k. Ieee.lt +0 (get_or v.now k nan)) count }
 {
     let mut k: usize = 0;
     while k < count {
@@ -63,7 +63,7 @@ fn are_above_zero(v: &[f64], count: usize) -> bool
 // Tells whether the first `count` indices are below n.
 fn are_below(v: &[usize], count: usize, n: usize) -> bool
     requires { count ≤ length v.now }
-    ensures { result ≡ each_below (λ j. ltb (get_or (before v) j 0) n) count }
+    ensures { result ≡ each_below (λ j. ltb (get_or v.now j 0) n) count }
 {
     let mut k: usize = 0;
     while k < count {

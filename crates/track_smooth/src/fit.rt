@@ -1,6 +1,6 @@
 // The passes of the fit, each weighed by the one before.
 ghost use Rattle.std.specs.Prelude.{◌≤◌};
-ghost use Rattle.lists.specs.Memory.{before, after};
+ghost use Rattle.lists.specs.Memory.{lent};
 ghost use Rattle.track_pass.specs.Input.{lent_track};
 ghost use Rattle.track_pass.specs.Steps.{track_now, Ready};
 ghost use Rattle.track_smooth.specs.Steps.{Reweighable, Reweighed, Fitted};
@@ -28,7 +28,7 @@ fn reweigh(
     requires { let p = track_now n anchors anchor_epoch anchor_position anchor_sigma links link_epoch link_change link_sigma in
         Reweighable p w.old r.now }
     ensures { let p = lent_track n anchors anchor_epoch anchor_position anchor_sigma links link_epoch link_change link_sigma in
-        Reweighed p h (before r) (before w) (after w) }
+        Reweighed p h r.now w.old w.new }
 {
     let c = limit(h);
     let from = n * 9;
@@ -73,7 +73,7 @@ pub(crate) fn fit(
 ) -> bool
     requires { let p = track_now n anchors anchor_epoch anchor_position anchor_sigma links link_epoch link_change link_sigma in
         Ready p w.old r.old × (set.iterations ≤ 50) }
-    ensures { Fitted (lent_track n anchors anchor_epoch anchor_position anchor_sigma links link_epoch link_change link_sigma) set w r result }
+    ensures { Fitted (lent_track n anchors anchor_epoch anchor_position anchor_sigma links link_epoch link_change link_sigma) set (lent w) (lent r) result }
 {
     let h = set.huber;
     let iterations = set.iterations;

@@ -5,6 +5,7 @@ mod fit;
 mod weigh;
 
 ghost use Rattle.std.specs.Prelude.{◌≡◌};
+ghost use Rattle.lists.specs.Memory.{lent};
 ghost use Rattle.track_pass.specs.Input.{lent_track};
 ghost use Rattle.track_smooth.specs.Answer.{track_number, Called};
 
@@ -57,7 +58,7 @@ pub fn smooth(
     work: &mut [u64],
 ) -> Track
     ensures { let p = lent_track n anchors anchor_epoch anchor_position anchor_sigma links link_epoch link_change link_sigma in
-        Called p set res work result }
+        Called p set (lent res) (lent work) result }
 {
     let checked = check(
         n,

@@ -1,6 +1,6 @@
 // How much each measurement counts in the next pass, by how far it lies off the fit.
 ghost use Rattle.std.specs.Prelude.{◌≡◌, ◌+◌, ◌-◌, ◌/◌, ◌<◌, length};
-ghost use Rattle.lists.specs.Memory.{before};
+ghost use Rattle.lists.specs.Memory.{lent};
 ghost use Rattle.track_pass.specs.Input.{lent_measured};
 ghost use Rattle.track_pass.specs.Steps.{measured_now};
 ghost use Rattle.track_smooth.specs.Track.{huber_of, anchor_scale, link_scale};
@@ -36,7 +36,7 @@ pub(crate) fn limit(h: f64) -> f64
 // Reads x, y, z of the fit from place i on.
 fn point(r: &[u64], i: usize) -> Vec3
     requires { (i + 2 < length r.now) × Numbers r.now }
-    ensures { result ≡ point_in (before r) i }
+    ensures { result ≡ point_in r.now i }
 {
     let x = f64::from_bits(r[i]);
     let y = f64::from_bits(r[i + 1]);
@@ -47,7 +47,7 @@ fn point(r: &[u64], i: usize) -> Vec3
 // Computes the scale of a measurement whose floats start at place a and which the fit has at f. Most lie within the limit c of h and need no root.
 fn scale(f: Vec3, value: &[f64], sigma: &[f64], a: usize, h: f64, c: f64) -> f64
     requires { (a + 2 < length value.now) × (a + 2 < length sigma.now) × Limit h c }
-    ensures { result ≡ point_scale h f (before value) (before sigma) a }
+    ensures { result ≡ point_scale h f value.now sigma.now a }
 {
     let x = (f.x - value[a]) / sigma[a];
     let y = (f.y - value[a + 1]) / sigma[a + 1];
@@ -72,7 +72,7 @@ pub(crate) fn weigh_anchors(
     r: &[u64],
 )
     requires { Weighable (measured_now count index value sigma) (length r.now / 3) h c from w.old r.now }
-    ensures { WeighedBy anchor_scale (lent_measured count index value sigma) h r from w }
+    ensures { WeighedBy anchor_scale (lent_measured count index value sigma) h r from (lent w) }
 {
     let mut j: usize = 0;
     while j < count {
@@ -96,7 +96,7 @@ pub(crate) fn weigh_links(
     r: &[u64],
 )
     requires { Weighable (measured_now count index value sigma) (length r.now / 3 - 1) h c from w.old r.now }
-    ensures { WeighedBy link_scale (lent_measured count index value sigma) h r from w }
+    ensures { WeighedBy link_scale (lent_measured count index value sigma) h r from (lent w) }
 {
     let mut j: usize = 0;
     while j < count {

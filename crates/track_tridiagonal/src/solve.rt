@@ -1,6 +1,6 @@
 // The solution of tridiagonal equations, in place.
 ghost use Rattle.std.specs.Prelude.{◌≡◌, cond, ◌+◌, ◌*◌, ◌<◌, ◌≤◌, length};
-ghost use Rattle.lists.specs.Memory.{before, after};
+
 ghost use Rattle.exact.specs.Float.{◌⊖◌, ◌⊗◌, ◌⊘◌};
 ghost use Rattle.track_tridiagonal.specs.Rows.{Axes, axis_in, Solved};
 ghost use Rattle.track_tridiagonal.specs.Tridiagonal.{vanishing, NoNan};
@@ -35,7 +35,7 @@ fn goes_on(d: f64, p: f64, q: f64) -> bool
 // Reads the first row of the system whose diagonal starts at `at`.
 fn first_row(w: &[u64], at: usize) -> Row
     requires { (at + 6 < length w.now) × NumbersAt w.now at (at + 6) (at + 6) }
-    ensures { FirstRow (before w) at result }
+    ensures { FirstRow w.now at result }
 {
     let p = f64::from_bits(w[at]);
     let q = f64::from_bits(w[at + 6]);
@@ -50,7 +50,7 @@ fn first_row(w: &[u64], at: usize) -> Row
 // Eliminates an unknown from the row below. Its own row, with its diagonal at `at`, is `above`.
 fn eliminate_row(w: &mut [u64], at: usize, above: Row) -> Row
     requires { (at + 15 < length w.old) × NumbersAt w.old (at + 3) (at + 9) (at + 15) }
-    ensures { RowEliminated (before w) at above result (after w) }
+    ensures { RowEliminated w.old at above result w.new }
 {
     let u = f64::from_bits(w[at + 3]);
     let d = f64::from_bits(w[at + 9]);
@@ -75,7 +75,7 @@ fn eliminate_row(w: &mut [u64], at: usize, above: Row) -> Row
 // Eliminates from the first row to the last. False where a system cannot be solved.
 fn eliminate(w: &mut [u64], n: usize) -> bool
     requires { (0 < n) × (n * 9 ≤ length w.old) × Axes (λ t. NoNan (axis_in w.old t) n) }
-    ensures { Eliminated (before w) n result (after w) }
+    ensures { Eliminated w.old n result w.new }
 {
     let mut x = first_row(&w[..], 0);
     let mut y = first_row(&w[..], 1);
@@ -109,7 +109,7 @@ fn unknown(last: bool, d: f64, u: f64, r: f64, x: f64) -> f64
 // Solves the row with its diagonal at `at`, by the unknown x of the next row, and replaces the right side by its unknown, if finite.
 fn solve_row(w: &mut [u64], at: usize, last: bool, x: f64) -> f64
     requires { (at + 6 < length w.old) × NumbersAt w.old at (at + 3) (at + 6) }
-    ensures { RowSolved (before w) at last x result (after w) }
+    ensures { RowSolved w.old at last x result w.new }
 {
     let d = f64::from_bits(w[at]);
     let u = f64::from_bits(w[at + 3]);
@@ -125,7 +125,7 @@ fn solve_row(w: &mut [u64], at: usize, last: bool, x: f64) -> f64
 // Substitutes from the last row to the first. False where an unknown is not finite.
 fn substitute(w: &mut [u64], n: usize) -> bool
     requires { (n * 9 ≤ length w.old) × Axes (λ t. NoNan (axis_in w.old t) n) }
-    ensures { Substituted (before w) n result (after w) }
+    ensures { Substituted w.old n result w.new }
 {
     let mut x = 0.0;
     let mut y = 0.0;
@@ -148,7 +148,7 @@ fn substitute(w: &mut [u64], n: usize) -> bool
 // Solves the three systems of n equations, in place of their right sides. False where a diagonal is at or below 0, a pivot vanishes or an unknown is not finite.
 pub fn solve(w: &mut [u64], n: usize) -> bool
     requires { (0 < n) × (n * 9 ≤ length w.old) × Axes (λ t. NoNan (axis_in w.old t) n) }
-    ensures { Solved (before w) n result (after w) }
+    ensures { Solved w.old n result w.new }
 {
     if eliminate(&mut *w, n) {
         return substitute(&mut *w, n);

@@ -1,12 +1,13 @@
 // The marked trials of a track.
 ghost use Rattle.std.specs.Prelude.{◌≡◌, true};
+ghost use Rattle.lists.specs.Memory.{lent};
 ghost use Rattle.trials.specs.Steps.{OneAnchor};
 
 use track_smooth::{Settings, smooth};
 
 // Smooths n epochs with one anchor of sigma 1 at (5, 6, 7), of the first epoch, and no link, and returns the number of the answer.
 fn one_anchor(n: usize, res: &mut [u64], work: &mut [u64]) -> u8
-    ensures { OneAnchor n res work result }
+    ensures { OneAnchor n (lent res) (lent work) result }
 {
     let epoch = [0usize; 1];
     let position = [5.0, 6.0, 7.0];

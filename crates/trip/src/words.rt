@@ -1,6 +1,6 @@
 // A trip that the caller holds as six words: pulses per kilometre, epochs, carrier millimetres, pulses, greatest difference, its epoch.
 ghost use Rattle.std.specs.Prelude.{◌≡◌};
-ghost use Rattle.lists.specs.Memory.{before};
+ghost use Rattle.lists.specs.Memory.{before, lent};
 ghost use Rattle.trip.specs.Words as spec;
 
 use crate::measure::way_of;
@@ -43,7 +43,7 @@ pub fn words(t: Trip) -> [u64; 6]
 
 // Adds an epoch to the trip that the lent words hold.
 pub fn add_held(trip: &[u64; 6], delta: &[f64; 3], pulses: u16) -> Step
-    ensures { result ≡ spec.added_words (before trip) (before delta) pulses }
+    ensures { result ≡ spec.added_words trip.now delta.now pulses }
 {
     // The way first: it may need a root, which is a call, over which no word has to be kept.
     let d = Vec3 {
@@ -84,7 +84,7 @@ pub fn fuel_held(w: [u64; 6], millilitres: u32) -> Fuel
 
 // Writes the trip of a step to the lent words and returns 0. On refusal, returns its number and changes nothing.
 pub fn put_step(step: Step, trip: &mut [u64; 6]) -> u8
-    ensures { spec.TripAnswers step result trip }
+    ensures { spec.TripAnswers step result (lent trip) }
 {
     match step {
         Step::Refused(r) => r.number(),
@@ -97,7 +97,7 @@ pub fn put_step(step: Step, trip: &mut [u64; 6]) -> u8
 
 // Writes a report to the lent words and returns 0. On refusal, returns its number and changes nothing.
 pub fn put_report(reported: Reported, report: &mut [u64; 4]) -> u8
-    ensures { spec.ReportAnswers reported result report }
+    ensures { spec.ReportAnswers reported result (lent report) }
 {
     match reported {
         Reported::Refused(r) => r.number(),
@@ -110,7 +110,7 @@ pub fn put_report(reported: Reported, report: &mut [u64; 4]) -> u8
 
 // Writes the millilitres for a kilometre to the lent number and returns 0. On refusal, returns its number and changes nothing.
 pub fn put_fuel(fuel: Fuel, per_km: &mut u64) -> u8
-    ensures { spec.FuelAnswers fuel result per_km }
+    ensures { spec.FuelAnswers fuel result (lent per_km) }
 {
     match fuel {
         Fuel::Refused(r) => r.number(),

@@ -1,6 +1,6 @@
 // The calls of a trip with settings on lent memory: the trip as six words, the settings as five floats and the rounds.
 ghost use Rattle.std.specs.Prelude.{◌≡◌, map};
-ghost use Rattle.lists.specs.Memory.{before, after};
+ghost use Rattle.lists.specs.Memory.{lent};
 ghost use Rattle.numeric.specs.Order.{pattern_of};
 ghost use Rattle.tdcp_columns.specs.Displacement.{displacement_settings};
 ghost use Rattle.trip.specs.Words.{held_of};
@@ -27,7 +27,7 @@ fn patterns_of(s: Settings) -> [u64; 5]
 
 // Starts a trip with these settings.
 pub fn begun(settings: &[f64; 5], rounds: usize, per_km: u16) -> Driving
-    ensures { result ≡ begun_of (displacement_settings (before settings) rounds) per_km }
+    ensures { result ≡ begun_of (displacement_settings settings.now rounds) per_km }
 {
     let s = displacement_settings(settings, rounds);
     Drive::begin(s, per_km)
@@ -35,7 +35,7 @@ pub fn begun(settings: &[f64; 5], rounds: usize, per_km: u16) -> Driving
 
 // Changes the settings of the trip that the lent words hold.
 pub fn changed(trip: &[u64; 6], settings: &[f64; 5], rounds: usize) -> Driving
-    ensures { result ≡ under_new (displacement_settings (before settings) rounds) (tested (held_of (before trip))) }
+    ensures { result ≡ under_new (displacement_settings settings.now rounds) (tested (held_of trip.now)) }
 {
     let s = displacement_settings(settings, rounds);
     let w = *trip;
@@ -49,7 +49,7 @@ pub fn put_begun(
     in_force: &mut [u64; 5],
     in_force_rounds: &mut usize,
 ) -> u8
-    ensures { spec.TripBegun driving result trip in_force in_force_rounds }
+    ensures { spec.TripBegun driving result (lent trip) (lent in_force) (lent in_force_rounds) }
 {
     match driving {
         Driving::Refused(r) => r.number(),
@@ -66,7 +66,7 @@ pub fn put_begun(
 
 // Writes the settings in force to the lent patterns and rounds and returns 0. On refusal, returns its number and changes nothing.
 pub fn put_settings(driving: Driving, in_force: &mut [u64; 5], in_force_rounds: &mut usize) -> u8
-    ensures { spec.SettingsPut driving result in_force in_force_rounds }
+    ensures { spec.SettingsPut driving result (lent in_force) (lent in_force_rounds) }
 {
     match driving {
         Driving::Refused(r) => r.number(),
@@ -88,8 +88,8 @@ pub fn travel_into(
     delta: &mut [u64; 3],
     counts: &mut [usize; 2],
 ) -> u8
-    ensures { spec.TravelLeaves (spec.travelled_by moved pulses (before trip)) result
-        (before trip) (after trip) (before delta) (after delta) (before counts) (after counts) }
+    ensures { spec.TravelLeaves (spec.travelled_by moved pulses trip.old) result
+        trip.old trip.new delta.old delta.new counts.old counts.new }
 {
     let w = *trip;
     let answer = travel_by(held(w), moved, pulses);

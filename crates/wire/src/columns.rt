@@ -1,6 +1,6 @@
 // Carrier records in a caller's columns.
 ghost use Rattle.std.specs.Prelude.{◌≡◌, true, ◌*◌, ◌≤◌, length};
-ghost use Rattle.lists.specs.Memory.{before};
+ghost use Rattle.lists.specs.Memory.{held, lent};
 ghost use Rattle.wire.specs.Record.{records_in};
 ghost use Rattle.wire.specs.Columns as spec;
 ghost use Rattle.wire.specs.Lent.{records_before, lent_records};
@@ -40,9 +40,9 @@ pub fn fill(
     state: &mut [i32],
     floats: &mut [u64],
 )
-    requires n_value { spec.columns_fit (columns_now constellation svid band state floats) n ≡ true }
+    requires n_value { spec.columns_fit (columns_now (held constellation) (held svid) (held band) (held state) (held floats)) n ≡ true }
     requires n_in_bounds { 59 * n ≤ length s.now }
-    ensures { Filled (records_in (before s) n) (lent_records constellation svid band state floats) }
+    ensures { Filled (records_in s.now n) (lent_records (lent constellation) (lent svid) (lent band) (lent state) (lent floats)) }
 {
     let mut i: usize = 0;
     while i < n {
@@ -112,7 +112,7 @@ pub fn put_records(
 )
     requires n_value { spec.columns_fit (columns_now constellation svid band state floats) n ≡ true }
     requires n_in_bounds { 59 * n ≤ length out.old }
-    ensures { Emitted (spec.column_records (records_before constellation svid band state floats) n) out }
+    ensures { Emitted (spec.column_records (records_before constellation svid band state floats) n) (lent out) }
 {
     let mut i: usize = 0;
     while i < n {

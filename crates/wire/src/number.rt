@@ -1,14 +1,14 @@
 // Numbers as bytes, the least significant byte first.
 ghost use Rattle.std.specs.Prelude.{◌≡◌, ◌+◌, ◌≤◌, ◌<◌, ◌^◌, length};
 ghost use Rattle.std.proofs.lemmas.List.Edits.{sets};
-ghost use Rattle.lists.specs.Memory.{before, after};
+
 ghost use Rattle.records.specs.Record.{unsigned};
 ghost use Rattle.wire.specs.Number as spec;
 
 // Returns the number of the w bytes from place `at` on, starting with the most significant byte, which is the last.
 pub(crate) fn number_at(s: &[u8], at: usize, w: usize) -> u64
     requires { (w ≤ 8) × (at + w ≤ length s.now) }
-    ensures { (result ≡ spec.number_at (before s) at w) × (result < 256 ^ w) }
+    ensures { (result ≡ spec.number_at s.now at w) × (result < 256 ^ w) }
 {
     let mut i: usize = 0;
     let mut n: u64 = 0;
@@ -23,7 +23,7 @@ pub(crate) fn number_at(s: &[u8], at: usize, w: usize) -> u64
 // Writes the w bytes of n from place `at` on.
 pub(crate) fn put_number(out: &mut [u8], at: usize, w: usize, n: u64)
     requires { at + w ≤ length out.old }
-    ensures { after out ≡ sets (before out) at (spec.bytes_in w n) }
+    ensures { out.new ≡ sets out.old at (spec.bytes_in w n) }
 {
     let mut i: usize = 0;
     let mut rest = n;

@@ -1,7 +1,7 @@
 // One carrier record of 59 bytes.
 ghost use Rattle.std.specs.Prelude.{◌≡◌, ◌+◌, ◌≤◌, length, drop};
 ghost use Rattle.std.proofs.lemmas.List.Edits.{sets};
-ghost use Rattle.lists.specs.Memory.{before, after};
+
 ghost use Rattle.wire.specs.Number.{five_bytes, number_at};
 ghost use Rattle.wire.specs.Record as spec;
 
@@ -25,7 +25,7 @@ pub struct CarrierRecord {
 // The 64 bits of a float, a NaN's sign and payload with them.
 pub(crate) fn pattern_in(s: &[u8], at: usize) -> u64
     requires { at + 8 ≤ length s.now }
-    ensures { result ≡ number_at (before s) at 8 }
+    ensures { result ≡ number_at s.now at 8 }
 {
     number_at(s, at, 8)
 }
@@ -33,7 +33,7 @@ pub(crate) fn pattern_in(s: &[u8], at: usize) -> u64
 // Returns the record of the 59 bytes from place `at` on.
 pub fn record_of(s: &[u8], at: usize) -> CarrierRecord
     requires { at + 59 ≤ length s.now }
-    ensures { result ≡ spec.record_of (drop at (before s)) }
+    ensures { result ≡ spec.record_of (drop at s.now) }
 {
     let constellation = number_at(s, at, 1);
     let svid = number_at(s, at + 1, 2);
@@ -70,7 +70,7 @@ fn put_front(
     state: u64,
 )
     requires { at + 19 ≤ length out.old }
-    ensures { after out ≡ sets (before out) at (spec.front_bytes constellation svid band adr state) }
+    ensures { out.new ≡ sets out.old at (spec.front_bytes constellation svid band adr state) }
 {
     put_number(out, at, 1, constellation as u64);
     put_number(out, at + 1, 2, svid as u64);
@@ -82,7 +82,7 @@ fn put_front(
 // Writes five numbers of 8 bytes each from place `at` on.
 pub fn put_five(out: &mut [u8], at: usize, a: u64, b: u64, c: u64, d: u64, e: u64)
     requires { at + 40 ≤ length out.old }
-    ensures { after out ≡ sets (before out) at (five_bytes a b c d e) }
+    ensures { out.new ≡ sets out.old at (five_bytes a b c d e) }
 {
     put_number(out, at, 8, a);
     put_number(out, at + 8, 8, b);
@@ -94,7 +94,7 @@ pub fn put_five(out: &mut [u8], at: usize, a: u64, b: u64, c: u64, d: u64, e: u6
 // Writes the 59 bytes of a record from place `at` on.
 pub(crate) fn put_record(out: &mut [u8], at: usize, r: CarrierRecord)
     requires { at + 59 ≤ length out.old }
-    ensures { after out ≡ sets (before out) at (spec.bytes_of r) }
+    ensures { out.new ≡ sets out.old at (spec.bytes_of r) }
 {
     let state = unsigned(r.state);
     put_front(out, at, r.constellation, r.svid, r.band, r.adr, state);

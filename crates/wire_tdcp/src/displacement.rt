@@ -1,6 +1,6 @@
 // The displacement between two epochs of byte records.
 ghost use Rattle.std.specs.Prelude.{◌≡◌, ◌*◌, ◌≤◌, length};
-ghost use Rattle.lists.specs.Memory.{before, after};
+
 ghost use Rattle.records.specs.Steps.{Laid};
 ghost use Rattle.tdcp.specs.Displacement.{Promised};
 ghost use Rattle.wire.specs.Record.{count_in};
@@ -48,7 +48,7 @@ fn carriers_into(
     floats: &mut [f64; 384],
 )
     requires { (n ≤ 64) × (59 * n ≤ length s.now) × (length signals.old ≡ 64) × (length states.old ≡ 64) × (length floats.old ≡ 384) }
-    ensures { Laid (spec.record_carriers (before s) n) n (after signals) (after states) (after floats) }
+    ensures { Laid (spec.record_carriers s.now n) n signals.new states.new floats.new }
 {
     let mut i: usize = 0;
     while i < n {
@@ -68,7 +68,7 @@ fn displacement_of(
     settings: Settings,
 ) -> Displacement
     requires { (count_in previous.now ≤ 64) × (count_in current.now ≤ 64) }
-    ensures { Promised (spec.record_input (spec.handed (before previous) (before current) dt receiver settings)) result }
+    ensures { Promised (spec.record_input (spec.handed previous.now current.now dt receiver settings)) result }
 {
     let m = previous.len() / 59;
     let n = current.len() / 59;
@@ -118,8 +118,8 @@ pub fn displacement_records(
     settings: Settings,
     res: &mut [u8],
 ) -> u8
-    ensures { spec.RecordAnswers (spec.handed (before previous) (before current) dt receiver settings)
-        result (before res) (after res) }
+    ensures { spec.RecordAnswers (spec.handed previous.now current.now dt receiver settings)
+        result res.old res.new }
 {
     if previous.len() % 59 != 0 {
         return Refusal::BrokenRecords.number();

@@ -1,6 +1,6 @@
 // Chi at the returned position.
 ghost use Rattle.std.specs.Prelude.{◌≡◌, ◌≤◌};
-ghost use Rattle.lists.specs.Memory.{before};
+
 ghost use Rattle.wls.specs.declared.fix.Settings.{Settings};
 ghost use Rattle.records.specs.Record.{counted_observations};
 ghost use Rattle.wls.specs.Steps.{SigmasOf, ChiAnswered};
@@ -25,7 +25,7 @@ pub enum Chi {
 // Returns chi of the observations with these sigmas at the state s, the root of the reduced chi-squared, or refuses a line of sight by 15.
 pub(crate) fn chi_at(k: Clocks, sky: Observations, sigma: &[f64; 64], s: [f64; 9]) -> Chi
     requires { (sky.count ≤ 64) × (k.count ≤ 6) }
-    ensures { (settings : Settings) → SigmasOf settings sky (before sigma) → ChiAnswered settings k (counted_observations sky) s result }
+    ensures { (settings : Settings) → SigmasOf settings sky sigma.now → ChiAnswered settings k (counted_observations sky) s result }
 {
     let count = sky.count;
     let at = Vec3 {

@@ -1,6 +1,6 @@
 // The position from one epoch.
 ghost use Rattle.std.specs.Prelude.{◌≡◌, List, length, ℕ, ◌≤◌, Float};
-ghost use Rattle.lists.specs.Memory.{before, after};
+
 ghost use Rattle.normal_equations.specs.Steps.{lent_rows};
 ghost use Rattle.numeric.specs.Rules.{Rule, ruled};
 ghost use Rattle.records.specs.Record.{counted_observations};
@@ -84,7 +84,7 @@ pub(crate) fn rows_at(
 ) -> bool
     requires { (sky.count ≤ 64) × Long x.old y.old z.old clock.old residual.old }
     ensures { Rowed k sky.count sky.observation s result
-        (after x) (after y) (after z) (after clock) (after residual) }
+        x.new y.new z.new clock.new residual.new }
 {
     let count = sky.count;
     let at = Vec3 {
@@ -132,8 +132,8 @@ fn fit_rounds(
 ) -> Ending
     requires count_bound { (sky.count ≤ 64) × (k.count ≤ 6) × Long x.old y.old z.old clock.old residual.old }
     requires sigmas_of { SigmasOf settings sky sigma.now }
-    ensures { Fitted (spec.fit_at settings k (counted_observations sky) (before state)) result (after state)
-        (after x) (after y) (after z) (after clock) (before sigma) (after residual) }
+    ensures { Fitted (spec.fit_at settings k (counted_observations sky) state.old) result state.new
+        x.new y.new z.new clock.new sigma.now residual.new }
 {
     let n = 3 + k.count;
     let count = sky.count;

@@ -1,6 +1,6 @@
 // The patterns of a factor and of a column, for memory that a caller lends as doubles.
 ghost use Rattle.std.specs.Prelude.{◌≡◌, map, ◌<◌};
-ghost use Rattle.lists.specs.Memory.{before, after};
+
 ghost use Rattle.numeric.specs.Order.{pattern_of};
 ghost use Rattle.cholesky.specs.Factor.{row, factor_of};
 ghost use Rattle.cholesky.specs.Answer.{factoring_of};
@@ -30,7 +30,7 @@ pub fn patterns(x: [f64; 9]) -> [u64; 9]
 // Returns the bits of row i of a matrix whose cells are finite: there is no NaN to test for.
 fn row_bits(i: usize, m: &[[f64; 9]; 9]) -> [u64; 9]
     requires { (i < 9) × FiniteSquare m.now }
-    ensures { result ≡ map pattern_of (row (before m) i) }
+    ensures { result ≡ map pattern_of (row m.now i) }
 {
     let a = f64::to_bits(m[i][0]);
     let b = f64::to_bits(m[i][1]);
@@ -46,7 +46,7 @@ fn row_bits(i: usize, m: &[[f64; 9]; 9]) -> [u64; 9]
 
 // Writes the patterns of the factor of a to l, or refuses and leaves l unchanged. Only the lower triangle of a is read. An accepted factor is finite.
 pub fn factor_patterns(a: &[[f64; 9]; 9], l: &mut [[u64; 9]; 9]) -> Factoring
-    ensures { let f = factor_of (before a) in (result ≡ factoring_of f) × (after l ≡ patterns_after f (before l)) }
+    ensures { let f = factor_of a.now in (result ≡ factoring_of f) × (l.new ≡ patterns_after f l.old) }
 {
     let mut m = [[0.0; 9]; 9];
     if factor_used(9, a, &mut m) {

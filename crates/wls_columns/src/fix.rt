@@ -1,7 +1,7 @@
 // The fix of a caller's columns, its settings as four floats and the rounds, and its answer in lent memory. What a caller lends as doubles is taken as their patterns,
 // so that a refusal is promised to leave every bit.
 ghost use Rattle.std.specs.Prelude.{◌≡◌, min};
-ghost use Rattle.lists.specs.Memory.{before, after};
+
 ghost use Rattle.numeric.specs.Vec3.{vector_at};
 ghost use Rattle.wls_columns.specs.Fix as spec;
 ghost use Rattle.wls_columns.specs.Steps.{lent_observations};
@@ -15,7 +15,7 @@ use wls::fix::{Fix, Settings, solve_full};
 
 // Returns the settings of a fix.
 fn fix_settings(s: &[f64; 4], rounds: usize) -> Settings
-    ensures { result ≡ spec.fix_settings (before s) (min rounds 51) }
+    ensures { result ≡ spec.fix_settings s.now (min rounds 51) }
 {
     let n = rounds_of(rounds);
     Settings {
@@ -37,7 +37,7 @@ pub fn columns_fix(
     rounds: usize,
 ) -> Fix
     ensures { result ≡ spec.column_fix_of (lent_observations constellation floats) count
-        (vector_at (before guess) 0) (spec.fix_settings (before settings) rounds) }
+        (vector_at guess.now 0) (spec.fix_settings settings.now rounds) }
 {
     if !observations_fit(constellation, floats, count) {
         return Fix::Refused(Refusal::TooMany);
@@ -50,7 +50,7 @@ pub fn columns_fix(
 
 // Returns 0 and writes x, y, z, chi and pdop to `solution` and the observations used to `used`. On refusal, returns its number and changes nothing.
 pub fn fix_into(answer: Fix, solution: &mut [u64; 5], used: &mut usize) -> u8
-    ensures { spec.FixLeaves answer result (before solution) (after solution) (before used) (after used) }
+    ensures { spec.FixLeaves answer result solution.old solution.new used.old used.new }
 {
     match answer {
         Fix::At(f) => {
@@ -70,7 +70,7 @@ pub fn fix_into(answer: Fix, solution: &mut [u64; 5], used: &mut usize) -> u8
 
 // Returns 0 and writes x, y and z of the fix to `position` (`solve` of wls.rs). On refusal, returns its number and changes nothing.
 pub fn position_into(answer: Fix, position: &mut [u64; 3]) -> u8
-    ensures { spec.PositionLeaves answer result (before position) (after position) }
+    ensures { spec.PositionLeaves answer result position.old position.new }
 {
     match answer {
         Fix::At(f) => {

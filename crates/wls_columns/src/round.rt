@@ -1,6 +1,6 @@
 // One round of a caller's columns.
 ghost use Rattle.std.specs.Prelude.{◌≡◌};
-ghost use Rattle.lists.specs.Memory.{before, after};
+
 ghost use Rattle.robust.specs.Step.{stepping_number, StepPromised};
 ghost use Rattle.wls_columns.specs.Step.{column_step_of, step_after};
 ghost use Rattle.wls_columns.specs.Steps.{lent_row_columns};
@@ -21,7 +21,7 @@ pub fn columns_step(
     huber: f64,
     x: &mut [f64; 9],
 ) -> Stepping
-    ensures { StepPromised (column_step_of (lent_row_columns units clocks residuals sigmas) rows unknowns huber) result (after x) }
+    ensures { StepPromised (column_step_of (lent_row_columns units clocks residuals sigmas) rows unknowns huber) result x.new }
 {
     *x = [0.0; 9];
     if !rows_fit(units, clocks, residuals, sigmas, rows) {
@@ -33,7 +33,7 @@ pub fn columns_step(
 
 // Returns 0 and writes the patterns of the step x to dx. On refusal, returns its number and changes nothing.
 pub fn step_into(answer: Stepping, x: [f64; 9], dx: &mut [u64; 9]) -> u8
-    ensures { (result ≡ stepping_number answer) × (after dx ≡ step_after answer x (before dx)) }
+    ensures { (result ≡ stepping_number answer) × (dx.new ≡ step_after answer x dx.old) }
 {
     match answer {
         Stepping::Refused(r) => r.number(),

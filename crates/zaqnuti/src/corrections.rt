@@ -1,6 +1,6 @@
 // Entry points of the corrections: one base epoch added to a directory, and the bands of an old table.
 ghost use Rattle.std.specs.Prelude.{◌≡◌};
-ghost use Rattle.lists.specs.Memory.{before, after};
+ghost use Rattle.lists.specs.Memory.{lent};
 ghost use Rattle.corrections_table.specs.Widen.{widen_of, widening_number, bands_after};
 ghost use Rattle.corrections_directory.specs.Lent.{lent_table};
 ghost use Rattle.corrections_add.specs.Add.{AddsIn};
@@ -40,12 +40,12 @@ pub extern "C" fn zaqnuti_add_epoch(
     max_correction: f64,
     corrected: &[bool; 8],
 ) -> u8
-    ensures { let t = lent_table block_constellation block_svid block_band block_first block_samples table_time table_metres in
-        let m = before blocks in
-        let n = before table_count in
+    ensures { let t = lent_table (lent block_constellation) (lent block_svid) (lent block_band) (lent block_first) (lent block_samples) (lent table_time) (lent table_metres) in
+        let m = blocks.old in
+        let n = table_count.old in
         let o = lent_entry m n t.before time ranges range_constellation range_svid range_band range_pseudorange
         states_present states state_constellation state_svid state_band state_floats base rover max_gap max_correction corrected in
-        AddsIn o result m (after blocks) n (after table_count) t }
+        AddsIn o result m blocks.new n table_count.new t }
 {
     let entries = *blocks;
     let samples = *table_count;
@@ -83,8 +83,8 @@ pub extern "C" fn zaqnuti_add_epoch(
 // Writes the first n bands of a table with 8 bits for each to the front of a column of 32 bits. Returns 0. On refusal, returns its number and changes nothing.
 #[unsafe(no_mangle)]
 pub extern "C" fn zaqnuti_widen_bands(narrow: &[u8], n: usize, wide: &mut [u32]) -> u8
-    ensures { let o = widen_of n (before narrow) (before wide) in
-        (result ≡ widening_number o) × (after wide ≡ bands_after o n (before narrow) (before wide)) }
+    ensures { let o = widen_of n narrow.now wide.old in
+        (result ≡ widening_number o) × (wide.new ≡ bands_after o n narrow.now wide.old) }
 {
     let answer = widen_bands(narrow, n, wide);
     match answer {

@@ -1,5 +1,5 @@
 // Entry point of a displacement as north, east, down.
-ghost use Rattle.lists.specs.Memory.{before, after};
+
 ghost use Rattle.frames.specs.Lent.{DirectionAnswered};
 
 use frames::lent::ned_into;
@@ -11,7 +11,7 @@ pub extern "C" fn zaqnuti_north_east_down(
     displacement: &[f64; 3],
     ned: &mut [u64; 3],
 ) -> u8
-    ensures { DirectionAnswered (before position) (before displacement) result (before ned) (after ned) }
+    ensures { DirectionAnswered position.now displacement.now result ned.old ned.new }
 {
     ned_into(position, displacement, ned)
 }

@@ -1,6 +1,6 @@
 // Entry points of the displacement and the fix. Doubles to be written are lent as their patterns, so that a refusal is promised to change no bit.
 ghost use Rattle.std.specs.Prelude.{◌≡◌};
-ghost use Rattle.lists.specs.Memory.{before, after};
+ghost use Rattle.lists.specs.Memory.{lent};
 ghost use Rattle.records.specs.Lent.{lent_columns, lent_vector};
 ghost use Rattle.numeric.specs.Vec3.{vector_at};
 ghost use Rattle.tdcp_columns.specs.Displacement.{lent, lent_settings, DisplacementAnswers};
@@ -39,7 +39,7 @@ pub extern "C" fn zaqnuti_displacement(
     ensures { DisplacementAnswers (lent
         (lent_columns previous_constellation previous_svid previous_band previous_state previous_floats) previous_count
         (lent_columns current_constellation current_svid current_band current_state current_floats) current_count
-        (Interval.Seconds dt) (lent_vector receiver) (lent_settings settings rounds) Profile.General) result delta counts }
+        (Interval.Seconds dt) (lent_vector receiver) (lent_settings settings rounds) Profile.General) result (lent delta) (lent counts) }
 {
     let answer = columns_displaced(
         previous_constellation,
@@ -76,9 +76,9 @@ pub extern "C" fn zaqnuti_fix(
     solution: &mut [u64; 5],
     used: &mut usize,
 ) -> u8
-    ensures { FixAnswers (observation_columns (before constellation) (before floats)) count
-        (vector_at (before guess) 0) (fix_settings (before settings) rounds)
-        result (before solution) (after solution) (before used) (after used) }
+    ensures { FixAnswers (observation_columns constellation.now floats.now) count
+        (vector_at guess.now 0) (fix_settings settings.now rounds)
+        result solution.old solution.new used.old used.new }
 {
     let answer = columns_fix(constellation, floats, count, guess, settings, rounds);
     fix_into(answer, solution, used)
@@ -95,9 +95,9 @@ pub extern "C" fn zaqnuti_position(
     rounds: usize,
     position: &mut [u64; 3],
 ) -> u8
-    ensures { PositionAnswers (observation_columns (before constellation) (before floats)) count
-        (vector_at (before guess) 0) (fix_settings (before settings) rounds)
-        result (before position) (after position) }
+    ensures { PositionAnswers (observation_columns constellation.now floats.now) count
+        (vector_at guess.now 0) (fix_settings settings.now rounds)
+        result position.old position.new }
 {
     let answer = columns_fix(constellation, floats, count, guess, settings, rounds);
     position_into(answer, position)

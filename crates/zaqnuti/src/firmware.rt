@@ -1,5 +1,5 @@
 // Entry points for firmware that holds epochs as bytes: carrier records read and written, and the displacement between two slices of them.
-ghost use Rattle.lists.specs.Memory.{before, after};
+ghost use Rattle.lists.specs.Memory.{lent};
 ghost use Rattle.wire.specs.Lent.{records_before, lent_records, RecordsRead, RecordsWritten};
 ghost use Rattle.wire_tdcp.specs.Displacement as spec;
 
@@ -29,8 +29,8 @@ pub extern "C" fn zaqnuti_displacement_records(
     res: &mut [u8],
 ) -> u8
     ensures { spec.RecordAnswers
-        (spec.handed (before previous) (before current) dt (spec.vector_of x y z) (spec.line_settings screen sigma_a sigma_b huber mask rounds))
-        result (before res) (after res) }
+        (spec.handed previous.now current.now dt (spec.vector_of x y z) (spec.line_settings screen sigma_a sigma_b huber mask rounds))
+        result res.old res.new }
 {
     let receiver = Vec3 { x: x, y: y, z: z };
     let settings = Settings {
@@ -56,7 +56,7 @@ pub extern "C" fn zaqnuti_write_records(
     count: usize,
     bytes: &mut [u8],
 ) -> u8
-    ensures { RecordsWritten (records_before constellation svid band state floats) count result bytes }
+    ensures { RecordsWritten (records_before constellation svid band state floats) count result (lent bytes) }
 {
     if !columns_fit(constellation, svid, band, state, floats, count) {
         return Refusal::TooMany.number();
@@ -80,7 +80,7 @@ pub extern "C" fn zaqnuti_read_records(
     floats: &mut [u64],
     count: &mut usize,
 ) -> u8
-    ensures { RecordsRead bytes result (lent_records constellation svid band state floats) count }
+    ensures { RecordsRead bytes result (lent_records (lent constellation) (lent svid) (lent band) (lent state) (lent floats)) (lent count) }
 {
     if bytes.len() % 59 != 0 {
         return Refusal::BrokenRecords.number();

@@ -1,5 +1,5 @@
 // Entry point of the corrections: forgetting the samples before a time.
-ghost use Rattle.lists.specs.Memory.{before, after};
+ghost use Rattle.lists.specs.Memory.{lent};
 ghost use Rattle.corrections_directory.specs.Lent.{lent_table};
 ghost use Rattle.corrections_forget.specs.Forget.{ForgetsIn};
 
@@ -20,8 +20,8 @@ pub extern "C" fn zaqnuti_forget(
     table_count: &mut usize,
     time: f64,
 ) -> u8
-    ensures { ForgetsIn blocks (before table_count)
-        (lent_table block_constellation block_svid block_band block_first block_samples table_time table_metres) time result (after table_count) }
+    ensures { ForgetsIn blocks table_count.old
+        (lent_table block_constellation block_svid block_band (lent block_first) (lent block_samples) (lent table_time) (lent table_metres)) time result table_count.new }
 {
     let count = *table_count;
     let answer = forget(

@@ -1,5 +1,6 @@
 // Entry points of the two forms of a table.
 ghost use Rattle.corrections_table.specs.Lent.{columns_before};
+ghost use Rattle.lists.specs.Memory.{lent};
 ghost use Rattle.corrections_directory.specs.Read.{read_table};
 ghost use Rattle.corrections_convert.specs.Lent.{FilesIn, ListsIn, lent_directory, lent_signal_columns};
 
@@ -25,7 +26,7 @@ pub extern "C" fn zaqnuti_directory_of(
     blocks: &mut usize,
 ) -> u8
     ensures { let t = columns_before constellation svid band table_time table_metres in
-        FilesIn table_count t (lent_directory block_constellation block_svid block_band block_first block_samples t) result blocks }
+        FilesIn table_count t (lent_directory (lent block_constellation) (lent block_svid) (lent block_band) (lent block_first) (lent block_samples) t) result (lent blocks) }
 {
     let answer = directory_of(
         constellation,
@@ -63,7 +64,7 @@ pub extern "C" fn zaqnuti_signals_of(
 ) -> u8
     ensures { let table = read_table
         block_constellation block_svid block_band block_first block_samples blocks table_time table_metres table_count in
-        ListsIn table (lent_signal_columns constellation svid band table) result }
+        ListsIn table (lent_signal_columns (lent constellation) (lent svid) (lent band) table) result }
 {
     listing_number(signals_of(
         block_constellation,

@@ -1,5 +1,5 @@
 // The line form for C: a text in, the line of its answer out.
-ghost use Rattle.lists.specs.Memory.{before, after};
+
 ghost use Rattle.line_form.specs.Answer.{LineAnswers};
 
 use line_form::Printed;
@@ -7,7 +7,7 @@ use line_form::Printed;
 // Returns 0 and writes the line that answers `text` to `line` and its length to `written`. Returns 2 and changes nothing where `line` is shorter than the line.
 #[unsafe(no_mangle)]
 pub extern "C" fn zaqnuti_line(text: &[u8], line: &mut [u8], written: &mut usize) -> u8
-    ensures { LineAnswers (before text) result (before line) (after line) (before written) (after written) }
+    ensures { LineAnswers text.now result line.old line.new written.old written.new }
 {
     let answer = line_form::answer(text, line);
     match answer {

@@ -1,6 +1,6 @@
 // Entry points of the Cholesky factor and its solve.
 ghost use Rattle.std.specs.Prelude.{◌≡◌, map};
-ghost use Rattle.lists.specs.Memory.{before, after};
+
 ghost use Rattle.numeric.specs.Order.{pattern_of};
 ghost use Rattle.cholesky.specs.Factor.{factor_of, solution_of};
 ghost use Rattle.cholesky.specs.Answer.{factoring_of, factoring_number};
@@ -12,7 +12,7 @@ use wls_columns::bits::{factor_patterns, patterns};
 // Returns 0 and writes the patterns of the factor of a to `l`. On refusal, returns 10 and changes nothing.
 #[unsafe(no_mangle)]
 pub extern "C" fn zaqnuti_factor(a: &[[f64; 9]; 9], l: &mut [[u64; 9]; 9]) -> u8
-    ensures { let f = factor_of (before a) in (result ≡ factoring_number (factoring_of f)) × (after l ≡ patterns_after f (before l)) }
+    ensures { let f = factor_of a.now in (result ≡ factoring_number (factoring_of f)) × (l.new ≡ patterns_after f l.old) }
 {
     factor_patterns(a, l).number()
 }
@@ -20,7 +20,7 @@ pub extern "C" fn zaqnuti_factor(a: &[[f64; 9]; 9], l: &mut [[u64; 9]; 9]) -> u8
 // Writes the patterns of the solution of l lᵀ x = b to x: of a NaN 7FF8000000000000.
 #[unsafe(no_mangle)]
 pub extern "C" fn zaqnuti_solve(l: &[[f64; 9]; 9], b: &[f64; 9], x: &mut [u64; 9])
-    ensures { after x ≡ map pattern_of (solution_of (before l) (before b)) }
+    ensures { x.new ≡ map pattern_of (solution_of l.now b.now) }
 {
     let mut y = *b;
     solve_into(l, &mut y);

@@ -1,6 +1,6 @@
 // Entry points of a mileage, which the caller holds as ten words: the limit's bits, epochs, refused, set aside, counted millimetres, counted pulses, standing
 // millimetres, all pulses, whether the last epoch had a pulse, and the last epoch's millimetres where it stands so far.
-ghost use Rattle.lists.specs.Memory.{before};
+ghost use Rattle.lists.specs.Memory.{lent};
 ghost use Rattle.mileage.specs.Mileage.{mileage_started};
 ghost use Rattle.mileage.specs.Words as spec;
 
@@ -10,7 +10,7 @@ use mileage::words::{add_held, held, put_distance, put_fuel, put_report, put_ste
 // Starts a mileage in the lent words and returns 0. On refusal, returns 3 and changes nothing.
 #[unsafe(no_mangle)]
 pub extern "C" fn zaqnuti_mileage_start(limit: f64, mileage: &mut [u64; 10]) -> u8
-    ensures { spec.MileageAnswers (mileage_started limit) result mileage }
+    ensures { spec.MileageAnswers (mileage_started limit) result (lent mileage) }
 {
     put_step(Mileage::start(limit), mileage)
 }
@@ -24,7 +24,7 @@ pub extern "C" fn zaqnuti_mileage_add(
     quality: &[f64; 2],
     pulses: u16,
 ) -> u8
-    ensures { spec.MileageAnswers (spec.mileage_added_words (before mileage) (spec.lent_epoch refused_by delta quality pulses)) result mileage }
+    ensures { spec.MileageAnswers (spec.mileage_added_words mileage.old (spec.lent_epoch refused_by delta quality pulses)) result (lent mileage) }
 {
     put_step(
         add_held(mileage, refused_by, delta, quality, pulses),
@@ -36,7 +36,7 @@ pub extern "C" fn zaqnuti_mileage_add(
 // and changes nothing.
 #[unsafe(no_mangle)]
 pub extern "C" fn zaqnuti_mileage_report(mileage: &[u64; 10], report: &mut [u64; 7]) -> u8
-    ensures { spec.MileageReportAnswers (spec.mileage_reported_words (before mileage)) result report }
+    ensures { spec.MileageReportAnswers (spec.mileage_reported_words mileage.now) result (lent report) }
 {
     put_report(held(*mileage).report(), report)
 }
@@ -44,7 +44,7 @@ pub extern "C" fn zaqnuti_mileage_report(mileage: &[u64; 10], report: &mut [u64;
 // Writes the distance in millimetres to the lent number and returns 0. On refusal, returns 16 or 17 and changes nothing.
 #[unsafe(no_mangle)]
 pub extern "C" fn zaqnuti_mileage_distance(mileage: &[u64; 10], millimetres: &mut u64) -> u8
-    ensures { spec.DistanceAnswers (spec.distance_words (before mileage)) result millimetres }
+    ensures { spec.DistanceAnswers (spec.distance_words mileage.now) result (lent millimetres) }
 {
     put_distance(held(*mileage).distance(), millimetres)
 }
@@ -56,7 +56,7 @@ pub extern "C" fn zaqnuti_mileage_fuel(
     millilitres: u32,
     per_km: &mut u64,
 ) -> u8
-    ensures { spec.MileageFuelAnswers (spec.mileage_fuelled_words (before mileage) millilitres) result per_km }
+    ensures { spec.MileageFuelAnswers (spec.mileage_fuelled_words mileage.now millilitres) result (lent per_km) }
 {
     put_fuel(held(*mileage).fuel(millilitres), per_km)
 }

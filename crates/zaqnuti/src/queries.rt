@@ -1,5 +1,5 @@
 // Entry points of the corrections: one query of a table, and many.
-ghost use Rattle.lists.specs.Memory.{before, after};
+ghost use Rattle.lists.specs.Memory.{lent};
 ghost use Rattle.corrections_directory.specs.Read.{read_table};
 ghost use Rattle.corrections_query.specs.Query.{lent_query, Answers};
 ghost use Rattle.corrections_queries.specs.Queries.{asked, RepliesTo};
@@ -27,7 +27,7 @@ pub extern "C" fn zaqnuti_query(
 ) -> u8
     ensures { Answers (lent_query
         (read_table block_constellation block_svid block_band block_first block_samples blocks table_time table_metres table_count) max_gap
-        constellation svid band time) result (before metres) (after metres) }
+        constellation svid band time) result metres.old metres.new }
 {
     let answer = one_query(
         block_constellation,
@@ -74,7 +74,7 @@ pub extern "C" fn zaqnuti_queries(
 ) -> u8
     ensures { RepliesTo
         (read_table block_constellation block_svid block_band block_first block_samples blocks table_time table_metres table_count) max_gap
-        (asked constellation svid band time count) result numbers metres }
+        (asked constellation svid band time count) result (lent numbers) (lent metres) }
 {
     call_number(queries(
         block_constellation,

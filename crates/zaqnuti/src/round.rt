@@ -1,6 +1,6 @@
 // Entry points of the centre, the line of sight, the one-sigma and the round.
 ghost use Rattle.std.specs.Prelude.{◌≡◌};
-ghost use Rattle.lists.specs.Memory.{before, after};
+
 ghost use Rattle.median.specs.Centre.{centre_scale_of, centre_number};
 ghost use Rattle.numeric.specs.Sight as sight;
 ghost use Rattle.robust.specs.Sigma.{elevation_sigma};
@@ -19,7 +19,7 @@ use wls_columns::round::{columns_step, step_into};
 // Returns 0 and writes the patterns of the centre and the scale of the residuals to `out`. Refuses more than 64: returns 2 and changes nothing.
 #[unsafe(no_mangle)]
 pub extern "C" fn zaqnuti_centre(residuals: &[u64], out: &mut [u64; 2]) -> u8
-    ensures { let s = centre_scale_of (before residuals) in (result ≡ centre_number s) × (after out ≡ centre_after s (before out)) }
+    ensures { let s = centre_scale_of residuals.now in (result ≡ centre_number s) × (out.new ≡ centre_after s out.old) }
 {
     let answer = centre_scale(residuals);
     match answer {
@@ -39,8 +39,8 @@ pub extern "C" fn zaqnuti_geometry(
     receiver: &[f64; 3],
     out: &mut [u64; 4],
 ) -> u8
-    ensures { let s = sight.geometry (vector_at (before satellite) 0) (vector_at (before receiver) 0) in
-        (result ≡ sight.sighting_number s) × (after out ≡ sight_after s (before out)) }
+    ensures { let s = sight.geometry (vector_at satellite.now 0) (vector_at receiver.now 0) in
+        (result ≡ sight.sighting_number s) × (out.new ≡ sight_after s out.old) }
 {
     let s = vector(satellite);
     let at = vector(receiver);
@@ -74,8 +74,8 @@ pub extern "C" fn zaqnuti_round(
     huber: f64,
     dx: &mut [u64; 9],
 ) -> u8
-    ensures { let c = row_columns (before units) (before clocks) (before residuals) (before sigmas) in
-        StepAnswers (column_step_of c rows unknowns huber) result (before dx) (after dx) }
+    ensures { let c = row_columns units.now clocks.now residuals.now sigmas.now in
+        StepAnswers (column_step_of c rows unknowns huber) result dx.old dx.new }
 {
     let mut x = [0.0; 9];
     let answer = columns_step(

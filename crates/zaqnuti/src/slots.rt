@@ -1,6 +1,6 @@
 // Entry points of the receiver clocks, whose state the caller holds: the slot of each place, and how many constellations have been given.
 ghost use Rattle.std.specs.Prelude.{◌≡◌};
-ghost use Rattle.lists.specs.Memory.{before, after};
+
 ghost use Rattle.clocks.specs.Clocks as spec;
 ghost use Rattle.zaqnuti.specs.Numbers.{clocks_from};
 
@@ -9,7 +9,7 @@ use clocks::clocks::Clocks;
 // Writes the state with no constellation to the lent slots and count.
 #[unsafe(no_mangle)]
 pub extern "C" fn zaqnuti_clocks_new(slot: &mut [usize; 8], count: &mut usize)
-    ensures { clocks_from (after slot) (after count) ≡ spec.none }
+    ensures { clocks_from slot.new count.new ≡ spec.none }
 {
     let k = Clocks::new();
     let s = k.slot;
@@ -20,7 +20,7 @@ pub extern "C" fn zaqnuti_clocks_new(slot: &mut [usize; 8], count: &mut usize)
 // Adds a constellation to the lent state.
 #[unsafe(no_mangle)]
 pub extern "C" fn zaqnuti_clocks_given(slot: &mut [usize; 8], count: &mut usize, constellation: u8)
-    ensures { clocks_from (after slot) (after count) ≡ spec.given (clocks_from (before slot) (before count)) constellation }
+    ensures { clocks_from slot.new count.new ≡ spec.given (clocks_from slot.old count.old) constellation }
 {
     let s = *slot;
     let k = Clocks {
@@ -36,7 +36,7 @@ pub extern "C" fn zaqnuti_clocks_given(slot: &mut [usize; 8], count: &mut usize,
 // Returns the slot of a constellation: the largest usize for one not yet given.
 #[unsafe(no_mangle)]
 pub extern "C" fn zaqnuti_clocks_slot(slot: &[usize; 8], constellation: u8) -> usize
-    ensures { result ≡ spec.slot (clocks_from (before slot) 0) constellation }
+    ensures { result ≡ spec.slot (clocks_from slot.now 0) constellation }
 {
     let s = *slot;
     let k = Clocks { slot: s, count: 0 };
@@ -46,7 +46,7 @@ pub extern "C" fn zaqnuti_clocks_slot(slot: &[usize; 8], constellation: u8) -> u
 // Returns the number of unknowns: three coordinates and a clock for each constellation given.
 #[unsafe(no_mangle)]
 pub extern "C" fn zaqnuti_clocks_unknowns(slot: &[usize; 8], count: usize) -> usize
-    ensures { result ≡ spec.unknowns (clocks_from (before slot) count) }
+    ensures { result ≡ spec.unknowns (clocks_from slot.now count) }
 {
     let s = *slot;
     let k = Clocks {

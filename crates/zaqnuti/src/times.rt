@@ -1,5 +1,6 @@
 // Entry points of times in whole nanoseconds.
 ghost use Rattle.time.specs.Time.{time_of, nanos_since, seconds_since};
+ghost use Rattle.lists.specs.Memory.{lent};
 ghost use Rattle.zaqnuti.specs.Times.{time_at, TimeAnswers, NanosAnswers, SecondsAnswers};
 
 use numeric::order::pattern;
@@ -8,7 +9,7 @@ use time::time::{GpsTime, Nanos, Seconds, Time};
 // Returns 0 and writes the nanoseconds since the start of week 0 to nanos, or returns 13 and leaves nanos unchanged.
 #[unsafe(no_mangle)]
 pub extern "C" fn zaqnuti_time(week: u32, tow: f64, nanos: &mut u64) -> u8
-    ensures { TimeAnswers (time_of week tow) result nanos }
+    ensures { TimeAnswers (time_of week tow) result (lent nanos) }
 {
     let answer = GpsTime::new(week, tow);
     match answer {
@@ -23,7 +24,7 @@ pub extern "C" fn zaqnuti_time(week: u32, tow: f64, nanos: &mut u64) -> u8
 // Returns 0 and writes the nanoseconds from the time `earlier` to `later` to nanos, or returns 13 and leaves nanos unchanged.
 #[unsafe(no_mangle)]
 pub extern "C" fn zaqnuti_nanos_since(later: u64, earlier: u64, nanos: &mut i64) -> u8
-    ensures { NanosAnswers (nanos_since (time_at later) (time_at earlier)) result nanos }
+    ensures { NanosAnswers (nanos_since (time_at later) (time_at earlier)) result (lent nanos) }
 {
     let a = GpsTime { nanos: later };
     let b = GpsTime { nanos: earlier };
@@ -40,7 +41,7 @@ pub extern "C" fn zaqnuti_nanos_since(later: u64, earlier: u64, nanos: &mut i64)
 // Returns 0 and writes the seconds from the time `earlier` to `later` to seconds, or returns 13 and leaves seconds unchanged.
 #[unsafe(no_mangle)]
 pub extern "C" fn zaqnuti_seconds_since(later: u64, earlier: u64, seconds: &mut u64) -> u8
-    ensures { SecondsAnswers (seconds_since (time_at later) (time_at earlier)) result seconds }
+    ensures { SecondsAnswers (seconds_since (time_at later) (time_at earlier)) result (lent seconds) }
 {
     let a = GpsTime { nanos: later };
     let b = GpsTime { nanos: earlier };

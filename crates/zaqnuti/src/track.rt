@@ -1,5 +1,6 @@
 // Entry point of the track. What a caller lends as doubles for the result and the work is taken as their patterns, so that a refusal is promised to leave every bit.
 ghost use Rattle.track_pass.specs.Input.{lent_track};
+ghost use Rattle.lists.specs.Memory.{lent};
 ghost use Rattle.zaqnuti.specs.Track.{settings, TrackCalled};
 
 use track_smooth::{Settings, smooth};
@@ -22,7 +23,7 @@ pub extern "C" fn zaqnuti_smooth(
     work: &mut [u64],
 ) -> u8
     ensures { let p = lent_track epochs anchors anchor_epoch anchor_position anchor_sigma links link_epoch link_change link_sigma in
-        TrackCalled p (settings huber iterations) res work result }
+        TrackCalled p (settings huber iterations) (lent res) (lent work) result }
 {
     let set = Settings { huber, iterations };
     let track = smooth(

@@ -1,5 +1,5 @@
 // Entry points of a trip, which the caller holds as six words: pulses per kilometre, epochs, carrier millimetres, pulses, greatest difference, its epoch.
-ghost use Rattle.lists.specs.Memory.{before};
+ghost use Rattle.lists.specs.Memory.{lent};
 ghost use Rattle.trip.specs.Trip.{started};
 ghost use Rattle.trip.specs.Words.{added_words, reported_words, fuelled_words, TripAnswers, ReportAnswers, FuelAnswers};
 
@@ -9,7 +9,7 @@ use trip::words::{add_held, fuel_held, put_fuel, put_report, put_step, report_he
 // Starts a trip in the lent words and returns 0. On refusal, returns 16 and changes nothing.
 #[unsafe(no_mangle)]
 pub extern "C" fn zaqnuti_trip_start(per_km: u16, trip: &mut [u64; 6]) -> u8
-    ensures { TripAnswers (started per_km) result trip }
+    ensures { TripAnswers (started per_km) result (lent trip) }
 {
     put_step(Trip::start(per_km), trip)
 }
@@ -17,7 +17,7 @@ pub extern "C" fn zaqnuti_trip_start(per_km: u16, trip: &mut [u64; 6]) -> u8
 // Adds an epoch to the trip in the lent words and returns 0. On refusal, returns 16 and changes nothing.
 #[unsafe(no_mangle)]
 pub extern "C" fn zaqnuti_trip_add(trip: &mut [u64; 6], delta: &[f64; 3], pulses: u16) -> u8
-    ensures { TripAnswers (added_words (before trip) (before delta) pulses) result trip }
+    ensures { TripAnswers (added_words trip.old delta.now pulses) result (lent trip) }
 {
     put_step(add_held(trip, delta, pulses), trip)
 }
@@ -25,7 +25,7 @@ pub extern "C" fn zaqnuti_trip_add(trip: &mut [u64; 6], delta: &[f64; 3], pulses
 // Writes carrier millimetres, odometer millimetres, the greatest difference and its epoch to `report` and returns 0. On refusal, returns 16 and changes nothing.
 #[unsafe(no_mangle)]
 pub extern "C" fn zaqnuti_trip_report(trip: &[u64; 6], report: &mut [u64; 4]) -> u8
-    ensures { ReportAnswers (reported_words (before trip)) result report }
+    ensures { ReportAnswers (reported_words trip.now) result (lent report) }
 {
     put_report(report_held(*trip), report)
 }
@@ -33,7 +33,7 @@ pub extern "C" fn zaqnuti_trip_report(trip: &[u64; 6], report: &mut [u64; 4]) ->
 // Writes the millilitres for a kilometre to the lent number and returns 0. On refusal, returns 16 or 17 and changes nothing.
 #[unsafe(no_mangle)]
 pub extern "C" fn zaqnuti_trip_fuel(trip: &[u64; 6], millilitres: u32, per_km: &mut u64) -> u8
-    ensures { FuelAnswers (fuelled_words (before trip) millilitres) result per_km }
+    ensures { FuelAnswers (fuelled_words trip.now millilitres) result (lent per_km) }
 {
     put_fuel(fuel_held(*trip, millilitres), per_km)
 }

@@ -22,5 +22,5 @@ loop-j-preserved c = let t = c in
       | inr w ↦ (omega arith, omega arith, w.1 ∙ t.loop-j.invariant.2 ∙ sym (passed-no (λ (x : ℕ). ltb x s.p) s.k.now t.loop-j.j inside (le-ltb _ _ w.0.left)))
     ]
 
-returns : tie.Need-returns invariant-loop decreases-loop
-returns c = let e : c.before.loop.j ≡ c.before.before.args.n = omega arith in rw (← e) c.before.loop.invariant.2
+pub returns : goal.returns
+returns c = let e : c.loop-j.j ≡ c.args.n = omega arith in rw (← e) c.loop-j.invariant.2

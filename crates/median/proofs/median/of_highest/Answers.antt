@@ -31,4 +31,4 @@ returns c = let t = c in
     let n = s.args.n in
     let e : t.loop-j.j ≡ 0 = omega arith in
     let len : length (take n k) ≡ n = length-take-le n k (omega arith) in
-    c.one_of_lem.ensures ∙ highest-at (2 ^ 63 - 1) (take n k) s.args.m (omega arith) s.requires.1 (rw e at t.loop-j.invariant.1) ∙ ap (λ (i : ℕ). number_at (i - 1 - s.args.m) (take n k)) len
+    c.one_of.ensures ∙ highest-at (2 ^ 63 - 1) (take n k) s.args.m (omega arith) s.requires.1 (rw e at t.loop-j.invariant.1) ∙ ap (λ (i : ℕ). number_at (i - 1 - s.args.m) (take n k)) len
