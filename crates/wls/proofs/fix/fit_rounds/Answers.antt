@@ -49,12 +49,12 @@ long c = search length-mapped
 
 -- a round whose rows stand: 15 let each pass, and the columns hold them
 seen : (t : Else-not-rows_at) → Passed ≡ checked (sight_rules (os t.before.before.before.before.before.before.before.before.before.before.before.before) t.loop-i.state)
-seen t = rowed_passed t.rows_at.ensures (not-false _ t.if-not-rows_at.false)
+seen t = rowed_passed t.rows_at.ensures t.if-not-rows_at.false
 
-rowed : (t : Else-not-rows_at) → let a = t.args in let l = t.rows_at.new in RowsAt a.k a.sky.count a.sky.observation t.loop-i.state l.1.1.1.0 l.1.1.1.1.0 l.1.1.1.1.1.0 l.1.1.1.1.1.1.0 l.1.1.1.1.1.1.1.0
-rowed t = t.rows_at.ensures.rows (not-false _ t.if-not-rows_at.false)
+rowed : (t : Else-not-rows_at) → let a = t.args in let l = t.rows_at.new in RowsAt a.k a.sky.count a.sky.observation t.loop-i.state l.x l.y l.z l.clock l.residual
+rowed t = t.rows_at.ensures.rows t.if-not-rows_at.false
 
-rows : (t : Else-not-rows_at) → let a = t.args in let l = t.rows_at.new in rows_in (columns l.1.1.1.0 l.1.1.1.1.0 l.1.1.1.1.1.0 l.1.1.1.1.1.1.0 a.sigma.now (take a.sky.count l.1.1.1.1.1.1.1.0)) ≡ map (row_at a.settings a.k t.loop-i.state) (os t.before.before.before.before.before.before.before.before.before.before.before.before)
+rows : (t : Else-not-rows_at) → let a = t.args in let l = t.rows_at.new in rows_in (columns l.x l.y l.z l.clock a.sigma.now (take a.sky.count l.residual)) ≡ map (row_at a.settings a.k t.loop-i.state) (os t.before.before.before.before.before.before.before.before.before.before.before.before)
 rows t =
     let s = t in
     held s.args.settings s.args.k s.args.sky.count s.args.sky.observation t.loop-i.state s.args.sigma.now (omega (arith, long s.before.before.before.before.before.before.before.before.before.before.before.before, s.requires.count_bound.0)) s.requires.count_bound.0 (rowed t) s.requires.sigmas_of
@@ -69,7 +69,7 @@ rows_at-requires c = (c.requires.count_bound.0, c.loop-i.invariant.3)
 pub returns-then-not-rows_at : goal.returns-then-not-rows_at
 returns-then-not-rows_at c = let s = c in
     let l = c.loop-i in
-    let q = round-refused s.args.settings s.args.k (os s.before.before.before.before.before.before.before.before.before.before.before.before) l.state (rowed_refused c.rows_at.ensures (not-true _ c.if-not-rows_at.true)) in
+    let q = round-refused s.args.settings s.args.k (os s.before.before.before.before.before.before.before.before.before.before.before.before) l.state (rowed_refused c.rows_at.ensures c.if-not-rows_at.true) in
     fitted-refused _ _ _ _ _ _ _ _ (left-stopped (at s.before.before.before.before.before.before.before.before.before.before.before.before) (3 + s.args.k.count) fix_stop s.args.settings.rounds (whole s.before.before.before.before.before.before.before.before.before.before.before.before) l.i l.state c.loop-i-test.true _ _ _ q _ refl l.invariant.4)
 
 pub slice_bounds-round_step-end : goal.slice_bounds-round_step-end
@@ -78,7 +78,7 @@ slice_bounds-round_step-end c = let t = c in sym (length-take-le _ _ (omega (ari
 pub round_step-requires : goal.round_step-requires
 round_step-requires c = let t = c in
     let s = t in
-    let e = length-take-le s.args.sky.count t.rows_at.new.1.1.1.1.1.1.1.0 (omega (arith, (rowed t.before.before.before).long.residual-long, s.requires.count_bound.0)) in
+    let e = length-take-le s.args.sky.count t.rows_at.new.residual (omega (arith, (rowed t.before.before.before).long.residual-long, s.requires.count_bound.0)) in
     (omega (arith, e, s.requires.count_bound.0), omega (arith, t.loop-i.invariant.1, s.requires.count_bound.1))
 
 pub returns-in-Refused : goal.returns-in-Refused
@@ -87,8 +87,8 @@ returns-in-Refused c = let t = c in
     let l = t.loop-i in
     let more = t.loop-i-test.true in
     let g = c.round_step in
-    let q = solving s.args.settings s.args.k (os s.before.before.before.before.before.before.before.before.before.before.before.before.before.before.before.before.before) l.state _ (rows t.before.before.before.before.before.before.before) (seen t.before.before.before.before.before.before.before) _ g.result _ _ l.invariant.1 g.ensures in
-    fitted-refused _ _ _ _ _ _ _ _ (left-stopped (at s.before.before.before.before.before.before.before.before.before.before.before.before.before.before.before.before.before.before.before) (3 + s.args.k.count) fix_stop s.args.settings.rounds (whole s.before.before.before.before.before.before.before.before.before.before.before.before.before.before.before.before.before.before.before) l.i l.state more g.result _ _ q _ c.in-Refused.is l.invariant.4)
+    let q = solving s.args.settings s.args.k (os s.before.before.before.before.before.before.before.before.before.before.before.before.before.before.before.before.before) l.state _ (rows t.before.before.before.before.before) (seen t.before.before.before.before.before) _ g.result _ _ l.invariant.1 g.ensures in
+    fitted-refused _ _ _ _ _ _ _ _ (left-stopped (at s.before.before.before.before.before.before.before.before.before.before.before.before.before.before.before.before.before) (3 + s.args.k.count) fix_stop s.args.settings.rounds (whole s.before.before.before.before.before.before.before.before.before.before.before.before.before.before.before.before.before) l.i l.state more g.result _ _ q _ c.in-Refused.is l.invariant.4)
 
 pub move_by-next-requires : goal.move_by-next-requires
 move_by-next-requires c = let t = c in omega (arith, t.loop-i.invariant.1, t.requires.count_bound.1)
@@ -99,18 +99,18 @@ returns-then-is_short c = let t = c in
     let l = t.loop-i in
     let more = t.loop-i-test.true in
     let g = c.round_step in
-    let q = solving s.args.settings s.args.k (os s.before.before.before.before.before.before.before.before.before.before.before.before.before.before.before.before.before.before.before.before) l.state _ (rows t.before.before.before.before.before.before.before.before.before) (seen t.before.before.before.before.before.before.before.before.before) _ g.result _ _ l.invariant.1 g.ensures in
+    let q = solving s.args.settings s.args.k (os s.before.before.before.before.before.before.before.before.before.before.before.before.before.before.before.before.before.before.before.before) l.state _ (rows t.before.before.before.before.before.before.before.before) (seen t.before.before.before.before.before.before.before.before) _ g.result _ _ l.invariant.1 g.ensures in
     let m = c.move_by-next in
     let h = c.is_short in
-    let u = h.ensures ∙ ap (λ z. short_step z g.new.1.1.1.1.1.1.1.1.0) three-places in
+    let u = h.ensures ∙ ap (λ z. short_step z g.new.dx) three-places in
     let v = c.in_default.is in
     let old = rows_in (columns l.x l.y l.z l.clock s.args.sigma.now (take l.used l.residual)) in
-    let made = made-rows s.args.settings s.args.k (os s.before.before.before.before.before.before.before.before.before.before.before.before.before.before.before.before.before.before.before.before.before) l.state _ (rows t.before.before.before.before.before.before.before.before.before) in
+    let made = made-rows s.args.settings s.args.k (os s.before.before.before.before.before.before.before.before.before.before.before.before.before.before.before.before.before.before.before.before) l.state _ (rows t.before.before.before.before.before.before.before.before) in
     fitted-ended _ _ _ _ _ _ _ _ (record {
       few = s.requires.count_bound.0;
-      room = omega (arith, (rowed t.before.before.before.before.before.before.before.before.before).long.residual-long, s.requires.count_bound.0);
-      state-is = left-stops (at s.before.before.before.before.before.before.before.before.before.before.before.before.before.before.before.before.before.before.before.before.before) (3 + s.args.k.count) fix_stop s.args.settings.rounds (whole s.before.before.before.before.before.before.before.before.before.before.before.before.before.before.before.before.before.before.before.before.before) l.i l.state more g.result _ _ q v m.result h.result m.ensures u c.if-is_short.true l.invariant.4;
-      rows_are = rows-stop (at s.before.before.before.before.before.before.before.before.before.before.before.before.before.before.before.before.before.before.before.before.before) (3 + s.args.k.count) fix_stop s.args.settings.rounds (whole s.before.before.before.before.before.before.before.before.before.before.before.before.before.before.before.before.before.before.before.before.before) l.i l.state more g.result _ _ q v m.result h.result m.ensures u old _ made c.if-is_short.true l.invariant.5;
+      room = omega (arith, (rowed t.before.before.before.before.before.before.before.before).long.residual-long, s.requires.count_bound.0);
+      state-is = left-stops (at s.before.before.before.before.before.before.before.before.before.before.before.before.before.before.before.before.before.before.before.before) (3 + s.args.k.count) fix_stop s.args.settings.rounds (whole s.before.before.before.before.before.before.before.before.before.before.before.before.before.before.before.before.before.before.before.before) l.i l.state more g.result _ _ q v m.result h.result m.ensures u c.if-is_short.true l.invariant.4;
+      rows_are = rows-stop (at s.before.before.before.before.before.before.before.before.before.before.before.before.before.before.before.before.before.before.before.before) (3 + s.args.k.count) fix_stop s.args.settings.rounds (whole s.before.before.before.before.before.before.before.before.before.before.before.before.before.before.before.before.before.before.before.before) l.i l.state more g.result _ _ q v m.result h.result m.ensures u old _ made c.if-is_short.true l.invariant.5;
     })
 
 pub overflow_add-i : goal.overflow_add-i
@@ -122,14 +122,14 @@ loop-i-preserved c = let t = c in
     let l = t.loop-i in
     let more = t.loop-i-test.true in
     let g = c.round_step in
-    let q = solving s.args.settings s.args.k (os s.before.before.before.before.before.before.before.before.before.before.before.before.before.before.before.before.before.before.before.before) l.state _ (rows t.before.before.before.before.before.before.before.before.before) (seen t.before.before.before.before.before.before.before.before.before) _ g.result _ _ l.invariant.1 g.ensures in
+    let q = solving s.args.settings s.args.k (os s.before.before.before.before.before.before.before.before.before.before.before.before.before.before.before.before.before.before.before.before) l.state _ (rows t.before.before.before.before.before.before.before.before) (seen t.before.before.before.before.before.before.before.before) _ g.result _ _ l.invariant.1 g.ensures in
     let m = c.move_by-next in
     let h = c.is_short in
-    let u = h.ensures ∙ ap (λ z. short_step z g.new.1.1.1.1.1.1.1.1.0) three-places in
+    let u = h.ensures ∙ ap (λ z. short_step z g.new.dx) three-places in
     let v = c.in_default.is in
     let old = rows_in (columns l.x l.y l.z l.clock s.args.sigma.now (take l.used l.residual)) in
-    let made = made-rows s.args.settings s.args.k (os s.before.before.before.before.before.before.before.before.before.before.before.before.before.before.before.before.before.before.before.before.before) l.state _ (rows t.before.before.before.before.before.before.before.before.before) in
-    (omega (arith, more), l.invariant.1, s.requires.count_bound.0, (rowed t.before.before.before.before.before.before.before.before.before).long, left-goes (at s.before.before.before.before.before.before.before.before.before.before.before.before.before.before.before.before.before.before.before.before.before) (3 + s.args.k.count) fix_stop s.args.settings.rounds (whole s.before.before.before.before.before.before.before.before.before.before.before.before.before.before.before.before.before.before.before.before.before) l.i l.state more g.result _ _ q v m.result h.result m.ensures u c.if-is_short.false l.invariant.4, rows-go (at s.before.before.before.before.before.before.before.before.before.before.before.before.before.before.before.before.before.before.before.before.before) (3 + s.args.k.count) fix_stop s.args.settings.rounds (whole s.before.before.before.before.before.before.before.before.before.before.before.before.before.before.before.before.before.before.before.before.before) l.i l.state more g.result _ _ q v m.result h.result m.ensures u old _ made c.if-is_short.false l.invariant.5)
+    let made = made-rows s.args.settings s.args.k (os s.before.before.before.before.before.before.before.before.before.before.before.before.before.before.before.before.before.before.before.before) l.state _ (rows t.before.before.before.before.before.before.before.before) in
+    (omega (arith, more), l.invariant.1, s.requires.count_bound.0, (rowed t.before.before.before.before.before.before.before.before).long, left-goes (at s.before.before.before.before.before.before.before.before.before.before.before.before.before.before.before.before.before.before.before.before) (3 + s.args.k.count) fix_stop s.args.settings.rounds (whole s.before.before.before.before.before.before.before.before.before.before.before.before.before.before.before.before.before.before.before.before) l.i l.state more g.result _ _ q v m.result h.result m.ensures u c.if-is_short.false l.invariant.4, rows-go (at s.before.before.before.before.before.before.before.before.before.before.before.before.before.before.before.before.before.before.before.before) (3 + s.args.k.count) fix_stop s.args.settings.rounds (whole s.before.before.before.before.before.before.before.before.before.before.before.before.before.before.before.before.before.before.before.before) l.i l.state more g.result _ _ q v m.result h.result m.ensures u old _ made c.if-is_short.false l.invariant.5)
 
 pub returns : goal.returns
 returns c = let s = c in

@@ -21,7 +21,7 @@ abbrev os : Start → List Observation
 os s = take s.args.sky.count s.args.sky.observation
 
 pub fit_rounds-requires : goal.fit_rounds-requires
-fit_rounds-requires c = let s = c in ((s.requires.0, s.requires.1, record { x-long = refl; y-long = refl; z-long = refl; clock-long = refl; residual-long = refl }), c.sigmas_of-sigma.ensures)
+fit_rounds-requires c = let s = c in record { count_bound = (s.requires.0, s.requires.1, record { x-long = refl; y-long = refl; z-long = refl; clock-long = refl; residual-long = refl }); sigmas_of = c.sigmas_of-sigma.ensures }
 
 pub slice_bounds-residual-end : goal.slice_bounds-residual-end
 slice_bounds-residual-end c = (c.fit_rounds.ensures.ended _ c.in-Rows.is).room
@@ -39,5 +39,5 @@ returns-in-Refused c = let s = c in stopped-at s.args.settings s.args.k (os s.be
 pub returns-in-Rows : goal.returns-in-Rows
 returns-in-Rows c = let s = c in
     let f = c.fit_rounds in
-    let at = f.new.1.1.1.1.1.1.1.1.1.0 in
-    reached-at s.args.settings s.args.k (os s.before.before.before.before.before.before.before.before.before.before.before.before.before.before.before.before.before.before.before.before.before.before) s.args.guess (f.ensures.ended _ c.in-Rows.is) c.found_at.result (c.found_at.ensures (sight_rules (os s.before.before.before.before.before.before.before.before.before.before.before.before.before.before.before.before.before.before.before.before.before.before) at) (chi_at s.args.settings s.args.k (os s.before.before.before.before.before.before.before.before.before.before.before.before.before.before.before.before.before.before.before.before.before.before) at) (c.chi_at-chi.ensures s.args.settings c.sigmas_of-sigma.ensures).answer)
+    let at = f.new.state in
+    reached-at s.args.settings s.args.k (os s.before.before.before.before.before.before.before.before.before.before.before.before.before.before.before.before.before.before.before.before) s.args.guess (f.ensures.ended _ c.in-Rows.is) c.found_at.result (c.found_at.ensures (sight_rules (os s.before.before.before.before.before.before.before.before.before.before.before.before.before.before.before.before.before.before.before.before) at) (chi_at s.args.settings s.args.k (os s.before.before.before.before.before.before.before.before.before.before.before.before.before.before.before.before.before.before.before.before) at) (c.chi_at-chi.ensures s.args.settings c.sigmas_of-sigma.ensures).answer)

@@ -19,12 +19,12 @@ loop-i-init c = (search rules, refl)
 
 pub returns-then-not-is_sound_observation : goal.returns-then-not-is_sound_observation
 returns-then-not-is_sound_observation c = let h = c.loop-i in
-    let r = not-true c.is_sound_observation.result c.if-not-is_sound_observation.true in
+    let r = c.if-not-is_sound_observation.true in
     every-no _ _ (fits c.before.before.before.before.before) h.i blank_observation c.loop-i-test.true sound_observation h.invariant.1 c.is_sound_observation.ensures r
 
 pub loop-i-preserved : goal.loop-i-preserved
 loop-i-preserved c = let h = c.loop-i in
-    let r = not-false c.is_sound_observation.result c.if-not-is_sound_observation.false in
+    let r = c.if-not-is_sound_observation.false in
     (search rules, every-yes _ _ (fits c.before.before.before.before.before) h.i blank_observation c.loop-i-test.true sound_observation h.invariant.1 c.is_sound_observation.ensures r)
 
 pub returns : goal.returns
