@@ -6,11 +6,18 @@ use Rattle.wls_columns.specs.Columns.{ObservationColumns, observation_columns, o
 use Rattle.lists.proofs.Filling.{Filling, filling_start, filling_next}
 use Rattle.wls_columns.proofs.ColumnLaws.{ObservationRoom, observations-room, filling_end}
 use Rattle.wls_columns.proofs.columns.observations_of.Goals as goal
+use Rattle.wls_columns.proofs.columns.observations_of.Lts as lts
+use Rattle.wls_columns.proofs.columns.observations_of.Tie as tie
+use Rattle.wls_columns.proofs.columns.observations_of.Reads as reads
 
-abbrev columns : goal.Start → ObservationColumns
+-- places on the way through the function
+abbrev Start : Type 0
+Start = lts.Start tie.the-claims reads.Pre reads.Post goal.the-invariant-loop-i goal.the-decreases-loop-i
+
+abbrev columns : Start → ObservationColumns
 columns c = observation_columns c.args.constellation.now c.args.floats.now
 
-room : (c : goal.Start) → ObservationRoom (columns c) c.args.n
+room : (c : Start) → ObservationRoom (columns c) c.args.n
 room c = observations-room (columns c) c.args.n c.requires
 
 pub loop-i-init : goal.loop-i-init

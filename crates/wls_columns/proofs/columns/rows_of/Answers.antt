@@ -6,11 +6,18 @@ use Rattle.wls_columns.specs.Columns.{RowColumns, row_columns, row_from}
 use Rattle.lists.proofs.Filling.{Filling, filling_start, filling_next}
 use Rattle.wls_columns.proofs.ColumnLaws.{RowRoom, rows-room, filling_end}
 use Rattle.wls_columns.proofs.columns.rows_of.Goals as goal
+use Rattle.wls_columns.proofs.columns.rows_of.Lts as lts
+use Rattle.wls_columns.proofs.columns.rows_of.Tie as tie
+use Rattle.wls_columns.proofs.columns.rows_of.Reads as reads
 
-abbrev columns : goal.Start → RowColumns
+-- places on the way through the function
+abbrev Start : Type 0
+Start = lts.Start tie.the-claims reads.Pre reads.Post goal.the-invariant-loop-i goal.the-decreases-loop-i tie.handed_clauses
+
+abbrev columns : Start → RowColumns
 columns c = row_columns c.args.units.now c.args.clocks.now c.args.residuals.now c.args.sigmas.now
 
-room : (c : goal.Start) → RowRoom (columns c) c.args.n
+room : (c : Start) → RowRoom (columns c) c.args.n
 room c = rows-room (columns c) c.args.n c.requires
 
 pub loop-i-init : goal.loop-i-init

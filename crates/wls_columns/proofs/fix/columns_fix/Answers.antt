@@ -6,8 +6,15 @@ use Rattle.wls_columns.specs.Columns.{ObservationColumns, observation_columns}
 use Rattle.wls_columns.proofs.FixLaws.{fix-short, fix-fit}
 use borrow.Author.Rules.{rules}
 use Rattle.wls_columns.proofs.fix.columns_fix.Goals as goal
+use Rattle.wls_columns.proofs.fix.columns_fix.Lts as lts
+use Rattle.wls_columns.proofs.fix.columns_fix.Tie as tie
+use Rattle.wls_columns.proofs.fix.columns_fix.Reads as reads
 
-abbrev columns : goal.Start → ObservationColumns
+-- places on the way through the function
+abbrev Start : Type 0
+Start = lts.Start tie.the-claims reads.Pre reads.Post
+
+abbrev columns : Start → ObservationColumns
 columns s = observation_columns s.args.constellation.now s.args.floats.now
 
 pub returns-then-not-observations_fit : goal.returns-then-not-observations_fit

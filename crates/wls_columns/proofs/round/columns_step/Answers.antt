@@ -5,8 +5,15 @@ use borrow.Author.Rules.{rules}
 use Rattle.wls_columns.specs.Columns.{RowColumns, row_columns}
 use Rattle.wls_columns.proofs.StepLaws.{short-promised, fit-promised}
 use Rattle.wls_columns.proofs.round.columns_step.Goals as goal
+use Rattle.wls_columns.proofs.round.columns_step.Lts as lts
+use Rattle.wls_columns.proofs.round.columns_step.Tie as tie
+use Rattle.wls_columns.proofs.round.columns_step.Reads as reads
 
-abbrev columns : goal.Start → RowColumns
+-- places on the way through the function
+abbrev Start : Type 0
+Start = lts.Start tie.the-claims reads.Pre reads.Post
+
+abbrev columns : Start → RowColumns
 columns c = row_columns c.args.units.now c.args.clocks.now c.args.residuals.now c.args.sigmas.now
 
 pub returns-then-not-rows_fit : goal.returns-then-not-rows_fit
