@@ -24,18 +24,18 @@ pub loop-i-init : goal.loop-i-init
 loop-i-init c = filling_start _ _ _ refl
 
 pub row_at-r-requires : goal.row_at-r-requires
-row_at-r-requires c = let r = room c.before.before.before.before.before.before in search rules
+row_at-r-requires c = let r = room c.before.before.before.before.before.before.before in search rules
 
 pub offset_bounds-out-i : goal.offset_bounds-out-i
-offset_bounds-out-i c = let r = room c.before.before.before.before.before.before.before in search rules
+offset_bounds-out-i c = let r = room c.before.before.before.before.before.before.before.before in search rules
 
 pub bounds-out-i : goal.bounds-out-i
-bounds-out-i c = let r = room c.before.before.before.before.before.before.before in search rules
+bounds-out-i c = let r = room c.before.before.before.before.before.before.before.before in search rules
 
 pub loop-i-preserved : goal.loop-i-preserved
 loop-i-preserved c = let s = c in
-    rw c.row_at-r.ensures (filling_next (row_from (columns s.before.before.before.before.before.before.before)) _ _ (room s.before.before.before.before.before.before.before).few c.loop-i.invariant c.loop-i-test.true)
+    rw c.row_at-r.ensures (filling_next (row_from (columns s.before.before.before.before.before.before.before.before)) _ _ (room s.before.before.before.before.before.before.before.before).few c.loop-i.invariant c.loop-i-test.true)
 
 pub returns : goal.returns
 returns c = let s = c in
-    filling_end (row_from (columns s.before.before.before.before.before.before)) _ _ (room s.before.before.before.before.before.before).few c.loop-i.invariant c.loop-i-test.false
+    filling_end (row_from (columns s.before.before.before.before.before.before.before)) _ _ (room s.before.before.before.before.before.before.before).few c.loop-i.invariant c.loop-i-test.false

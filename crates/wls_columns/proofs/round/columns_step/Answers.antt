@@ -17,11 +17,11 @@ abbrev columns : Start → RowColumns
 columns c = row_columns c.args.units.now c.args.clocks.now c.args.residuals.now c.args.sigmas.now
 
 pub returns-then-not-rows_fit : goal.returns-then-not-rows_fit
-returns-then-not-rows_fit c = let s = c in short-promised s.args.unknowns s.args.huber (columns s.before.before.before.before.before.before.before) s.args.rows c.rows_fit.ensures (not-true _ c.if-not-rows_fit.true) refl
+returns-then-not-rows_fit c = let s = c in short-promised s.args.unknowns s.args.huber (columns s.before.before.before.before.before.before.before.before) s.args.rows c.rows_fit.ensures c.if-not-rows_fit.true refl
 
 pub rows_of-lent-requires : goal.rows_of-lent-requires
-rows_of-lent-requires c = sym c.rows_fit.ensures ∙ not-false _ c.if-not-rows_fit.false
+rows_of-lent-requires c = sym c.rows_fit.ensures ∙ c.if-not-rows_fit.false
 
 pub returns : goal.returns
 returns c = let s = c in
-    fit-promised s.args.unknowns s.args.huber (columns s.before.before.before.before.before.before.before.before.before.before) s.args.rows c.rows_of-lent.result c.rows_fit.ensures (not-false _ c.if-not-rows_fit.false) c.rows_of-lent.ensures refl c.step.ensures
+    fit-promised s.args.unknowns s.args.huber (columns s.before.before.before.before.before.before.before.before.before.before.before) s.args.rows c.rows_of-lent.result c.rows_fit.ensures c.if-not-rows_fit.false c.rows_of-lent.ensures refl c.step.ensures
