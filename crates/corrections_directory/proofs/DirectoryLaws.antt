@@ -163,11 +163,11 @@ module _ (rs : List Reading) where
       ∙ rw (readings-map e (take e.count (drop e.start rs)), readings-from (place + e.count) es (tiles-rest e es place (length rs) h), tiles-start e es place (length rs) h, ← (drop-drop e.count place rs))
       (take-append-drop e.count (drop place rs))
 
-  pub entries_from : (place p : ℕ) (es : List Entry) → tiles place (length rs) es ≡ true → ascends p es ≡ true → entries_from place (collect (block rs) es) ≡ es
+  pub entries-from : (place p : ℕ) (es : List Entry) → tiles place (length rs) es ≡ true → ascends p es ≡ true → entries_from place (collect (block rs) es) ≡ es
   unfolding collect block
-  entries_from place p [] h a = unfold entries_from in refl
-  entries_from place p (e ∷ es) h a =
-      let i = entries_from (place + e.count) (suc (signal_in e)) es (tiles-rest e es place (length rs) h) (ascends-rest e es p a) in
+  entries-from place p [] h a = unfold entries_from in refl
+  entries-from place p (e ∷ es) h a =
+      let i = entries-from (place + e.count) (suc (signal_in e)) es (tiles-rest e es place (length rs) h) (ascends-rest e es p a) in
       ap (λ (k : ℕ). entries_from place (map (sample_of e) (take e.count (drop k rs)) ++ collect (block rs) es)) (tiles-start e es place (length rs) h)
       ∙ go (take e.count (drop place rs)) counted i
     where
@@ -212,7 +212,7 @@ pub directory-flat : (d : Directory) → sound_directory d ≡ true → director
 unfolding flat directory_of
 directory-flat d h =
     let p = sound-parts d h in
-    rw (entries_from d.readings 0 0 d.entries p.tiled p.ascending, readings-from d.readings 0 d.entries p.tiled)
+    rw (entries-from d.readings 0 0 d.entries p.tiled p.ascending, readings-from d.readings 0 d.entries p.tiled)
 
 -- ---- a sound directory is a sound table
 -- a lower bound in the place of a higher one

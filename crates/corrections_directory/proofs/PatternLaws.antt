@@ -20,7 +20,7 @@ use Rattle.numeric.specs.Real.{in_range}
 use Rattle.numeric.proofs.OrderMagnitude.{unsigned, infinity, bits-nan, eq-bits, lt-bits, is_nan_pattern-above}
 use Rattle.numeric.proofs.OrderLaws.{pattern_back, pattern_same}
 use Rattle.numeric.proofs.RealLaws.{between}
-use Rattle.lists.specs.Walk.{every, places}
+use Rattle.lists.specs.Walk.{every}
 use Rattle.lists.proofs.Walk.{places-ext, places-map, places-take}
 use Rattle.corrections_table.proofs.TableLaws.{and_left, and_right}
 use Rattle.corrections_directory.specs.Directory.{Entry, Reading, block_times, column_of, entry_rows, floats, in_order, in_reach, reading_rows, tiles, timely}

@@ -1,6 +1,5 @@
 // The entries of a directory in its columns: their satellites, and how many the columns have room for.
 ghost use Rattle.std.specs.Prelude.{◌≡◌, ◌^◌, ◌<◌, min};
-
 ghost use Rattle.corrections_directory.specs.Directory.{block_capacity};
 ghost use Rattle.corrections_directory.specs.Read.{blocks_before};
 ghost use Rattle.corrections_directory.specs.Steps.{InSignals, signal_at};

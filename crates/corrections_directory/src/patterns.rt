@@ -1,6 +1,5 @@
 // Number 4 of a directory whose times and corrections are lent as 64-bit patterns, and how many samples such columns have room for.
 ghost use Rattle.std.specs.Prelude.{◌≡◌, true, false, ◌^◌, ◌≤◌, ltb, length, take};
-
 ghost use Rattle.exact.specs.Float.{bits};
 ghost use Rattle.numeric.specs.Order.{is_nan_pattern};
 ghost use Rattle.numeric.specs.Real.{in_range};

@@ -1,6 +1,5 @@
 // Number 4 of a directory: its faults, and the range of its times and corrections.
 ghost use Rattle.std.specs.Prelude.{◌≡◌, true, ◌&&◌, ◌≤◌, length, take, drop};
-
 ghost use Rattle.lists.specs.Walk.{every};
 ghost use Rattle.corrections_directory.specs.Directory.{ascends, directory_in, in_reach, reading_rows, sound_directory, tiles, timely};
 ghost use Rattle.corrections_directory.specs.Lent.{TableIn, blocks_now};

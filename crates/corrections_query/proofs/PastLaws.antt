@@ -3,7 +3,7 @@ use mathlib.Core.Path.{◌≡◌, refl, sym, ap, ◌∙◌}
 use mathlib.Core.List.{List, [], ◌∷◌}
 use mathlib.Core.Bool.{Bool, true, false, cond, not, and-false, or-true, ◌&&◌, ◌||◌}
 use mathlib.Core.Logic.{◌⊎◌, inl, inr, ⊎_elim}
-use Prim.Native.Nat.{ℕ, zero, suc, ◌<◌}
+use Prim.Native.Nat.{ℕ, zero, suc, ◌+◌, ◌*◌, ◌^◌, ◌≤◌, ◌<◌}
 use native.Mathlib.Omega.{arith}
 use lib.Dec.{T, eqb, ltb}
 use lib.ListN.{length, get_or}
@@ -18,29 +18,29 @@ use Rattle.signal.specs.Signal.{signal}
 use Rattle.numeric.specs.Rules.{ruled}
 use Rattle.corrections_table.specs.Table.{blank, series_of, signal_of, sound_table}
 use Rattle.corrections_table.specs.declared.sample.Sample.{Sample}
+use Rattle.corrections_table.proofs.Places.{place_of, time_key}
 use Rattle.corrections_table.proofs.TableLaws.{SoundTable, sound-at, and_right}
-use Rattle.corrections_table.proofs.UnitLaws.{never}
+use Rattle.corrections_table.proofs.UnitLaws.{earlier-of, never}
 use Rattle.corrections_directory.specs.Directory.{Directory, flat, sound_directory}
 use Rattle.corrections_directory.proofs.DirectoryLaws.{sound-flat}
 use Rattle.corrections_query.specs.Query.{Found, missing, the, near, first_of, last_of, last_before, first_since, near_or, spanned, correction_rule, answer_in, answer_at, guarded, query_in, PassedQuery, Passes}
-use Rattle.corrections_query.specs.Past.{former_answer, query_before, is_of, JustPast}
+use Rattle.corrections_query.specs.Past.{former_rule, former_answer, query_before, is_of, JustPast}
 use Rattle.corrections_query.specs.declared.query.Correction.{Correction}
 use Rattle.corrections_query.specs.declared.query.Correction.TheVariants.{Refused, Metres}
 use Rattle.corrections_query.proofs.FoundLaws.{earlier, later, earlier_series, later_series, first-none, last_none}
 use Rattle.corrections_query.proofs.QueryLaws.{TimesHeld}
-use Rattle.corrections_query.proofs.FormerLaws.{before_too, bridged, between, former-between}
 
 -- ---- the two rules, by what was found before the time and from it on
 module _ (gap t : Float) where
   -- where there is a sample at or after the time, they agree
-  with-since : (f : Found) (b : Sample) → correction_rule gap t f (the b) ≡ between gap t f (the b)
-  unfolding correction_rule near_or spanned between bridged
+  with-since : (f : Found) (b : Sample) → correction_rule gap t f (the b) ≡ former_rule gap t f (the b)
+  unfolding correction_rule near_or spanned former_rule
   with-since missing b = refl
   with-since (the a) b = refl
 
   -- where there is none, the old one refuses, and the new one gives the sample before where that is near
-  alone : (f : Found) → between gap t f missing ≡ Refused NoCorrection
-  unfolding between
+  alone : (f : Found) → former_rule gap t f missing ≡ Refused NoCorrection
+  unfolding former_rule
   alone f = refl
 
   close-by : (a : Sample) → near a.time t ≡ true → correction_rule gap t (the a) missing ≡ Metres a.correction
@@ -133,8 +133,16 @@ passed-last ss g t a p =
       close = p.close;
     }
 
+-- two samples of one signal, in the table's order, by their times
+keys-le : (a b : Sample) → place_of a ≤ place_of b → signal_of a ≡ signal_of b → time_key a.time ≤ time_key b.time
+keys-le a b h e = keys (signal_of a) (signal_of b) (time_key a.time) (time_key b.time) e h
+  where
+    keys : (g l j k : ℕ) → g ≡ l → g * 2 ^ 64 + j ≤ l * 2 ^ 64 + k → j ≤ k
+    keys g l j k e r = omega arith
+
 -- a table in order whose last sample of the signal is before t has none at or after t
 last-passed : (ss : List Sample) (g : ℕ) (t : Float) (a : Sample) → T (fits binary64 t) → SoundTable ss → TimesHeld ss → JustPast ss g t a → PastAll ss g t a
+unfolding TimesHeld
 last-passed ss g t a ft s w p =
     record {
       none-since = later_series g t ss ∙ none;
@@ -161,38 +169,36 @@ last-passed ss g t a ft s w p =
             by : (y : Bool) → ltb la.at j ≡ y → not (lt (get_or ss j blank).time t) ≡ false
             by true q = never (sym (la.after j (ltb-true la.at j q) h) ∙ e)
             by false q =
-                let same = eqb-true (signal_of (get_or ss j blank)) g e ∙ sym mine in
-                rw (before_too ss t ft s w j la.at (ltb-false la.at j q) la.within same past)
+                let le = s.rising j la.at (ltb-false la.at j q) la.within in
+                let keys = keys-le (get_or ss j blank) (get_or ss la.at blank) le (eqb-true (signal_of (get_or ss j blank)) g e ∙ sym mine) in
+                rw (earlier-of (get_or ss j blank).time (get_or ss la.at blank).time t (w j h) (w la.at la.within) ft (s.times j h) (s.times la.at la.within) keys past)
 
     none : first_of (later g t) ss ≡ missing
     none = first-none (later g t) ss each
 
--- ---- for every table in order that columns hold, every gap limit, signal and time
-module _ (ss : List Sample) (gap : Float) (c v b : ℕ) (t : Float) (ft : T (fits binary64 t)) (s : sound_table ss ≡ true) (w : TimesHeld ss) where
-  former : former_answer ss gap c v b t ≡ between gap t (last_before t (series_of (signal c v b) ss)) (first_since t (series_of (signal c v b) ss))
-  unfolding former_answer
-  former = former-between gap t (signal c v b) ss ft (sound-at ss s) w
-
-  -- the answers are equal where the time is not just past the signal's last sample
+-- ---- for every table that columns hold, every gap limit, signal and time
+module _ (ss : List Sample) (gap : Float) (c v b : ℕ) (t : Float) where
+  -- the answers are equal where the time is not just past the signal's last sample, in order or not
   pub answer-kept : ((a : Sample) → JustPast ss (signal c v b) t a → ⊥) → answer_at ss gap c v b t ≡ former_answer ss gap c v b t
-  unfolding answer_at answer_in
-  answer-kept nay = go (last_before t (series_of (signal c v b) ss)) (first_since t (series_of (signal c v b) ss)) refl refl ∙ sym former
+  unfolding answer_at answer_in former_answer
+  answer-kept nay = go (last_before t (series_of (signal c v b) ss)) (first_since t (series_of (signal c v b) ss)) refl refl
     where
-      go : (f h : Found) → last_before t (series_of (signal c v b) ss) ≡ f → first_since t (series_of (signal c v b) ss) ≡ h → correction_rule gap t f h ≡ between gap t f h
+      go : (f h : Found) → last_before t (series_of (signal c v b) ss) ≡ f → first_since t (series_of (signal c v b) ss) ≡ h → correction_rule gap t f h ≡ former_rule gap t f h
       go f (the x) e k = with-since gap t f x
       go missing missing e k = empty gap t ∙ sym (alone gap t missing)
       go (the a) missing e k = test (near a.time t) refl
         where
-          test : (x : Bool) → near a.time t ≡ x → correction_rule gap t (the a) missing ≡ between gap t (the a) missing
+          test : (x : Bool) → near a.time t ≡ x → correction_rule gap t (the a) missing ≡ former_rule gap t (the a) missing
           test true q = absurd (nay a (passed-last ss (signal c v b) t a record { none-since = k; last-before = e; close = q }))
           test false q = far-off gap t a q ∙ sym (alone gap t (the a))
 
   -- there the old one is 12, and the new one that sample's value
-  pub answer-changed : (a : Sample) → JustPast ss (signal c v b) t a → (former_answer ss gap c v b t ≡ Refused NoCorrection) × (answer_at ss gap c v b t ≡ Metres a.correction)
-  unfolding answer_at answer_in
-  answer-changed a j =
+  pub answer-changed : T (fits binary64 t) → sound_table ss ≡ true → TimesHeld ss → (a : Sample) → JustPast ss (signal c v b) t a
+      → (former_answer ss gap c v b t ≡ Refused NoCorrection) × (answer_at ss gap c v b t ≡ Metres a.correction)
+  unfolding answer_at answer_in former_answer
+  answer-changed ft s w a j =
       let p = last-passed ss (signal c v b) t a ft (sound-at ss s) w j in
-      (former ∙ rw p.none-since (alone gap t (last_before t (series_of (signal c v b) ss))), rw (p.none-since, p.last-before) (close-by gap t a p.close))
+      (rw p.none-since (alone gap t (last_before t (series_of (signal c v b) ss))), rw (p.none-since, p.last-before) (close-by gap t a p.close))
 
 -- ---- the call, for every directory, sound or not
 module _ (m n room : ℕ) (d : Directory) (gap : Float) (c v b : ℕ) (t : Float) where
@@ -201,27 +207,26 @@ module _ (m n room : ℕ) (d : Directory) (gap : Float) (c v b : ℕ) (t : Float
   unfolding guarded ruled
   passes-through p a = rw (le-ltb room m p.table.few-entries, le-ltb room n p.table.few-samples, p.table.in-range, p.table.sound, p.time)
 
-  -- numbers 2 to 4 let it pass, or its answer is not looked at
-  by-rules : Passes m n room d gap t
-      ⊎ ((x y : Correction) → guarded (ltb room m || ltb room n) (sound_directory d) gap t x ≡ guarded (ltb room m || ltb room n) (sound_directory d) gap t y)
+  -- of one that they turn away nothing is asked
+  turned-away : (Passes m n room d gap t → ⊥) → (x y : Correction) → guarded (ltb room m || ltb room n) (sound_directory d) gap t x ≡ guarded (ltb room m || ltb room n) (sound_directory d) gap t y
   unfolding guarded ruled
-  by-rules = go (ltb room m || ltb room n) (in_range gap) (sound_directory d) (in_range t || not (finite t)) refl refl refl refl
+  turned-away nay x y = go (ltb room m || ltb room n) (in_range gap) (sound_directory d) (in_range t || not (finite t)) refl refl refl refl
     where
       go : (e f g h : Bool) → (ltb room m || ltb room n) ≡ e → in_range gap ≡ f → sound_directory d ≡ g → (in_range t || not (finite t)) ≡ h
-          → Passes m n room d gap t
-          ⊎ ((x y : Correction) → cond e (Refused TooMany) (cond (not f) (Refused SettingOutOfRange) (cond (not (g && h)) (Refused RecordOutOfRange) x))
-          ≡ cond e (Refused TooMany) (cond (not f) (Refused SettingOutOfRange) (cond (not (g && h)) (Refused RecordOutOfRange) y)))
-      go true f g h p q r s = inr (λ x y. refl)
-      go false false g h p q r s = inr (λ x y. refl)
-      go false true false h p q r s = inr (λ x y. refl)
-      go false true true false p q r s = inr (λ x y. refl)
+          → cond e (Refused TooMany) (cond (not f) (Refused SettingOutOfRange) (cond (not (g && h)) (Refused RecordOutOfRange) x))
+          ≡ cond e (Refused TooMany) (cond (not f) (Refused SettingOutOfRange) (cond (not (g && h)) (Refused RecordOutOfRange) y))
+      go true f g h p q r s = refl
+      go false false g h p q r s = refl
+      go false true false h p q r s = refl
+      go false true true false p q r s = refl
       go false true true true p q r s =
           let k = or_no (ltb room m) (ltb room n) p in
-          inl
+          absurd
+          (nay
           (record {
             table = record { few-entries = ltb-false room m k.0; few-samples = ltb-false room n k.1; in-range = q; sound = r };
             time = s;
-          })
+          }))
 
   -- a query that 2 to 4 let pass gives the answer of the samples
   pub query_passed : Passes m n room d gap t → query_in m n room d gap c v b t ≡ answer_at (flat d) gap c v b t
@@ -231,23 +236,20 @@ module _ (m n room : ℕ) (d : Directory) (gap : Float) (c v b : ℕ) (t : Float
   -- what 2 to 4 turn away keeps its number
   pub query_refused : (Passes m n room d gap t → ⊥) → query_in m n room d gap c v b t ≡ query_before m n room d gap c v b t
   unfolding query_in query_before
-  query_refused nay = ⊎_elim (λ p. absurd (nay p)) (λ same. same (answer_at (flat d) gap c v b t) (former_answer (flat d) gap c v b t)) by-rules
+  query_refused nay = turned-away nay (answer_at (flat d) gap c v b t) (former_answer (flat d) gap c v b t)
 
-  module _ (ft : T (fits binary64 t)) (w : Passes m n room d gap t → TimesHeld (flat d)) where
-    -- where the time is not just past the signal's last sample, the answer is the old one
-    pub query_kept : ((a : Sample) → JustPast (flat d) (signal c v b) t a → ⊥) → query_in m n room d gap c v b t ≡ query_before m n room d gap c v b t
-    unfolding query_in query_before
-    query_kept nay =
-        ⊎_elim (λ p. ap (guarded (ltb room m || ltb room n) (sound_directory d) gap t) (answer-kept (flat d) gap c v b t ft (sound-flat d p.table.sound) (w p) nay))
-        (λ same. same (answer_at (flat d) gap c v b t) (former_answer (flat d) gap c v b t)) by-rules
+  -- where the time is not just past the signal's last sample, the answer is the old one
+  pub query_kept : ((a : Sample) → JustPast (flat d) (signal c v b) t a → ⊥) → query_in m n room d gap c v b t ≡ query_before m n room d gap c v b t
+  unfolding query_in query_before
+  query_kept nay = ap (guarded (ltb room m || ltb room n) (sound_directory d) gap t) (answer-kept (flat d) gap c v b t nay)
 
-    -- where it is and 2 to 4 pass, 12 became that sample's value
-    pub query_changed : Passes m n room d gap t → (a : Sample) → JustPast (flat d) (signal c v b) t a
-        → (query_before m n room d gap c v b t ≡ Refused NoCorrection) × (query_in m n room d gap c v b t ≡ Metres a.correction)
-    unfolding query_in query_before
-    query_changed p a j =
-        let k = answer-changed (flat d) gap c v b t ft (sound-flat d p.table.sound) (w p) a j in
-        (passes-through p (former_answer (flat d) gap c v b t) ∙ k.0, passes-through p (answer_at (flat d) gap c v b t) ∙ k.1)
+  -- where it is and 2 to 4 pass, 12 became that sample's value
+  pub query_changed : Passes m n room d gap t → T (fits binary64 t) → TimesHeld (flat d) → (a : Sample) → JustPast (flat d) (signal c v b) t a
+      → (query_before m n room d gap c v b t ≡ Refused NoCorrection) × (query_in m n room d gap c v b t ≡ Metres a.correction)
+  unfolding query_in query_before
+  query_changed p ft w a j =
+      let k = answer-changed (flat d) gap c v b t ft (sound-flat d p.table.sound) w a j in
+      (passes-through p (former_answer (flat d) gap c v b t) ∙ k.0, passes-through p (answer_at (flat d) gap c v b t) ∙ k.1)
 
 -- ---- a time that is not finite
 near-never : (x t : Float) → finite t ≡ false → near x t ≡ false

@@ -13,7 +13,7 @@ use Rattle.numeric.specs.Rules.{ruled}
 use Rattle.corrections_table.specs.Table.{time_before, stands_before, sorted_from, sorted, ranged, sound_table}
 use Rattle.corrections_directory.specs.Directory.{Directory, ascends, tiles, timely, timely_from, block_times, in_reach, sound_directory, block, flat}
 use Rattle.corrections_query.specs.Query.{near, first_of, last_of, through, near_or, spanned, correction_rule, answer_in, answer_at, guarded, query_in, query_of}
-use Rattle.corrections_query.specs.Past.{partition_point, former_rule, former_answer, query_before}
+use Rattle.corrections_query.specs.Past.{former_rule, former_answer, query_before}
 use Rattle.corrections_table.specs.declared.sample.Sample.{Sample}
 use Rattle.corrections_query.specs.declared.query.Correction.{Correction}
 use Rattle.corrections_query.specs.declared.query.Correction.TheVariants.{Refused, Metres}
@@ -95,7 +95,7 @@ of-block = refl
 
 -- 2^-21 s past the last sample the rule of before gave 12
 pub just-past-before : query_before 1 2 2048 one_block (whole 90) 1 5 1 (bits 0x4034_0000_0800_0000) ≡ Refused NoCorrection
-unfolding query_before guarded sound_directory in_reach ascends tiles timely timely_from block_times flat block former_answer collect partition_point former_rule through near first_of last_of in_range abs time_before total_order sign pattern_of every lt le eq add sub mul div of_bits of_int to_bits is_nan ruled
+unfolding query_before guarded sound_directory in_reach ascends tiles timely timely_from block_times flat block former_answer collect former_rule correction_rule near_or spanned through near first_of last_of in_range abs time_before total_order sign pattern_of every lt le eq add sub mul div of_bits of_int to_bits is_nan ruled
 just-past-before = refl
 
 -- a directory of more entries than there is room for is 2, and one whose block ends before the samples do is 4

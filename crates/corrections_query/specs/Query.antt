@@ -11,7 +11,6 @@ use Rattle.numeric.specs.declared.refusal.Refusal.TheVariants.{TooMany, SettingO
 use Rattle.signal.specs.Signal.{signal}
 use Rattle.corrections_table.specs.Table.{series_of, sound_table}
 use Rattle.corrections_table.specs.declared.add.Test.{Test}
-use Rattle.corrections_table.specs.declared.add.Test.TheVariants as Test
 use Rattle.corrections_table.specs.declared.sample.Sample.{Sample}
 use Rattle.corrections_directory.specs.Directory.{Directory, block_capacity, directory_in, flat, sound_directory}
 use Rattle.corrections_directory.specs.Read.{ReadTable}

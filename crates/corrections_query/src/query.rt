@@ -1,7 +1,6 @@
 // The correction of a signal at a time: `Corrections::at` of differential.rs, with a near sample before the ends.
 ghost use Rattle.std.specs.Prelude.{◌≡◌, ◌&&◌, ◌+◌, ◌-◌, ◌≤◌, length, get_or, ltb};
 ghost use Rattle.std.specs.Float.{nan};
-
 ghost use Rattle.corrections_directory.specs.Directory.{reading_rows};
 ghost use Rattle.corrections_directory.specs.Lent.{blocks_now};
 ghost use Rattle.corrections_directory.specs.Read.{blocks_before, read_table};

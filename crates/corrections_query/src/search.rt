@@ -2,7 +2,6 @@
 // so that the compiler makes no branch that what is asked decides.
 ghost use Rattle.std.specs.Prelude.{◌≡◌, cond, ◌+◌, ◌≤◌, leb};
 ghost use Rattle.std.specs.Float.Ieee.{lt};
-
 ghost use Rattle.corrections_query.specs.Steps.{Split, is_before, SignalsSplit, LastUpTo, TimesSplit};
 
 use corrections_directory::entry::signal_at;

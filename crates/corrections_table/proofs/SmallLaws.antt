@@ -17,7 +17,7 @@ use lib.Ieee.Scale.{finite}
 use Rattle.exact.specs.Float.{whole, ◌⊖◌, ◌⊗◌, ◌⊘◌}
 use Rattle.numeric.specs.Real.{abs, in_range}
 use Rattle.corrections_table.proofs.TableLaws.{and_right}
-use Rattle.corrections_table.proofs.UnitLaws.{units, not_nan, not_inf}
+use Rattle.corrections_table.proofs.UnitLaws.{not_nan, not_inf}
 
 -- finite, and of magnitude at most b
 abbrev pub Small : ℕ → Float → Type 0

@@ -1,6 +1,5 @@
 // An old table's column of bands, of 8 bits each, as the column of 32 bits that a table has now.
 ghost use Rattle.std.specs.Prelude.{◌≡◌, ◌≤◌, length};
-
 ghost use Rattle.corrections_table.specs.Widen.{widened, widen_of, bands_after};
 
 use numeric::refusal::Refusal;

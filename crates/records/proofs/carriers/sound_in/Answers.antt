@@ -22,12 +22,12 @@ carrier_in-c-requires c = let f = c.requires in let t = c.loop-i-test.true in (t
 pub returns-then-not-is_sound : goal.returns-then-not-is_sound
 returns-then-not-is_sound c = let a = c.args in
     let t = c.loop-i-test.true in
-    every-no (carriers_in a.signals.now a.states.now a.floats.now) (length a.signals.now) (carriers-long a.signals.now a.states.now a.floats.now) c.loop-i.i blank t sound_carrier c.loop-i.invariant.2 (c.is_sound.ensures ∙ ap sound_carrier (carrier-is a.signals.now a.states.now a.floats.now t c.carrier_in-c.ensures)) (not-true c.is_sound.result c.if-not-is_sound.true)
+    every-no (carriers_in a.signals.now a.states.now a.floats.now) (length a.signals.now) (carriers-long a.signals.now a.states.now a.floats.now) c.loop-i.i blank t sound_carrier c.loop-i.invariant.2 (c.is_sound.ensures ∙ ap sound_carrier (carrier-is a.signals.now a.states.now a.floats.now t c.carrier_in-c.ensures)) c.if-not-is_sound.true
 
 pub loop-i-preserved : goal.loop-i-preserved
 loop-i-preserved c = let a = c.args in
     let t = c.loop-i-test.true in
-    (refl, search rules, every-yes (carriers_in a.signals.now a.states.now a.floats.now) (length a.signals.now) (carriers-long a.signals.now a.states.now a.floats.now) c.loop-i.i blank t sound_carrier c.loop-i.invariant.2 (c.is_sound.ensures ∙ ap sound_carrier (carrier-is a.signals.now a.states.now a.floats.now t c.carrier_in-c.ensures)) (not-false c.is_sound.result c.if-not-is_sound.false))
+    (refl, search rules, every-yes (carriers_in a.signals.now a.states.now a.floats.now) (length a.signals.now) (carriers-long a.signals.now a.states.now a.floats.now) c.loop-i.i blank t sound_carrier c.loop-i.invariant.2 (c.is_sound.ensures ∙ ap sound_carrier (carrier-is a.signals.now a.states.now a.floats.now t c.carrier_in-c.ensures)) c.if-not-is_sound.false)
 
 pub returns : goal.returns
 returns c = let a = c.args in

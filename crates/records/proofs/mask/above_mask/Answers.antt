@@ -11,6 +11,7 @@ use Rattle.records.specs.Mask.{clears, above_mask}
 use Rattle.records.proofs.KeepLaws.{keep-yes, keep-no}
 use Rattle.records.proofs.RecordLaws.{blank_observation}
 use Rattle.records.proofs.mask.above_mask.Goals as goal
+use Rattle.records.proofs.mask.above_mask.Goals.{then-mask-x, else-mask-x}
 
 fits : (c : goal.Start) → c.args.o.count ≤ length c.args.o.observation
 fits c = let e : length c.args.o.observation ≡ 64 = search length-mapped in omega arith
@@ -24,10 +25,10 @@ unfolding clears
 loop-i-preserved c = let s = c in
     let test = c.loop-i-test.true in
     let inv = c.loop-i.invariant in
-    ⊎_elim
-    (λ w. rw w.1 (collecting-one _ _ _ _ (fits s.before.before.before.before.before) s.requires inv blank_observation test _ (keep-yes (clears _) _ refl w.0.taken)))
-    (λ w. rw w.1 (collecting-none _ _ _ _ (fits s.before.before.before.before.before) s.requires inv blank_observation test (keep-no (clears _) _ refl w.0.left)))
-    c.if-mask-x.branch
+    elim c.if-mask-x.branch [
+      then-mask-x w ↦ rw w.out-is (collecting-one _ _ _ _ (fits s.before.before.before.before.before) s.requires inv blank_observation test _ (keep-yes (clears _) _ refl w.if-mask-x.true))
+    | else-mask-x w ↦ rw w.out-is (collecting-none _ _ _ _ (fits s.before.before.before.before.before) s.requires inv blank_observation test (keep-no (clears _) _ refl w.if-mask-x.false))
+    ]
 
 pub returns : goal.returns
 returns c = let s = c in

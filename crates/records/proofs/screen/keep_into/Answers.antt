@@ -16,13 +16,10 @@ use Rattle.records.proofs.KeepLaws.{filled_next}
 use Rattle.records.proofs.PairLaws.{blank_pair}
 use Rattle.records.proofs.ScreenLaws.{centre-is, Gathered, gathered-start, gathered-one, gathered_none, gathered-end}
 use Rattle.records.proofs.screen.keep_into.Goals as goal
+use Rattle.records.proofs.screen.keep_into.Goals.{then-abs-screen, else-abs-screen}
 use Rattle.records.proofs.screen.keep_into.Lts as lts
 use Rattle.records.proofs.screen.keep_into.Tie as tie
 use Rattle.records.proofs.screen.keep_into.Reads as reads
-
--- places on the way through the function
-abbrev Need-element-write-constellation : Type 0
-Need-element-write-constellation = lts.Need-element-write-constellation tie.the-claims reads.Pre reads.Post goal.the-invariant-loop-i goal.the-decreases-loop-i goal.the-invariant-loop-j goal.the-decreases-loop-j
 
 fits : (c : goal.Start) → c.args.p.count ≤ length c.args.p.pair
 fits c = let e : length c.args.p.pair ≡ 64 = search length-mapped in omega arith
@@ -39,19 +36,16 @@ slice_bounds-median-end c = sym (length-take-le _ _ (search rules))
 pub loop-j-init : goal.loop-j-init
 loop-j-init c = gathered-start _ _ _ _ _ _ _ _ _ _ refl refl refl refl refl refl
 
-element-write-constellation :
-    Need-element-write-constellation
-element-write-constellation c = search rules
-
 pub loop-j-preserved : goal.loop-j-preserved
 unfolding within
 loop-j-preserved c = let s = c in
     let t = c.loop-j in
     let test = c.loop-j-test.true in
     let is = ap (λ (a : Float). lt a s.args.screen) c.abs.ensures in
-    ⊎_elim (λ w. rw (w.1, w.2, w.3, w.4, w.5, w.6, w.7) (gathered-one _ _ _ _ (fits s.before.before.before.before.before.before.before.before.before.before.before.before.before.before.before.before.before) s.requires t.invariant test is w.0.taken))
-    (λ w. rw (w.1, w.2, w.3, w.4, w.5, w.6, w.7) (gathered_none _ _ _ _ (fits s.before.before.before.before.before.before.before.before.before.before.before.before.before.before.before.before.before) s.requires t.invariant test is w.0.left))
-    c.if-abs-screen.branch
+    elim c.if-abs-screen.branch [
+      then-abs-screen w ↦ rw (w.x-is, w.y-is, w.z-is, w.constellation-is, w.elevation-is, w.observed-is, w.k-is) (gathered-one _ _ _ _ (fits s.before.before.before.before.before.before.before.before.before.before.before.before.before.before.before.before.before) s.requires t.invariant test is w.if-abs-screen.true)
+    | else-abs-screen w ↦ rw (w.x-is, w.y-is, w.z-is, w.constellation-is, w.elevation-is, w.observed-is, w.k-is) (gathered_none _ _ _ _ (fits s.before.before.before.before.before.before.before.before.before.before.before.before.before.before.before.before.before) s.requires t.invariant test is w.if-abs-screen.false)
+    ]
 
 pub returns : goal.returns
 unfolding kept_of
