@@ -1,10 +1,7 @@
 -- `cholesky::factor::ahead` meets its contract: after k turns k products are taken off both sums. Assumes nothing.
 use Rattle.exact.proofs.Products.{less_zero, less-next}
-use Rattle.cholesky.specs.Steps.{sum_of}
 use native.Mathlib.Omega.{arith}
-use borrow.Author.Rules.{rules}
 use mathlib.Core.Path.{◌≡◌}
-use Prim.Native.Nat.{◌≤◌, ◌-◌}
 use Rattle.cholesky.proofs.factor.ahead.Goals as goal
 
 pub loop-k-init : goal.loop-k-init

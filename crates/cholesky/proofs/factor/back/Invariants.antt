@@ -1,9 +1,6 @@
 -- `cholesky::factor::back` meets its contract: after m turns the places n - m to n - 1 are solved, and those from n on are 0. Assumes nothing.
-use Rattle.cholesky.proofs.SolveUsed.{places-kept, back_none, back-next}
-use Rattle.exact.proofs.Products.{less_zero, less-next}
 use Rattle.cholesky.specs.Factor.{back_to, at, cell, UnusedPlaces}
 use Rattle.exact.specs.Products.{less_products}
-use native.Mathlib.Omega.{arith}
 use mathlib.Core.Path.{◌≡◌}
 use Prim.Native.Nat.{◌≤◌, ◌-◌, ◌+◌}
 use Rattle.cholesky.proofs.factor.back.Given as goal

@@ -1,11 +1,10 @@
 -- `cholesky::factor::factor_used` meets its contract: before column j the rows are as `Columns` says and p is the pivot of row j. Assumes nothing.
 use native.Mathlib.Omega.{arith}
-use borrow.Author.Rules.{rules}
 use mathlib.Core.Bool.{false≢true}
 use mathlib.Core.List.{List}
 use mathlib.Core.Path.{◌≡◌, sym, ◌∙◌, subst}
 use lib.Ieee.{Float}
-use Prim.Native.Nat.{◌<◌, ◌-◌, ◌+◌}
+use Prim.Native.Nat.{◌+◌}
 use Rattle.exact.proofs.Products.{less_zero}
 use Rattle.cholesky.specs.Factor.{factor_of, Refused, Lower}
 use Rattle.cholesky.specs.Steps.{store, sum_of}

@@ -1,10 +1,6 @@
 -- `cholesky::factor::fill` meets its contract: before row r the elements are made from row i on. Assumes nothing.
 use Rattle.cholesky.proofs.ColumnLaws.{filled-start, filled_next, filled-end}
-use Rattle.cholesky.specs.Steps.{filled}
 use native.Mathlib.Omega.{arith}
-use borrow.Author.Rules.{rules}
-use mathlib.Core.Path.{◌≡◌}
-use Prim.Native.Nat.{◌≤◌, ◌-◌}
 use Rattle.cholesky.proofs.factor.fill.Goals as goal
 
 pub loop-r-init : goal.loop-r-init

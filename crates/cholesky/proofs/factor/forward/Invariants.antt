@@ -1,9 +1,6 @@
 -- `cholesky::factor::forward` meets its contract: after i turns the first i places are solved. Assumes nothing.
-use Rattle.cholesky.proofs.FactorLaws.{forward_to-zero, forward_to-next}
-use Rattle.exact.proofs.Products.{less_zero, less-next}
 use Rattle.cholesky.specs.Factor.{forward_to, at, cell}
 use Rattle.exact.specs.Products.{less_products}
-use native.Mathlib.Omega.{arith}
 use mathlib.Core.Path.{◌≡◌}
 use Prim.Native.Nat.{◌≤◌, ◌<◌, ◌-◌}
 use Rattle.cholesky.proofs.factor.forward.Given as goal

@@ -1,9 +1,6 @@
 -- `cholesky::factor::mark` meets its contract: before row i the diagonal is marked from row n on. Assumes nothing.
 use Rattle.cholesky.proofs.ColumnLaws.{marked_start, marked_next, marked-end}
-use Rattle.cholesky.specs.Steps.{ones_marked}
 use native.Mathlib.Omega.{arith}
-use mathlib.Core.Path.{◌≡◌}
-use Prim.Native.Nat.{◌≤◌, ◌-◌}
 use Rattle.cholesky.proofs.factor.mark.Goals as goal
 
 pub loop-i-init : goal.loop-i-init

@@ -1,7 +1,5 @@
 -- `cholesky::factor::mark` meets its contract: before row i the diagonal is marked from row n on. Assumes nothing.
-use Rattle.cholesky.proofs.ColumnLaws.{marked_start, marked_next, marked-end}
 use Rattle.cholesky.specs.Steps.{ones_marked}
-use native.Mathlib.Omega.{arith}
 use mathlib.Core.Path.{◌≡◌}
 use Prim.Native.Nat.{◌≤◌, ◌-◌}
 use Rattle.cholesky.proofs.factor.mark.Given as goal

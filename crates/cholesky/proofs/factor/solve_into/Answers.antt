@@ -1,4 +1,3 @@
-use borrow.Author.Rules.{rules}
 use native.Mathlib.Omega.{arith}
 use Rattle.cholesky.specs.Factor.{solution_of}
 use Rattle.cholesky.proofs.SolveUsed.{all-used, all-places, forward-fits}

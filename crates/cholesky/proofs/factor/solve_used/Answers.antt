@@ -1,5 +1,4 @@
 use mathlib.Core.Path.{sym, ◌∙◌, subst}
-use borrow.Author.Rules.{rules}
 use lib.Dec.{T}
 use Rattle.cholesky.proofs.SolveUsed.{forward-places, forward-fits, solution-used}
 use Rattle.cholesky.proofs.factor.solve_used.Goals as goal

@@ -1,6 +1,5 @@
 -- `estimate_rounds::rounds::is_short` meets its contract. Assumes nothing.
 use Rattle.estimate_rounds.specs.Rounds.{short_step}
-use borrow.Author.Rules.{rules}
 use Rattle.estimate_rounds.proofs.rounds.is_short.Goals as goal
 
 pub returns : goal.returns

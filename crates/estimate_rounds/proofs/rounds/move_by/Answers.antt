@@ -1,7 +1,6 @@
 -- `estimate_rounds::rounds::move_by` meets its contract. Assumes nothing.
-use Prim.Native.Nat.{◌-◌, ◌≤◌}
 use mathlib.Core.Path.{◌≡◌}
-use Rattle.estimate_rounds.proofs.RoundsLaws.{Moving, moving_start, moving_next, moving_end}
+use Rattle.estimate_rounds.proofs.RoundsLaws.{moving_start, moving_next, moving_end}
 use native.Mathlib.Omega.{arith}
 use Rattle.estimate_rounds.proofs.rounds.move_by.Goals as goal
 

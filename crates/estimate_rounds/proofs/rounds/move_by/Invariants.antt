@@ -1,8 +1,6 @@
 -- `estimate_rounds::rounds::move_by` meets its contract. Assumes nothing.
 use Prim.Native.Nat.{◌-◌, ◌≤◌}
-use mathlib.Core.Path.{◌≡◌}
-use Rattle.estimate_rounds.proofs.RoundsLaws.{Moving, moving_start, moving_next, moving_end}
-use native.Mathlib.Omega.{arith}
+use Rattle.estimate_rounds.proofs.RoundsLaws.{Moving}
 use Rattle.estimate_rounds.proofs.rounds.move_by.Given as goal
 
 abbrev pub invariant-loop-i : goal.invariant-loop-i

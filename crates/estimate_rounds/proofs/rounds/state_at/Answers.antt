@@ -2,7 +2,6 @@
 use lib.Ieee.{div, of_bits}
 use Rattle.estimate_rounds.proofs.RoundsLaws.{past_end}
 use native.Mathlib.Omega.{arith}
-use borrow.Author.Rules.{rules}
 use Rattle.estimate_rounds.proofs.rounds.state_at.Goals as goal
 
 pub returns-else-s-lt9 : goal.returns-else-s-lt9

@@ -1,12 +1,11 @@
 -- `median::median::keep_high` meets its contract: those of the first j numbers that are above p are the first w. Assumes nothing.
-use Prim.Native.Nat.{ℕ, ◌≤◌, ◌<◌, ◌-◌}
+use Prim.Native.Nat.{ℕ, ◌<◌}
 use native.Mathlib.Omega.{arith}
 use mathlib.Core.Path.{◌≡◌}
-use mathlib.Core.Logic.{inl, inr}
 use lib.ListN.{length}
 use lib.Dec.{ltb}
 use borrow.Author.Tests.{lt-ltb, le-ltb}
-use Rattle.median.proofs.SelectLoops.{Keeping, keeping_none, keep-yes, keep-no, keeping_all}
+use Rattle.median.proofs.SelectLoops.{keeping_none, keep-yes, keep-no, keeping_all}
 use Rattle.median.proofs.median.keep_high.Goals as goal
 use Rattle.median.proofs.median.keep_high.Goals.{then-p-y, else-p-y}
 
@@ -18,7 +17,7 @@ loop-j-preserved c = let t = c in
     let s = t.args in
     let inside : t.loop-j.j < length s.k.now = omega arith in
     elim c.if-p-y.branch [
-      then-p-y w ↦ (omega arith, rw w.w-is (keep-yes (λ (x : ℕ). ltb s.p x) s.k.now t.loop-j.j t.loop-j.w t.loop-j.k inside t.loop-j.invariant.1 (lt-ltb _ _ w.if-p-y.true)))
+      | then-p-y w ↦ (omega arith, rw w.w-is (keep-yes (λ (x : ℕ). ltb s.p x) s.k.now t.loop-j.j t.loop-j.w t.loop-j.k inside t.loop-j.invariant.1 (lt-ltb _ _ w.if-p-y.true)))
       | else-p-y w ↦ (omega arith, rw w.w-is (keep-no (λ (x : ℕ). ltb s.p x) s.k.now t.loop-j.j t.loop-j.w t.loop-j.k inside t.loop-j.invariant.1 (le-ltb _ _ w.if-p-y.false)))
     ]
 

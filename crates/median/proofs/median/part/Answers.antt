@@ -1,10 +1,9 @@
 -- `median::median::part` meets its contract: those of the first j patterns that have the sign are, without it, the first w. Assumes nothing.
-use Prim.Native.Nat.{◌≤◌, ◌<◌, ◌-◌}
+use Prim.Native.Nat.{◌<◌}
 use native.Mathlib.Omega.{arith}
-use mathlib.Core.Logic.{inl, inr}
 use lib.ListN.{length}
 use Rattle.exact.specs.Pattern.{sign}
-use Rattle.median.proofs.SelectLoops.{Parting, parting_none, part-yes, part_no, parting_all}
+use Rattle.median.proofs.SelectLoops.{parting_none, part-yes, part_no, parting_all}
 use Rattle.median.proofs.median.part.Goals as goal
 use Rattle.median.proofs.median.part.Goals.{then-s-negative, else-s-negative}
 
@@ -17,7 +16,7 @@ loop-j-preserved c = let t = c in
     let s = t.args in
     let inside : t.loop-j.j < length s.patterns.now = omega arith in
     elim c.if-s-negative.branch [
-      then-s-negative w ↦ (omega arith, rw w.w-is (part-yes s.negative s.patterns.now t.loop-j.j t.loop-j.w t.loop-j.k inside t.requires.0 t.loop-j.invariant.1 w.if-s-negative.true))
+      | then-s-negative w ↦ (omega arith, rw w.w-is (part-yes s.negative s.patterns.now t.loop-j.j t.loop-j.w t.loop-j.k inside t.requires.0 t.loop-j.invariant.1 w.if-s-negative.true))
       | else-s-negative w ↦ (omega arith, rw w.w-is (part_no s.negative s.patterns.now t.loop-j.j t.loop-j.w t.loop-j.k inside t.requires.0 t.loop-j.invariant.1 w.if-s-negative.false))
     ]
 

@@ -1,7 +1,4 @@
 -- `normal_equations::equations::add_row` meets its contract. Assumes nothing.
-use Prim.Native.Nat.{◌≤◌, ◌-◌}
-use mathlib.Core.Path.{◌≡◌}
-use Rattle.normal_equations.specs.Steps.{row_added}
 use Rattle.normal_equations.proofs.AddedLaws.{row-start, row_next, row-end}
 use native.Mathlib.Omega.{arith}
 use Rattle.normal_equations.proofs.equations.add_row.Goals as goal

@@ -2,8 +2,6 @@
 use Prim.Native.Nat.{◌≤◌, ◌-◌}
 use mathlib.Core.Path.{◌≡◌}
 use Rattle.normal_equations.specs.Steps.{row_added}
-use Rattle.normal_equations.proofs.AddedLaws.{row-start, row_next, row-end}
-use native.Mathlib.Omega.{arith}
 use Rattle.normal_equations.proofs.equations.add_row.Given as goal
 
 abbrev pub invariant-loop-j : goal.invariant-loop-j

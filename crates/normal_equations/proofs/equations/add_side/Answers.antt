@@ -1,7 +1,4 @@
 -- `normal_equations::equations::add_side` meets its contract. Assumes nothing.
-use Prim.Native.Nat.{◌≤◌, ◌-◌}
-use mathlib.Core.Path.{◌≡◌}
-use Rattle.normal_equations.specs.Steps.{side_added}
 use Rattle.normal_equations.proofs.AddedLaws.{side-start, side-next, side-end}
 use native.Mathlib.Omega.{arith}
 use Rattle.normal_equations.proofs.equations.add_side.Goals as goal

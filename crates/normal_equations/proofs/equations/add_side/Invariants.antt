@@ -2,8 +2,6 @@
 use Prim.Native.Nat.{◌≤◌, ◌-◌}
 use mathlib.Core.Path.{◌≡◌}
 use Rattle.normal_equations.specs.Steps.{side_added}
-use Rattle.normal_equations.proofs.AddedLaws.{side-start, side-next, side-end}
-use native.Mathlib.Omega.{arith}
 use Rattle.normal_equations.proofs.equations.add_side.Given as goal
 
 abbrev pub invariant-loop-i : goal.invariant-loop-i

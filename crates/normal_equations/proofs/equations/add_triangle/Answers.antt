@@ -1,7 +1,5 @@
 -- `normal_equations::equations::add_triangle` meets its contract. Assumes nothing.
-use Prim.Native.Nat.{◌≤◌, ◌-◌}
-use mathlib.Core.Path.{◌≡◌, ◌∙◌}
-use Rattle.normal_equations.specs.Steps.{triangle_added}
+use mathlib.Core.Path.{◌∙◌}
 use Rattle.normal_equations.proofs.AddedLaws.{triangle-start, triangle-next, triangle-end, triangle-square}
 use native.Mathlib.Omega.{arith}
 use Rattle.normal_equations.proofs.equations.add_triangle.Goals as goal

@@ -1,9 +1,7 @@
 -- `normal_equations::equations::add_triangle` meets its contract. Assumes nothing.
 use Prim.Native.Nat.{◌≤◌, ◌-◌}
-use mathlib.Core.Path.{◌≡◌, ◌∙◌}
+use mathlib.Core.Path.{◌≡◌}
 use Rattle.normal_equations.specs.Steps.{triangle_added}
-use Rattle.normal_equations.proofs.AddedLaws.{triangle-start, triangle-next, triangle-end, triangle-square}
-use native.Mathlib.Omega.{arith}
 use Rattle.normal_equations.proofs.equations.add_triangle.Given as goal
 
 abbrev pub invariant-loop-i : goal.invariant-loop-i

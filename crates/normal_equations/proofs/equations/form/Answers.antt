@@ -1,16 +1,14 @@
 -- `normal_equations::equations::form` meets its contract. Assumes nothing.
-use Prim.Native.Nat.{ℕ, ◌-◌, ◌≤◌}
-use mathlib.Core.Path.{◌≡◌, ap, ◌∙◌}
+use Prim.Native.Nat.{ℕ}
+use mathlib.Core.Path.{ap, ◌∙◌}
 use lib.ListN.{length}
 use Rattle.exact.specs.Float.{bits}
-use Rattle.normal_equations.specs.Nine.{nine}
 use Rattle.normal_equations.specs.Weight.{weight}
-use Rattle.normal_equations.specs.Equations.{wide, triangle_of}
+use Rattle.normal_equations.specs.Equations.{wide}
 use Rattle.normal_equations.specs.Steps.{columns, row_in}
 use Rattle.normal_equations.specs.declared.row.Row.{Row}
-use Rattle.normal_equations.proofs.AddedLaws.{triangle-zero, triangle-wide, in_sides, side-zero, side-long}
+use Rattle.normal_equations.proofs.AddedLaws.{triangle-zero, triangle-wide, side-zero, side-long}
 use Rattle.normal_equations.proofs.FormedLaws.{cells, sides, cells-zero, sides-zero, triangle-row, side-row, formed-last}
-use borrow.Author.Rules.{rules}
 use native.Mathlib.Omega.{arith}
 use Rattle.normal_equations.proofs.equations.form.Goals as goal
 use Rattle.normal_equations.proofs.equations.form.Lts as lts
@@ -20,7 +18,6 @@ use Rattle.normal_equations.proofs.equations.form.Reads as reads
 -- places on the way through the function
 abbrev Start : Type 0
 Start = lts.Start tie.the-claims reads.Pre reads.Post goal.the-invariant-loop-k goal.the-decreases-loop-k
-
 
 -- the rows of the columns
 abbrev given : Start → ℕ → Row

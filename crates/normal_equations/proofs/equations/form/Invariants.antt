@@ -1,17 +1,11 @@
 -- `normal_equations::equations::form` meets its contract. Assumes nothing.
-use Prim.Native.Nat.{ℕ, ◌-◌, ◌≤◌}
-use mathlib.Core.Path.{◌≡◌, ap, ◌∙◌}
-use lib.ListN.{length}
-use Rattle.exact.specs.Float.{bits}
+use Prim.Native.Nat.{◌-◌, ◌≤◌}
+use mathlib.Core.Path.{◌≡◌}
 use Rattle.normal_equations.specs.Nine.{nine}
-use Rattle.normal_equations.specs.Weight.{weight}
-use Rattle.normal_equations.specs.Equations.{wide, triangle_of}
+use Rattle.normal_equations.specs.Equations.{triangle_of}
 use Rattle.normal_equations.specs.Steps.{columns, row_in}
-use Rattle.normal_equations.specs.declared.row.Row.{Row}
-use Rattle.normal_equations.proofs.AddedLaws.{triangle-zero, triangle-wide, in_sides, side-zero, side-long}
-use Rattle.normal_equations.proofs.FormedLaws.{cells, sides, cells-zero, sides-zero, triangle-row, side-row, formed-last}
-use borrow.Author.Rules.{rules}
-use native.Mathlib.Omega.{arith}
+use Rattle.normal_equations.proofs.AddedLaws.{in_sides}
+use Rattle.normal_equations.proofs.FormedLaws.{cells, sides}
 use Rattle.normal_equations.proofs.equations.form.Given as goal
 
 abbrev pub invariant-loop-k : goal.invariant-loop-k

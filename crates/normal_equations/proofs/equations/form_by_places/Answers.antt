@@ -1,5 +1,5 @@
 -- `normal_equations::equations::form_by_places` meets its contract. Assumes nothing.
-use Prim.Native.Nat.{ℕ, ◌-◌, ◌≤◌}
+use Prim.Native.Nat.{ℕ}
 use mathlib.Core.Path.{◌≡◌, sym, subst}
 use mathlib.Core.Bool.{Bool, true, false, ◌&&◌}
 use lib.Dec.{T}
@@ -7,9 +7,8 @@ use lib.ListN.{length}
 use lib.Ieee.Fits.{and_l, and_r}
 use Rattle.normal_equations.specs.Steps.{columns, row_in}
 use Rattle.normal_equations.specs.declared.row.Row.{Row}
-use Rattle.normal_equations.proofs.Places.{Placed, cells-start, sides-start, weighted_at, placed_row}
+use Rattle.normal_equations.proofs.Places.{cells-start, sides-start, weighted_at, placed_row}
 use Rattle.normal_equations.proofs.AllPlaces.{formed-by-places}
-use borrow.Author.Rules.{rules}
 use native.Mathlib.Omega.{arith}
 use Rattle.normal_equations.proofs.equations.form_by_places.Goals as goal
 use Rattle.normal_equations.proofs.equations.form_by_places.Lts as lts
@@ -19,7 +18,6 @@ use Rattle.normal_equations.proofs.equations.form_by_places.Reads as reads
 -- places on the way through the function
 abbrev Start : Type 0
 Start = lts.Start tie.the-claims reads.Pre reads.Post goal.the-invariant-loop-k goal.the-decreases-loop-k
-
 
 -- the rows of the columns
 abbrev given : Start → ℕ → Row

@@ -1,5 +1,4 @@
 -- `normal_equations::equations::normal` meets its contract. Assumes nothing.
-use borrow.Author.Rules.{rules}
 use Rattle.normal_equations.proofs.equations.normal.Goals as goal
 
 pub returns-then-form_by_places : goal.returns-then-form_by_places

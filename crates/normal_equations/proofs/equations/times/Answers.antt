@@ -1,7 +1,5 @@
 -- `normal_equations::equations::times` meets its contract. Assumes nothing.
-use Prim.Native.Nat.{◌-◌}
-use mathlib.Core.Path.{◌≡◌}
-use Rattle.normal_equations.proofs.AddedLaws.{times_to, times-start, times-next, times-end}
+use Rattle.normal_equations.proofs.AddedLaws.{times-start, times-next, times-end}
 use native.Mathlib.Omega.{arith}
 use Rattle.normal_equations.proofs.equations.times.Goals as goal
 

@@ -1,8 +1,7 @@
 -- `normal_equations::equations::times` meets its contract. Assumes nothing.
 use Prim.Native.Nat.{◌-◌}
 use mathlib.Core.Path.{◌≡◌}
-use Rattle.normal_equations.proofs.AddedLaws.{times_to, times-start, times-next, times-end}
-use native.Mathlib.Omega.{arith}
+use Rattle.normal_equations.proofs.AddedLaws.{times_to}
 use Rattle.normal_equations.proofs.equations.times.Given as goal
 
 abbrev pub invariant-loop-i : goal.invariant-loop-i

@@ -1,6 +1,5 @@
 -- `normal_equations::equations::unused` meets its contract. Assumes nothing.
-use Prim.Native.Nat.{◌≤◌, ◌-◌}
-use Rattle.normal_equations.proofs.UnusedLaws.{Marking, marking_start, marking_next, marking_end}
+use Rattle.normal_equations.proofs.UnusedLaws.{marking_start, marking_next, marking_end}
 use native.Mathlib.Omega.{arith}
 use Rattle.normal_equations.proofs.equations.unused.Goals as goal
 

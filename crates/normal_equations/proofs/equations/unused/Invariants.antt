@@ -1,7 +1,6 @@
 -- `normal_equations::equations::unused` meets its contract. Assumes nothing.
 use Prim.Native.Nat.{◌≤◌, ◌-◌}
-use Rattle.normal_equations.proofs.UnusedLaws.{Marking, marking_start, marking_next, marking_end}
-use native.Mathlib.Omega.{arith}
+use Rattle.normal_equations.proofs.UnusedLaws.{Marking}
 use Rattle.normal_equations.proofs.equations.unused.Given as goal
 
 abbrev pub invariant-loop-i : goal.invariant-loop-i

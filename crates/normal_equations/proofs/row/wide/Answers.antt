@@ -6,7 +6,6 @@ use lib.Seq.{set_out}
 use Rattle.exact.specs.Float.{+0, 1·0}
 use Rattle.normal_equations.specs.Equations.{wide}
 use native.Mathlib.Omega.{arith}
-use borrow.Author.Rules.{rules}
 use Rattle.normal_equations.proofs.row.wide.Goals as goal
 
 pub returns-then-c-lt9 : goal.returns-then-c-lt9

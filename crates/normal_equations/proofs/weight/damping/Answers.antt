@@ -1,7 +1,6 @@
 -- `normal_equations::weight::damping` meets its contract. Assumes nothing.
 use Rattle.normal_equations.specs.Weight.{damping}
 use Rattle.normal_equations.proofs.WeightLaws.{least}
-use borrow.Author.Rules.{rules}
 use Rattle.normal_equations.proofs.weight.damping.Goals as goal
 
 pub returns-then-z-huber : goal.returns-then-z-huber

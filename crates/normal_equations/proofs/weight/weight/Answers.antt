@@ -1,6 +1,5 @@
 -- `normal_equations::weight::weight` meets its contract. Assumes nothing.
 use Rattle.normal_equations.specs.Weight.{weight}
-use borrow.Author.Rules.{rules}
 use Rattle.normal_equations.proofs.weight.weight.Goals as goal
 
 pub returns : goal.returns

@@ -1,6 +1,5 @@
 -- `robust::round::first_of` meets its contract. Assumes nothing.
-use Prim.Native.Nat.{◌≤◌, ◌-◌}
-use Rattle.robust.proofs.RowLaws.{Cutting, cutting_start, cutting_next, cutting_end}
+use Rattle.robust.proofs.RowLaws.{cutting_start, cutting_next, cutting_end}
 use native.Mathlib.Omega.{arith}
 use Rattle.robust.proofs.round.first_of.Goals as goal
 

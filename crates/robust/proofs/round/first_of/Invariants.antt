@@ -1,7 +1,6 @@
 -- `robust::round::first_of` meets its contract. Assumes nothing.
 use Prim.Native.Nat.{◌≤◌, ◌-◌}
-use Rattle.robust.proofs.RowLaws.{Cutting, cutting_start, cutting_next, cutting_end}
-use native.Mathlib.Omega.{arith}
+use Rattle.robust.proofs.RowLaws.{Cutting}
 use Rattle.robust.proofs.round.first_of.Given as goal
 
 abbrev pub invariant-loop-i : goal.invariant-loop-i

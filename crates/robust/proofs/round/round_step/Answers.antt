@@ -11,7 +11,6 @@ use Rattle.robust.proofs.SolvingLaws.{solving-yes, solving-no}
 use Rattle.normal_equations.proofs.FormedLaws.{matrix-unused, right-unused}
 use Rattle.robust.proofs.StepLaws.{never-refused, round-solving}
 use native.Mathlib.Omega.{arith}
-use borrow.Author.Rules.{rules}
 use Rattle.robust.proofs.round.round_step.Goals as goal
 use Rattle.robust.proofs.round.round_step.Lts as lts
 use Rattle.robust.proofs.round.round_step.Tie as tie
@@ -23,7 +22,6 @@ After-normal = lts.After-normal tie.the-claims reads.Pre reads.Post
 
 abbrev Start : Type 0
 Start = lts.Start tie.the-claims reads.Pre reads.Post
-
 
 abbrev given : Start → RoundColumns
 given c = columns c.args.x.now c.args.y.now c.args.z.now c.args.clock.now c.args.sigma.now c.args.residual.now

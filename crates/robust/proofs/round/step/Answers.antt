@@ -1,9 +1,9 @@
 -- `robust::round::step` meets its contract. Assumes nothing.
-use Prim.Native.Nat.{ℕ, ◌-◌, ◌≤◌}
+use Prim.Native.Nat.{ℕ}
 use mathlib.Core.Path.{◌≡◌, refl, sym, ap, ◌∙◌, subst}
 use mathlib.Core.Bool.{true, false}
 use mathlib.Core.List.{List, map-id}
-use lib.ListN.{length, drop, take}
+use lib.ListN.{length, take}
 use lib.Seq.{length-take-le}
 use lib.Ieee.{Float}
 use borrow.Author.Tests.{le-leb, lt-leb}
@@ -16,9 +16,8 @@ use Rattle.robust.specs.Step.{counted_rows, indexed, stepping_number, Stepped, S
 use Rattle.normal_equations.specs.declared.row.Row.{Row}
 use Rattle.robust.specs.declared.round.Stepping.{Stepping}
 use Rattle.normal_equations.proofs.Sums.{blank}
-use Rattle.normal_equations.proofs.ColumnLaws.{Column, column-start, column-next, rows_are}
+use Rattle.normal_equations.proofs.ColumnLaws.{column-start, column-next, rows_are}
 use Rattle.robust.proofs.StepLaws.{step-many, step-wide, step-index, step-done, step-refused}
-use borrow.Author.Rules.{rules}
 use native.Mathlib.Omega.{arith}
 use Rattle.robust.proofs.round.step.Goals as goal
 use Rattle.robust.proofs.round.step.Lts as lts
@@ -31,7 +30,6 @@ After-loop-k = lts.After-loop tie.the-claims reads.Pre reads.Post goal.the-invar
 
 abbrev Start : Type 0
 Start = lts.Start tie.the-claims reads.Pre reads.Post goal.the-invariant-loop-k goal.the-decreases-loop-k
-
 
 -- the contract, of the answer and dx together
 both : {u v : Stepped} → u ≡ v → StepPromised v u.answer u.dx

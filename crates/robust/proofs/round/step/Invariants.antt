@@ -1,25 +1,11 @@
 -- `robust::round::step` meets its contract. Assumes nothing.
-use Prim.Native.Nat.{ℕ, ◌-◌, ◌≤◌}
-use mathlib.Core.Path.{◌≡◌, refl, sym, ap, ◌∙◌, subst}
-use mathlib.Core.Bool.{true, false}
-use mathlib.Core.List.{List, map-id}
-use lib.ListN.{length, drop, take}
-use lib.Seq.{length-take-le}
-use lib.Ieee.{Float}
-use borrow.Author.Tests.{le-leb, lt-leb}
+use Prim.Native.Nat.{◌-◌, ◌≤◌}
+use mathlib.Core.Path.{◌≡◌}
+use lib.ListN.{drop}
 use Rattle.lists.specs.Walk.{every}
-use Rattle.lists.proofs.Walk.{length-mapped, every-end, every-yes, every-no}
-use Rattle.robust.specs.Round.{round_of}
-use Rattle.robust.specs.Steps.{Solving}
-use Rattle.normal_equations.specs.Steps.{columns, rows_in}
-use Rattle.robust.specs.Step.{counted_rows, indexed, stepping_number, Stepped, StepPromised}
+use Rattle.robust.specs.Step.{counted_rows, indexed}
 use Rattle.normal_equations.specs.declared.row.Row.{Row}
-use Rattle.robust.specs.declared.round.Stepping.{Stepping}
-use Rattle.normal_equations.proofs.Sums.{blank}
-use Rattle.normal_equations.proofs.ColumnLaws.{Column, column-start, column-next, rows_are}
-use Rattle.robust.proofs.StepLaws.{step-many, step-wide, step-index, step-done, step-refused}
-use borrow.Author.Rules.{rules}
-use native.Mathlib.Omega.{arith}
+use Rattle.normal_equations.proofs.ColumnLaws.{Column}
 use Rattle.robust.proofs.round.step.Given as goal
 
 abbrev pub invariant-loop-k : goal.invariant-loop-k

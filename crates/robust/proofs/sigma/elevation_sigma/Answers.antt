@@ -1,7 +1,6 @@
 -- `robust::sigma::elevation_sigma` meets its contract. Assumes nothing.
 use Rattle.robust.specs.Sigma.{elevation_sigma}
 use Rattle.robust.proofs.RowLaws.{least_sine, three}
-use borrow.Author.Rules.{rules}
 use Rattle.robust.proofs.sigma.elevation_sigma.Goals as goal
 
 pub returns : goal.returns

@@ -1,6 +1,5 @@
 -- `cholesky::factor::Factoring::number` meets its contract. Assumes nothing.
 use mathlib.Core.Path.{sym, ap, ◌∙◌}
-use borrow.Author.Rules.{rules}
 use Rattle.cholesky.specs.Answer.{factoring_number}
 use Rattle.cholesky.proofs.factor.Factoring.number.Goals as goal
 

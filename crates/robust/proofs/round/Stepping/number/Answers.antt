@@ -1,6 +1,5 @@
 -- `robust::round::Stepping::number` meets its contract. Assumes nothing.
 use mathlib.Core.Path.{sym, ap, ◌∙◌}
-use borrow.Author.Rules.{rules}
 use Rattle.robust.specs.Step.{stepping_number}
 use Rattle.robust.proofs.round.Stepping.number.Goals as goal
 
