@@ -16,7 +16,6 @@ use Rattle.corrections_table.specs.Table.{ranged}
 use Rattle.corrections_table.specs.Add.{counted_samples, insert_all}
 use Rattle.corrections_table.specs.declared.add.Samples.{Samples}
 use Rattle.corrections_table.specs.declared.add.Test.{Test}
-use Rattle.corrections_table.specs.declared.add.Test.TheVariants as Test
 use Rattle.corrections_table.proofs.TableLaws.{and_left, and_right}
 use Rattle.corrections_table.proofs.UnitLaws.{never}
 use Rattle.corrections_table.proofs.InsertLaws.{insert_all-length}
@@ -25,7 +24,6 @@ use Rattle.corrections_directory.proofs.ColumnLaws.{flat-length}
 use Rattle.corrections_add.specs.Steps.{Fitting}
 use Rattle.corrections_add.specs.Add.{PatternsAfter, Places, add_in, addition_number, addition_of, directory_with, test_in}
 use Rattle.corrections_add.specs.declared.add.Addition.{Addition}
-use Rattle.corrections_add.specs.declared.add.Addition.TheVariants as Addition
 
 or_left : (a b : Bool) → (a || b) ≡ false → a ≡ false
 or_left true b e = e

@@ -102,12 +102,12 @@ module _ {es : List Entry} {rs : List Reading} {t u : List Sample} {ts₀ xs₀ 
   held f d e i h = sym (get_or-take n d i 0 h) ∙ ap (λ (l : List ℕ). get_or l i 0) (sym e) ∙ get_d_map-in f t i blank 0 (omega (arith, g.old-count))
 
   -- old samples that all come after the last new one go up together
-  fills-old : (f : Sample → ℕ) {d₀ d w : List ℕ} (j r : ℕ) → 0 < j → j ≤ k → map f t ≡ take n d₀ → (m y : ℕ) → y ≡ r + m → y ≤ n
+  fills-old : (f : Sample → ℕ) {d₀ w : List ℕ} (j r : ℕ) → 0 < j → j ≤ k → map f t ≡ take n d₀ → (m : ℕ) {d : List ℕ} (y : ℕ) → y ≡ r + m → y ≤ n
       → ((x : ℕ) → r ≤ x → x < y → stands_before (get_or u (j - 1) blank) (get_or t x blank) ≡ true) → y + j ≤ length d₀
       → Filling d₀ d w (map f (mixed t u y j)) y (y + j) → Filling d₀ (shifted r j m 0 d) w (map f (mixed t u r j)) r (r + j)
   unfolding shifted
-  fills-old f {d₀} {d} {w} j r hj kj q zero y z o b l v = let s : r ≡ y = omega arith in rw s v
-  fills-old f {d₀} {d} {w} j r hj kj q (suc m) y z o b l v =
+  fills-old f {d₀} {w} j r hj kj q zero {d} y z o b l v = let s : r ≡ y = omega arith in rw s v
+  fills-old f {d₀} {w} j r hj kj q (suc m) {d} y z o b l v =
       let s : suc (y - 1) ≡ y = omega arith in
       let at : r + m ≡ y - 1 = omega arith in
       let to : y - 1 + j ≡ y + j - 1 = omega arith in

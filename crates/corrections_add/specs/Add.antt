@@ -10,11 +10,9 @@ use Rattle.corrections_table.specs.Add.{AddOutcome, refused, added, insert_all, 
 use Rattle.corrections_table.specs.declared.sample.Sample.{Sample}
 use Rattle.corrections_table.specs.declared.add.Samples.{Samples}
 use Rattle.corrections_table.specs.declared.add.Test.{Test}
-use Rattle.corrections_table.specs.declared.add.Test.TheVariants as Test
 use Rattle.corrections_directory.specs.Directory.{Directory, Blocks, PatternsWith, block_capacity, blocks_with, directory_in, directory_of, flat, sound_directory}
 use Rattle.corrections_directory.specs.Lent.{LentTable}
 use Rattle.corrections_add.specs.declared.add.Addition.{Addition}
-use Rattle.corrections_add.specs.declared.add.Addition.TheVariants as Addition
 
 -- the directory of the table that d stands for, with the samples ss
 abbrev pub directory_with : Directory → List Sample → Directory

@@ -2,6 +2,8 @@
 // In every call block_constellation to block_samples are the directory's columns, with `blocks` entries in use;
 // table_time and table_metres are the columns of times and corrections, with `table_count` samples in use;
 // new_constellation to new_metres are the columns of the new samples, sorted, with `new_count` in use.
+#![tactic(auto)]
+
 pub mod add;
 mod entries;
 mod readings;

@@ -6,9 +6,7 @@ use Rattle.corrections_directory.specs.Directory.{Blocks, entries_in, lent_block
 use Rattle.corrections_directory.specs.Read.{ReadTable}
 use Rattle.corrections_directory.specs.Rearrange.{Filed, unfiled, entries_are, filed_of, filed_number, filed_count, filed_columns, Listed, unlisted, samples_are, listed_of, listed_number, listed_columns}
 use Rattle.corrections_convert.specs.declared.directory_of.Filing.{Filing}
-use Rattle.corrections_convert.specs.declared.directory_of.Filing.TheVariants as Filing
 use Rattle.corrections_convert.specs.declared.signals_of.Listing.{Listing}
-use Rattle.corrections_convert.specs.declared.signals_of.Listing.TheVariants as Listing
 
 -- the directory of a table: the number, the count of entries and the columns afterwards are those of the outcome
 pub record Files (o : Filed) (number m m' : ℕ) (l l' : Blocks) : Type 0 where

@@ -8,9 +8,7 @@ use Rattle.corrections_table.specs.declared.sample.Sample.{Sample}
 use Rattle.corrections_directory.specs.Directory.{Blocks, Entry, entries_from, entry_rows, lent_blocks}
 use Rattle.corrections_directory.specs.Rearrange.{entries_with}
 use Rattle.corrections_convert.specs.declared.directory_of.Filing.{Filing}
-use Rattle.corrections_convert.specs.declared.directory_of.Filing.TheVariants as Filing
 use Rattle.corrections_convert.specs.declared.signals_of.Listing.{Listing}
-use Rattle.corrections_convert.specs.declared.signals_of.Listing.TheVariants as Listing
 
 -- ---- the answers
 
