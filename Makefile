@@ -59,13 +59,14 @@ $(archive) $(program):
 
 shared: $(shared)
 
-# The functions are those of the proved archive; only they are exported.
+# The functions are those of the proved archive; only they are exported. The other names are no links that point, since rt ci takes none
+# in the repository.
 $(shared): $(archive) packaging/exports.map
 	mkdir -p $(dir $@)
 	$(CC) -shared -Wl,-soname,$(soname) -Wl,--version-script=packaging/exports.map -Wl,-z,now -Wl,-z,noexecstack \
 		-Wl,--whole-archive $(archive) -Wl,--no-whole-archive -o $@
-	ln -sf $(notdir $@) target/lib/$(soname)
-	ln -sf $(soname) target/lib/libzaqnuti.so
+	ln -f $@ target/lib/$(soname)
+	ln -f $@ target/lib/libzaqnuti.so
 
 install: $(archive) $(program) $(shared)
 	$(INSTALL) -d '$(to)/include' '$(to)/lib/pkgconfig' '$(to)/bin' '$(to)/share/man/man1' '$(to)/share/man/man3' '$(to)/$(doc)'

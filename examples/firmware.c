@@ -7,7 +7,7 @@
  * The sky is made up, so the answers are known: the program prints them and
  * exits with 1 where one is not as expected.
  *
- *     rt staticlib zaqnuti
+ *     packaging/box library
  *     cc -std=c99 -Iinclude examples/firmware.c target/staticlib/libzaqnuti.a -o firmware
  */
 #include <math.h>

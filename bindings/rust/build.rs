@@ -14,7 +14,7 @@ fn main() {
     println!("cargo:rerun-if-changed={}", archive.display());
     assert!(
         archive.is_file(),
-        "{} is missing: run `rt staticlib zaqnuti`, or set ZAQNUTI_LIB_DIR to the folder of libzaqnuti.a",
+        "{} is missing: run `packaging/box library`, or set ZAQNUTI_LIB_DIR to the folder of libzaqnuti.a",
         archive.display()
     );
     println!("cargo:rustc-link-search=native={}", folder.display());

@@ -2,7 +2,7 @@
  * Replays the stored answers of the published Rust through the entry points
  * of include/zaqnuti.h.
  *
- *     rt staticlib zaqnuti
+ *     packaging/box library
  *     cc -std=c99 -Iinclude tests/replay/[a-z]*.c target/staticlib/libzaqnuti.a -o target/replay
  *     target/replay tests/answers.bin
  *

@@ -83,7 +83,7 @@ const PATTERNS: &[&str] = &[
     "in_force",
     "table_time",
     "table_metres",
-    "result",
+    "res",
     "work",
     "l",
     "x",

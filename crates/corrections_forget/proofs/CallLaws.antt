@@ -22,14 +22,12 @@ use Rattle.corrections_table.specs.declared.sample.Sample.{Sample}
 use Rattle.corrections_table.proofs.TableLaws.{and_left, and_right}
 use Rattle.corrections_table.proofs.UnitLaws.{never}
 use Rattle.corrections_table.specs.declared.add.Test.{Test}
-use Rattle.corrections_table.specs.declared.add.Test.TheVariants as Test
 use Rattle.corrections_directory.specs.Directory.{Directory, Blocks, Reading, block_capacity, blocks_with, directory_in, directory_of, entries_in, flat, floats, in_reach, reading_of, readings_in, sound_directory}
 use Rattle.corrections_directory.proofs.DirectoryLaws.{sound-flat}
 use Rattle.corrections_query.proofs.PlaceLaws.{held-flat}
 use Rattle.corrections_forget.specs.Forget.{Forgets, ForgetOutcome, PatternsAfter, count_after, forget, forget_in, forgetting_number, forgetting_of, leaves, test_in, retained, trimmed}
 use Rattle.corrections_forget.specs.Steps.{Fit}
 use Rattle.corrections_forget.specs.declared.forget.Forgetting.{Forgetting}
-use Rattle.corrections_forget.specs.declared.forget.Forgetting.TheVariants as Forgetting
 use Rattle.corrections_forget.proofs.LayoutLaws.{forget-trimmed}
 use Rattle.corrections_forget.proofs.ForgetLaws.{forget-sound}
 use Rattle.corrections_forget.proofs.PatternLaws.{floats-held, patterns-of}

@@ -8,12 +8,10 @@ use Rattle.numeric.specs.declared.refusal.Refusal.TheVariants.{TooMany, RecordOu
 use Rattle.corrections_table.specs.Table.{signal_of}
 use Rattle.corrections_table.specs.declared.sample.Sample.{Sample}
 use Rattle.corrections_table.specs.declared.add.Test.{Test}
-use Rattle.corrections_table.specs.declared.add.Test.TheVariants as Test
 use Rattle.corrections_directory.specs.Directory.{Directory, Blocks, PatternsWith, block_capacity, blocks_with, directory_in, directory_of, flat, sound_directory, Entry, Reading, block}
 use Rattle.corrections_directory.specs.Lent.{LentTable}
 use Rattle.corrections_query.specs.Query.{sample_before}
 use Rattle.corrections_forget.specs.declared.forget.Forgetting.{Forgetting}
-use Rattle.corrections_forget.specs.declared.forget.Forgetting.TheVariants as Forgetting
 use Rattle.lists.specs.Walk.{collect}
 use Rattle.corrections_directory.specs.Series.{front}
 

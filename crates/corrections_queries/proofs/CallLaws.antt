@@ -18,9 +18,7 @@ use Rattle.lists.specs.Walk.{places}
 use Rattle.corrections_query.specs.Query.{query_in, query_number, pattern_after, GivesFinite, Answers, guarded, answer_at}
 use Rattle.corrections_queries.specs.Queries.{Asked, Reply, refusal, answers, places_short, queries_in, asking_of, asking_number, Replies, query_at}
 use Rattle.corrections_query.specs.declared.query.Correction.{Correction}
-use Rattle.corrections_query.specs.declared.query.Correction.TheVariants as Correction
 use Rattle.corrections_queries.specs.declared.queries.Asking.{Asking}
-use Rattle.corrections_queries.specs.declared.queries.Asking.TheVariants as Asking
 use Rattle.corrections_queries.proofs.QueriesLaws.{number_at, metres_at, finite-there}
 
 refused-of : (o : Reply) (r : Refusal) → Asking.Refused r ≡ asking_of o → o ≡ refusal r

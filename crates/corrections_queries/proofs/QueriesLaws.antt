@@ -19,7 +19,6 @@ use Rattle.corrections_table.specs.declared.add.Test.TheVariants as Test
 use Rattle.corrections_directory.specs.Directory.{Directory, sound_directory}
 use Rattle.corrections_query.specs.Query.{query_number, pattern_after, table_test, GivesFinite, PassedQuery}
 use Rattle.corrections_query.specs.declared.query.Correction.{Correction}
-use Rattle.corrections_query.specs.declared.query.Correction.TheVariants as Correction
 use Rattle.corrections_queries.specs.declared.queries.Asking.TheVariants.{Refused, Answered}
 use Rattle.corrections_queries.specs.Queries.{Asked, Reply, refusal, answers, places_short, query_at, queries_in, asking_of, asking_number, with_answers, number_after, EachFinite, Replies}
 

@@ -1,13 +1,17 @@
-// Reads a text of the line form from standard input and prints the line that answers it. A text above 32,768 bytes breaks the form, so bytes past the buffer's end change nothing.
-use libc::{STDIN_FILENO, STDOUT_FILENO};
-use line_form::Printed;
+// Reads a text of the line form from standard input and prints the line that answers it. A text above 32,768 bytes breaks the form, so bytes past the limit change nothing.
+#![tactic(auto)]
 
-fn main() {
-    let mut text = io::large_buffer();
-    let n = io::read_full(STDIN_FILENO, &mut text);
+use line_form::Printed;
+use std::io;
+use std::io::{Read, Write};
+
+fn main(rt: HostRuntime) -> io::Result<()> {
+    let mut text = Vec::new(rt.alloc());
+    rt.reader().take(65536).read_to_end(&mut text)?;
     let mut line = [0u8; 128];
-    let answer = line_form::answer(&text[..n], &mut line);
+    let answer = line_form::answer(text.as_slice(), &mut line);
     if let Printed::Line(length) = answer {
-        io::write_all(STDOUT_FILENO, &line[..length]);
+        io::writer(&rt).write_all(&line[..length])?;
     }
+    Ok(())
 }

@@ -4,6 +4,7 @@ use corrections_epoch::add_epoch::add_epoch;
 use corrections_epoch::record::{BaseEpoch, Range, Settings, State, States};
 use corrections_queries::queries::one_query;
 use numeric::vec3::Vec3;
+use std::io;
 
 // Returns the range to satellite `svid`, 20,000 km away.
 fn range(svid: u16, pseudorange: f64) -> Range {
@@ -57,7 +58,7 @@ fn three_ranges() -> BaseEpoch {
 }
 
 // Reports the corrections of three ranges. The last is 5 m too long and its correction is 5 m, since the other two set the clock.
-fn five_metres(name: &[u8], maximum: f64) {
+fn five_metres(rt: &impl Print, name: &[u8], maximum: f64) -> io::Result<()> {
     let zero = Vec3 {
         x: 0.0,
         y: 0.0,
@@ -91,11 +92,11 @@ fn five_metres(name: &[u8], maximum: f64) {
         zero,
         settings,
     );
-    adding(name, answer);
+    adding(rt, name, answer)
 }
 
 // Reports the correction at 15 s from samples of 1 m at 10 s and 3 m at 20 s.
-fn half_way(name: &[u8], gap: f64) {
+fn half_way(rt: &impl Print, name: &[u8], gap: f64) -> io::Result<()> {
     let block_constellation = [1u8; 2];
     let block_svid = [5u16; 2];
     let block_band = [1u32; 2];
@@ -120,12 +121,12 @@ fn half_way(name: &[u8], gap: f64) {
         15.0,
         0,
     );
-    correction(name, answer);
+    correction(rt, name, answer)
 }
 
-pub fn run() {
-    five_metres(b"correction equal to the maximum", 5.0);
-    five_metres(b"correction above the maximum", 4.999999999999999);
-    half_way(b"gap equal to the limit", 10.0);
-    half_way(b"gap above the limit", 9.999999999999998);
+pub fn run(rt: &impl Print) -> io::Result<()> {
+    five_metres(rt, b"correction equal to the maximum", 5.0)?;
+    five_metres(rt, b"correction above the maximum", 4.999999999999999)?;
+    half_way(rt, b"gap equal to the limit", 10.0)?;
+    half_way(rt, b"gap above the limit", 9.999999999999998)
 }

@@ -2,6 +2,7 @@
 use crate::report::displacement as report;
 use crate::sky::{epoch, equal, start};
 use records::record::Epoch;
+use std::io;
 use tdcp::displacement::{Displacement, Settings, delta_position};
 
 // Returns the displacement between two epochs a second apart.
@@ -19,46 +20,52 @@ fn between(previous: Epoch, current: Epoch, rounds: u32) -> Displacement {
 }
 
 // Reports the displacement of n carriers at either epoch, from `slots` constellations.
-fn of(name: &[u8], n: usize, slots: u8) {
+fn of(rt: &impl Print, name: &[u8], n: usize, slots: u8) -> io::Result<()> {
     report(
+        rt,
         name,
         between(epoch(n, slots, false), epoch(n, slots, true), 8),
-    );
+    )
 }
 
 // Reports the displacement of seven carriers. The first has the given elevation at the current epoch.
-fn first_up(name: &[u8], elevation: f64) {
+fn first_up(rt: &impl Print, name: &[u8], elevation: f64) -> io::Result<()> {
     let mut current = epoch(7, 1, true);
     let mut c = current.carriers[0];
     c.elevation = elevation;
     current.carriers[0] = c;
-    report(name, between(epoch(7, 1, false), current, 8));
+    report(rt, name, between(epoch(7, 1, false), current, 8))
 }
 
 // Reports the displacement of seven carriers. The first has `slip` metres more phase at the current epoch: that is its detector, and the others are 0.
-fn first_slips(name: &[u8], slip: f64) {
+fn first_slips(rt: &impl Print, name: &[u8], slip: f64) -> io::Result<()> {
     let mut current = epoch(7, 1, true);
     let mut c = current.carriers[0];
     c.adr = c.adr + slip;
     current.carriers[0] = c;
-    report(name, between(epoch(7, 1, false), current, 8));
+    report(rt, name, between(epoch(7, 1, false), current, 8))
 }
 
-pub fn run() {
-    of(b"displacement, 64 records", 64, 1);
-    of(b"displacement, 65 records", 65, 1);
-    of(b"displacement, 5 pairs", 5, 1);
-    of(b"displacement, 6 pairs", 6, 1);
-    of(b"displacement, six slots of 10 rows", 10, 6);
-    of(b"displacement, seven slots of 10 rows", 10, 7);
-    of(b"displacement, seven slots of 11 rows", 11, 7);
-    first_up(b"displacement, elevation equal to the mask", 10.0);
-    first_up(b"displacement, elevation below the mask", 9.999999999999998);
-    first_slips(b"displacement, detector equal to the screen", 0.5);
-    first_slips(b"displacement, detector below the screen", 0.4990234375);
+pub fn run(rt: &impl Print) -> io::Result<()> {
+    of(rt, b"displacement, 64 records", 64, 1)?;
+    of(rt, b"displacement, 65 records", 65, 1)?;
+    of(rt, b"displacement, 5 pairs", 5, 1)?;
+    of(rt, b"displacement, 6 pairs", 6, 1)?;
+    of(rt, b"displacement, six slots of 10 rows", 10, 6)?;
+    of(rt, b"displacement, seven slots of 10 rows", 10, 7)?;
+    of(rt, b"displacement, seven slots of 11 rows", 11, 7)?;
+    first_up(rt, b"displacement, elevation equal to the mask", 10.0)?;
+    first_up(
+        rt,
+        b"displacement, elevation below the mask",
+        9.999999999999998,
+    )?;
+    first_slips(rt, b"displacement, detector equal to the screen", 0.5)?;
+    first_slips(rt, b"displacement, detector below the screen", 0.4990234375)?;
     let six = equal(6, false);
     report(
+        rt,
         b"displacement, six equal pairs, zero rounds",
         between(six, six, 0),
-    );
+    )
 }

@@ -1,4 +1,6 @@
 // The static library for C and Rust: an entry point for each service and each call of its own. None of them keeps any state.
+#![tactic(auto)]
+
 pub mod between;
 pub mod corrections;
 pub mod directions;

@@ -1,6 +1,5 @@
 // Entry points of the Cholesky factor and its solve.
 ghost use Rattle.std.specs.Prelude.{◌≡◌, map};
-
 ghost use Rattle.numeric.specs.Order.{pattern_of};
 ghost use Rattle.cholesky.specs.Factor.{factor_of, solution_of};
 ghost use Rattle.cholesky.specs.Answer.{factoring_of, factoring_number};

@@ -1,6 +1,5 @@
 // Entry points of the centre, the line of sight, the one-sigma and the round.
 ghost use Rattle.std.specs.Prelude.{◌≡◌};
-
 ghost use Rattle.median.specs.Centre.{centre_scale_of, centre_number};
 ghost use Rattle.numeric.specs.Sight as sight;
 ghost use Rattle.robust.specs.Sigma.{elevation_sigma};

@@ -1,6 +1,5 @@
 // Entry points of the receiver clocks, whose state the caller holds: the slot of each place, and how many constellations have been given.
 ghost use Rattle.std.specs.Prelude.{◌≡◌};
-
 ghost use Rattle.clocks.specs.Clocks as spec;
 ghost use Rattle.zaqnuti.specs.Numbers.{clocks_from};
 

@@ -1,0 +1,11 @@
+-- `trials::track::one_anchor` meets its contract. Assumes nothing.
+use mathlib.Core.Path.{ap, ◌∙◌}
+use lib.Ieee.{of_bits, of_int}
+use Rattle.track_smooth.specs.Answer.{track_number}
+use borrow.Author.Rules.{rules}
+use Rattle.trials.proofs.track.one_anchor.Goals as goal
+
+pub returns : goal.returns
+unfolding of_bits of_int
+returns c = let s = c.smooth-track.ensures in
+    record { number_is = c.number.ensures ∙ ap track_number s.answer; result-is = s.left.result }
