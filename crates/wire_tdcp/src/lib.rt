@@ -1,2 +1,4 @@
 // The displacement between two epochs of byte records.
+#![tactic(auto)]
+
 pub mod displacement;

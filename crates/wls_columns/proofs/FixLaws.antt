@@ -12,7 +12,6 @@ use Rattle.records.specs.declared.record.Observations.{Observations}
 use Rattle.wls.specs.Fix as fix
 use Rattle.wls.specs.Fix.{fix_of}
 use Rattle.wls.specs.declared.fix.Fix.{Fix}
-use Rattle.wls.specs.declared.fix.Fix.TheVariants as Fix
 use Rattle.wls.specs.declared.fix.Solution.{Solution}
 use Rattle.wls.specs.declared.fix.Settings.{Settings}
 use Rattle.wls.proofs.FixSound.{fix-accepted}

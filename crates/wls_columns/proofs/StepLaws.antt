@@ -9,7 +9,6 @@ use Rattle.numeric.specs.declared.refusal.Refusal.TheVariants.{TooMany}
 use Rattle.cholesky.specs.Factor.{zeros}
 use Rattle.robust.specs.Step.{Stepped, counted_rows, refused, step_of, stepping_number, StepPromised}
 use Rattle.robust.specs.declared.round.Stepping.{Stepping}
-use Rattle.robust.specs.declared.round.Stepping.TheVariants as Stepping
 use Rattle.normal_equations.specs.declared.row.Rows.{Rows}
 use Rattle.wls_columns.specs.Columns.{RowColumns, row_from, rows_from, rows_fit}
 use Rattle.wls_columns.specs.Step.{step_after, StepAnswers, column_step_of}

@@ -9,9 +9,7 @@ use Rattle.wls.specs.Fix as fix
 use Rattle.wls.specs.Fix.{fix_of, position_of, fix_number, fix_floats, fix_counts, position_number, position_floats}
 use Rattle.wls.specs.declared.fix.Solution.{Solution}
 use Rattle.wls.specs.declared.fix.Fix.{Fix}
-use Rattle.wls.specs.declared.fix.Fix.TheVariants as Fix
 use Rattle.wls.specs.declared.fix.Position.{Position}
-use Rattle.wls.specs.declared.fix.Position.TheVariants as Position
 use Rattle.wls_columns.specs.Columns.{ObservationColumns, observations_of, observations_fit}
 
 -- ---- a fix

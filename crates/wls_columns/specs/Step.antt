@@ -5,7 +5,6 @@ use Rattle.numeric.specs.declared.refusal.Refusal.TheVariants.{TooMany}
 use Rattle.cholesky.specs.Factor.{zeros}
 use Rattle.robust.specs.Step.{Stepped, refused, step_of, stepping_number}
 use Rattle.robust.specs.declared.round.Stepping.{Stepping}
-use Rattle.robust.specs.declared.round.Stepping.TheVariants as Stepping
 use Rattle.wls_columns.specs.Columns.{RowColumns, rows_from, rows_fit}
 
 -- the round of the first n rows of the columns, written over nine zeros: refused by 2 where there are more than 64 or a column is too short

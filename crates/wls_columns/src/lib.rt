@@ -1,4 +1,6 @@
 // The fix and the round of a caller's columns, and their answers in lent memory.
+#![tactic(auto)]
+
 pub mod bits;
 mod columns;
 pub mod fix;

@@ -1,7 +1,6 @@
 -- `wire::columns::columns_fit` meets its contract. Assumes nothing.
 use borrow.Author.Tests.{le-leb, lt-leb}
 use Rattle.wire.specs.Columns.{columns_fit}
-use borrow.Author.Rules.{rules}
 use Rattle.wire.proofs.columns.columns_fit.Goals as goal
 
 pub returns-then-n-gt64 : goal.returns-then-n-gt64

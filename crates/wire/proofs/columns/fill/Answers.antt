@@ -1,6 +1,6 @@
 -- `wire::columns::fill` meets its contract: its loop stores one record after the other. Assumes nothing.
 use mathlib.Core.Path.{◌≡◌, ap, ◌∙◌}
-use Prim.Native.Nat.{◌+◌, ◌-◌, ◌*◌, ◌<◌}
+use Prim.Native.Nat.{◌+◌, ◌*◌, ◌<◌}
 use native.Mathlib.Omega.{arith}
 use mir.Syntax.{w32}
 use mir.Val.{SFits, to_z, of_z}
@@ -8,8 +8,7 @@ use mir.Facts.{to_z-of_z}
 use lib.ListN.{length, length-set}
 use borrow.Author.Rules.{rules}
 use Rattle.wire.specs.Number.{signed}
-use Rattle.wire.specs.Columns.{record_columns}
-use Rattle.wire.proofs.ColumnLaws.{Filling, filling_room, filling_start, filling_more, filling_end}
+use Rattle.wire.proofs.ColumnLaws.{filling_room, filling_start, filling_more, filling_end}
 use Rattle.wire.proofs.RecordLaws.{record_is}
 use Rattle.wire.proofs.columns.fill.Goals as goal
 

@@ -1,8 +1,5 @@
 -- `wire::columns::put_records` meets its contract: its loop writes one record after the other. Assumes nothing.
-use Prim.Native.Nat.{◌-◌}
-use borrow.Author.Rules.{rules}
-use Rattle.wire.specs.Columns.{record_columns}
-use Rattle.wire.proofs.ColumnLaws.{Emitting, emitting_start, emitting_more, emitting_end}
+use Rattle.wire.proofs.ColumnLaws.{emitting_start, emitting_more, emitting_end}
 use Rattle.wire.proofs.columns.put_records.Goals as goal
 
 pub loop-i-init : goal.loop-i-init

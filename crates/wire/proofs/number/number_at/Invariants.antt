@@ -1,8 +1,6 @@
 -- `wire::number::number_at` meets its contract. Assumes nothing.
 use Prim.Native.Nat.{◌-◌}
-use native.Mathlib.Omega.{arith}
-use borrow.Author.Rules.{rules}
-use Rattle.wire.proofs.NumberLaws.{byte_fits, Reading, reading-start, reading-more, reading-end, turn-fits}
+use Rattle.wire.proofs.NumberLaws.{Reading}
 use Rattle.wire.proofs.number.number_at.Given as goal
 
 abbrev pub invariant-loop-i : goal.invariant-loop-i

@@ -1,7 +1,5 @@
 -- `wire::number::put_number` meets its contract. Assumes nothing.
-use Prim.Native.Nat.{◌-◌}
-use borrow.Author.Rules.{rules}
-use Rattle.wire.proofs.NumberLaws.{Writing, writing_start, writing_more, writing-end}
+use Rattle.wire.proofs.NumberLaws.{writing_start, writing_more, writing-end}
 use Rattle.wire.proofs.number.put_number.Goals as goal
 
 pub loop-i-init : goal.loop-i-init

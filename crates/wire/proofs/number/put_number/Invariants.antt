@@ -1,7 +1,6 @@
 -- `wire::number::put_number` meets its contract. Assumes nothing.
 use Prim.Native.Nat.{◌-◌}
-use borrow.Author.Rules.{rules}
-use Rattle.wire.proofs.NumberLaws.{Writing, writing_start, writing_more, writing-end}
+use Rattle.wire.proofs.NumberLaws.{Writing}
 use Rattle.wire.proofs.number.put_number.Given as goal
 
 abbrev pub invariant-loop-i : goal.invariant-loop-i

@@ -5,7 +5,6 @@ use native.Mathlib.Omega.{arith}
 use mir.Syntax.{w32}
 use mir.Facts.{to_z_pos}
 use Rattle.wire.proofs.NumberLaws.{signed_low, signed_high, minus-fits, minus_is}
-use borrow.Author.Rules.{rules}
 use Rattle.wire.proofs.number.signed.Goals as goal
 
 pub returns-then-n-lt2147483648 : goal.returns-then-n-lt2147483648

@@ -3,7 +3,6 @@ use mathlib.Core.Path.{refl}
 use mathlib.Core.List.{◌++◌}
 use Rattle.wire.specs.Number.{bytes_in}
 use Rattle.wire.proofs.RecordLaws.{put-more}
-use borrow.Author.Rules.{rules}
 use Rattle.wire.proofs.record.put_front.Goals as goal
 
 pub returns : goal.returns

@@ -1,6 +1,6 @@
 -- `wire_tdcp::displacement::carriers_into` meets its contract: its loop stores one carrier after the other. Assumes nothing.
 use mathlib.Core.Path.{◌≡◌, ap, subst, ◌∙◌}
-use Prim.Native.Nat.{ℕ, ◌≤◌, ◌-◌}
+use Prim.Native.Nat.{ℕ}
 use native.Mathlib.Omega.{arith}
 use borrow.Author.Rules.{rules}
 use Rattle.records.specs.Steps.{Laid}

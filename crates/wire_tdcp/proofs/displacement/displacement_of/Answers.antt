@@ -1,6 +1,5 @@
 -- `wire_tdcp::displacement::displacement_of` meets its contract: the epochs are those of the records. Assumes nothing.
 use mathlib.Core.Path.{sym, ap₂, ◌∙◌}
-use borrow.Author.Rules.{rules}
 use Rattle.records.specs.declared.record.Epoch.{Epoch}
 use Rattle.tdcp.specs.Displacement.{general, displacement_of}
 use Rattle.tdcp.proofs.DisplacementSound.{promised}

@@ -1,6 +1,5 @@
 -- `wire_tdcp::displacement::displacement_records` meets its contract. Assumes nothing.
 use mathlib.Core.Path.{refl, subst}
-use borrow.Author.Rules.{rules}
 use Rattle.tdcp.specs.Displacement.{Promised}
 use Rattle.wire_tdcp.specs.Displacement.{Handed, handed, record_input}
 use Rattle.wire_tdcp.proofs.DisplacementLaws.{previous-broken, current-broken, previous-many, current-many, result-short, displacement-answers, result-is}

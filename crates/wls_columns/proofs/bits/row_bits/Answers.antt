@@ -1,5 +1,4 @@
 -- `wls_columns::bits::row_bits` meets its contract. Assumes nothing.
-use borrow.Author.Rules.{rules}
 use native.Mathlib.Omega.{arith}
 use lib.Ieee.{nan}
 use Rattle.cholesky.specs.Factor.{row}

@@ -1,9 +1,8 @@
 -- `wls_columns::columns::observations_of` meets its contract: its loop stores one place after the other. Assumes nothing.
 use mathlib.Core.Path.{refl}
-use Prim.Native.Nat.{◌-◌}
 use borrow.Author.Rules.{rules}
 use Rattle.wls_columns.specs.Columns.{ObservationColumns, observation_columns, observation_at}
-use Rattle.lists.proofs.Filling.{Filling, filling_start, filling_next}
+use Rattle.lists.proofs.Filling.{filling_start, filling_next}
 use Rattle.wls_columns.proofs.ColumnLaws.{ObservationRoom, observations-room, filling_end}
 use Rattle.wls_columns.proofs.columns.observations_of.Goals as goal
 use Rattle.wls_columns.proofs.columns.observations_of.Lts as lts

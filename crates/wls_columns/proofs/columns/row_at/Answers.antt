@@ -1,6 +1,5 @@
 -- `wls_columns::columns::row_at` meets its contract. Assumes nothing.
 use Rattle.wls_columns.specs.Columns.{row_from}
-use borrow.Author.Rules.{rules}
 use Rattle.wls_columns.proofs.columns.row_at.Goals as goal
 
 pub returns : goal.returns

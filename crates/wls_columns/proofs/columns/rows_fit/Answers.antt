@@ -1,7 +1,6 @@
 -- `wls_columns::columns::rows_fit` meets its contract. Assumes nothing.
 use borrow.Author.Tests.{le-leb, lt-leb}
 use Rattle.wls_columns.specs.Columns.{rows_fit}
-use borrow.Author.Rules.{rules}
 use Rattle.wls_columns.proofs.columns.rows_fit.Goals as goal
 
 pub returns-then-n-gt64 : goal.returns-then-n-gt64

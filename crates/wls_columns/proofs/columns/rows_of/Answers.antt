@@ -1,9 +1,8 @@
 -- `wls_columns::columns::rows_of` meets its contract: its loop stores one place after the other. Assumes nothing.
 use mathlib.Core.Path.{refl}
-use Prim.Native.Nat.{◌-◌}
 use borrow.Author.Rules.{rules}
 use Rattle.wls_columns.specs.Columns.{RowColumns, row_columns, row_from}
-use Rattle.lists.proofs.Filling.{Filling, filling_start, filling_next}
+use Rattle.lists.proofs.Filling.{filling_start, filling_next}
 use Rattle.wls_columns.proofs.ColumnLaws.{RowRoom, rows-room, filling_end}
 use Rattle.wls_columns.proofs.columns.rows_of.Goals as goal
 use Rattle.wls_columns.proofs.columns.rows_of.Lts as lts

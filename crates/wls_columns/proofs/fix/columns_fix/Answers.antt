@@ -1,10 +1,8 @@
 -- `wls_columns::fix::columns_fix` meets its contract. Assumes nothing.
 use mathlib.Core.Path.{sym, ◌∙◌}
-use borrow.Author.Tests.{not-true, not-false}
 use Rattle.numeric.specs.Vec3.{vector_at}
 use Rattle.wls_columns.specs.Columns.{ObservationColumns, observation_columns}
 use Rattle.wls_columns.proofs.FixLaws.{fix-short, fix-fit}
-use borrow.Author.Rules.{rules}
 use Rattle.wls_columns.proofs.fix.columns_fix.Goals as goal
 use Rattle.wls_columns.proofs.fix.columns_fix.Lts as lts
 use Rattle.wls_columns.proofs.fix.columns_fix.Tie as tie

@@ -1,6 +1,5 @@
 -- `wls_columns::fix::fix_into` meets its contract. Assumes nothing.
 use mathlib.Core.Path.{refl}
-use borrow.Author.Rules.{rules}
 use Rattle.wls_columns.proofs.fix.fix_into.Goals as goal
 
 pub returns-in-At : goal.returns-in-At

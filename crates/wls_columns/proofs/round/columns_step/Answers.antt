@@ -1,7 +1,5 @@
 -- `wls_columns::round::columns_step` meets its contract. Assumes nothing.
 use mathlib.Core.Path.{refl, sym, ◌∙◌}
-use borrow.Author.Tests.{not-true, not-false}
-use borrow.Author.Rules.{rules}
 use Rattle.wls_columns.specs.Columns.{RowColumns, row_columns}
 use Rattle.wls_columns.proofs.StepLaws.{short-promised, fit-promised}
 use Rattle.wls_columns.proofs.round.columns_step.Goals as goal

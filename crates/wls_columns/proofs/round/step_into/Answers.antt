@@ -1,6 +1,5 @@
 -- `wls_columns::round::step_into` meets its contract. Assumes nothing.
 use mathlib.Core.Path.{refl}
-use borrow.Author.Rules.{rules}
 use Rattle.wls_columns.proofs.round.step_into.Goals as goal
 
 pub returns-in-Refused : goal.returns-in-Refused
