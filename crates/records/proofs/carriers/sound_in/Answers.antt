@@ -1,10 +1,8 @@
 -- `records::carriers::sound_in` meets its contract. Assumes nothing.
 use borrow.Author.Rules.{rules}
-use mathlib.Core.Path.{◌≡◌, refl, ap, ◌∙◌}
-use Prim.Native.Nat.{◌≤◌, ◌-◌}
+use mathlib.Core.Path.{refl, ap, ◌∙◌}
 use native.Mathlib.Omega.{arith}
-use lib.ListN.{length, take, drop}
-use borrow.Author.Tests.{not-true, not-false}
+use lib.ListN.{length}
 use Rattle.lists.specs.Walk.{every}
 use Rattle.lists.proofs.Walk.{every-yes, every-no, every-end}
 use Rattle.records.specs.Record.{sound_carrier}
