@@ -23,6 +23,7 @@ pub enum Class {
 }
 
 // Bit 63.
+#[tactic(auto, unfolding(crate::specs::Order::sign_of, exact::specs::Pattern::sign))]
 pub fn sign_of(b: u64) -> Sign
     ensures { result ≡ sign_of b }
 {

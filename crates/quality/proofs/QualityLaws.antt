@@ -39,7 +39,6 @@ use Rattle.quality.specs.Quality.{freedom_of, chi_of, unweighted_matrix, pdop_of
 use Rattle.quality.specs.Steps.{Forwarded, dilution_found, dilution_number, dilution_floats, Diluted, quality_number, quality_floats, Qualified}
 use Rattle.quality.specs.declared.figures.Figures.{Figures}
 use Rattle.quality.specs.declared.figures.Dilution.{Dilution}
-use Rattle.quality.specs.declared.figures.Dilution.TheVariants as Dilution
 use Rattle.quality.specs.declared.figures.Quality.{Quality}
 use Rattle.quality.specs.declared.figures.Quality.TheVariants.{Refused, Rated}
 

@@ -9,7 +9,6 @@ use Rattle.normal_equations.specs.declared.row.Row.{Row}
 use Rattle.numeric.specs.Rules.{ruled}
 use Rattle.quality.specs.Quality.{dilution_of, pivot_rule, quality_of}
 use Rattle.quality.specs.declared.figures.Dilution.{Dilution}
-use Rattle.quality.specs.declared.figures.Dilution.TheVariants as Dilution
 use Rattle.quality.specs.declared.figures.Quality.{Quality}
 use Rattle.quality.specs.declared.figures.Quality.TheVariants.{Refused, Rated}
 

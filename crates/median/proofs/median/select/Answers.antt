@@ -7,13 +7,13 @@ pub loop-len-init : goal.loop-len-init
 loop-len-init c = seeking c.requires
 
 pub of_lowest-requires : goal.of_lowest-requires
-of_lowest-requires c = let inv = c.loop-len.invariant in (inv.inside, c.if-at-lt4.true, inv.room, inv.long, inv.plain)
+of_lowest-requires c = let inv = c.loop-len.invariant in (inv.inside, omega arith, inv.room, inv.long, inv.plain)
 
 pub returns-then-at-lt4 : goal.returns-then-at-lt4
 returns-then-at-lt4 c = let inv = c.loop-len.invariant in (lowest-found inv c.of_lowest.ensures, inv.long)
 
 pub of_highest-requires : goal.of_highest-requires
-of_highest-requires c = let inv = c.loop-len.invariant in (omega arith, c.if-above-lt4.true, inv.room, inv.long, inv.plain)
+of_highest-requires c = let inv = c.loop-len.invariant in (omega arith, omega arith, inv.room, inv.long, inv.plain)
 
 pub returns-then-above-lt4 : goal.returns-then-above-lt4
 returns-then-above-lt4 c = let inv = c.loop-len.invariant in (highest-found inv c.of_highest.ensures, inv.long)

@@ -1,10 +1,7 @@
 -- `quality::figures::chi_of` meets its contract. Assumes nothing.
 use mathlib.Core.Path.{◌≡◌}
 use Prim.Native.Nat.{◌-◌, ◌≤◌}
-use native.Mathlib.Omega.{arith}
-use borrow.Author.Rules.{rules}
-use Rattle.normal_equations.specs.Steps.{columns}
-use Rattle.quality.proofs.QualityLaws.{squared, squared-zero, squared-next, chi-rows}
+use Rattle.quality.proofs.QualityLaws.{squared}
 use Rattle.quality.proofs.figures.chi_of.Given as goal
 
 abbrev pub invariant-loop-k : goal.invariant-loop-k

@@ -1,7 +1,6 @@
 -- `quality::figures::dilution_of` meets its contract. Assumes nothing.
 use mathlib.Core.Path.{refl}
 use native.Mathlib.Omega.{arith}
-use borrow.Author.Rules.{rules}
 use Rattle.normal_equations.specs.Steps.{RoundColumns, columns, rows_in}
 use Rattle.quality.proofs.QualityLaws.{diluted, unweighted_unused, dilution_refused, dilution_is}
 use Rattle.quality.proofs.figures.dilution_of.Goals as goal

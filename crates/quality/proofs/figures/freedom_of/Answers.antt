@@ -1,7 +1,6 @@
 -- `quality::figures::freedom_of` meets its contract. Assumes nothing.
 use native.Mathlib.Omega.{arith}
 use Rattle.quality.proofs.QualityLaws.{freedom_some, freedom_least}
-use borrow.Author.Rules.{rules}
 use Rattle.quality.proofs.figures.freedom_of.Goals as goal
 
 pub returns-then-n-count : goal.returns-then-n-count

@@ -1,6 +1,5 @@
 -- `quality::figures::quality_of` meets its contract. Assumes nothing.
 use mathlib.Core.Path.{sym, ◌∙◌}
-use borrow.Author.Rules.{rules}
 use Rattle.normal_equations.specs.Steps.{RoundColumns, columns, rows_in}
 use Rattle.quality.proofs.QualityLaws.{qualified, quality-refused, quality-rated, quality_not_finite}
 use Rattle.quality.proofs.figures.quality_of.Goals as goal

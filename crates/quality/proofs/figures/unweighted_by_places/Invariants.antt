@@ -1,13 +1,8 @@
 -- `quality::figures::unweighted_by_places` meets its contract. Assumes nothing.
 use Prim.Native.Nat.{◌-◌, ◌≤◌}
-use mathlib.Core.Path.{◌≡◌, sym, subst}
-use mathlib.Core.Bool.{true, false}
-use lib.Dec.{T}
-use Rattle.normal_equations.specs.Steps.{RoundColumns, columns, row_in}
-use Rattle.normal_equations.proofs.Places.{PlacedCells, cells-start}
-use Rattle.quality.proofs.QualityLaws.{passed, bare, bare-row, bare-end}
-use native.Mathlib.Omega.{arith}
-use borrow.Author.Rules.{rules}
+use Rattle.normal_equations.specs.Steps.{columns, row_in}
+use Rattle.normal_equations.proofs.Places.{PlacedCells}
+use Rattle.quality.proofs.QualityLaws.{bare}
 use Rattle.quality.proofs.figures.unweighted_by_places.Given as goal
 
 abbrev pub invariant-loop-k : goal.invariant-loop-k

@@ -1,11 +1,9 @@
 -- `quality::figures::unweighted_in_full` meets its contract. Assumes nothing.
-use mathlib.Core.Path.{◌≡◌, ap, ◌∙◌}
-use Prim.Native.Nat.{◌-◌, ◌≤◌}
-use Rattle.normal_equations.specs.Equations.{wide, triangle_of}
+use mathlib.Core.Path.{ap, ◌∙◌}
+use Rattle.normal_equations.specs.Equations.{wide}
 use Rattle.normal_equations.specs.Steps.{RoundColumns, columns}
 use Rattle.normal_equations.proofs.AddedLaws.{triangle-wide}
-use Rattle.quality.proofs.QualityLaws.{plain, plain-start, plain-next, plain_end}
-use borrow.Author.Rules.{rules}
+use Rattle.quality.proofs.QualityLaws.{plain-start, plain-next, plain_end}
 use native.Mathlib.Omega.{arith}
 use Rattle.quality.proofs.figures.unweighted_in_full.Goals as goal
 use Rattle.quality.proofs.figures.unweighted_in_full.Lts as lts

@@ -1,12 +1,9 @@
 -- `quality::figures::unweighted_in_full` meets its contract. Assumes nothing.
-use mathlib.Core.Path.{◌≡◌, ap, ◌∙◌}
+use mathlib.Core.Path.{◌≡◌}
 use Prim.Native.Nat.{◌-◌, ◌≤◌}
-use Rattle.normal_equations.specs.Equations.{wide, triangle_of}
-use Rattle.normal_equations.specs.Steps.{RoundColumns, columns}
-use Rattle.normal_equations.proofs.AddedLaws.{triangle-wide}
-use Rattle.quality.proofs.QualityLaws.{plain, plain-start, plain-next, plain_end}
-use borrow.Author.Rules.{rules}
-use native.Mathlib.Omega.{arith}
+use Rattle.normal_equations.specs.Equations.{triangle_of}
+use Rattle.normal_equations.specs.Steps.{columns}
+use Rattle.quality.proofs.QualityLaws.{plain}
 use Rattle.quality.proofs.figures.unweighted_in_full.Given as goal
 
 abbrev pub invariant-loop-k : goal.invariant-loop-k

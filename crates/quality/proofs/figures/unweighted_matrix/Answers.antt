@@ -1,6 +1,5 @@
 -- `quality::figures::unweighted_matrix` meets its contract. Assumes nothing.
 use native.Mathlib.Omega.{arith}
-use borrow.Author.Rules.{rules}
 use Rattle.quality.proofs.figures.unweighted_matrix.Goals as goal
 
 pub returns-then-unweighted_by_places : goal.returns-then-unweighted_by_places

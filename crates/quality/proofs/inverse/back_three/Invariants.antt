@@ -1,9 +1,6 @@
 -- `quality::inverse::back_three` meets its contract: after m turns the places n - m to n - 1 of each column are solved, and those from n on are 0. Assumes nothing.
-use Rattle.cholesky.proofs.SolveUsed.{places-kept, back_none, back-next}
-use Rattle.exact.proofs.Products.{less_zero, less-next}
 use Rattle.cholesky.specs.Factor.{back_to, at, cell, UnusedPlaces}
 use Rattle.exact.specs.Products.{less_products}
-use native.Mathlib.Omega.{arith}
 use mathlib.Core.Path.{◌≡◌}
 use mathlib.Core.List.{List}
 use lib.Ieee.{Float}

@@ -1,11 +1,8 @@
 -- `quality::inverse::forward_three` meets its contract: after i turns the first i places of each column are solved. Assumes nothing.
 use Rattle.cholesky.proofs.FactorLaws.{forward_to-zero, forward_to-next}
 use Rattle.exact.proofs.Products.{less_zero, less-next}
-use Rattle.cholesky.specs.Factor.{forward_to, at, cell}
-use Rattle.exact.specs.Products.{less_products}
 use native.Mathlib.Omega.{arith}
 use mathlib.Core.Path.{◌≡◌}
-use Prim.Native.Nat.{◌≤◌, ◌<◌, ◌-◌}
 use Rattle.quality.proofs.inverse.forward_three.Goals as goal
 
 pub loop-i-init : goal.loop-i-init

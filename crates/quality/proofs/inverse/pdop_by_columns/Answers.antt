@@ -1,7 +1,6 @@
 -- `quality::inverse::pdop_by_columns` meets its contract. Assumes nothing.
 use native.Mathlib.Omega.{arith}
 use Rattle.quality.proofs.QualityLaws.{pdop-is, column-unused}
-use borrow.Author.Rules.{rules}
 use Rattle.quality.proofs.inverse.pdop_by_columns.Goals as goal
 
 pub solve_used-u-requires : goal.solve_used-u-requires

@@ -4,7 +4,6 @@ use lib.Dec.{T}
 use Rattle.cholesky.proofs.SolveUsed.{solution-used}
 use Rattle.quality.proofs.QualityLaws.{passed, forwarded, pdop-is, column-unused}
 use native.Mathlib.Omega.{arith}
-use borrow.Author.Rules.{rules}
 use Rattle.quality.proofs.inverse.pdop_of.Goals as goal
 
 pub back_three-requires : goal.back_three-requires

@@ -1,6 +1,6 @@
 -- `records::carriers::carrier_in` meets its contract. Assumes nothing.
 use mir.Facts.{to_z-of_z}
-use borrow.Author.Rules.{rules, sfits_of}
+use borrow.Author.Rules.{sfits_of}
 use Rattle.records.specs.Signals.{carrier_with}
 use Rattle.records.proofs.carriers.carrier_in.Goals as goal
 

@@ -1,9 +1,7 @@
 -- `records::carriers::epoch_into` meets its contract. Assumes nothing.
 use borrow.Author.Rules.{rules}
 use mathlib.Core.Path.{◌≡◌, refl}
-use Prim.Native.Nat.{◌≤◌, ◌-◌}
 use lib.ListN.{length}
-use Rattle.records.specs.Steps.{Laid}
 use native.Mathlib.Omega.{arith}
 use Rattle.records.proofs.PutLaws.{laid_next, get_d_any}
 use Rattle.lists.proofs.Walk.{length-mapped}

@@ -1,9 +1,9 @@
 -- `records::carriers::signals_into` meets its contract. Assumes nothing.
 use borrow.Author.Rules.{rules}
-use mathlib.Core.Path.{◌≡◌, ◌∙◌}
-use Prim.Native.Nat.{ℕ, ◌≤◌, ◌-◌, ◌<◌}
+use mathlib.Core.Path.{◌∙◌}
+use Prim.Native.Nat.{ℕ}
 use native.Mathlib.Omega.{arith}
-use lib.ListN.{length, get_or, length-set}
+use lib.ListN.{get_or, length-set}
 use Rattle.signal.specs.Signal.{signal}
 use Rattle.records.proofs.CarrierLaws.{signals-next}
 use Rattle.records.proofs.carriers.signals_into.Goals as goal

@@ -1,10 +1,8 @@
 -- `records::carriers::sound_in` meets its contract. Assumes nothing.
 use borrow.Author.Rules.{rules}
-use mathlib.Core.Path.{◌≡◌, refl, ap, ◌∙◌}
-use Prim.Native.Nat.{◌≤◌, ◌-◌}
+use mathlib.Core.Path.{refl, ap, ◌∙◌}
 use native.Mathlib.Omega.{arith}
-use lib.ListN.{length, take, drop}
-use borrow.Author.Tests.{not-true, not-false}
+use lib.ListN.{length}
 use Rattle.lists.specs.Walk.{every}
 use Rattle.lists.proofs.Walk.{every-yes, every-no, every-end}
 use Rattle.records.specs.Record.{sound_carrier}
@@ -27,7 +25,7 @@ returns-then-not-is_sound c = let a = c.args in
 pub loop-i-preserved : goal.loop-i-preserved
 loop-i-preserved c = let a = c.args in
     let t = c.loop-i-test.true in
-    (refl, search rules, every-yes (carriers_in a.signals.now a.states.now a.floats.now) (length a.signals.now) (carriers-long a.signals.now a.states.now a.floats.now) c.loop-i.i blank t sound_carrier c.loop-i.invariant.2 (c.is_sound.ensures ∙ ap sound_carrier (carrier-is a.signals.now a.states.now a.floats.now t c.carrier_in-c.ensures)) c.if-not-is_sound.false)
+    (refl, search rules, every-yes (carriers_in a.signals.now a.states.now a.floats.now) (length a.signals.now) (carriers-long a.signals.now a.states.now a.floats.now) c.loop-i.i blank t sound_carrier c.loop-i.invariant.2 (c.is_sound.ensures ∙ ap sound_carrier (carrier-is a.signals.now a.states.now a.floats.now t c.carrier_in-c.ensures)) (search rules))
 
 pub returns : goal.returns
 returns c = let a = c.args in

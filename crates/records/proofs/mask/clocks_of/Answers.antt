@@ -1,13 +1,11 @@
 -- `records::mask::clocks_of` meets its contract: its loop gives the constellations one after the other. Assumes nothing.
 use mathlib.Core.Path.{◌≡◌, ◌∙◌}
-use Prim.Native.Nat.{◌≤◌, ◌-◌}
+use Prim.Native.Nat.{◌≤◌}
 use native.Mathlib.Omega.{arith}
-use lib.ListN.{length, drop, take}
+use lib.ListN.{length}
 use borrow.Author.Rules.{rules}
-use Rattle.lists.specs.Walk.{fold}
 use Rattle.lists.proofs.Walk.{length-mapped, fold-turn, fold_end}
-use Rattle.clocks.specs.Clocks.{none, given, clocks_of}
-use Rattle.records.specs.Mask.{constellations}
+use Rattle.clocks.specs.Clocks.{none, given}
 use Rattle.clocks.proofs.ClocksLaws.{law, fold-map}
 use Rattle.records.proofs.RecordLaws.{blank_observation}
 use Rattle.records.proofs.mask.clocks_of.Goals as goal

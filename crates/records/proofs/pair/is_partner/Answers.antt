@@ -2,7 +2,6 @@
 use mathlib.Core.Path.{refl, ap, ◌∙◌}
 use borrow.Author.Tests.{eq-eqb, ne_eqb}
 use Rattle.records.specs.Record.{usable}
-use borrow.Author.Rules.{rules}
 use Rattle.records.proofs.pair.is_partner.Goals as goal
 
 pub returns-then-signals-j : goal.returns-then-signals-j

@@ -1,6 +1,5 @@
 -- `records::pair::is_seen` meets its contract. Assumes nothing.
 use Rattle.records.specs.Pair.{seen}
-use borrow.Author.Rules.{rules}
 use Rattle.records.proofs.pair.is_seen.Goals as goal
 
 pub returns : goal.returns

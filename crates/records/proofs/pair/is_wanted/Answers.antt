@@ -1,5 +1,4 @@
 -- `records::pair::is_wanted` meets its contract. Assumes nothing.
-use borrow.Author.Rules.{rules}
 use Rattle.records.proofs.pair.is_wanted.Goals as goal
 
 pub returns : goal.returns

@@ -1,6 +1,5 @@
 -- `records::pair::pair_of` meets its contract. Assumes nothing.
 use Rattle.records.specs.Pair.{pair_of}
-use borrow.Author.Rules.{rules}
 use Rattle.records.proofs.pair.pair_of.Goals as goal
 
 pub returns : goal.returns

@@ -1,13 +1,10 @@
 -- `records::pair::pairs_in` meets its contract. Assumes nothing.
-use borrow.Author.Rules.{rules}
-use mathlib.Core.Path.{◌≡◌, refl, sym, ap, ◌∙◌}
-use mathlib.Core.Logic.{⊎_elim}
+use mathlib.Core.Path.{refl, sym, ap, ◌∙◌}
 use mathlib.Core.List.{[], ◌∷◌}
-use Prim.Native.Nat.{◌-◌}
 use native.Mathlib.Omega.{arith}
-use lib.ListN.{length, take}
+use lib.ListN.{length}
 use Rattle.lists.specs.Walk.{every, collect}
-use Rattle.lists.proofs.Walk.{length-mapped, Collecting, collecting-start, collecting-none, collecting-one, collecting-end}
+use Rattle.lists.proofs.Walk.{length-mapped, collecting-start, collecting-none, collecting-one, collecting-end}
 use Rattle.records.specs.Signals.{carriers_in}
 use Rattle.records.specs.Pair.{pair_of, seen}
 use Rattle.records.specs.declared.record.Carrier.{Carrier}
@@ -59,12 +56,12 @@ loop-i-preserved c = let s = c in
     let few = s.requires.signals_lent_2.few in
     let gives = sym (ap given (carrier-is a.current_signals.now a.current_states.now a.current_floats.now test x.ensures)) in
     elim c.if-is_wanted.branch [
-      then-is_wanted+then-j-previous_signals w ↦
-        rw w.out-is (refl, collecting-one given _ _ 64 fits few inv blank test w.pair_of-q.result (gives ∙ given-one a.receiver a.mask a.dt a.profile a.previous_signals.now a.previous_states.now a.previous_floats.now _ _ a.current_floats.now _ x.result x.ensures is-it w.if-is_wanted.true w.partner_in-j.ensures w.if-j-previous_signals.true ∙ ap (λ (p : Carrier). pair_of a.receiver a.dt x.result p ∷ []) (sym w.carrier_in-p.ensures) ∙ ap (λ (q : Pair). q ∷ []) (sym w.pair_of-q.ensures)), every-next seen o.pair o.count w.pair_of-q.result (omega (arith, inv.few, inv.long, few, test)) flag w.is_seen.ensures)
-    | then-is_wanted+else-j-previous_signals w ↦
-        rw w.out-is (refl, collecting-none given _ _ 64 fits few inv blank test (gives ∙ given-none a.receiver a.mask a.dt a.profile a.previous_signals.now a.previous_states.now a.previous_floats.now _ _ a.current_floats.now _ x.result x.ensures is-it w.if-is_wanted.true w.partner_in-j.ensures w.if-j-previous_signals.false), flag)
-    | else-is_wanted w ↦
-        rw w.out-is (refl, collecting-none given _ _ 64 fits few inv blank test (gives ∙ pair_not a.receiver a.mask a.dt a.profile (carriers_in a.previous_signals.now a.previous_states.now a.previous_floats.now) x.result is-it w.if-is_wanted.false), flag)
+      | then-is_wanted+then-j-previous_signals w ↦
+          rw w.out-is (refl, collecting-one given _ _ 64 fits few inv blank test w.pair_of-q.result (gives ∙ given-one a.receiver a.mask a.dt a.profile a.previous_signals.now a.previous_states.now a.previous_floats.now _ _ a.current_floats.now _ x.result x.ensures is-it w.if-is_wanted.true w.partner_in-j.ensures w.if-j-previous_signals.true ∙ ap (λ (p : Carrier). pair_of a.receiver a.dt x.result p ∷ []) (sym w.carrier_in-p.ensures) ∙ ap (λ (q : Pair). q ∷ []) (sym w.pair_of-q.ensures)), every-next seen o.pair o.count w.pair_of-q.result (omega (arith, inv.few, inv.long, few, test)) flag w.is_seen.ensures)
+      | then-is_wanted+else-j-previous_signals w ↦
+          rw w.out-is (refl, collecting-none given _ _ 64 fits few inv blank test (gives ∙ given-none a.receiver a.mask a.dt a.profile a.previous_signals.now a.previous_states.now a.previous_floats.now _ _ a.current_floats.now _ x.result x.ensures is-it w.if-is_wanted.true w.partner_in-j.ensures w.if-j-previous_signals.false), flag)
+      | else-is_wanted w ↦
+          rw w.out-is (refl, collecting-none given _ _ 64 fits few inv blank test (gives ∙ pair_not a.receiver a.mask a.dt a.profile (carriers_in a.previous_signals.now a.previous_states.now a.previous_floats.now) x.result is-it w.if-is_wanted.false), flag)
     ]
 
 pub returns : goal.returns

@@ -1,10 +1,8 @@
 -- `records::pair::partner_in` meets its contract. Assumes nothing.
 use borrow.Author.Rules.{rules}
-use mathlib.Core.Path.{◌≡◌, refl}
-use Prim.Native.Nat.{◌≤◌, ◌-◌}
+use mathlib.Core.Path.{refl}
 use native.Mathlib.Omega.{arith}
-use lib.ListN.{length}
-use Rattle.records.proofs.CarrierLaws.{Sought, sought-start, sought-next, sought-here, sought-end}
+use Rattle.records.proofs.CarrierLaws.{sought-start, sought-next, sought-here, sought-end}
 use Rattle.records.proofs.pair.partner_in.Goals as goal
 
 pub loop-j-init : goal.loop-j-init

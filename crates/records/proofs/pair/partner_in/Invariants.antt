@@ -1,10 +1,8 @@
 -- `records::pair::partner_in` meets its contract. Assumes nothing.
-use borrow.Author.Rules.{rules}
-use mathlib.Core.Path.{◌≡◌, refl}
+use mathlib.Core.Path.{◌≡◌}
 use Prim.Native.Nat.{◌≤◌, ◌-◌}
-use native.Mathlib.Omega.{arith}
 use lib.ListN.{length}
-use Rattle.records.proofs.CarrierLaws.{Sought, sought-start, sought-next, sought-here, sought-end}
+use Rattle.records.proofs.CarrierLaws.{Sought}
 use Rattle.records.proofs.pair.partner_in.Given as goal
 
 abbrev pub invariant-loop-j : goal.invariant-loop-j

@@ -1,13 +1,12 @@
 -- `records::screen::clocks_of` meets its contract: its loop gives the constellations one after the other. Assumes nothing.
-use mathlib.Core.Path.{◌≡◌, ap, ◌∙◌}
-use Prim.Native.Nat.{◌≤◌, ◌-◌}
+use mathlib.Core.Path.{ap, ◌∙◌}
 use native.Mathlib.Omega.{arith}
-use lib.ListN.{length, drop, take}
+use lib.ListN.{length}
 use lib.Seq.{take_all}
 use borrow.Author.Rules.{rules}
 use Rattle.lists.specs.Walk.{fold}
 use Rattle.lists.proofs.Walk.{fold-turn, fold_end}
-use Rattle.clocks.specs.Clocks.{none, given, clocks_of}
+use Rattle.clocks.specs.Clocks.{none, given}
 use Rattle.clocks.proofs.ClocksLaws.{law}
 use Rattle.records.proofs.screen.clocks_of.Goals as goal
 

@@ -1,14 +1,9 @@
 -- `records::screen::clocks_of` meets its contract: its loop gives the constellations one after the other. Assumes nothing.
-use mathlib.Core.Path.{◌≡◌, ap, ◌∙◌}
+use mathlib.Core.Path.{◌≡◌}
 use Prim.Native.Nat.{◌≤◌, ◌-◌}
-use native.Mathlib.Omega.{arith}
-use lib.ListN.{length, drop, take}
-use lib.Seq.{take_all}
-use borrow.Author.Rules.{rules}
+use lib.ListN.{drop, take}
 use Rattle.lists.specs.Walk.{fold}
-use Rattle.lists.proofs.Walk.{fold-turn, fold_end}
-use Rattle.clocks.specs.Clocks.{none, given, clocks_of}
-use Rattle.clocks.proofs.ClocksLaws.{law}
+use Rattle.clocks.specs.Clocks.{given, clocks_of}
 use Rattle.records.proofs.screen.clocks_of.Given as goal
 
 abbrev pub invariant-loop-i : goal.invariant-loop-i

@@ -1,8 +1,7 @@
 -- `records::screen::keep_into` meets its contract: the first loop puts the detectors' patterns into an array, and the second gathers the columns of the pairs
 -- that it keeps. Assumes nothing.
 use mathlib.Core.Path.{◌≡◌, refl, sym, ap, ◌∙◌}
-use mathlib.Core.Logic.{⊎_elim}
-use Prim.Native.Nat.{◌≤◌, ◌<◌, ◌-◌}
+use Prim.Native.Nat.{◌≤◌, ◌<◌}
 use native.Mathlib.Omega.{arith}
 use lib.ListN.{take, length, length-set}
 use lib.Seq.{length-take-le}
@@ -10,16 +9,13 @@ use lib.Ieee.{Float, lt}
 use borrow.Author.Rules.{rules}
 use Rattle.lists.proofs.Walk.{length-mapped}
 use Rattle.numeric.specs.Order.{pattern_of}
-use Rattle.records.specs.Screen.{detectors, centre, within, kept_of}
+use Rattle.records.specs.Screen.{centre, within, kept_of}
 use Rattle.records.specs.declared.pair.Pair.{Pair}
 use Rattle.records.proofs.KeepLaws.{filled_next}
 use Rattle.records.proofs.PairLaws.{blank_pair}
-use Rattle.records.proofs.ScreenLaws.{centre-is, Gathered, gathered-start, gathered-one, gathered_none, gathered-end}
+use Rattle.records.proofs.ScreenLaws.{centre-is, gathered-start, gathered-one, gathered_none, gathered-end}
 use Rattle.records.proofs.screen.keep_into.Goals as goal
 use Rattle.records.proofs.screen.keep_into.Goals.{then-abs-screen, else-abs-screen}
-use Rattle.records.proofs.screen.keep_into.Lts as lts
-use Rattle.records.proofs.screen.keep_into.Tie as tie
-use Rattle.records.proofs.screen.keep_into.Reads as reads
 
 fits : (c : goal.Start) → c.args.p.count ≤ length c.args.p.pair
 fits c = let e : length c.args.p.pair ≡ 64 = search length-mapped in omega arith
@@ -43,8 +39,8 @@ loop-j-preserved c = let s = c in
     let test = c.loop-j-test.true in
     let is = ap (λ (a : Float). lt a s.args.screen) c.abs.ensures in
     elim c.if-abs-screen.branch [
-      then-abs-screen w ↦ rw (w.x-is, w.y-is, w.z-is, w.constellation-is, w.elevation-is, w.observed-is, w.k-is) (gathered-one _ _ _ _ (fits s.before.before.before.before.before.before.before.before.before.before.before.before.before.before.before.before.before) s.requires t.invariant test is w.if-abs-screen.true)
-    | else-abs-screen w ↦ rw (w.x-is, w.y-is, w.z-is, w.constellation-is, w.elevation-is, w.observed-is, w.k-is) (gathered_none _ _ _ _ (fits s.before.before.before.before.before.before.before.before.before.before.before.before.before.before.before.before.before) s.requires t.invariant test is w.if-abs-screen.false)
+      | then-abs-screen w ↦ rw (w.x-is, w.y-is, w.z-is, w.constellation-is, w.elevation-is, w.observed-is, w.k-is) (gathered-one _ _ _ _ (fits s.before.before.before.before.before.before.before.before.before.before.before.before.before.before.before.before.before) s.requires t.invariant test is w.if-abs-screen.true)
+      | else-abs-screen w ↦ rw (w.x-is, w.y-is, w.z-is, w.constellation-is, w.elevation-is, w.observed-is, w.k-is) (gathered_none _ _ _ _ (fits s.before.before.before.before.before.before.before.before.before.before.before.before.before.before.before.before.before) s.requires t.invariant test is w.if-abs-screen.false)
     ]
 
 pub returns : goal.returns

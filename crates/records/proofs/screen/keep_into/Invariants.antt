@@ -1,20 +1,10 @@
 -- `records::screen::keep_into` meets its contract: the first loop puts the detectors' patterns into an array, and the second gathers the columns of the pairs
 -- that it keeps. Assumes nothing.
-use mathlib.Core.Path.{◌≡◌, refl, sym, ap, ◌∙◌}
-use mathlib.Core.Logic.{⊎_elim}
-use Prim.Native.Nat.{◌≤◌, ◌<◌, ◌-◌}
-use native.Mathlib.Omega.{arith}
-use lib.ListN.{take, length, length-set}
-use lib.Seq.{length-take-le}
-use lib.Ieee.{Float, lt}
-use borrow.Author.Rules.{rules}
-use Rattle.lists.proofs.Walk.{length-mapped}
-use Rattle.numeric.specs.Order.{pattern_of}
-use Rattle.records.specs.Screen.{detectors, centre, within, kept_of}
-use Rattle.records.specs.declared.pair.Pair.{Pair}
-use Rattle.records.proofs.KeepLaws.{filled_next}
-use Rattle.records.proofs.PairLaws.{blank_pair}
-use Rattle.records.proofs.ScreenLaws.{centre-is, Gathered, gathered-start, gathered-one, gathered_none, gathered-end}
+use mathlib.Core.Path.{◌≡◌}
+use Prim.Native.Nat.{◌≤◌, ◌-◌}
+use lib.ListN.{take, length}
+use Rattle.records.specs.Screen.{detectors}
+use Rattle.records.proofs.ScreenLaws.{Gathered}
 use Rattle.records.proofs.screen.keep_into.Given as goal
 
 abbrev pub invariant-loop-i : goal.invariant-loop-i
