@@ -102,11 +102,11 @@ extern "C" {
 #endif
 
 /* The version of this header and its library; the number is 10000 major + 100 minor + patch. */
-#define ZAQNUTI_VERSION "0.7.2"
+#define ZAQNUTI_VERSION "0.7.1"
 #define ZAQNUTI_VERSION_MAJOR 0
 #define ZAQNUTI_VERSION_MINOR 7
-#define ZAQNUTI_VERSION_PATCH 2
-#define ZAQNUTI_VERSION_NUMBER 702
+#define ZAQNUTI_VERSION_PATCH 1
+#define ZAQNUTI_VERSION_NUMBER 701
 
 /*
  * Returns the version of the library as a number like ZAQNUTI_VERSION_NUMBER.

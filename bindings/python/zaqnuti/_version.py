@@ -1,6 +1,6 @@
 """The version of this package, which is that of the library it needs."""
 
-__version__ = "0.7.2"
+__version__ = "0.7.1"
 
 
 def number_of(version: str) -> int:

@@ -6,7 +6,6 @@ use mathlib.Core.List.{List}
 use lib.Ieee.{Float}
 use mathlib.Core.Bool.{true, false}
 use Rattle.cholesky.specs.declared.factor.Factoring.{Factoring}
-use Rattle.cholesky.specs.declared.factor.Factoring.TheVariants as Factoring
 use Rattle.numeric.specs.declared.refusal.Refusal.TheVariants.{FitFailed}
 use Rattle.cholesky.specs.Factor.{Factored, Refused, Lower, factor_of}
 use Rattle.cholesky.specs.Answer.{accepted, factoring_of, factoring_number, rows_after, FactorPromised}

@@ -45,6 +45,7 @@ le-largest (suc m) (negsuc k) f =
 
 both : (a b : Bool) → T b → (a && b) ≡ a
 both true true h = refl
+both true false h = elim h [ ]
 both false b h = refl
 
 pub pivot-is : (p : Float) → T (fits binary64 p) → (lt +0 p && le p largest) ≡ is_pivot p

@@ -1,7 +1,6 @@
 -- What the calls on a matrix answer, from what factoring it gives. Definitions only.
 use Rattle.std.specs.Prelude.{ℕ, ◌≡◌, Bool, true, false, List, Float}
 use Rattle.cholesky.specs.declared.factor.Factoring.{Factoring}
-use Rattle.cholesky.specs.declared.factor.Factoring.TheVariants as Factoring
 use Rattle.numeric.specs.Refusal.{number_of}
 use Rattle.numeric.specs.declared.refusal.Refusal.TheVariants.{FitFailed}
 use Rattle.cholesky.specs.Factor.{Factored, Refused, Lower, factor_of}

@@ -2,7 +2,6 @@
 ghost use Rattle.std.specs.Prelude.{◌≡◌, ◌-◌, ◌≤◌, ◌<◌, T, replicate};
 ghost use Rattle.std.specs.Float.{binary64};
 ghost use Rattle.std.specs.Float.Ieee.{fits};
-
 ghost use Rattle.cholesky.specs.Factor.{zeros, is_pivot, forward_to, back_to, solution_of, at, Unused, UnusedPlaces};
 ghost use Rattle.cholesky.specs.Steps.{sum_of, filled, ones_marked, FactoredUsed};
 ghost use Rattle.cholesky.specs.Answer.{factoring_number, FactorPromised};

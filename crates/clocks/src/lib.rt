@@ -1,2 +1,4 @@
 // The receiver clocks, one for each constellation.
+#![tactic(auto)]
+
 pub mod clocks;

@@ -17,7 +17,6 @@ use Rattle.robust.specs.Round.{Round, RoundOutcome, Refused, Solved}
 use Rattle.robust.specs.Steps.{Solving}
 use Rattle.normal_equations.specs.declared.row.Row.{Row}
 use Rattle.robust.specs.declared.round.Stepping.{Stepping}
-use Rattle.robust.specs.declared.round.Stepping.TheVariants as Stepping
 use Rattle.numeric.specs.declared.refusal.Refusal.{Refusal}
 use Rattle.estimate_rounds.specs.declared.rules.Check.TheVariants as Check
 use Rattle.normal_equations.proofs.NineLaws.{nine-is}

@@ -3,7 +3,6 @@ use Rattle.std.specs.Prelude.{◌≡◌, ℕ, List, Float}
 use Rattle.numeric.specs.Refusal.{number_of}
 use Rattle.estimate_rounds.specs.Rounds.{End, Stopped, Reached, state_after}
 use Rattle.estimate_rounds.specs.declared.rules.Check.{Check}
-use Rattle.estimate_rounds.specs.declared.rules.Check.TheVariants as Check
 
 -- the number of a check: 0, or the refusal's
 abbrev pub check_number : Check → ℕ

@@ -1,6 +1,5 @@
 // North, east, down of floats that a caller lends. The result is taken as patterns, so that a refusal is promised to leave every bit.
 ghost use Rattle.std.specs.Prelude.{◌≡◌};
-
 ghost use Rattle.frames.specs.Lent.{DirectionAnswered};
 
 use crate::frames::{Compass, north_east_down};

@@ -2,7 +2,7 @@
 use Prim.Native.Nat.{ℕ, ◌≤◌, ◌<◌}
 use native.Mathlib.Nat.{not-suc-le-zero}
 use native.Mathlib.Omega.{arith}
-use mathlib.Core.Path.{◌≡◌, refl, ap}
+use mathlib.Core.Path.{◌≡◌, ◌∙◌, refl, ap}
 use mathlib.Core.Bool.{Bool, true, false, cond}
 use mathlib.Core.List.{List, [], ◌∷◌}
 use lib.Dec.{ltb}
@@ -47,7 +47,9 @@ pub centre-some : (xs : List ℕ) (c d : Float) → 0 < length xs → length xs 
     → Of (record { centre = c; scale = bits 0x3FF7_B8BA_C710_CB29 ⊗ d ⊕ bits 0x3EB0_C6F7_A0B5_ED8D }) ≡ centre_scale_of xs
 unfolding centre_scale_of centre_and_scale_of scale_of centre_of
 centre-some [] c d p h e f = absurd (not-suc-le-zero p)
-centre-some (x ∷ xs) c d p h e f = rw (le-ltb 64 (length (x ∷ xs)) h, f, e, ← mad_factor_lem, ← least-scale)
+centre-some (x ∷ xs) c d p h e f =
+    let g : d ≡ bits (median_of (deviations_of (bits (median_of (x ∷ xs))) (x ∷ xs))) = f ∙ ap (λ (y : Float). bits (median_of (deviations_of y (x ∷ xs)))) e in
+    rw (le-ltb 64 (length (x ∷ xs)) h, g, e, ← mad_factor_lem, ← least-scale)
 
 -- The centre that the call gives of residuals is one of them.
 pub centre-element : (xs : List ℕ) (c : CentreScale) → 0 < length xs → Of c ≡ centre_scale_of xs → (0 < occurrences (median_of xs) xs) × (c.centre ≡ bits (median_of xs))

@@ -7,13 +7,9 @@ use Rattle.numeric.specs.declared.refusal.Refusal.{Refusal}
 use Rattle.mileage.specs.declared.mileage.Mileage.{Mileage}
 use Rattle.mileage.specs.declared.mileage.Report.{Report}
 use Rattle.mileage.specs.declared.mileage.Step.{Step}
-use Rattle.mileage.specs.declared.mileage.Step.TheVariants as Step
 use Rattle.mileage.specs.declared.mileage.Reported.{Reported}
-use Rattle.mileage.specs.declared.mileage.Reported.TheVariants as Reported
 use Rattle.mileage.specs.declared.mileage.Distance.{Distance}
-use Rattle.mileage.specs.declared.mileage.Distance.TheVariants as Distance
 use Rattle.mileage.specs.declared.mileage.Fuel.{Fuel}
-use Rattle.mileage.specs.declared.mileage.Fuel.TheVariants as Fuel
 use Rattle.mileage.specs.Words.{mileage_words, mileage_number, mileage_after, mileage_report_number, mileage_report_after, distance_number, distance_after, mileage_fuel_number, mileage_fuel_after}
 
 module _ (s : Step) where

@@ -13,13 +13,9 @@ use Rattle.mileage.specs.Mileage.{mileage_started, mileage_added, mileage_report
 use Rattle.mileage.specs.declared.mileage.Epoch.{Epoch}
 use Rattle.mileage.specs.declared.mileage.Mileage.{Mileage}
 use Rattle.mileage.specs.declared.mileage.Step.{Step}
-use Rattle.mileage.specs.declared.mileage.Step.TheVariants as Step
 use Rattle.mileage.specs.declared.mileage.Reported.{Reported}
-use Rattle.mileage.specs.declared.mileage.Reported.TheVariants as Reported
 use Rattle.mileage.specs.declared.mileage.Distance.{Distance}
-use Rattle.mileage.specs.declared.mileage.Distance.TheVariants as Distance
 use Rattle.mileage.specs.declared.mileage.Fuel.{Fuel}
-use Rattle.mileage.specs.declared.mileage.Fuel.TheVariants as Fuel
 
 -- ---- words and mileages, an epoch from what is lent
 

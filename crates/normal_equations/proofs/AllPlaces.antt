@@ -15,7 +15,7 @@ use lib.Ieee.Scale.{finite}
 use Rattle.lists.specs.Walk.{places}
 use Rattle.exact.specs.Float.{◌⊗◌, +0, bits}
 use Rattle.exact.proofs.Ops.{mul-finite}
-use Rattle.cholesky.specs.Factor.{at, row}
+use Rattle.cholesky.specs.Factor.{at}
 use Rattle.numeric.specs.declared.vec3.Vec3.{Vec3}
 use Rattle.median.specs.declared.centre.CentreScale.{CentreScale}
 use Rattle.normal_equations.specs.Nine.{nine}

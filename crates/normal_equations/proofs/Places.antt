@@ -12,7 +12,7 @@ use lib.ListN.{length, get_or, set, length-set, replicate, get_or-replicate}
 use lib.Seq.{get_or-set_same, get_or-set_other}
 use lib.Ieee.{Float, nan}
 use Rattle.exact.specs.Float.{◌⊕◌, ◌⊗◌, +0, 1·0, bits}
-use Rattle.cholesky.specs.Factor.{at, row, cell}
+use Rattle.cholesky.specs.Factor.{at, cell}
 use Rattle.numeric.specs.declared.vec3.Vec3.{Vec3}
 use Rattle.median.specs.declared.centre.CentreScale.{CentreScale}
 use Rattle.normal_equations.specs.Weight.{weight}

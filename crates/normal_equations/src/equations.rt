@@ -1,6 +1,5 @@
 // The normal equations of a round's rows.
 ghost use Rattle.std.specs.Prelude.{◌≡◌, true, ◌≤◌, ◌<◌, length};
-
 ghost use Rattle.normal_equations.specs.Nine.{Square};
 ghost use Rattle.normal_equations.specs.Weight as spec;
 ghost use Rattle.normal_equations.specs.Steps as code;

@@ -1,4 +1,6 @@
 // The rows of a round, their weights and their normal equations (robust.rs).
+#![tactic(auto)]
+
 pub mod equations;
 pub mod row;
 pub mod weight;

@@ -1,6 +1,5 @@
 // The rows of a round.
 ghost use Rattle.std.specs.Prelude.{◌≡◌};
-
 ghost use Rattle.normal_equations.specs.Equations as spec;
 
 use numeric::vec3::Vec3;

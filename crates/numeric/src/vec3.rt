@@ -1,6 +1,5 @@
 // Vectors of three floats.
 ghost use Rattle.std.specs.Prelude.{◌≡◌, ◌+◌, ◌<◌, length};
-
 ghost use Rattle.numeric.specs.Vec3 as spec;
 
 use root::sqrt::{sqrt, sqrt_beside};

@@ -1,6 +1,5 @@
 // Chi and pdop of a fit's rows.
 ghost use Rattle.std.specs.Prelude.{◌≡◌, true, List, Float, ℕ, ◌≤◌, length};
-
 ghost use Rattle.normal_equations.specs.Steps.{columns, lent_rows, rows_in};
 ghost use Rattle.quality.specs.Quality as spec;
 ghost use Rattle.quality.specs.Steps.{Diluted, Qualified};

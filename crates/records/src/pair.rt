@@ -1,7 +1,6 @@
 // The carrier pairs of two epochs.
 ghost use Rattle.std.specs.Prelude.{◌≡◌, true, ◌&&◌, eqb, get_or};
 ghost use Rattle.std.specs.Float.Ieee.{le};
-
 ghost use Rattle.records.specs.Record.{usable};
 ghost use Rattle.records.specs.Lent.{lent_carriers, SignalsLent};
 ghost use Rattle.records.specs.City.{looked};

@@ -1,6 +1,5 @@
 // The pairs that the screen keeps, and their clocks.
 ghost use Rattle.std.specs.Prelude.{◌≡◌, ◌≤◌};
-
 ghost use Rattle.clocks.specs.Clocks.{clocks_of};
 ghost use Rattle.records.specs.Kept.{Kept};
 ghost use Rattle.records.specs.Pair.{counted_pairs};

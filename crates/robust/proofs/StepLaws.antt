@@ -20,7 +20,6 @@ use Rattle.robust.specs.Step.{counted_rows, indexed, padded_step, refused, outco
 use Rattle.normal_equations.specs.Steps.{RoundColumns, rows_in}
 use Rattle.normal_equations.specs.declared.row.Rows.{Rows}
 use Rattle.robust.specs.declared.round.Stepping.{Stepping}
-use Rattle.robust.specs.declared.round.Stepping.TheVariants as Stepping
 use Rattle.normal_equations.proofs.ColumnLaws.{residuals-of}
 
 -- at most 64 residuals have a centre

@@ -11,7 +11,6 @@ use Rattle.robust.specs.Round.{RoundOutcome, Refused, Solved, round_of}
 use Rattle.normal_equations.specs.declared.row.Row.{Row}
 use Rattle.normal_equations.specs.declared.row.Rows.{Rows}
 use Rattle.robust.specs.declared.round.Stepping.{Stepping}
-use Rattle.robust.specs.declared.round.Stepping.TheVariants as Stepping
 
 -- the counted rows
 abbrev pub counted_rows : Rows → List Row

@@ -2,7 +2,6 @@
 use Rattle.std.specs.Prelude.{◌≡◌, List, Float}
 use Rattle.robust.specs.Round.{RoundOutcome, Refused, Solved}
 use Rattle.robust.specs.declared.round.Stepping.{Stepping}
-use Rattle.robust.specs.declared.round.Stepping.TheVariants as Stepping
 
 -- the answer of an outcome
 abbrev pub stepping_of : RoundOutcome → Stepping

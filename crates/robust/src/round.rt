@@ -1,6 +1,5 @@
 // One round of the robust least squares.
 ghost use Rattle.std.specs.Prelude.{◌≡◌, ◌≤◌, ◌<◌, length};
-
 ghost use Rattle.robust.specs.Round as spec;
 ghost use Rattle.robust.specs.Steps.{Solving};
 ghost use Rattle.normal_equations.specs.Steps.{lent_rows};

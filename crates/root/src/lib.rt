@@ -1,3 +1,5 @@
 // The square root of an f64, correctly rounded.
+#![tactic(auto)]
+
 pub mod sqrt;
 pub mod tangent;

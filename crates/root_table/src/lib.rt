@@ -1,5 +1,7 @@
 // The tables of the first guess of a root. A `match` on a number is compiled to a table in read-only memory, whereas a `const` array is
 // written to the stack at each use.
+#![tactic(auto)]
+
 ghost use Rattle.std.specs.Prelude.{◌≡◌};
 ghost use Rattle.std.specs.Float.{binary64};
 ghost use Rattle.std.specs.Float.Ieee.{mul};

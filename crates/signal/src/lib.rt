@@ -1,2 +1,4 @@
 // A satellite's signal as one number.
+#![tactic(auto)]
+
 pub mod signal;

@@ -59,8 +59,8 @@ module _ (settings : Settings) (k : Clocks) (x y z : List Float) (constellation 
       let r = get_or-take (length observed) residual i 0 h ∙ made.residuals i h in
       rw (r, c, g)
 
-  pub rows_in : rows_in all ≡ map (row_at settings k s) (pairs_in x y z constellation elevation observed)
-  rows_in =
+  pub rows_in_lem : rows_in all ≡ map (row_at settings k s) (pairs_in x y z constellation elevation observed)
+  rows_in_lem =
       let e : length (take (length observed) residual) ≡ length observed = length-take-le (length observed) residual (omega (arith, made.long)) in
       ap (places (round.row_in all)) e ∙ places-ext (round.row_in all) (λ i. row_at settings k s (pair i)) (length observed) row_is ∙ sym (places-map (row_at settings k s) pair (length observed))
 

@@ -19,7 +19,6 @@ use Rattle.tdcp.specs.Valid.{settings_pass, dt_of, is_timed, bad_interval, inter
 use Rattle.tdcp.specs.Displacement.{input, displacement_of}
 use Rattle.tdcp.specs.declared.displacement.Settings.{Settings}
 use Rattle.tdcp.specs.declared.displacement.Interval.{Interval}
-use Rattle.tdcp.specs.declared.displacement.Interval.TheVariants as Interval
 use Rattle.tdcp.specs.Steps.{given_rules}
 
 -- ---- 13, and then 5

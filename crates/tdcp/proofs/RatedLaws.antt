@@ -15,7 +15,6 @@ use Rattle.records.specs.declared.pair.Pair.{Pair}
 use Rattle.quality.specs.Quality.{quality_of}
 use Rattle.quality.specs.declared.figures.Figures.{Figures}
 use Rattle.quality.specs.declared.figures.Quality.{Quality}
-use Rattle.quality.specs.declared.figures.Quality.TheVariants as Quality
 use Rattle.tdcp.specs.Displacement.{Input, row_at, fit_over, displacement_of}
 use Rattle.tdcp.specs.Rated.{quality_at, quality, rate, rated_with, rated_of, rated_number, rated_floats, rated_figures, rated_counts, RatedAccepted, RatedPromised, Answered, unrated, plain_of, answered_by, answered_of}
 use Rattle.lists.specs.Walk.{every}
@@ -32,7 +31,6 @@ use Rattle.tdcp.specs.declared.displacement.Displacement.{Displacement}
 use Rattle.tdcp.specs.declared.displacement.Displacement.TheVariants.{Refused, Moved}
 use Rattle.tdcp.specs.declared.displacement.RatedDelta.{RatedDelta}
 use Rattle.tdcp.specs.declared.displacement.Rated.{Rated}
-use Rattle.tdcp.specs.declared.displacement.Rated.TheVariants as Rated
 
 -- ---- the code's answer, by the displacement m and the quality q
 

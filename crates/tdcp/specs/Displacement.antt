@@ -26,7 +26,6 @@ use Rattle.records.specs.declared.pair.Profile.{Profile}
 use Rattle.records.specs.declared.pair.Profile.TheVariants.{General}
 use Rattle.tdcp.specs.declared.displacement.Settings.{Settings}
 use Rattle.tdcp.specs.declared.displacement.Interval.{Interval}
-use Rattle.tdcp.specs.declared.displacement.Interval.TheVariants as Interval
 use Rattle.estimate_rounds.specs.Rounds.{Fit, fit_from, vector, finite_at, concluded}
 use Rattle.median.specs.Sorted.{Each}
 use Rattle.tdcp.specs.declared.displacement.Delta.{Delta}

@@ -12,12 +12,10 @@ use Rattle.records.specs.declared.pair.Pair.{Pair}
 use Rattle.estimate_rounds.specs.Rounds.{state_after}
 use Rattle.quality.specs.Quality.{quality_of}
 use Rattle.quality.specs.declared.figures.Quality.{Quality}
-use Rattle.quality.specs.declared.figures.Quality.TheVariants as Quality
 use Rattle.tdcp.specs.Displacement.{Input, row_at, kept_pairs, call_fit, displacement_of, Accepted}
 use Rattle.tdcp.specs.declared.displacement.Settings.{Settings}
 use Rattle.tdcp.specs.declared.displacement.Delta.{Delta}
 use Rattle.tdcp.specs.declared.displacement.Displacement.{Displacement}
-use Rattle.tdcp.specs.declared.displacement.Displacement.TheVariants as Displacement
 use Rattle.tdcp.specs.declared.displacement.RatedDelta.{RatedDelta}
 use Rattle.tdcp.specs.declared.displacement.Rated.{Rated}
 use Rattle.tdcp.specs.declared.displacement.Rated.TheVariants.{Refused, Moved}

@@ -14,7 +14,6 @@ use Rattle.records.specs.Record.{counted_carriers, placeable, sound_carrier}
 use Rattle.records.specs.declared.record.Epoch.{Epoch}
 use Rattle.tdcp.specs.declared.displacement.Settings.{Settings}
 use Rattle.tdcp.specs.declared.displacement.Interval.{Interval}
-use Rattle.tdcp.specs.declared.displacement.Interval.TheVariants as Interval
 
 -- 3: every setting but `agreement`, which is neither read nor checked, is in range, and the rounds are at most 50
 unfoldable pub settings_pass : Settings → Bool

@@ -1,4 +1,6 @@
 // The displacement between two carrier epochs: the rules on its arguments, the pairs, and the rounds over them.
+#![tactic(auto)]
+
 pub mod displacement;
 mod moved;
 mod rating;

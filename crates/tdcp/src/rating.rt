@@ -1,6 +1,5 @@
 // The quality of a displacement's fit: chi and pdop of its pairs.
 ghost use Rattle.std.specs.Prelude.{◌≡◌, length, ◌≤◌};
-
 ghost use Rattle.tdcp.specs.Rated as rated;
 ghost use Rattle.tdcp.specs.Steps as code;
 

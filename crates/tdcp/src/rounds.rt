@@ -1,6 +1,5 @@
 // The rounds over the carrier pairs of a displacement.
 ghost use Rattle.std.specs.Prelude.{◌≡◌, length, ◌≤◌};
-
 ghost use Rattle.tdcp.specs.Steps as code;
 
 use crate::displacement::Settings;

@@ -1,6 +1,5 @@
 // The rules of a displacement: on its settings, records and interval, and on its pairs.
 ghost use Rattle.std.specs.Prelude.{◌≡◌, true, not, ◌&&◌, [], ◌∷◌, ◌++◌};
-
 ghost use Rattle.numeric.specs.declared.refusal.Refusal.TheVariants.{BadTime, NotCertified};
 ghost use Rattle.clocks.specs.Clocks.{has};
 ghost use Rattle.records.specs.City.{is_city};

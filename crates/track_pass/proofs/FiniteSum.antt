@@ -30,7 +30,7 @@ unfolding units
 units-finite f s t q k = go (ltb (q * 2 ^ k) (2 ^ (lib.Ieee.low f + suc (lib.Ieee.emax f))))
   where
     go : (b : Bool) → finite (cond b (odd (suc (lib.Ieee.prec f)) s q k (lib.Ieee.low f)) (inf s)) ≡ finite (cond b (odd (suc (lib.Ieee.prec f)) t q k (lib.Ieee.low f)) (inf t))
-    go true = odd-finite _ s q k _ ∙ sym (odd-finite _ t q k _)
+    go true = odd-finite (suc (lib.Ieee.prec f)) s q k (lib.Ieee.low f) ∙ sym (odd-finite (suc (lib.Ieee.prec f)) t q k (lib.Ieee.low f))
     go false = refl
 
 round-sign : (f : Format) (s t : Bool) (a c : ℕ) → finite (round f s a c) ≡ finite (round f t a c)
@@ -59,7 +59,7 @@ units-top f q k y h = go (ltb (q * 2 ^ k) (2 ^ (lib.Ieee.low f + suc (lib.Ieee.e
     none (fin s m e) h t = absurd t
 
     go : (b : Bool) → T (le (cond b (odd (suc (lib.Ieee.prec f)) false q k (lib.Ieee.low f)) (inf false)) y) → finite (cond b (odd (suc (lib.Ieee.prec f)) false q k (lib.Ieee.low f)) (inf false)) ≡ true
-    go true t = odd-finite _ false q k _
+    go true t = odd-finite (suc (lib.Ieee.prec f)) false q k (lib.Ieee.low f)
     go false t = none y h t
 
 round-top : (f : Format) (a c : ℕ) (y : Float) → finite y ≡ true → T (le (round f false a c) y) → finite (round f false a c) ≡ true

@@ -1,7 +1,6 @@
 // The fit of a pass: its unknowns, counted from the origin.
 ghost use Rattle.std.specs.Prelude.{◌≡◌, true};
 ghost use Rattle.std.specs.Float.Ieee.Scale.{finite};
-
 ghost use Rattle.exact.specs.Float.{◌⊕◌, bits};
 ghost use Rattle.numeric.specs.Order.{pattern_of};
 ghost use Rattle.numeric.specs.Real.{in_range};

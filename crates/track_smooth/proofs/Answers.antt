@@ -16,7 +16,6 @@ use Rattle.track_pass.specs.Pass.{pass_succeeds}
 use Rattle.track_pass.specs.Steps.{Ready}
 use Rattle.track_smooth.specs.declared.Settings.{Settings}
 use Rattle.track_smooth.specs.declared.Track.{Track}
-use Rattle.track_smooth.specs.declared.Track.TheVariants as Track
 use Rattle.track_smooth.specs.Track.{ones, smoothed, points, good_passes}
 use Rattle.track_smooth.specs.Answer.{counts_ok, settings_ok, records_ok, track_ok, Tracked, Refused, Points, track_of, track_result_after, cleared, work_after, TrackLeft, CallOf}
 use Rattle.track_smooth.specs.Steps.{track_checked, FitDone}

@@ -20,7 +20,6 @@ use Rattle.track_pass.specs.Input.{Measured, Trajectory, index_at, work_need}
 use Rattle.track_pass.specs.Steps.{Valid, Ready}
 use Rattle.track_smooth.specs.declared.Settings.{Settings}
 use Rattle.track_smooth.specs.declared.Track.{Track}
-use Rattle.track_smooth.specs.declared.Track.TheVariants as Track
 use Rattle.track_smooth.specs.Answer.{columns_ok, counts_ok, settings_ok, measured_ok, records_ok, sigmas_ok, indices_ok, track_ok, Tracked, Refused}
 use Rattle.track_smooth.specs.Steps.{track_checked}
 use Rattle.track_smooth.proofs.Finite.{origin-small}

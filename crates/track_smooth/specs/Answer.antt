@@ -16,7 +16,6 @@ use Rattle.track_pass.specs.Input.{Measured, Trajectory, index_at, work_need}
 use Rattle.track_pass.specs.Pass.{pass_succeeds, fitted_at, PassAccurate}
 use Rattle.track_smooth.specs.declared.Settings.{Settings}
 use Rattle.track_smooth.specs.declared.Track.{Track}
-use Rattle.track_smooth.specs.declared.Track.TheVariants as Track
 use Rattle.track_smooth.specs.Track.{ones, smoothed, points, good_passes, last_pass, EachPass}
 
 -- ---- the tests, in checking order

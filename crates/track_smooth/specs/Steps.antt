@@ -14,7 +14,6 @@ use Rattle.track_pass.specs.Pass.{pass_succeeds}
 use Rattle.track_pass.specs.Steps.{Lent, Valid, Tabulated}
 use Rattle.track_smooth.specs.declared.Settings.{Settings}
 use Rattle.track_smooth.specs.declared.Track.{Track}
-use Rattle.track_smooth.specs.declared.Track.TheVariants as Track
 use Rattle.track_smooth.specs.Track.{huber_of, anchor_scale, link_scale, ones, smoothed}
 use Rattle.track_smooth.specs.Answer.{track_rules}
 

@@ -2,7 +2,6 @@
 ghost use Rattle.std.specs.Prelude.{◌≡◌, ◌≤◌, ltb, length, get_or};
 ghost use Rattle.std.specs.Float.{nan};
 ghost use Rattle.std.specs.Float.Ieee as Ieee;
-
 ghost use Rattle.exact.specs.Float.{+0};
 ghost use Rattle.track_tridiagonal.specs.Tridiagonal.{each_below};
 ghost use Rattle.track_pass.specs.Input.{lent_measured, lent_track};

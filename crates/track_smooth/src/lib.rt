@@ -1,5 +1,7 @@
 // The trajectory smoother, over memory that the caller lends: a track through anchors (where it was) and links (how far it moved from an epoch to the next).
 // What the caller lends for the result and the work is taken as 64-bit patterns, so that a refusal is promised to leave every bit.
+#![tactic(auto)]
+
 mod checks;
 mod fit;
 mod weigh;

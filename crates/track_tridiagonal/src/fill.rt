@@ -1,6 +1,5 @@
 // One pattern at each place of a part of lent memory.
 ghost use Rattle.std.specs.Prelude.{◌≤◌, length};
-
 ghost use Rattle.track_tridiagonal.specs.Steps.{Filled};
 
 // Puts v at each place from lo up to hi.

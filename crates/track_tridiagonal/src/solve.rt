@@ -1,6 +1,5 @@
 // The solution of tridiagonal equations, in place.
 ghost use Rattle.std.specs.Prelude.{◌≡◌, cond, ◌+◌, ◌*◌, ◌<◌, ◌≤◌, length};
-
 ghost use Rattle.exact.specs.Float.{◌⊖◌, ◌⊗◌, ◌⊘◌};
 ghost use Rattle.track_tridiagonal.specs.Rows.{Axes, axis_in, Solved};
 ghost use Rattle.track_tridiagonal.specs.Tridiagonal.{vanishing, NoNan};

@@ -48,6 +48,15 @@ first-none f v zero h = refl
 first-none f v (suc n) h =
     rw (first-none f v n (omega arith), ne_eqb (f (suc n)) v (λ (e : f (suc n) ≡ v). omega arith))
 
+-- a step of the search: past a number found, and at a number that is it
+first-past : (f : ℕ → ℕ) (v n : ℕ) → 0 < first_with f v n → first_with f v (suc n) ≡ first_with f v n
+unfolding first_with
+first-past f v n p = ap (λ (b : Bool). cond b (first_with f v n) (cond (eqb (f (suc n)) v) (suc n) 0)) (lt-ltb 0 (first_with f v n) p)
+
+first-here : (f : ℕ → ℕ) (v n : ℕ) → first_with f v n ≡ 0 → eqb (f (suc n)) v ≡ true → first_with f v (suc n) ≡ suc n
+unfolding first_with
+first-here f v n p q = ap₂ (λ (k : ℕ) (b : Bool). cond (ltb 0 k) k (cond b (suc n) 0)) p q
+
 -- one above all before it is the greatest, and the first that reaches it
 module _ (f : ℕ → ℕ) (n : ℕ) where
   above-greatest : greatest f n < f (suc n) → greatest f (suc n) ≡ f (suc n)
@@ -55,8 +64,7 @@ module _ (f : ℕ → ℕ) (n : ℕ) where
   above-greatest h = omega arith
 
   above-first : greatest f n < f (suc n) → first_with f (greatest f (suc n)) (suc n) ≡ suc n
-  unfolding first_with
-  above-first h = rw (above-greatest h, first-none f (f (suc n)) n h, eq-eqb (f (suc n)) (f (suc n)) refl)
+  above-first h = rw (above-greatest h) (first-here f (f (suc n)) n (first-none f (f (suc n)) n h) (eq-eqb (f (suc n)) (f (suc n)) refl))
 
   -- another leaves both
   under-greatest : f (suc n) ≤ greatest f n → greatest f (suc n) ≡ greatest f n
@@ -64,8 +72,7 @@ module _ (f : ℕ → ℕ) (n : ℕ) where
   under-greatest h = omega arith
 
   under_first : f (suc n) ≤ greatest f n → 0 < first_with f (greatest f n) n → first_with f (greatest f (suc n)) (suc n) ≡ first_with f (greatest f n) n
-  unfolding first_with
-  under_first h p = rw (under-greatest h, lt-ltb 0 (first_with f (greatest f n) n) p)
+  under_first h p = rw (under-greatest h) (first-past f (greatest f n) n p)
 
 greatest-one : (f : ℕ → ℕ) → greatest f 1 ≡ f 1
 unfolding greatest

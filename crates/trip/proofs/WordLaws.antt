@@ -13,11 +13,8 @@ use Rattle.trip.specs.Trip.{added, reported, fuelled}
 use Rattle.trip.specs.declared.trip.Trip.{Trip}
 use Rattle.trip.specs.declared.trip.Report.{Report}
 use Rattle.trip.specs.declared.trip.Step.{Step}
-use Rattle.trip.specs.declared.trip.Step.TheVariants as Step
 use Rattle.trip.specs.declared.trip.Reported.{Reported}
-use Rattle.trip.specs.declared.trip.Reported.TheVariants as Reported
 use Rattle.trip.specs.declared.trip.Fuel.{Fuel}
-use Rattle.trip.specs.declared.trip.Fuel.TheVariants as Fuel
 use Rattle.trip.specs.Words.{too_wide, words_of, added_held, reported_held, fuelled_held, step_number, words_after, report_number, report_after, fuel_number, fuel_after}
 
 -- words that are not too wide fit their fields

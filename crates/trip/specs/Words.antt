@@ -10,11 +10,8 @@ use Rattle.numeric.specs.declared.vec3.Vec3.{Vec3}
 use Rattle.trip.specs.Trip.{Leg, started, added, reported, fuelled, counting}
 use Rattle.trip.specs.declared.trip.Trip.{Trip}
 use Rattle.trip.specs.declared.trip.Step.{Step}
-use Rattle.trip.specs.declared.trip.Step.TheVariants as Step
 use Rattle.trip.specs.declared.trip.Reported.{Reported}
-use Rattle.trip.specs.declared.trip.Reported.TheVariants as Reported
 use Rattle.trip.specs.declared.trip.Fuel.{Fuel}
-use Rattle.trip.specs.declared.trip.Fuel.TheVariants as Fuel
 
 -- ---- words and trips
 

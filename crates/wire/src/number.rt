@@ -1,7 +1,6 @@
 // Numbers as bytes, the least significant byte first.
 ghost use Rattle.std.specs.Prelude.{◌≡◌, ◌+◌, ◌≤◌, ◌<◌, ◌^◌, length};
 ghost use Rattle.std.proofs.lemmas.List.Edits.{sets};
-
 ghost use Rattle.records.specs.Record.{unsigned};
 ghost use Rattle.wire.specs.Number as spec;
 

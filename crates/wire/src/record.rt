@@ -1,7 +1,6 @@
 // One carrier record of 59 bytes.
 ghost use Rattle.std.specs.Prelude.{◌≡◌, ◌+◌, ◌≤◌, length, drop};
 ghost use Rattle.std.proofs.lemmas.List.Edits.{sets};
-
 ghost use Rattle.wire.specs.Number.{five_bytes, number_at};
 ghost use Rattle.wire.specs.Record as spec;
 

@@ -1,6 +1,5 @@
 // The displacement between two epochs of byte records.
 ghost use Rattle.std.specs.Prelude.{◌≡◌, ◌*◌, ◌≤◌, length};
-
 ghost use Rattle.records.specs.Steps.{Laid};
 ghost use Rattle.tdcp.specs.Displacement.{Promised};
 ghost use Rattle.wire.specs.Record.{count_in};

@@ -1,6 +1,5 @@
 // Chi at the returned position.
 ghost use Rattle.std.specs.Prelude.{◌≡◌, ◌≤◌};
-
 ghost use Rattle.wls.specs.declared.fix.Settings.{Settings};
 ghost use Rattle.records.specs.Record.{counted_observations};
 ghost use Rattle.wls.specs.Steps.{SigmasOf, ChiAnswered};

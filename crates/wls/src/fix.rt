@@ -1,6 +1,5 @@
 // The position from one epoch.
 ghost use Rattle.std.specs.Prelude.{◌≡◌, List, length, ℕ, ◌≤◌, Float};
-
 ghost use Rattle.normal_equations.specs.Steps.{lent_rows};
 ghost use Rattle.numeric.specs.Rules.{Rule, ruled};
 ghost use Rattle.records.specs.Record.{counted_observations};

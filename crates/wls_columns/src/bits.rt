@@ -1,6 +1,5 @@
 // The patterns of a factor and of a column, for memory that a caller lends as doubles.
 ghost use Rattle.std.specs.Prelude.{◌≡◌, map, ◌<◌};
-
 ghost use Rattle.numeric.specs.Order.{pattern_of};
 ghost use Rattle.cholesky.specs.Factor.{row, factor_of};
 ghost use Rattle.cholesky.specs.Answer.{factoring_of};

@@ -1,7 +1,6 @@
 // The fix of a caller's columns, its settings as four floats and the rounds, and its answer in lent memory. What a caller lends as doubles is taken as their patterns,
 // so that a refusal is promised to leave every bit.
 ghost use Rattle.std.specs.Prelude.{◌≡◌, min};
-
 ghost use Rattle.numeric.specs.Vec3.{vector_at};
 ghost use Rattle.wls_columns.specs.Fix as spec;
 ghost use Rattle.wls_columns.specs.Steps.{lent_observations};

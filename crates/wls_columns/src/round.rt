@@ -1,6 +1,5 @@
 // One round of a caller's columns.
 ghost use Rattle.std.specs.Prelude.{◌≡◌};
-
 ghost use Rattle.robust.specs.Step.{stepping_number, StepPromised};
 ghost use Rattle.wls_columns.specs.Step.{column_step_of, step_after};
 ghost use Rattle.wls_columns.specs.Steps.{lent_row_columns};

@@ -7,5 +7,5 @@ ghost use Rattle.zaqnuti.specs.Version.{version_number};
 pub extern "C" fn zaqnuti_version() -> u32
     ensures { result ≡ version_number }
 {
-    702
+    701
 }

@@ -101,19 +101,16 @@ impl Kepler {
     fn eccentric(&self, since: f64) -> (f64, f64, f64) {
         let rate = self.rate();
         let (e, mean) = (self.eccentricity, self.anomaly + rate * since);
-        let (mut angle, (mut sin, mut cos)) = (mean, mean.sin_cos());
+        let mut angle = mean;
         for _ in 0..30 {
+            let (sin, cos) = angle.sin_cos();
             let step = (angle - e * sin - mean) / (1.0 - e * cos);
-            let before = angle;
             angle -= step;
-            // Most last steps are below the angle's precision.
-            if angle != before {
-                (sin, cos) = angle.sin_cos();
-            }
             if step.abs() <= 1e-13 {
                 break;
             }
         }
+        let (sin, cos) = angle.sin_cos();
         (sin, cos, rate / (1.0 - e * cos))
     }
 
@@ -275,11 +272,11 @@ fn sum([x, y, z]: [f64; 3], [a, b, c]: [f64; 3], part: f64) -> [f64; 3] {
 }
 
 #[cfg(test)]
-pub mod tests {
+mod tests {
     use super::*;
 
     /// A circular equatorial orbit.
-    pub fn circle(earth: Earth, root: f64) -> Kepler {
+    fn circle(earth: Earth, root: f64) -> Kepler {
         Kepler {
             earth,
             root,

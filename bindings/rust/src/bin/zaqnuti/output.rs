@@ -72,14 +72,10 @@ impl Output {
 
     /// Writes one line.
     pub fn line(&mut self, text: impl fmt::Display) -> Run<()> {
-        self.lines(format!("{text}\n").as_bytes())
-    }
-
-    /// Writes complete lines.
-    pub fn lines(&mut self, text: &[u8]) -> Run<()> {
+        let text = format!("{text}\n");
         let done = match &mut self.sink {
-            Sink::Stream(out) => out.write_all(text),
-            Sink::Direct(out) | Sink::Beside(out, _) => out.write_all(text),
+            Sink::Stream(out) => out.write_all(text.as_bytes()),
+            Sink::Direct(out) | Sink::Beside(out, _) => out.write_all(text.as_bytes()),
         };
         done.map_err(|e| failed(&self.name, &e))
     }

@@ -6,7 +6,6 @@ use Rattle.exact.specs.Float.{bits}
 use Rattle.median.specs.Centre.{deviation_of, deviations_of}
 use Rattle.median.proofs.CentreLaws.{centred, centre-refused, centre-none, centre-some}
 use Rattle.median.proofs.MedianSigns.{front_median, deviation_patterns}
-use borrow.Author.Rules.{rules}
 use Rattle.median.proofs.centre.centre_scale.Goals as goal
 
 pub returns-then-n-gt64 : goal.returns-then-n-gt64

@@ -1,10 +1,8 @@
 -- `median::centre::deviations` meets its contract: the first i numbers are the deviations of the first i residuals. Assumes nothing.
-use Prim.Native.Nat.{◌≤◌, ◌<◌, ◌-◌}
+use Prim.Native.Nat.{◌<◌}
 use native.Mathlib.Omega.{arith}
-use mathlib.Core.Path.{◌≡◌, refl, ◌∙◌}
-use lib.ListN.{take, length, length-set}
-use borrow.Author.Rules.{rules}
-use mathlib.Core.List.{map}
+use mathlib.Core.Path.{refl, ◌∙◌}
+use lib.ListN.{length, length-set}
 use Rattle.median.specs.Centre.{deviation_of}
 use Rattle.median.proofs.SelectLoops.{map_next, map-all}
 use Rattle.median.proofs.centre.deviations.Goals as goal

@@ -1,12 +1,9 @@
 -- `median::centre::deviations` meets its contract: the first i numbers are the deviations of the first i residuals. Assumes nothing.
-use Prim.Native.Nat.{◌≤◌, ◌<◌, ◌-◌}
-use native.Mathlib.Omega.{arith}
-use mathlib.Core.Path.{◌≡◌, refl, ◌∙◌}
-use lib.ListN.{take, length, length-set}
-use borrow.Author.Rules.{rules}
+use Prim.Native.Nat.{◌≤◌, ◌-◌}
+use mathlib.Core.Path.{◌≡◌}
+use lib.ListN.{take, length}
 use mathlib.Core.List.{map}
 use Rattle.median.specs.Centre.{deviation_of}
-use Rattle.median.proofs.SelectLoops.{map_next, map-all}
 use Rattle.median.proofs.centre.deviations.Given as goal
 
 abbrev pub invariant-loop-i : goal.invariant-loop-i

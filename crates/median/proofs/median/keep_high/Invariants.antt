@@ -1,12 +1,7 @@
 -- `median::median::keep_high` meets its contract: those of the first j numbers that are above p are the first w. Assumes nothing.
-use Prim.Native.Nat.{ℕ, ◌≤◌, ◌<◌, ◌-◌}
-use native.Mathlib.Omega.{arith}
-use mathlib.Core.Path.{◌≡◌}
-use mathlib.Core.Logic.{inl, inr}
-use lib.ListN.{length}
+use Prim.Native.Nat.{ℕ, ◌≤◌, ◌-◌}
 use lib.Dec.{ltb}
-use borrow.Author.Tests.{lt-ltb, le-ltb}
-use Rattle.median.proofs.SelectLoops.{Keeping, keeping_none, keep-yes, keep-no, keeping_all}
+use Rattle.median.proofs.SelectLoops.{Keeping}
 use Rattle.median.proofs.median.keep_high.Given as goal
 
 abbrev pub invariant-loop-j : goal.invariant-loop-j

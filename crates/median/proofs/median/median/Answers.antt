@@ -3,7 +3,6 @@ use native.Mathlib.Omega.{arith}
 use mathlib.Core.Path.{sym, ◌∙◌}
 use lib.Seq.{length-take-le}
 use Rattle.median.proofs.MedianSigns.{median_none, median_few}
-use borrow.Author.Rules.{rules}
 use Rattle.median.proofs.median.median.Goals as goal
 
 pub returns-then-n-eq0 : goal.returns-then-n-eq0

@@ -4,7 +4,6 @@ use native.Mathlib.Omega.{arith}
 use mathlib.Core.Path.{◌∙◌}
 use mathlib.Core.Bool.{true, false}
 use lib.ListN.{length}
-use borrow.Author.Rules.{rules}
 use Rattle.median.proofs.MedianSigns.{front-each, plus-most, plus-found, minus-more, minus-room, minus-found, slice-patterns}
 use Rattle.median.proofs.median.middle.Goals as goal
 

@@ -1,12 +1,11 @@
 -- `median::median::of_highest` meets its contract: the four highest of the numbers from j on. Assumes nothing.
-use Prim.Native.Nat.{ℕ, ◌-◌, ◌^◌, ◌≤◌}
+use Prim.Native.Nat.{ℕ, ◌-◌, ◌^◌}
 use native.Mathlib.Omega.{arith}
 use mathlib.Core.Path.{◌≡◌, ap, ◌∙◌}
 use lib.ListN.{take, drop, length}
 use lib.Seq.{length-take-le}
-use borrow.Author.Rules.{rules}
 use Rattle.median.specs.Steps.{number_at}
-use Rattle.median.proofs.SelectFew.{each_below, from_end, from-before, Highest, highest-none, highest-more, highest-at}
+use Rattle.median.proofs.SelectFew.{each_below, from_end, from-before, highest-none, highest-more, highest-at}
 use Rattle.median.proofs.median.of_highest.Goals as goal
 
 pub loop-j-init : goal.loop-j-init

@@ -1,12 +1,7 @@
 -- `median::median::of_highest` meets its contract: the four highest of the numbers from j on. Assumes nothing.
-use Prim.Native.Nat.{ℕ, ◌-◌, ◌^◌, ◌≤◌}
-use native.Mathlib.Omega.{arith}
-use mathlib.Core.Path.{◌≡◌, ap, ◌∙◌}
-use lib.ListN.{take, drop, length}
-use lib.Seq.{length-take-le}
-use borrow.Author.Rules.{rules}
-use Rattle.median.specs.Steps.{number_at}
-use Rattle.median.proofs.SelectFew.{each_below, from_end, from-before, Highest, highest-none, highest-more, highest-at}
+use Prim.Native.Nat.{◌-◌, ◌^◌, ◌≤◌}
+use lib.ListN.{take, drop}
+use Rattle.median.proofs.SelectFew.{Highest}
 use Rattle.median.proofs.median.of_highest.Given as goal
 
 abbrev pub invariant-loop-j : goal.invariant-loop-j

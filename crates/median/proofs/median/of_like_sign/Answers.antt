@@ -1,6 +1,5 @@
 -- `median::median::of_like_sign` meets its contract: a turn of the search at infinity, and the search in what is left. Assumes nothing.
 use mathlib.Core.Path.{◌∙◌}
-use borrow.Author.Rules.{rules}
 use lib.ListN.{take}
 use Rattle.median.proofs.SelectSeek.{seeking, low_turn, high-most, high-turn, found}
 use Rattle.median.proofs.MedianSigns.{unsigned-placed}

@@ -1,11 +1,7 @@
 -- `median::median::of_lowest` meets its contract: the four lowest of the numbers from j on. Assumes nothing.
 use Prim.Native.Nat.{◌-◌, ◌^◌, ◌≤◌}
-use native.Mathlib.Omega.{arith}
-use mathlib.Core.Path.{◌≡◌, ◌∙◌}
-use lib.ListN.{take, drop, length}
-use lib.Seq.{length-take-le}
-use borrow.Author.Rules.{rules}
-use Rattle.median.proofs.SelectFew.{each_below, from_end, from-before, Lowest, lowest-none, lowest-more, lowest-at}
+use lib.ListN.{take, drop}
+use Rattle.median.proofs.SelectFew.{Lowest}
 use Rattle.median.proofs.median.of_lowest.Given as goal
 
 abbrev pub invariant-loop-j : goal.invariant-loop-j

@@ -1,10 +1,7 @@
 -- `median::median::part` meets its contract: those of the first j patterns that have the sign are, without it, the first w. Assumes nothing.
-use Prim.Native.Nat.{◌≤◌, ◌<◌, ◌-◌}
-use native.Mathlib.Omega.{arith}
-use mathlib.Core.Logic.{inl, inr}
+use Prim.Native.Nat.{◌≤◌, ◌-◌}
 use lib.ListN.{length}
-use Rattle.exact.specs.Pattern.{sign}
-use Rattle.median.proofs.SelectLoops.{Parting, parting_none, part-yes, part_no, parting_all}
+use Rattle.median.proofs.SelectLoops.{Parting}
 use Rattle.median.proofs.median.part.Given as goal
 
 abbrev pub invariant-loop-j : goal.invariant-loop-j

@@ -1,9 +1,7 @@
 -- `median::median::pivot` meets its contract. Assumes nothing.
 use Prim.Native.Nat.{◌-◌, ◌/◌}
 use native.Mathlib.Omega.{arith}
-use borrow.Author.Rules.{rules}
 use Rattle.median.proofs.SelectSplit.{middle-counts}
-use borrow.Author.Rules.{rules}
 use Rattle.median.proofs.median.pivot.Goals as goal
 
 pub returns : goal.returns

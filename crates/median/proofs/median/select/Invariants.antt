@@ -1,8 +1,7 @@
 -- `median::median::select` meets its contract: the number looked for stays at place `at` of the first len. Assumes nothing.
-use native.Mathlib.Omega.{arith}
 use lib.ListN.{take}
 use Rattle.median.specs.Steps.{number_at}
-use Rattle.median.proofs.SelectSeek.{Seeking, seeking, lowest-found, highest-found, low-fewer, low_turn, high-fewer, high-turn, found}
+use Rattle.median.proofs.SelectSeek.{Seeking}
 use Rattle.median.proofs.median.select.Given as goal
 
 abbrev pub invariant-loop-len : goal.invariant-loop-len

@@ -1,6 +1,5 @@
 -- `order::before` meets its contract: each pair of signs. Assumes nothing.
 use mathlib.Core.Path.{sym, ◌∙◌}
-use borrow.Author.Rules.{rules}
 use Rattle.numeric.proofs.OrderCases.{both-minus, minus_plus, plus-minus, both-plus}
 use Rattle.numeric.proofs.order.before.Goals as goal
 

@@ -1,6 +1,5 @@
 -- `order::class_of` meets its contract. Assumes nothing.
 use native.Mathlib.Omega.{arith}
-use borrow.Author.Rules.{rules}
 use Rattle.numeric.proofs.OrderCases.{class-zero, class-subnormal, class-infinity, class-signaling, class-quiet, class-normal}
 use Rattle.numeric.proofs.order.class_of.Goals as goal
 

@@ -1,6 +1,5 @@
 -- `order::float` meets its contract. Assumes nothing.
 use mathlib.Core.Path.{sym, ◌∙◌}
-use borrow.Author.Rules.{rules}
 use borrow.Author.Tests.{le-ltb}
 use lib.Ieee.{binary64}
 use lib.Ieee.Bits.{nan_bits_above}

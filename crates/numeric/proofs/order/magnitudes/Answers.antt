@@ -1,5 +1,4 @@
 -- `order::magnitudes` meets its contract. Assumes nothing.
-use borrow.Author.Rules.{rules}
 use Rattle.numeric.proofs.OrderCases.{by-fields}
 use Rattle.numeric.proofs.order.magnitudes.Goals as goal
 

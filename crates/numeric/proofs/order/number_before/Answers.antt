@@ -1,7 +1,6 @@
 -- `order::number_before` meets its contract: each class of the other pattern. Assumes nothing.
 use native.Mathlib.Omega.{arith}
 use mathlib.Core.Path.{sym, ◌∙◌}
-use borrow.Author.Rules.{rules}
 use Rattle.numeric.specs.declared.order.Class.TheVariants.{Zero, Number, Infinity, Signaling, Quiet}
 use Rattle.numeric.proofs.OrderCases.{within, without-signs, comes, follows}
 use Rattle.numeric.proofs.order.number_before.Goals as goal

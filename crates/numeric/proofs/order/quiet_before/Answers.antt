@@ -1,7 +1,6 @@
 -- `order::quiet_before` meets its contract: each class of the other pattern. Assumes nothing.
 use native.Mathlib.Omega.{arith}
 use mathlib.Core.Path.{sym, ◌∙◌}
-use borrow.Author.Rules.{rules}
 use Rattle.numeric.specs.declared.order.Class.TheVariants.{Zero, Number, Infinity, Signaling, Quiet}
 use Rattle.numeric.proofs.OrderCases.{within, follows, quiet-payload}
 use Rattle.numeric.proofs.order.quiet_before.Goals as goal

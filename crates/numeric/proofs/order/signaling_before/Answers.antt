@@ -1,7 +1,6 @@
 -- `order::signaling_before` meets its contract: each class of the other pattern. Assumes nothing.
 use native.Mathlib.Omega.{arith}
 use mathlib.Core.Path.{sym, ◌∙◌}
-use borrow.Author.Rules.{rules}
 use Rattle.numeric.specs.declared.order.Class.TheVariants.{Zero, Number, Infinity, Signaling, Quiet}
 use Rattle.numeric.proofs.OrderCases.{within, comes, follows, signaling-payload}
 use Rattle.numeric.proofs.order.signaling_before.Goals as goal

@@ -1,6 +1,5 @@
 -- `numeric::real::hypot` meets its contract. Assumes nothing.
 use Rattle.numeric.specs.Real.{hypot}
-use borrow.Author.Rules.{rules}
 use Rattle.numeric.proofs.real.hypot.Goals as goal
 
 pub returns : goal.returns

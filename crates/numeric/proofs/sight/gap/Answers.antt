@@ -1,6 +1,5 @@
 -- `numeric::sight::gap` meets its contract. Assumes nothing.
 use Rattle.numeric.specs.Sight.{gap}
-use borrow.Author.Rules.{rules}
 use Rattle.numeric.proofs.sight.gap.Goals as goal
 
 pub returns : goal.returns

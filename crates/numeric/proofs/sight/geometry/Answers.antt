@@ -1,7 +1,6 @@
 -- `numeric::sight::geometry` meets its contract. Assumes nothing.
 use mathlib.Core.Path.{sym, ◌∙◌}
 use Rattle.numeric.proofs.SightLaws.{not_given_lem, given}
-use borrow.Author.Rules.{rules}
 use Rattle.numeric.proofs.sight.geometry.Goals as goal
 
 pub returns-then-is_on_receiver : goal.returns-then-is_on_receiver

@@ -1,6 +1,5 @@
 -- `numeric::sight::is_on_receiver` meets its contract. Assumes nothing.
 use Rattle.numeric.specs.Sight.{on_receiver}
-use borrow.Author.Rules.{rules}
 use Rattle.numeric.proofs.sight.is_on_receiver.Goals as goal
 
 pub returns : goal.returns

@@ -1,6 +1,5 @@
 -- `numeric::sight::sight_of` meets its contract. Assumes nothing.
 use Rattle.numeric.proofs.SightLaws.{sight-is}
-use borrow.Author.Rules.{rules}
 use Rattle.numeric.proofs.sight.sight_of.Goals as goal
 
 pub returns : goal.returns

@@ -1,7 +1,6 @@
 -- `numeric::sight::sights_of` meets its contract. Assumes nothing.
 use Rattle.numeric.specs.Vec3.{norm}
 use Rattle.numeric.proofs.SightLaws.{sight-is}
-use borrow.Author.Rules.{rules}
 use Rattle.numeric.proofs.sight.sights_of.Goals as goal
 
 pub returns : goal.returns

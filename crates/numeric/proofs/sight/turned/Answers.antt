@@ -1,6 +1,5 @@
 -- `numeric::sight::turned` meets its contract. Assumes nothing.
 use Rattle.numeric.specs.Sight.{turned}
-use borrow.Author.Rules.{rules}
 use Rattle.numeric.proofs.sight.turned.Goals as goal
 
 pub returns : goal.returns

@@ -8,7 +8,6 @@ use lib.Ieee.{binary64, fits, to_bits}
 use Rattle.exact.specs.Float.{whole}
 use Rattle.root.proofs.Reading.{lt-number}
 use Rattle.numeric.proofs.WholeLaws.{significand, pattern_between, whole-none, whole-shifted, whole-zero}
-use borrow.Author.Rules.{rules}
 use Rattle.numeric.proofs.whole.whole_times.Goals as goal
 use Rattle.numeric.proofs.whole.whole_times.Lts as lts
 use Rattle.numeric.proofs.whole.whole_times.Reads as reads

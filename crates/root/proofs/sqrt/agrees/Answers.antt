@@ -1,5 +1,5 @@
 -- `root::sqrt::agrees` meets its contract, by the square of the digits in parts. Assumes nothing.
-use Rattle.std.proofs.Common.{◌+◌, ◌*◌, ◌/◌, ◌%◌, ◌^◌, refl, arith, rules, ltb-true}
+use Rattle.std.proofs.Common.{◌+◌, ◌*◌, ◌/◌, ◌%◌, ◌^◌, refl, arith, ltb-true}
 use Rattle.root.proofs.Squares.{cut, agreed}
 use Rattle.root.proofs.sqrt.agrees.Goals as goal
 

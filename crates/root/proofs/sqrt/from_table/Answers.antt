@@ -1,5 +1,5 @@
 -- `root::sqrt::from_table` is safe: the pattern that it reads is no NaN's. Assumes nothing.
-use Rattle.std.proofs.Common.{arith, rules}
+use Rattle.std.proofs.Common.{arith}
 use Rattle.root.proofs.Reading.{no_nan}
 use Rattle.root.proofs.sqrt.from_table.Goals as goal
 

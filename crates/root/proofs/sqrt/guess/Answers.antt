@@ -1,5 +1,5 @@
 -- `root::root::guess` is safe: neither pattern that it reads is a NaN's. Assumes nothing.
-use Rattle.std.proofs.Common.{arith, rules}
+use Rattle.std.proofs.Common.{arith}
 use Rattle.root.proofs.Reading.{no_nan}
 use Rattle.root.proofs.sqrt.guess.Goals as goal
 

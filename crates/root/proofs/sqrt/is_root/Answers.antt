@@ -1,5 +1,5 @@
 -- `root::sqrt::is_root` meets its contract: the exponent is the root's and the digits were tested by `agrees`. Assumes nothing.
-use Rattle.std.proofs.Common.{◌≡◌, ◌+◌, ◌*◌, ◌/◌, ◌%◌, ◌^◌, T, sym, refl, ap, ◌∙◌, subst, arith, rules}
+use Rattle.std.proofs.Common.{◌≡◌, ◌+◌, ◌*◌, ◌/◌, ◌%◌, ◌^◌, T, sym, refl, ap, ◌∙◌, subst, arith}
 use mathlib.Core.Bool.{false≢true}
 use lib.Ieee.{binary64, fits, to_bits}
 use Rattle.root.specs.Root.{root_of}

@@ -1,5 +1,5 @@
 -- `root::root::nearest` meets its contract. Assumes nothing.
-use Rattle.std.proofs.Common.{arith, rules}
+use Rattle.std.proofs.Common.{arith}
 use Rattle.root.proofs.Reading.{lt-number}
 use Rattle.root.proofs.RootLaws.{Wide, wide}
 use Rattle.root.proofs.sqrt.nearest.Goals as goal

@@ -1,5 +1,5 @@
 -- `root::sqrt::normal` meets its contract: the answer's digits were tested by `agrees`, or it comes from `positive`. Assumes nothing.
-use Rattle.std.proofs.Common.{arith, rules}
+use Rattle.std.proofs.Common.{arith}
 use lib.Ieee.{binary64, to_bits}
 use Rattle.root.proofs.Reading.{no_nan}
 use Rattle.root.proofs.Special.{is_number}

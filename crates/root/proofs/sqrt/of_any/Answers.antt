@@ -1,5 +1,5 @@
 -- `root::root::of_any` meets its contract. Assumes nothing.
-use Rattle.std.proofs.Common.{T, sym, refl, ap, ◌∙◌, subst, inl, inr, rules}
+use Rattle.std.proofs.Common.{T, sym, refl, ap, ◌∙◌, subst, inl, inr}
 use lib.Ieee.{binary64, fits}
 use Rattle.root.specs.Root.{root_of}
 use Rattle.root.proofs.Reading.{by_bits}

@@ -1,5 +1,5 @@
 -- `root::root::positive` meets its contract. Assumes nothing.
-use Rattle.std.proofs.Common.{arith, rules}
+use Rattle.std.proofs.Common.{arith}
 use lib.Ieee.{binary64, of_bits}
 use Rattle.root.proofs.Reading.{no_nan}
 use Rattle.root.proofs.RootLaws.{Result, result}

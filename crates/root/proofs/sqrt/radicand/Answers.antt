@@ -1,5 +1,5 @@
 -- `root::sqrt::radicand` meets its contract: the exponent's lowest digit says whether the digits are doubled. Assumes nothing.
-use Rattle.std.proofs.Common.{◌≡◌, ◌+◌, ◌/◌, ◌%◌, ◌^◌, arith, rules}
+use Rattle.std.proofs.Common.{◌≡◌, ◌+◌, ◌/◌, ◌%◌, ◌^◌, arith}
 use Rattle.root.proofs.sqrt.radicand.Goals as goal
 
 pub returns-then-b-eq1 : goal.returns-then-b-eq1

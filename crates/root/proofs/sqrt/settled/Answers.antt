@@ -1,5 +1,5 @@
 -- `root::sqrt::settled` meets its contract: each answer was tested by `agrees` or comes from `slow`. Assumes nothing.
-use Rattle.std.proofs.Common.{◌≡◌, ◌+◌, ◌*◌, ◌%◌, ◌^◌, subst, arith, rules}
+use Rattle.std.proofs.Common.{◌≡◌, ◌+◌, ◌*◌, ◌%◌, ◌^◌, subst, arith}
 use Rattle.root.specs.Root.{NearestWhole}
 use Rattle.root.proofs.sqrt.settled.Goals as goal
 

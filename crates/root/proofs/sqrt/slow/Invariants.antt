@@ -1,8 +1,6 @@
 -- `root::root::slow` meets its contract. At the loop's head s is the whole part of the root of the number made of w's first 2 * i binary digits, and rem is what that number has over s * s.
 -- Assumes nothing.
-use Rattle.std.proofs.Common.{◌≡◌, ℕ, ◌+◌, ◌-◌, ◌*◌, ◌/◌, ◌%◌, ◌^◌, ◌<◌, ◌≤◌, ap, ◌∙◌, ⊎_elim, mul-one, mul_left_comm, add-one, arith, pow_mono}
-use native.Mathlib.Nat.{pow-succ'}
-use Rattle.root.proofs.Squares.{double, up-square, nearest-same, nearest-next}
+use Rattle.std.proofs.Common.{◌≡◌, ℕ, ◌+◌, ◌-◌, ◌*◌, ◌^◌, ◌<◌, ◌≤◌}
 use Rattle.root.proofs.sqrt.slow.Given as goal
 
 pub record Sofar (w s rem rest i : ℕ) : Type 0 where

@@ -1,5 +1,5 @@
 -- `root::root::split` meets its contract. Assumes nothing.
-use Rattle.std.proofs.Common.{ℕ, ◌-◌, ◌*◌, ◌^◌, ◌<◌, sym, refl, subst, mod-eq_of_lt, arith, rules}
+use Rattle.std.proofs.Common.{ℕ, ◌-◌, ◌*◌, ◌^◌, ◌<◌, sym, refl, subst, mod-eq_of_lt, arith}
 use lib.Count.{count_leading_zeros}
 use lib.Ieee.{binary64, of_bits}
 use Rattle.root.specs.Steps.{IsParts}

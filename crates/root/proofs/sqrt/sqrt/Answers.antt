@@ -1,5 +1,5 @@
 -- `root::sqrt::sqrt` meets its contract: the root of a positive normal number comes from `normal`. Assumes nothing.
-use Rattle.std.proofs.Common.{T, sym, refl, ap, ◌∙◌, subst, rules}
+use Rattle.std.proofs.Common.{T, sym, refl, ap, ◌∙◌, subst}
 use lib.Ieee.{binary64, fits}
 use Rattle.root.specs.Root.{root_of}
 use Rattle.root.proofs.Reading.{by_bits}

@@ -1,5 +1,5 @@
 -- `root::tangent::from_wide_table` is safe: no pattern that it reads is a NaN's. Assumes nothing.
-use Rattle.std.proofs.Common.{arith, rules}
+use Rattle.std.proofs.Common.{arith}
 use Rattle.root.proofs.Reading.{no_nan}
 use Rattle.root.proofs.tangent.from_wide_table.Goals as goal
 

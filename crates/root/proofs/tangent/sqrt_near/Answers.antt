@@ -1,5 +1,4 @@
 -- `root::tangent::sqrt_near` meets its contract: each answer was tested by `is_root` or comes from `sqrt`. Assumes nothing.
-use Rattle.std.proofs.Common.{rules}
 use Rattle.root.proofs.tangent.sqrt_near.Goals as goal
 
 pub returns-then-is_root : goal.returns-then-is_root

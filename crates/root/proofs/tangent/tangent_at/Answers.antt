@@ -1,5 +1,5 @@
 -- `root::tangent::tangent_at` meets its contract: it touches where `touch` says. Assumes nothing.
-use Rattle.std.proofs.Common.{◌≡◌, true, false, T, sym, refl, ap, ◌∙◌, subst, rules}
+use Rattle.std.proofs.Common.{◌≡◌, true, false, T, sym, refl, ap, ◌∙◌, subst}
 use lib.Ieee.{Float, inf, binary64, le, of_bits}
 use Rattle.root.specs.Steps.{touch}
 use Rattle.root.proofs.Reading.{by_bits}

@@ -1,8 +1,6 @@
 use native.Mathlib.Omega.{arith}
-use mathlib.Core.Path.{◌≡◌, refl}
-use Prim.Native.Nat.{◌-◌, ◌≤◌}
-use lib.ListN.{length, length-set}
-use Rattle.track_tridiagonal.specs.Steps.{Filled}
+use mathlib.Core.Path.{refl}
+use lib.ListN.{length-set}
 use Rattle.track_tridiagonal.proofs.Cells.{filled_none, filled_more, filled-all}
 use Rattle.track_tridiagonal.proofs.fill.fill.Goals as goal
 

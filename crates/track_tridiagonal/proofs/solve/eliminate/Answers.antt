@@ -1,6 +1,5 @@
-use Rattle.track_tridiagonal.proofs.Elimination.{Eliminating, reached-none, eliminating_ends, eliminating_all, row-x-needs, row-y-needs, row-z-needs, eliminating_more, first-needs}
+use Rattle.track_tridiagonal.proofs.Elimination.{reached-none, eliminating_ends, eliminating_all, row-x-needs, row-y-needs, row-z-needs, eliminating_more, first-needs}
 use Rattle.track_tridiagonal.proofs.Cells.{kept-none}
-use Prim.Native.Nat.{◌-◌}
 use mathlib.Core.Path.{refl}
 use native.Mathlib.Omega.{arith}
 use Rattle.track_tridiagonal.proofs.solve.eliminate.Goals as goal
@@ -45,14 +44,14 @@ eliminate_row-x-requires c = (omega (arith, c.loop-x.invariant.long, c.loop-x.in
 
 pub eliminate_row-y-requires : goal.eliminate_row-y-requires
 eliminate_row-y-requires c = (
-  omega (arith, c.eliminate_row-x.auto.0, c.loop-x.invariant.long, c.loop-x.invariant.room, c.if-i-n.false),
+  omega (arith, c.eliminate_row-x.auto.w, c.loop-x.invariant.long, c.loop-x.invariant.room, c.if-i-n.false),
   row-y-needs _ _ _ _ _ _ _ c.loop-x.invariant c.requires.2 c.loop-x-test.true c.if-i-n.false _ refl _ _ c.eliminate_row-x.ensures,
 )
 
 pub eliminate_row-z-requires : goal.eliminate_row-z-requires
 eliminate_row-z-requires c = (
-  omega (arith, c.eliminate_row-y.auto.0, c.eliminate_row-x.auto.0, c.loop-x.invariant.long, c.loop-x.invariant.room, c.if-i-n.false),
-  row-z-needs _ _ _ _ _ _ _ c.loop-x.invariant c.requires.2 c.loop-x-test.true c.if-i-n.false _ refl _ _ c.eliminate_row-x.ensures c.eliminate_row-x.auto.0 _ _ c.eliminate_row-y.ensures,
+  omega (arith, c.eliminate_row-y.auto.w, c.eliminate_row-x.auto.w, c.loop-x.invariant.long, c.loop-x.invariant.room, c.if-i-n.false),
+  row-z-needs _ _ _ _ _ _ _ c.loop-x.invariant c.requires.2 c.loop-x-test.true c.if-i-n.false _ refl _ _ c.eliminate_row-x.ensures c.eliminate_row-x.auto.w _ _ c.eliminate_row-y.ensures,
 )
 
 pub overflow_add-i-in-loop-x : goal.overflow_add-i-in-loop-x
@@ -62,8 +61,8 @@ pub loop-x-smaller : goal.loop-x-smaller
 loop-x-smaller c = omega (arith, c.if-i-n.false)
 
 pub loop-x-preserved : goal.loop-x-preserved
-loop-x-preserved c = eliminating_more _ _ _ _ _ _ _ c.loop-x.invariant c.requires.2 c.loop-x-test.true c.if-i-n.false _ refl _ _ c.eliminate_row-x.ensures c.eliminate_row-x.auto.0 _ _ c.eliminate_row-y.ensures
-    c.eliminate_row-y.auto.0 _ _ c.eliminate_row-z.ensures c.eliminate_row-z.auto.0
+loop-x-preserved c = eliminating_more _ _ _ _ _ _ _ c.loop-x.invariant c.requires.2 c.loop-x-test.true c.if-i-n.false _ refl _ _ c.eliminate_row-x.ensures c.eliminate_row-x.auto.w _ _ c.eliminate_row-y.ensures
+    c.eliminate_row-y.auto.w _ _ c.eliminate_row-z.ensures c.eliminate_row-z.auto.w
 
 pub shape_of-w : goal.shape_of-w
 shape_of-w c = c.loop-x.invariant.long

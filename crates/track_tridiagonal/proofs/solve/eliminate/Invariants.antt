@@ -1,8 +1,5 @@
-use Rattle.track_tridiagonal.proofs.Elimination.{Eliminating, reached-none, eliminating_ends, eliminating_all, row-x-needs, row-y-needs, row-z-needs, eliminating_more, first-needs}
-use Rattle.track_tridiagonal.proofs.Cells.{kept-none}
+use Rattle.track_tridiagonal.proofs.Elimination.{Eliminating}
 use Prim.Native.Nat.{◌-◌}
-use mathlib.Core.Path.{refl}
-use native.Mathlib.Omega.{arith}
 use Rattle.track_tridiagonal.proofs.solve.eliminate.Given as goal
 
 abbrev pub invariant-loop-x : goal.invariant-loop-x

@@ -1,5 +1,4 @@
 use Rattle.track_tridiagonal.proofs.Cells.{readable}
-use borrow.Author.Rules.{rules}
 use Rattle.track_tridiagonal.proofs.solve.first_row.Goals as goal
 
 pub float_from_bits-p : goal.float_from_bits-p

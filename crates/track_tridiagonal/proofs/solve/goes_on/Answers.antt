@@ -1,5 +1,4 @@
 use Rattle.numeric.proofs.OrderLaws.{is_nan-differs}
-use borrow.Author.Rules.{rules}
 use Rattle.track_tridiagonal.proofs.solve.goes_on.Goals as goal
 
 pub returns : goal.returns

@@ -1,9 +1,7 @@
 use Rattle.track_tridiagonal.proofs.Substitution.{row-left, row-stored}
 use Rattle.track_tridiagonal.proofs.Nan.{finite-writable}
 use Rattle.track_tridiagonal.proofs.Cells.{readable}
-use borrow.Author.Tests.{not-true, not-false}
 use mathlib.Core.Path.{sym, ◌∙◌}
-use borrow.Author.Rules.{rules}
 use Rattle.track_tridiagonal.proofs.solve.solve_row.Goals as goal
 
 pub float_from_bits-d : goal.float_from_bits-d
@@ -16,10 +14,10 @@ pub float_from_bits-r : goal.float_from_bits-r
 float_from_bits-r c = readable _ c.requires.1.third
 
 pub returns-then-not-is_finite : goal.returns-then-not-is_finite
-returns-then-not-is_finite c = row-left _ _ _ _ _ c.unknown-v.ensures (sym c.is_finite.ensures ∙ not-true _ c.if-not-is_finite.true)
+returns-then-not-is_finite c = row-left _ _ _ _ _ c.unknown-v.ensures (sym c.is_finite.ensures ∙ c.if-not-is_finite.true)
 
 pub float_to_bits-w : goal.float_to_bits-w
-float_to_bits-w c = finite-writable _ (sym c.is_finite.ensures ∙ not-false _ c.if-not-is_finite.false)
+float_to_bits-w c = finite-writable _ (sym c.is_finite.ensures ∙ c.if-not-is_finite.false)
 
 pub returns : goal.returns
-returns c = row-stored _ _ _ _ _ c.unknown-v.ensures (sym c.is_finite.ensures ∙ not-false _ c.if-not-is_finite.false)
+returns c = row-stored _ _ _ _ _ c.unknown-v.ensures (sym c.is_finite.ensures ∙ c.if-not-is_finite.false)

@@ -1,9 +1,7 @@
-use Rattle.track_tridiagonal.proofs.Substitution.{Substituting, found_none, substituting_all, row-x-needs, row-y-needs, row-z-needs, substituting_ends, substituting_more, at_next, last-same, three-finite}
+use Rattle.track_tridiagonal.proofs.Substitution.{found_none, substituting_all, row-x-needs, row-y-needs, row-z-needs, substituting_ends, substituting_more, at_next, last-same, three-finite}
 use Rattle.track_tridiagonal.proofs.Cells.{kept-none}
-use borrow.Author.Tests.{not-true, not-false}
 use mathlib.Core.Path.{refl, ◌∙◌}
 use native.Mathlib.Omega.{arith}
-use borrow.Author.Rules.{rules}
 use Rattle.track_tridiagonal.proofs.solve.substitute.Goals as goal
 
 pub loop-k-init : goal.loop-k-init
@@ -30,27 +28,27 @@ pub overflow_add-at : goal.overflow_add-at
 overflow_add-at c = omega (arith, c.loop-k-test.true, c.loop-k.invariant.inside, c.loop-k.invariant.room, c.ranges)
 
 pub solve_row-y-requires : goal.solve_row-y-requires
-solve_row-y-requires c = (omega (arith, c.solve_row-x.auto.0, c.loop-k-test.true, c.loop-k.invariant.long, c.loop-k.invariant.room, c.loop-k.invariant.inside), row-y-needs _ _ _ _ _ _ _ (at_next _ _ _ _ _ _ _ c.loop-k-test.true c.loop-k.invariant) c.requires.1 _ refl _ (last-same _ _ c.loop-k-test.true) _ _ c.solve_row-x.ensures)
+solve_row-y-requires c = (omega (arith, c.solve_row-x.auto.w, c.loop-k-test.true, c.loop-k.invariant.long, c.loop-k.invariant.room, c.loop-k.invariant.inside), row-y-needs _ _ _ _ _ _ _ (at_next _ _ _ _ _ _ _ c.loop-k-test.true c.loop-k.invariant) c.requires.1 _ refl _ (last-same _ _ c.loop-k-test.true) _ _ c.solve_row-x.ensures)
 
 pub overflow_add-at-in-loop-k : goal.overflow_add-at-in-loop-k
 overflow_add-at-in-loop-k c = omega (arith, c.loop-k-test.true, c.loop-k.invariant.inside, c.loop-k.invariant.room, c.ranges)
 
 pub solve_row-z-requires : goal.solve_row-z-requires
-solve_row-z-requires c = (omega (arith, c.solve_row-y.auto.0, c.solve_row-x.auto.0, c.loop-k-test.true, c.loop-k.invariant.long, c.loop-k.invariant.room, c.loop-k.invariant.inside), row-z-needs _ _ _ _ _ _ _ (at_next _ _ _ _ _ _ _ c.loop-k-test.true c.loop-k.invariant) c.requires.1 _ refl _ (last-same _ _ c.loop-k-test.true) _ _ c.solve_row-x.ensures c.solve_row-x.auto.0 _ _ c.solve_row-y.ensures)
+solve_row-z-requires c = (omega (arith, c.solve_row-y.auto.w, c.solve_row-x.auto.w, c.loop-k-test.true, c.loop-k.invariant.long, c.loop-k.invariant.room, c.loop-k.invariant.inside), row-z-needs _ _ _ _ _ _ _ (at_next _ _ _ _ _ _ _ c.loop-k-test.true c.loop-k.invariant) c.requires.1 _ refl _ (last-same _ _ c.loop-k-test.true) _ _ c.solve_row-x.ensures c.solve_row-x.auto.w _ _ c.solve_row-y.ensures)
 
 pub shape_of-w-then-not-is_finite : goal.shape_of-w-then-not-is_finite
-shape_of-w-then-not-is_finite c = c.solve_row-z.auto.0 ∙ c.solve_row-y.auto.0 ∙ c.solve_row-x.auto.0 ∙ c.loop-k.invariant.long
+shape_of-w-then-not-is_finite c = c.solve_row-z.auto.w ∙ c.solve_row-y.auto.w ∙ c.solve_row-x.auto.w ∙ c.loop-k.invariant.long
 
 pub returns-then-not-is_finite : goal.returns-then-not-is_finite
-returns-then-not-is_finite c = substituting_ends _ _ _ _ _ _ _ (at_next _ _ _ _ _ _ _ c.loop-k-test.true c.loop-k.invariant) c.requires.1 _ refl _ (last-same _ _ c.loop-k-test.true) _ _ c.solve_row-x.ensures c.solve_row-x.auto.0 _ _ c.solve_row-y.ensures c.solve_row-y.auto.0 _ _ c.solve_row-z.ensures c.solve_row-z.auto.0
-    (three-finite c.solve_row-x.result c.solve_row-y.result c.solve_row-z.result _ _ _ c.is_finite.ensures c.is_finite-in-loop-k.ensures c.is_finite-in-loop-k-2.ensures ∙ not-true _ c.if-not-is_finite.true)
+returns-then-not-is_finite c = substituting_ends _ _ _ _ _ _ _ (at_next _ _ _ _ _ _ _ c.loop-k-test.true c.loop-k.invariant) c.requires.1 _ refl _ (last-same _ _ c.loop-k-test.true) _ _ c.solve_row-x.ensures c.solve_row-x.auto.w _ _ c.solve_row-y.ensures c.solve_row-y.auto.w _ _ c.solve_row-z.ensures c.solve_row-z.auto.w
+    (three-finite c.solve_row-x.result c.solve_row-y.result c.solve_row-z.result _ _ _ c.is_finite.ensures c.is_finite-in-loop-k.ensures c.is_finite-in-loop-k-2.ensures ∙ c.if-not-is_finite.true)
 
 pub loop-k-smaller : goal.loop-k-smaller
 loop-k-smaller c = omega (arith, c.loop-k-test.true)
 
 pub loop-k-preserved : goal.loop-k-preserved
-loop-k-preserved c = substituting_more _ _ _ _ _ _ _ (at_next _ _ _ _ _ _ _ c.loop-k-test.true c.loop-k.invariant) c.requires.1 _ refl _ (last-same _ _ c.loop-k-test.true) _ _ c.solve_row-x.ensures c.solve_row-x.auto.0 _ _ c.solve_row-y.ensures c.solve_row-y.auto.0 _ _ c.solve_row-z.ensures c.solve_row-z.auto.0
-    (three-finite c.solve_row-x.result c.solve_row-y.result c.solve_row-z.result _ _ _ c.is_finite.ensures c.is_finite-in-loop-k.ensures c.is_finite-in-loop-k-2.ensures ∙ not-false _ c.if-not-is_finite.false)
+loop-k-preserved c = substituting_more _ _ _ _ _ _ _ (at_next _ _ _ _ _ _ _ c.loop-k-test.true c.loop-k.invariant) c.requires.1 _ refl _ (last-same _ _ c.loop-k-test.true) _ _ c.solve_row-x.ensures c.solve_row-x.auto.w _ _ c.solve_row-y.ensures c.solve_row-y.auto.w _ _ c.solve_row-z.ensures c.solve_row-z.auto.w
+    (three-finite c.solve_row-x.result c.solve_row-y.result c.solve_row-z.result _ _ _ c.is_finite.ensures c.is_finite-in-loop-k.ensures c.is_finite-in-loop-k-2.ensures ∙ c.if-not-is_finite.false)
 
 pub shape_of-w : goal.shape_of-w
 shape_of-w c = c.loop-k.invariant.long

@@ -1,5 +1,4 @@
 use Rattle.track_tridiagonal.specs.Tridiagonal.{vanishing}
-use borrow.Author.Rules.{rules}
 use Rattle.track_tridiagonal.proofs.solve.vanishes.Goals as goal
 
 pub returns : goal.returns

@@ -3,7 +3,6 @@ use mathlib.Core.Path.{◌≡◌, sym, subst}
 use mathlib.Core.Bool.{true}
 use lib.Dec.{T}
 use lib.Ieee.{binary64, fits, le, of_bits, of_int}
-use borrow.Author.Rules.{rules}
 use Rattle.exact.specs.Float.{whole}
 use Rattle.root.specs.Root.{root_of}
 use Rattle.root.proofs.Theorems.{root_of-root}
@@ -17,7 +16,6 @@ use Rattle.trip.proofs.measure.by_root.Reads as reads
 -- places on the way through the function
 abbrev Start : Type 0
 Start = lts.Start tie.the-claims reads.Pre reads.Post
-
 
 held : (c : Start) → T (fits binary64 c.args.square)
 held c = subst T (sym c.well_formed.0.1) tt

@@ -2,7 +2,6 @@
 use native.Mathlib.Omega.{arith}
 use Rattle.root.proofs.Reading.{no_nan}
 use Rattle.root.proofs.Special.{is_number}
-use borrow.Author.Rules.{rules}
 use Rattle.trip.proofs.measure.guess.Goals as goal
 
 pub float_from_bits-x : goal.float_from_bits-x

@@ -3,7 +3,6 @@ use mathlib.Core.Path.{refl, sym, ap, ◌∙◌, subst}
 use native.Mathlib.Omega.{arith}
 use lib.Dec.{T}
 use lib.Ieee.{binary64, fits}
-use borrow.Author.Rules.{rules}
 use Rattle.root.specs.Root.{root_of}
 use Rattle.root.proofs.Reading.{by_bits, lt-number}
 use Rattle.trip.specs.Steps.{way_of}
@@ -16,7 +15,6 @@ use Rattle.trip.proofs.measure.seen.Reads as reads
 -- places on the way through the function
 abbrev Start : Type 0
 Start = lts.Start tie.the-claims reads.Pre reads.Post
-
 
 held : (c : Start) → T (fits binary64 c.args.square)
 held c = subst T (sym c.well_formed.0.1) tt

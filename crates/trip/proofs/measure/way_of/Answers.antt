@@ -1,6 +1,5 @@
 -- `trip::measure::way_of` meets its contract. Assumes nothing.
 use Rattle.numeric.specs.Vec3.{norm}
-use borrow.Author.Rules.{rules}
 use Rattle.trip.proofs.measure.way_of.Goals as goal
 
 pub returns-then-way-lt18446744073709551615 : goal.returns-then-way-lt18446744073709551615

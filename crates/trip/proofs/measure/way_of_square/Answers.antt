@@ -1,5 +1,4 @@
 -- `trip::measure::way_of_square` meets its contract: what is seen without the root, or by the root. Assumes nothing.
-use borrow.Author.Rules.{rules}
 use Rattle.trip.proofs.measure.way_of_square.Goals as goal
 
 pub returns-then-way-lt18446744073709551615 : goal.returns-then-way-lt18446744073709551615

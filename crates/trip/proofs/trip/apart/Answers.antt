@@ -1,5 +1,4 @@
 -- `trip::trip::apart` meets its contract. Assumes nothing.
-use borrow.Author.Rules.{rules}
 use borrow.Author.Tests.{lt-ltb, le-ltb}
 use Rattle.trip.specs.Trip.{apart}
 use Rattle.trip.proofs.trip.apart.Goals as goal

@@ -1,6 +1,5 @@
 -- `trip::trip::odometer` meets its contract. Assumes nothing.
 use mathlib.Core.Path.{refl}
-use borrow.Author.Rules.{rules}
 use Rattle.trip.specs.Trip.{odometer}
 use Rattle.trip.proofs.trip.odometer.Goals as goal
 

@@ -1,6 +1,5 @@
 -- `trip::words::add_held` meets its contract. Assumes nothing.
 use mathlib.Core.Path.{sym, ◌∙◌}
-use borrow.Author.Rules.{rules}
 use Rattle.trip.proofs.WordLaws.{add-refused, add_goes}
 use Rattle.trip.proofs.words.add_held.Goals as goal
 

@@ -1,6 +1,5 @@
 -- `trip::words::fuel_held` meets its contract. Assumes nothing.
 use mathlib.Core.Path.{sym, ◌∙◌}
-use borrow.Author.Rules.{rules}
 use Rattle.trip.proofs.WordLaws.{fuel-held-refused, fuel-held-goes}
 use Rattle.trip.proofs.words.fuel_held.Goals as goal
 

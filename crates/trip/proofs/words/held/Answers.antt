@@ -2,7 +2,6 @@
 use mathlib.Core.Path.{◌≡◌}
 use mathlib.Core.Bool.{false}
 use native.Mathlib.Omega.{arith}
-use borrow.Author.Rules.{rules}
 use Rattle.trip.specs.Words.{too_wide, held_of}
 use Rattle.trip.proofs.WordLaws.{fields_fit}
 use Rattle.trip.proofs.words.held.Goals as goal
@@ -15,11 +14,15 @@ fits : (c : goal.Else-rate-epochs) → too_wide c.args.w ≡ false
 unfolding too_wide
 fits c = c.if-rate-epochs.false
 
+fits_unread : (c : goal.Else-rate-epochs-unread) → too_wide c.args.w ≡ false
+unfolding too_wide
+fits_unread c = c.if-rate-epochs.false
+
 pub overflow_cast-result : goal.overflow_cast-result
-overflow_cast-result c = omega (arith, fields_fit _ (fits c))
+overflow_cast-result c = omega (arith, fields_fit _ (fits_unread c))
 
 pub overflow_cast-result-2 : goal.overflow_cast-result-2
-overflow_cast-result-2 c = omega (arith, fields_fit _ (fits c))
+overflow_cast-result-2 c = omega (arith, fields_fit _ (fits_unread c))
 
 pub returns : goal.returns
 unfolding held_of

@@ -1,6 +1,5 @@
 -- `trip::words::put_fuel` meets its contract. Assumes nothing.
 use mathlib.Core.Path.{sym}
-use borrow.Author.Rules.{rules}
 use Rattle.trip.proofs.WordLaws.{fuel-refused, fuel-given}
 use Rattle.trip.proofs.words.put_fuel.Goals as goal
 

@@ -1,6 +1,5 @@
 -- `trip::words::put_report` meets its contract. Assumes nothing.
 use mathlib.Core.Path.{sym}
-use borrow.Author.Rules.{rules}
 use Rattle.trip.proofs.WordLaws.{report-refused, report-totals}
 use Rattle.trip.proofs.words.put_report.Goals as goal
 

@@ -1,6 +1,5 @@
 -- `trip::words::put_step` meets its contract. Assumes nothing.
 use mathlib.Core.Path.{sym}
-use borrow.Author.Rules.{rules}
 use Rattle.trip.proofs.WordLaws.{step-refused, step-goes}
 use Rattle.trip.proofs.words.put_step.Goals as goal
 

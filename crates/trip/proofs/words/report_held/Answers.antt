@@ -1,6 +1,5 @@
 -- `trip::words::report_held` meets its contract. Assumes nothing.
 use mathlib.Core.Path.{sym, ◌∙◌}
-use borrow.Author.Rules.{rules}
 use Rattle.trip.proofs.WordLaws.{report-held-refused, report-held-goes}
 use Rattle.trip.proofs.words.report_held.Goals as goal
 

@@ -79,31 +79,6 @@ impl Ephemeris {
         Some(square.sqrt() <= far && ((own - other) * LIGHT).abs() <= far)
     }
 
-    /// Checks whether the next ephemeris of the satellite differs by more than broadcast ones do:
-    /// in the radius halfway between the two, in the clock's rate, or in the group delay.
-    ///
-    /// In four days of GPS these are up to 0.7 m, 3.4e-13 and 4.7e-10 s, and 2.2 m and 9.1e-13 in a
-    /// day of GLONASS. Others are not compared.
-    pub fn differs(&self, next: &Self, system: System) -> bool {
-        let [longest, radius, rate, delay] = match system {
-            System::Gps => [7_300.0, 1.4, 9.0e-13, 3.0e-9],
-            System::Glonass => [1_900.0, 5.0, 2.8e-12, 1.5e-8],
-            _ => return false,
-        };
-        let gap = next.toe.since(self.toe);
-        if !self.healthy || !next.healthy || gap > longest {
-            return false;
-        }
-        let middle = self.toe.plus(gap / 2.0);
-        let radii = [self, next].map(|e| {
-            let place = e.state(middle).0.place;
-            place.iter().map(|x| x * x).sum::<f64>().sqrt()
-        });
-        (radii[0] - radii[1]).abs() > radius
-            || (self.clock[1] - next.clock[1]).abs() > rate
-            || (self.delays[0] - next.delays[0]).abs() > delay
-    }
-
     /// Returns the state and the clock error at the transmission of a signal.
     pub fn at(&self, received: Moment, pseudorange: f64) -> (State, f64) {
         self.state(self.sent(received, pseudorange))
@@ -127,62 +102,5 @@ impl Ephemeris {
             (System::Glonass, b'2') => first,
             (System::Glonass, _) => 0.0,
         }
-    }
-}
-
-#[cfg(test)]
-mod tests {
-    use super::*;
-    use crate::orbit::tests::circle;
-    use crate::orbit::Earth;
-
-    /// Returns an ephemeris of satellite 1 of 2005-04-02 that is some hours later.
-    fn ephemeris(hours: f64) -> Ephemeris {
-        let toe = Moment::of_week(1316, 518_400.0 + 3_600.0 * hours);
-        let orbit = Kepler {
-            inclination: 0.97,
-            node: 1.0,
-            ..circle(Earth::GPS, 5_153.6)
-        };
-        Ephemeris {
-            orbit: Orbit::Kepler(orbit),
-            toe,
-            toc: toe,
-            clock: [3.9e-4, 1.7e-12, 0.0],
-            delays: [-3.3e-9, 0.0],
-            fnav: false,
-            healthy: true,
-            channel: 0,
-        }
-    }
-
-    #[test]
-    fn ephemerides_that_differ_are_found() {
-        let differs = |hours: f64, change: &dyn Fn(&mut Ephemeris)| {
-            let mut next = ephemeris(hours);
-            change(&mut next);
-            ephemeris(0.0).differs(&next, System::Gps)
-        };
-        assert!(!differs(2.0, &|_| {}));
-        // A digit of the root of the axis, which is 7.2 m.
-        let root = |e: &mut Ephemeris| {
-            if let Orbit::Kepler(orbit) = &mut e.orbit {
-                orbit.root += 7e-4;
-            }
-        };
-        assert!(differs(2.0, &root));
-        assert!(!differs(2.1, &root));
-        assert!(differs(2.0, &|e| e.clock[1] *= 10.0));
-        assert!(!differs(2.0, &|e| e.clock[1] += 3.5e-13));
-        assert!(differs(2.0, &|e| e.delays[0] = -e.delays[0]));
-        assert!(!differs(2.0, &|e| e.delays[0] += 4.7e-10));
-        assert!(!differs(2.0, &|e| {
-            root(e);
-            e.healthy = false;
-        }));
-        // Nothing is known of the others.
-        let mut next = ephemeris(2.0);
-        root(&mut next);
-        assert!(!ephemeris(0.0).differs(&next, System::Galileo));
     }
 }

@@ -9,12 +9,6 @@ use super::signals::System;
 const DIGITS: f64 = 5.5e-12;
 const SINGLE: f64 = 6.2e-8;
 const STRAY: f64 = 0.012;
-/// The root of the axis: its index, the part of a unit that 13 digits may miss, its second bit, and
-/// the least number of records that show that a file has so many digits.
-const ROOT: usize = 10;
-const FINE: f64 = 4e-4;
-const FINE_BIT: u32 = 32;
-const MANY: usize = 8;
 /// How many times larger a correction or a rate may be than in all other records.
 const LARGER: f64 = 5.0;
 /// The least number of records that can be compared.
@@ -70,11 +64,7 @@ pub fn odd(system: System, numbers: &[f64]) -> u64 {
             (System::Glonass, _) | (_, 0..=4 | 6..=17 | 20..) => 1e-6 + DIGITS * parts.abs(),
             _ => 2e-4 + SINGLE * parts.abs(),
         };
-        let off = (parts - parts.round()).abs();
-        bits |= u64::from(lost || off > stray.min(STRAY)) << i;
-        // In its fourth decimal, 7 is 367.0016 units, which 12 digits do not tell.
-        let fine = i == ROOT && system != System::Glonass && off > FINE;
-        bits |= u64::from(fine) << FINE_BIT;
+        bits |= u64::from(lost || (parts - parts.round()).abs() > stray.min(STRAY)) << i;
     }
     bits
 }
@@ -85,8 +75,7 @@ pub fn telling(records: impl Iterator<Item = u64> + Clone) -> u64 {
     let count = records.clone().count();
     let few = |bit: &u32| {
         let odd = records.clone().filter(|r| r >> bit & 1 != 0).count();
-        let least = if *bit == FINE_BIT { MANY } else { LEAST };
-        count >= least && odd <= 1 + count / 50
+        count >= LEAST && odd <= 1 + count / 50
     };
     (0..64).filter(few).fold(0, |bits, bit| bits | 1 << bit)
 }
@@ -150,26 +139,6 @@ mod tests {
             changed[i] = x;
             assert_eq!(odd(System::Gps, &changed), 1 << i);
         }
-    }
-
-    #[test]
-    fn a_root_of_13_digits_has_another_bit() {
-        let odd = |root: f64| {
-            let mut numbers = [0.0; 11];
-            numbers[ROOT] = root;
-            odd(System::Gps, &numbers)
-        };
-        assert_eq!(odd(5_153.602_199_554), 0);
-        // The same with 12 digits, and with a digit that is 7 off.
-        assert_eq!(odd(5_153.602_199_55), 1 << FINE_BIT);
-        assert_eq!(odd(5_153.602_899_554), 1 << FINE_BIT);
-        assert_eq!(odd(5_153.602_299_554), 1 << FINE_BIT | 1 << ROOT);
-        // It tells if almost no record has it, and there are many.
-        let one = |count: usize| {
-            let records = (0..count).map(|i| u64::from(i == 0) << FINE_BIT);
-            telling(records) >> FINE_BIT & 1
-        };
-        assert_eq!([one(7), one(8)], [0, 1]);
     }
 
     #[test]

@@ -2,7 +2,6 @@
 
 use crate::fault::{said, tell, Run};
 
-use super::lasting::Off;
 use super::navigation::Lack;
 use super::place::Nowhere;
 
@@ -29,8 +28,6 @@ pub struct Left {
     pub spikes: u64,
     /// Carriers marked as slipped because of a jump.
     pub jumps: u64,
-    /// Satellites whose pseudoranges are off for many epochs, and are not left out.
-    pub lasting: Vec<Off>,
 }
 
 /// Joins the reasons that occurred, with their counts.
@@ -96,13 +93,6 @@ impl Left {
         if self.spikes > 0 {
             let why = "jump relative to their carriers for one epoch";
             tell(&format!("{name}: {} pseudoranges {why}", self.spikes));
-        }
-        for (satellite, metres) in &self.lasting {
-            let why = "off on average over many epochs: is its ephemeris damaged?";
-            let satellite = satellite.name();
-            tell(&format!(
-                "{name}: {satellite}: pseudoranges are {metres:.1} m {why}"
-            ));
         }
         if self.away > 0 {
             let why = "the fix is more than 20 m from the header's position and replaces it";

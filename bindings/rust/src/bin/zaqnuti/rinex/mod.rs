@@ -5,7 +5,6 @@ mod ephemeris;
 mod grain;
 mod head;
 mod header;
-mod lasting;
 mod left;
 mod lines;
 mod lock;
@@ -102,9 +101,9 @@ pub fn run(words: &[String]) -> Run<bool> {
             return Ok(());
         }
         written = Some(epoch.time);
-        out.lines(runner.lines(file, epoch))
+        put(&mut out, runner.lines(file, epoch))
     })?;
-    out.lines(runner.rest())?;
+    put(&mut out, runner.rest())?;
     ends(&file, last);
     let mut left = runner.left();
     left.unlisted = file.unlisted();
@@ -155,5 +154,13 @@ fn ends(file: &Observations, found: Option<[Moment; 2]>) {
             let why = format!("the {name} epoch is not that of the header: is a part missing?");
             tell(&format!("{}: {why}", file.name()));
         }
+    }
+}
+
+/// Writes complete lines, if there are any.
+fn put(out: &mut Output, lines: &str) -> Run<()> {
+    match lines.strip_suffix('\n') {
+        Some(lines) => out.line(lines),
+        None => Ok(()),
     }
 }

@@ -86,24 +86,6 @@ impl Ephemerides {
             let why = "left out, which contradict those before or after them";
             tell(&format!("{left} ephemerides are {why}"));
         }
-        self.differ();
-    }
-
-    /// Tells whose ephemerides differ from the next more than broadcast ones do.
-    fn differ(&self) {
-        let mut names = Vec::new();
-        for (place, list) in self.by_satellite.iter().enumerate() {
-            let satellite = Satellite::of(place);
-            let differ = |w: &[Ephemeris]| w[0].differs(&w[1], satellite.system);
-            if list.windows(2).any(differ) {
-                names.push(satellite.name());
-            }
-        }
-        if !names.is_empty() {
-            let why =
-                "consecutive ephemerides differ too much in radius, clock rate or group delay";
-            tell(&format!("{}: {why}", names.join(", ")));
-        }
     }
 
     fn add(&mut self, mut lines: Lines) -> Run<()> {

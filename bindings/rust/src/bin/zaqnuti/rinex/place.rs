@@ -13,9 +13,6 @@ use super::stray;
 
 /// The greatest distance of a fix from the header's position at which the latter is used, m.
 const NEAR: f64 = 20.0;
-/// The rounds of a short fix, and its greatest distance from the header's position, m, at which the
-/// receiver is taken to be there: further rounds move a fix by a few metres.
-const SHORT: (usize, f64) = (2, 10.0);
 /// The distance over which elevations and delays are taken as constant in a fix, m.
 const SAME: f64 = 100.0;
 /// Plausible heights above the ellipsoid, m.
@@ -111,7 +108,6 @@ pub struct Places {
     pub away: u64,
     rows: Vec<Observation>,
     settings: Settings,
-    short: Settings,
 }
 
 fn apart([a, b, c]: [f64; 3], [x, y, z]: [f64; 3]) -> f64 {
@@ -127,28 +123,20 @@ impl Places {
             away: 0,
             rows: Vec::new(),
             settings: Settings::default(),
-            short: Settings {
-                iterations: SHORT.0,
-                ..Settings::default()
-            },
         }
     }
 
-    /// Computes a fix.
+    /// Computes a fix. Without a starting position, elevations are unknown and taken as 90 degrees.
     fn fix(&mut self, sights: &[Sight], from: Option<[f64; 3]>) -> Option<[f64; 3]> {
-        self.fill(sights, from);
-        position(&self.rows, from, &self.settings)
-    }
-
-    /// Fills the rows of a fix. Without a starting position, elevations are unknown and taken as 90
-    /// degrees.
-    fn fill(&mut self, sights: &[Sight], from: Option<[f64; 3]>) {
         self.rows.clear();
         let rows = sights.iter().map(|s| match from {
             Some(_) => s.observation(s.to.elevation.to_degrees()),
             None => s.observation(90.0),
         });
         self.rows.extend(rows.take(RECORDS));
+        let [x, y, z] = from.unwrap_or_default();
+        let found = solve_full(&self.rows, Ecef::new(x, y, z), &self.settings);
+        found.ok().map(|s| s.position.coordinates())
     }
 
     /// Finds the receiver's position and computes the directions of all sights. Removes sights
@@ -163,9 +151,6 @@ impl Places {
         self.looked = None;
         if let Some(told) = self.told {
             let sky = self.stay(told, sights, models, second);
-            return Ok((sky, screen(sights)));
-        }
-        if let Some(sky) = self.still(sights, header, models, second) {
             return Ok((sky, screen(sights)));
         }
         let header = header.filter(|h| ground(*h));
@@ -183,31 +168,6 @@ impl Places {
         let sky = self.stay(near.unwrap_or(at), sights, models, second);
         screen(sights);
         Ok((sky, (before - sights.len()) as u64))
-    }
-
-    /// Returns the sky of the header's position if the receiver was there in the last epoch, and a
-    /// short fix is near it, without outliers. This saves the other rounds.
-    fn still(
-        &mut self,
-        sights: &mut [Sight],
-        header: Option<[f64; 3]>,
-        models: &Models,
-        second: f64,
-    ) -> Option<Sky> {
-        let at = self
-            .sky
-            .map(|sky| sky.place)
-            .filter(|p| header == Some(*p))?;
-        let sky = self.stay(at, sights, models, second);
-        self.fill(sights, Some(at));
-        let fixed = position(&self.rows, Some(at), &self.short)?;
-        if apart(fixed, at) > SHORT.1 {
-            return None;
-        }
-        measure(sights, fixed);
-        let sound = missing(sights).0 == 0 && stray::worst(sights).is_none();
-        measure(sights, at);
-        sound.then_some(sky)
     }
 
     /// Computes the fix of an epoch, repeating it where it is far from the guess.
@@ -305,13 +265,6 @@ impl Places {
         (self.sky, self.looked) = (Some(sky), Some(at));
         sky
     }
-}
-
-/// Returns the position of a fix by the library.
-fn position(rows: &[Observation], from: Option<[f64; 3]>, settings: &Settings) -> Option<[f64; 3]> {
-    let [x, y, z] = from.unwrap_or_default();
-    let found = solve_full(rows, Ecef::new(x, y, z), settings);
-    found.ok().map(|s| s.position.coordinates())
 }
 
 /// Checks that a position is near the ground.

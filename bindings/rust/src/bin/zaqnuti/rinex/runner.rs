@@ -4,7 +4,6 @@ use crate::atmosphere::{range, Direction, Sky};
 use crate::orbit::LIGHT;
 
 use super::codes::{Codes, Jump};
-use super::lasting::Lasting;
 use super::left::Left;
 use super::lock::{excess, rate, Held, Locks, Passage, VALID};
 use super::navigation::Ephemerides;
@@ -24,7 +23,6 @@ pub struct Runner {
     locks: Locks,
     rhythm: Rhythm,
     codes: Codes,
-    lasting: Lasting,
     residuals: Vec<f64>,
     held: Vec<Option<Held>>,
     /// The carriers of the last written epoch, by satellite and band.
@@ -69,7 +67,6 @@ impl Runner {
             locks: Locks::new(bands.len()),
             rhythm: Rhythm::of(&[]),
             codes: Codes::new(bands.len()),
-            lasting: Lasting::new(&bands),
             residuals: Vec::new(),
             held: Vec::new(),
             passages: vec![None; Satellite::PLACES * bands.len()],
@@ -94,7 +91,7 @@ impl Runner {
     }
 
     /// Adds an epoch and returns the lines that are complete.
-    pub fn lines(&mut self, file: &Observations, epoch: &Epoch) -> &[u8] {
+    pub fn lines(&mut self, file: &Observations, epoch: &Epoch) -> &str {
         self.text.clear();
         self.left.epochs += 1;
         let mut sights = std::mem::take(&mut self.sights);
@@ -107,30 +104,28 @@ impl Runner {
             match self.rhythm.keeps(epoch.time, clock / LIGHT) {
                 true => {
                     self.compare(&mut sights);
-                    self.lasting.take(epoch.time, &sights);
                     self.epoch(epoch.time, sky, &sights);
                 }
                 false => self.left.untimely(),
             }
         }
         self.sights = sights;
-        &self.text
+        std::str::from_utf8(&self.text).unwrap_or_default()
     }
 
     /// Returns the remaining lines at the end.
-    pub fn rest(&mut self) -> &[u8] {
+    pub fn rest(&mut self) -> &str {
         self.text.clear();
         if let Some(pending) = self.pending.take() {
             self.write(&pending);
         }
-        &self.text
+        std::str::from_utf8(&self.text).unwrap_or_default()
     }
 
     /// Returns what was left out.
     pub fn left(mut self) -> Left {
         self.left.away = self.places.away;
         self.left.jumps = self.locks.jumps();
-        self.left.lasting = self.lasting.found().to_vec();
         self.left
     }
 

@@ -58,20 +58,6 @@ impl Satellite {
     pub fn place(self) -> usize {
         self.system as usize * 100 + usize::from(self.number)
     }
-
-    /// Returns the satellite of an index.
-    pub fn of(place: usize) -> Self {
-        Self {
-            system: SYSTEMS[place / 100],
-            number: (place % 100) as u8,
-        }
-    }
-
-    /// Returns the name in RINEX, such as G07.
-    pub fn name(self) -> String {
-        let letter = ["G", "R", "E", "C"][self.system as usize];
-        format!("{letter}{:02}", self.number)
-    }
 }
 
 /// Checks for satellites of systems that are skipped: SBAS, QZSS, NavIC.
@@ -295,16 +281,6 @@ mod tests {
         assert_eq!(band("C2").megahertz(), 1561);
         assert!((band("G2").slowing(0) - (77.0_f64 / 60.0).powi(2)).abs() < 1e-12);
         assert!(Band::of("G9").is_none() && Band::of("J1").is_none() && Band::of("").is_none());
-    }
-
-    #[test]
-    fn satellites_have_an_index_and_a_name() {
-        for (letter, number, name) in [(b'G', 7, "G07"), (b'R', 24, "R24"), (b'C', 63, "C63")] {
-            let system = System::of(letter).unwrap();
-            let satellite = Satellite { system, number };
-            assert_eq!(Satellite::of(satellite.place()), satellite);
-            assert_eq!(satellite.name(), name);
-        }
     }
 
     #[test]

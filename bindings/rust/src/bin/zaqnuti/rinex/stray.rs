@@ -9,7 +9,7 @@ const MOST: usize = 7;
 const LEAST: f64 = 12.0;
 const SIGMAS: f64 = 10.0;
 /// The least share of a pseudorange that is not taken up by the unknowns.
-pub const FREE: f64 = 0.1;
+const FREE: f64 = 0.1;
 
 /// A row of the equations, and its right side.
 type Row = ([f64; MOST], f64);
@@ -82,27 +82,13 @@ fn calm(sights: &[Sight]) -> bool {
     })
 }
 
-/// A pseudorange's residual in least squares, its weight, and the share of it that is not taken up
-/// by the unknowns.
-#[derive(Clone, Copy)]
-pub struct Share {
-    pub residual: f64,
-    pub weight: f64,
-    pub free: f64,
-}
-
-impl Share {
-    /// Returns by how much the sum of squares falls without the pseudorange.
-    pub fn taken(&self) -> f64 {
-        self.residual * self.residual / self.free
+/// Returns the index of the pseudorange that contradicts the others most, if one does clearly.
+pub fn worst(sights: &[Sight]) -> Option<usize> {
+    if calm(sights) {
+        return None;
     }
-}
-
-/// Solves the equations of an epoch. Returns the share of each pseudorange, the sum of the squared
-/// residuals, and how many more rows than unknowns there are without one; nothing where these are
-/// fewer than two.
-pub fn shares(sights: &[Sight]) -> Option<(Vec<Share>, f64, usize)> {
     let (rows, n) = rows(sights);
+    // Without it there must be two more rows than unknowns.
     let spare = rows.len().checked_sub(n + 3)? + 2;
     let (mut normal, mut right) = ([[0.0; MOST]; MOST], [0.0; MOST]);
     for (row, miss) in &rows {
@@ -116,28 +102,18 @@ pub fn shares(sights: &[Sight]) -> Option<(Vec<Share>, f64, usize)> {
     }
     let solved = forward(&normal, n, right);
     let total: f64 = rows.iter().map(|(_, m)| m * m).sum::<f64>() - dot(&solved, &solved);
-    let share = |(row, miss): &Row| {
-        let along = forward(&normal, n, *row);
-        Share {
-            residual: miss - dot(&along, &solved),
-            weight: row[3..].iter().sum(),
-            free: 1.0 - dot(&along, &along),
-        }
-    };
-    Some((rows.iter().map(share).collect(), total, spare))
-}
-
-/// Returns the index of the pseudorange that contradicts the others most, if one does clearly.
-pub fn worst(sights: &[Sight]) -> Option<usize> {
-    if calm(sights) {
-        return None;
-    }
-    let (shares, total, spare) = shares(sights)?;
     let mut best = None;
-    for (i, share) in shares.iter().enumerate().filter(|(_, s)| s.free >= FREE) {
-        let taken = share.taken();
+    for (i, (row, miss)) in rows.iter().enumerate() {
+        let along = forward(&normal, n, *row);
+        let free = 1.0 - dot(&along, &along);
+        if free < FREE {
+            continue;
+        }
+        let residual = miss - dot(&along, &solved);
+        let taken = residual * residual / free;
         if best.map_or(true, |(most, _, _)| taken > most) {
-            best = Some((taken, i, (share.residual / share.free / share.weight).abs()));
+            let weight = row[3..].iter().sum::<f64>();
+            best = Some((taken, i, (residual / free / weight).abs()));
         }
     }
     let (taken, index, size) = best?;

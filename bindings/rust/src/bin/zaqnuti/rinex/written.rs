@@ -9,107 +9,67 @@ use super::time::Moment;
 pub const HEADER: &str = "week,tow,constellation,svid,band,pseudorange,carrier,state,\
     x,y,z,vx,vy,vz,clock,modelled,ionosphere,elevation,rate,rx,ry,rz";
 
-/// The most bytes of a number: 16 digits, a sign and a point.
-const WIDEST: usize = 20;
-/// The most bytes of a line without time and position: 3 + 13 + 1 fields.
-const LINE: usize = 17 * (WIDEST + 1);
-
-/// The two digits of each number below 100.
-const PAIRS: [[u8; 2]; 100] = {
-    let (mut all, mut i) = ([[0; 2]; 100], 0);
-    while i < 100 {
-        all[i] = [b'0' + i as u8 / 10, b'0' + i as u8 % 10];
-        i += 1;
+/// Writes the digits of a number before index `at`, padded to `least`. Returns where they begin.
+fn digits(buffer: &mut [u8; 24], mut at: usize, mut n: u64, least: usize) -> usize {
+    let stop = at - least;
+    while n >= 100 || at >= stop + 2 {
+        let pair = (n % 100) as u8;
+        at -= 2;
+        buffer[at] = b'0' + pair / 10;
+        buffer[at + 1] = b'0' + pair % 10;
+        n /= 100;
     }
-    all
-};
-
-/// Fields of a line, in a buffer on the stack.
-struct Fields {
-    text: [u8; LINE],
-    end: usize,
+    while n > 0 || at > stop {
+        at -= 1;
+        buffer[at] = b'0' + (n % 10) as u8;
+        n /= 10;
+    }
+    at
 }
 
-/// Returns the number of digits, at least 1.
-fn width(n: u64) -> usize {
-    n.checked_ilog10().map_or(1, |w| w as usize + 1)
+/// Appends a whole number.
+fn whole(out: &mut Vec<u8>, n: u64) {
+    let mut buffer = [0; 24];
+    let start = digits(&mut buffer, 24, n, 1);
+    out.extend_from_slice(&buffer[start..]);
 }
 
-impl Fields {
-    fn new() -> Self {
-        Self {
-            text: [0; LINE],
-            end: 0,
-        }
+/// Appends a number with a fixed number of decimal places, or `NaN`.
+fn fixed<const PLACES: u32>(out: &mut Vec<u8>, x: f64) {
+    let tens = const { 10_u64.pow(PLACES) };
+    let scaled = x * tens as f64;
+    if scaled.is_nan() || scaled.abs() >= 9e15 {
+        out.extend_from_slice(b"NaN");
+        return;
     }
-
-    fn bytes(&self) -> &[u8] {
-        &self.text[..self.end]
+    // Adding a half and truncating rounds to nearest.
+    let n = (scaled.abs() + 0.5) as u64;
+    let mut buffer = [0; 24];
+    let point = digits(&mut buffer, 24, n % tens, PLACES as usize) - 1;
+    buffer[point] = b'.';
+    let mut start = digits(&mut buffer, point, n / tens, 1);
+    if x < 0.0 && n > 0 {
+        start -= 1;
+        buffer[start] = b'-';
     }
-
-    fn push(&mut self, byte: u8) {
-        self.text[self.end] = byte;
-        self.end += 1;
-    }
-
-    /// Appends the last `width` digits of a number.
-    fn digits(&mut self, mut n: u64, width: usize) {
-        let room = &mut self.text[self.end..self.end + width];
-        self.end += width;
-        let mut pairs = room.rchunks_exact_mut(2);
-        for pair in &mut pairs {
-            pair.copy_from_slice(&PAIRS[(n % 100) as usize]);
-            n /= 100;
-        }
-        if let [first] = pairs.into_remainder() {
-            *first = b'0' + (n % 10) as u8;
-        }
-    }
-
-    /// Appends a whole number.
-    fn whole(&mut self, n: u64) {
-        self.digits(n, width(n));
-    }
-
-    /// Appends a number with a fixed number of decimal places, or `NaN`.
-    fn fixed<const PLACES: u32>(&mut self, x: f64) {
-        let tens = const { 10_u64.pow(PLACES) };
-        let scaled = x * tens as f64;
-        if scaled.is_nan() || scaled.abs() >= 9e15 {
-            b"NaN".iter().for_each(|b| self.push(*b));
-            return;
-        }
-        // Adding a half and truncating rounds to nearest.
-        let n = (scaled.abs() + 0.5) as u64;
-        if x < 0.0 && n > 0 {
-            self.push(b'-');
-        }
-        self.whole(n / tens);
-        self.push(b'.');
-        self.digits(n % tens, PLACES as usize);
-    }
-
-    /// Appends numbers, each after a comma.
-    fn floats<const PLACES: u32>(&mut self, numbers: &[f64]) {
-        for x in numbers {
-            self.push(b',');
-            self.fixed::<PLACES>(*x);
-        }
-    }
+    out.extend_from_slice(&buffer[start..]);
 }
 
 /// Appends week and time of week, without trailing zeros.
 fn time(out: &mut Vec<u8>, at: Moment) {
     let (week, ticks) = at.ticks();
-    let mut fields = Fields::new();
-    fields.whole(week.unsigned_abs());
-    fields.push(b',');
-    fields.whole(ticks.unsigned_abs() / 10_000_000);
-    fields.push(b'.');
-    fields.digits(ticks.unsigned_abs() % 10_000_000, 7);
-    let text = fields.bytes();
-    let zeros = text.iter().rev().take(6).take_while(|b| **b == b'0');
-    out.extend_from_slice(&text[..text.len() - zeros.count()]);
+    whole(out, week.unsigned_abs());
+    out.push(b',');
+    whole(out, ticks.unsigned_abs() / 10_000_000);
+    let behind = ticks.unsigned_abs() % 10_000_000;
+    out.push(b'.');
+    let digits = format_args!("{behind:07}").to_string();
+    let digits = digits.trim_end_matches('0');
+    out.extend(if digits.is_empty() {
+        b"0"
+    } else {
+        digits.as_bytes()
+    });
 }
 
 /// The fields that all lines of an epoch share: the time, and the receiver's position.
@@ -123,10 +83,11 @@ impl Frame {
     pub fn new(at: Moment, sky: &Sky) -> Self {
         let (mut front, mut place) = (Vec::new(), Vec::new());
         time(&mut front, at);
-        let mut fields = Fields::new();
-        fields.floats::<4>(&sky.place);
-        fields.push(b'\n');
-        place.extend_from_slice(fields.bytes());
+        for x in sky.place {
+            place.push(b',');
+            fixed::<4>(&mut place, x);
+        }
+        place.push(b'\n');
         Self { time: front, place }
     }
 }
@@ -144,21 +105,21 @@ pub struct Carrier {
 pub fn line(out: &mut Vec<u8>, frame: &Frame, sight: &Sight, carrier: &Carrier) {
     out.extend_from_slice(&frame.time);
     let satellite = sight.signal.satellite;
-    let mut fields = Fields::new();
     let wholes = [
         u64::from(satellite.system.constellation()),
         u64::from(satellite.number),
         u64::from(sight.band.megahertz()),
     ];
     for n in wholes {
-        fields.push(b',');
-        fields.whole(n);
+        out.push(b',');
+        whole(out, n);
     }
-    fields.floats::<4>(&[sight.signal.pseudorange - sight.delay, carrier.metres]);
-    fields.push(b',');
-    fields.whole(u64::from(carrier.state));
-    fields.floats::<4>(&sight.state.place);
-    fields.floats::<5>(&sight.state.velocity);
+    let ranges = [sight.signal.pseudorange - sight.delay, carrier.metres];
+    floats::<4>(out, &ranges);
+    out.push(b',');
+    whole(out, u64::from(carrier.state));
+    floats::<4>(out, &sight.state.place);
+    floats::<5>(out, &sight.state.velocity);
     let modelled = sight.ionosphere + sight.troposphere;
     let elevation = sight.to.elevation.to_degrees();
     let rest = [
@@ -168,20 +129,21 @@ pub fn line(out: &mut Vec<u8>, frame: &Frame, sight: &Sight, carrier: &Carrier) 
         elevation,
         carrier.rate,
     ];
-    fields.floats::<4>(&rest);
-    out.extend_from_slice(fields.bytes());
+    floats::<4>(out, &rest);
     out.extend_from_slice(&frame.place);
+}
+
+/// Appends numbers, each after a comma.
+fn floats<const PLACES: u32>(out: &mut Vec<u8>, numbers: &[f64]) {
+    for x in numbers {
+        out.push(b',');
+        fixed::<PLACES>(out, *x);
+    }
 }
 
 #[cfg(test)]
 mod tests {
     use super::*;
-
-    fn shown<const PLACES: u32>(x: f64) -> Vec<u8> {
-        let mut fields = Fields::new();
-        fields.fixed::<PLACES>(x);
-        fields.bytes().to_vec()
-    }
 
     #[test]
     fn decimals_are_those_of_the_standard_library() {
@@ -195,28 +157,18 @@ mod tests {
             99.99996,
             1e9,
         ] {
-            assert_eq!(shown::<4>(x), format!("{x:.4}").as_bytes(), "{x}");
+            let mut out = Vec::new();
+            fixed::<4>(&mut out, x);
+            assert_eq!(out, format!("{x:.4}").as_bytes(), "{x}");
         }
-        // The largest number and the longest line have room.
-        assert_eq!(shown::<4>(-8.99e11).len(), 18);
-        assert_eq!(shown::<4>(f64::NAN), b"NaN");
-        assert_eq!(shown::<4>(1e300), b"NaN");
+        let mut out = Vec::new();
+        fixed::<4>(&mut out, f64::NAN);
+        fixed::<4>(&mut out, 1e300);
+        assert_eq!(out, b"NaNNaN");
+        out.clear();
         // Zero has no sign.
-        assert_eq!(shown::<4>(-0.00004), b"0.0000");
-    }
-
-    #[test]
-    fn whole_multiples_are_those_of_the_standard_library() {
-        let mut random = 1_u64;
-        for i in 0..1_000_000 {
-            random = random.wrapping_mul(6_364_136_223_846_793_005) + 1;
-            // Of one to 15 digits.
-            let n = (random >> 11) as i64 % 10_i64.pow(1 + i % 15);
-            let x = (if random % 2 == 0 { n } else { -n }) as f64 / 1e4;
-            let text = format!("{x:.4}");
-            let text = if n == 0 { "0.0000" } else { &text };
-            assert_eq!(shown::<4>(x), text.as_bytes());
-        }
+        fixed::<4>(&mut out, -0.00004);
+        assert_eq!(out, b"0.0000");
     }
 
     #[test]

@@ -1,6 +1,5 @@
-
 -- `clocks::clocks::Clocks::given` meets its contract. Assumes nothing.
-use Rattle.std.proofs.Common.{rules, le-ltb, lt-ltb, eq-eqb, ne_eqb}
+use Rattle.std.proofs.Common.{le-ltb, lt-ltb, eq-eqb, ne_eqb}
 use Rattle.clocks.specs.Clocks.{given}
 use Rattle.clocks.proofs.clocks.Clocks.given.Goals as goal
 

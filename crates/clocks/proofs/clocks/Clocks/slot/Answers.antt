@@ -1,6 +1,4 @@
-
 -- `clocks::clocks::Clocks::slot` meets its contract. Assumes nothing.
-use Rattle.std.proofs.Common.{rules}
 use Rattle.clocks.proofs.clocks.Clocks.slot.Goals as goal
 
 pub returns : goal.returns

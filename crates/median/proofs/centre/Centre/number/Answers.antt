@@ -1,6 +1,5 @@
 -- `median::centre::Centre::number` meets its contract. Assumes nothing.
 use mathlib.Core.Path.{sym, ap, ◌∙◌}
-use borrow.Author.Rules.{rules}
 use Rattle.median.specs.Centre.{centre_number}
 use Rattle.median.proofs.centre.Centre.number.Goals as goal
 

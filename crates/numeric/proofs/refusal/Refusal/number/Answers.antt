@@ -1,5 +1,4 @@
 -- `numeric::refusal::Refusal::number` meets its contract. Assumes nothing.
-use borrow.Author.Rules.{rules}
 use Rattle.numeric.proofs.refusal.Refusal.number.Goals as goal
 
 pub returns-in-BrokenForm : goal.returns-in-BrokenForm

@@ -1,6 +1,5 @@
 -- `numeric::vec3::Vec3::norm_beside` meets its contract. Assumes nothing.
 use Rattle.numeric.specs.Vec3.{norm}
-use borrow.Author.Rules.{rules}
 use Rattle.numeric.proofs.vec3.Vec3.norm_beside.Goals as goal
 
 pub returns : goal.returns

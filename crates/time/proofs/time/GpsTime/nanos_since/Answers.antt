@@ -1,5 +1,5 @@
 -- `time::time::GpsTime::nanos_since` meets its contract. Assumes nothing.
-use Rattle.std.proofs.Common.{◌≡◌, true, ◌&&◌, ℤ, sym, ap, ◌∙◌, ap₂, rules}
+use Rattle.std.proofs.Common.{◌≡◌, true, ◌&&◌, ℤ, sym, ap, ◌∙◌, ap₂}
 use Rattle.time.specs.Time.{is_dated}
 use Rattle.time.specs.declared.time.Nanos.TheVariants.{Since as NanosSince}
 use Rattle.time.proofs.WeekLaws.{both}

@@ -1,16 +1,15 @@
 -- `time::time::GpsTime::new` meets its contract. Assumes nothing.
-use Rattle.std.proofs.Common.{◌≡◌, true, false, leb, sym, ◌∙◌, arith, rules, leb-true}
-use borrow.Author.Tests.{not-true, not-false}
+use Rattle.std.proofs.Common.{◌≡◌, true, false, leb, sym, ◌∙◌, arith, leb-true}
 use Rattle.time.specs.Time.{is_time, time_of, in_week}
 use Rattle.time.proofs.WeekLaws.{both, nanos-upto}
 use Rattle.time.proofs.time.GpsTime.new.Goals as goal
 
-returns : tie.Need-returns
+pub returns-then-not-is_time : goal.returns-then-not-is_time
 unfolding time_of
-returns c = let h : is_time c.before.before.args.week c.before.before.args.tow ≡ false = sym c.before.is-time.ensures ∙ not-true _ c.if1.true in rw h
+returns-then-not-is_time c = let h : is_time c.args.week c.args.tow ≡ false = sym c.is_time.ensures ∙ c.if-not-is_time.true in rw h
 
 passed : (c : goal.Else-not-is_time) → is_time c.args.week c.args.tow ≡ true
-passed c = sym c.is_time.ensures ∙ not-false _ c.if-not-is_time.false
+passed c = sym c.is_time.ensures ∙ c.if-not-is_time.false
 
 parts : (c : goal.Else-not-is_time) → (leb c.args.week 15000 ≡ true) × (in_week c.args.tow ≡ true)
 parts c = both (leb c.args.week 15000) (in_week c.args.tow) (passed c)

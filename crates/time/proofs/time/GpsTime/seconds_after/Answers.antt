@@ -1,5 +1,5 @@
 -- `time::time::GpsTime::seconds_after` meets its contract. Assumes nothing.
-use Rattle.std.proofs.Common.{ℤ, ap, ◌∙◌, rules}
+use Rattle.std.proofs.Common.{ℤ, ap, ◌∙◌}
 use lib.Ieee.{binary64, of_int}
 use Rattle.time.proofs.DifferenceLaws.{after_kept, seconds-are}
 use Rattle.time.proofs.time.GpsTime.seconds_after.Goals as goal

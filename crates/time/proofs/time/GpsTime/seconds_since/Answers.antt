@@ -1,5 +1,5 @@
 -- `time::time::GpsTime::seconds_since` meets its contract. Assumes nothing.
-use Rattle.std.proofs.Common.{◌≡◌, true, ◌&&◌, sym, ap, ◌∙◌, ap₂, rules}
+use Rattle.std.proofs.Common.{◌≡◌, true, ◌&&◌, sym, ap, ◌∙◌, ap₂}
 use lib.Ieee.{Float}
 use Rattle.time.specs.Time.{is_dated}
 use Rattle.time.specs.declared.time.Seconds.TheVariants.{Since as SecondsSince}

@@ -1,6 +1,5 @@
 -- `trip::trip::Trip::add` meets its contract. Assumes nothing.
 use Rattle.numeric.specs.Vec3.{norm}
-use borrow.Author.Rules.{rules}
 use Rattle.trip.proofs.trip.Trip.add.Goals as goal
 
 pub returns : goal.returns

@@ -1,6 +1,5 @@
 -- `trip::trip::Trip::is_sound` meets its contract. Assumes nothing.
 use mathlib.Core.Path.{refl}
-use borrow.Author.Rules.{rules}
 use Rattle.trip.specs.Trip.{sound_trip}
 use Rattle.trip.proofs.trip.Trip.is_sound.Goals as goal
 

@@ -2,8 +2,6 @@
 use mathlib.Core.Path.{◌≡◌, sym, ◌∙◌}
 use mathlib.Core.Bool.{true}
 use native.Mathlib.Omega.{arith}
-use borrow.Author.Rules.{rules}
-use borrow.Author.Tests.{not-true, not-false}
 use Rattle.trip.specs.Trip.{sound_trip, reported}
 use Rattle.trip.proofs.BoundsLaws.{bounds}
 use Rattle.trip.proofs.TripLaws.{reports}
@@ -11,10 +9,10 @@ use Rattle.trip.proofs.trip.Trip.report.Goals as goal
 
 pub returns-then-not-is_sound : goal.returns-then-not-is_sound
 unfolding reported
-returns-then-not-is_sound c = reports _ (rw (sym c.is_sound.ensures ∙ not-true _ c.if-not-is_sound.true))
+returns-then-not-is_sound c = reports _ (rw (sym c.is_sound.ensures ∙ c.if-not-is_sound.true))
 
 passed : (c : goal.Else-not-is_sound) → sound_trip c.args.self ≡ true
-passed c = sym c.is_sound.ensures ∙ not-false _ c.if-not-is_sound.false
+passed c = sym c.is_sound.ensures ∙ c.if-not-is_sound.false
 
 pub odometer-requires : goal.odometer-requires
 odometer-requires c = omega (arith, bounds c.args.self (passed c))

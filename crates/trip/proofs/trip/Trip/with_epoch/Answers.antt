@@ -1,6 +1,5 @@
 -- `trip::trip::Trip::with_epoch` meets its contract. Assumes nothing.
 use native.Mathlib.Omega.{arith}
-use borrow.Author.Rules.{rules}
 use Rattle.trip.specs.Trip.{with_epoch}
 use Rattle.trip.proofs.BoundsLaws.{bounds}
 use Rattle.trip.proofs.trip.Trip.with_epoch.Goals as goal

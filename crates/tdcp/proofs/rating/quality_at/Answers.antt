@@ -1,0 +1,27 @@
+-- `tdcp::rating::quality_at` meets its contract. Assumes nothing.
+use mathlib.Core.Path.{sym}
+use native.Mathlib.Omega.{arith}
+use lib.ListN.{length}
+use lib.Seq.{length-take-le}
+use Rattle.records.specs.Steps.{pairs_in}
+use Rattle.tdcp.proofs.DisplacementLaws.{rows_in_lem}
+use Rattle.tdcp.proofs.RatedLaws.{quality-made}
+use Rattle.tdcp.proofs.rating.quality_at.Goals as goal
+
+pub slice_bounds-quality_of-end : goal.slice_bounds-quality_of-end
+slice_bounds-quality_of-end c = sym (length-take-le _ _ (omega (arith, c.residuals_at.ensures.long, c.requires.0)))
+
+pub quality_of-requires : goal.quality_of-requires
+quality_of-requires c = let s = c in
+    let e = length-take-le (length s.args.observed.now) c.residuals_at.new.residual (omega (arith, c.residuals_at.ensures.long, s.requires.0)) in
+    (omega (arith, e, s.requires.0), s.requires.1, s.requires.2)
+
+pub returns : goal.returns
+returns c = let t = c in
+    let s = t in
+    let a = s.args in
+    record {
+      quality-is = λ settings k constellation elevation n clocks sigmas.
+          quality-made settings k (pairs_in a.x.now a.y.now a.z.now constellation elevation a.observed.now) a.at c.quality_of.ensures.answer n
+          (rows_in_lem settings k a.x.now a.y.now a.z.now constellation elevation a.observed.now s.requires.0 a.at clocks sigmas t.residuals_at.ensures);
+    }

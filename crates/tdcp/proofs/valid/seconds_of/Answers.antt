@@ -1,0 +1,32 @@
+-- `tdcp::valid::seconds_of` meets its contract: each answer follows from the tests on the way to it. Assumes nothing.
+use mathlib.Core.Path.{sym, ◌∙◌}
+use Rattle.numeric.specs.Rules.{ruled}
+use Rattle.tdcp.specs.Steps.{given_rules}
+use Rattle.tdcp.proofs.IntervalLaws.{not_timed, bad_interval_lem, good_interval}
+use Rattle.tdcp.proofs.valid.seconds_of.Goals as goal
+
+pub returns-then-not-settings_pass : goal.returns-then-not-settings_pass
+unfolding given_rules ruled
+returns-then-not-settings_pass c = simp (rw c.settings_pass.ensures at c.if-not-settings_pass.true)
+
+pub returns-then-not-sound : goal.returns-then-not-sound
+unfolding given_rules ruled
+returns-then-not-sound c = simp (rw c.settings_pass.ensures at c.if-not-settings_pass.false, c.if-not-sound.true)
+
+pub returns-then-is_bad_interval : goal.returns-then-is_bad_interval
+returns-then-is_bad_interval c = let a = c in
+    let e = a in
+    bad_interval_lem _ _ (sym e.settings_pass.ensures ∙ e.if-not-settings_pass.false) a.if-not-sound.false
+    (sym c.in-Since.is ∙ a.apart-seconds.ensures) (sym c.is_bad_interval.ensures ∙ c.if-is_bad_interval.true)
+
+pub returns-in-Refused : goal.returns-in-Refused
+returns-in-Refused c = let a = c in
+    let e = a in
+    not_timed _ _ (sym e.settings_pass.ensures ∙ e.if-not-settings_pass.false) a.if-not-sound.false
+    (sym c.in-Refused.is ∙ a.apart-seconds.ensures)
+
+pub returns-else-is_bad_interval : goal.returns-else-is_bad_interval
+returns-else-is_bad_interval c = let a = c in
+    let e = a in
+    good_interval _ _ (sym e.settings_pass.ensures ∙ e.if-not-settings_pass.false) a.if-not-sound.false
+    (sym c.in-Since.is ∙ a.apart-seconds.ensures) (sym c.is_bad_interval.ensures ∙ c.if-is_bad_interval.false)
