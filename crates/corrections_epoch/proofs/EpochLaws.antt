@@ -27,7 +27,6 @@ use Rattle.corrections_table.proofs.SmallLaws.{Small, range_small}
 use Rattle.corrections_directory.specs.Directory.{Blocks, Directory, sound_directory}
 use Rattle.corrections_add.specs.Add.{PatternsAfter, Placed, Places, add_in, added_in, addition_number, addition_of, directory_with, entries_now, placed_of, refused_in, samples_now, test_in}
 use Rattle.corrections_add.specs.declared.add.Addition.{Addition}
-use Rattle.corrections_add.specs.declared.add.Addition.TheVariants as Addition
 use Rattle.corrections_epoch.specs.Record.{ranges_of, states_count, vector_in_range, range_in_range}
 use Rattle.corrections_epoch.specs.Raw.{raws_of}
 use Rattle.corrections_epoch.specs.Sample.{group, clock_of, kept, corrected_sample, corrected, sample_at, samples_of, epoch_samples}

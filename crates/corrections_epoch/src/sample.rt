@@ -1,7 +1,6 @@
 // The samples that an epoch's raw corrections give, once the base receiver's clock is removed.
 ghost use Rattle.std.specs.Prelude.{◌≡◌, ℕ, ◌≤◌, ◌<◌, take, get_or, length};
 ghost use Rattle.std.specs.Float.{nan};
-
 ghost use Rattle.lists.specs.Walk.{Holds};
 ghost use Rattle.corrections_epoch.specs.Sample as spec;
 ghost use Rattle.corrections_epoch.specs.Steps.{clock_or_nan};
