@@ -12,7 +12,6 @@ use Rattle.tdcp.specs.declared.displacement.Displacement.TheVariants.{Refused, M
 use Rattle.tdcp.specs.Rated.{answered_of, plain_of, RatedAccepted}
 use Rattle.tdcp.specs.declared.displacement.RatedDelta.{RatedDelta}
 use Rattle.tdcp.specs.declared.displacement.Rated.{Rated}
-use Rattle.tdcp.specs.declared.displacement.Rated.TheVariants as Rated
 use Rattle.tdcp.proofs.DisplacementSound.{never, displacement-accepted}
 use Rattle.tdcp.proofs.RatedLaws.{plain-is, rated-finite, answered-promised}
 use Rattle.tdcp_columns.specs.Displacement.{Lent, lent_input, is_fit, columns_displaced, Leaves, DisplacementAnswers}

@@ -16,7 +16,6 @@ use Rattle.tdcp.specs.Valid.{epoch_rules, interval_rules}
 use Rattle.tdcp.specs.Displacement.{displacement_of, displacement_number}
 use Rattle.tdcp.specs.declared.displacement.Settings.{Settings}
 use Rattle.tdcp.specs.declared.displacement.Interval.{Interval}
-use Rattle.tdcp.specs.declared.displacement.Interval.TheVariants as Interval
 use Rattle.tdcp.specs.declared.displacement.Displacement.TheVariants.{Refused}
 use Rattle.tdcp.proofs.IntervalLaws.{at-dt}
 use Rattle.tdcp_columns.specs.Displacement.{Lent, lent, lent_input, is_fit, columns_displaced, delta_after, counts_after, DisplacementAnswers, Alike}

@@ -20,7 +20,6 @@ use Rattle.tdcp.specs.Displacement.{row_at, kept_pairs, call_fit, displacement_o
 use Rattle.tdcp.specs.declared.displacement.Delta.{Delta}
 use Rattle.tdcp.specs.Rated.{quality_at, quality, rate, rated_with, rated_of, RatedAccepted}
 use Rattle.tdcp.specs.declared.displacement.Displacement.{Displacement}
-use Rattle.tdcp.specs.declared.displacement.Displacement.TheVariants as Displacement
 use Rattle.tdcp.specs.declared.displacement.RatedDelta.{RatedDelta}
 use Rattle.tdcp.specs.declared.displacement.Rated.{Rated}
 use Rattle.tdcp.specs.declared.displacement.Rated.TheVariants.{Refused, Moved}

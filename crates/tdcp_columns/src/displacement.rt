@@ -1,6 +1,5 @@
 // Displacements of two epochs' columns: refused by 2 where they do not fit, otherwise that of their signals, states and floats.
 ghost use Rattle.std.specs.Prelude.{◌≡◌, length};
-
 ghost use Rattle.records.specs.Carriers.{epoch_fits};
 ghost use Rattle.records.specs.Lent.{lent_columns, lent_vector};
 ghost use Rattle.tdcp_columns.specs.Displacement as spec;

@@ -1,0 +1,16 @@
+-- `tdcp_columns::lent::rated_into` meets its contract. Assumes nothing.
+use mathlib.Core.Path.{refl}
+use Rattle.tdcp_columns.proofs.lent.rated_into.Goals as goal
+
+pub returns-in-Moved : goal.returns-in-Moved
+returns-in-Moved c = let p = c in
+    rw p.in-Moved.is
+    (record {
+      number_is = refl;
+      delta-is = rw (p.pattern-x.ensures, p.pattern-y.ensures, p.pattern-z.ensures);
+      quality-is = rw (p.pattern-chi.ensures, p.pattern-pdop.ensures);
+      counts-are = refl;
+    })
+
+pub returns-in-Refused : goal.returns-in-Refused
+returns-in-Refused c = rw c.in-Refused.is (record { number_is = c.number.ensures; delta-is = refl; quality-is = refl; counts-are = refl })
