@@ -1,6 +1,5 @@
 // The fields of a line: numbers in decimal, and floats as sixteen hexadecimal digits.
 ghost use Rattle.std.specs.Prelude.{◌≡◌, true, ◌≤◌, ◌<◌, ◌^◌, pos, neg_ℤ};
-
 ghost use Rattle.line_form.specs.Field.{plain, is_hex_digit, hex_value};
 ghost use Rattle.line_form.specs.Steps.{ReadsNumber, ReadsState, ReadsPattern, ReadsFloat};
 

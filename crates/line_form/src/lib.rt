@@ -1,10 +1,11 @@
 // The line form: a text of settings and carriers in, the displacement's line out.
+#![tactic(auto)]
+
 mod field;
 mod line;
 mod print;
 mod split;
 mod text;
-
 
 ghost use Rattle.line_form.specs.Answer.{LineAnswered};
 
@@ -29,6 +30,6 @@ pub fn answer(text: &[u8], line: &mut [u8]) -> Printed
     if line.len() < n {
         return Printed::Refused(Refusal::TooMany);
     }
-    let length = bytes::copy(&out[..n], line);
-    Printed::Line(length)
+    line[..n].copy_from_slice(&out[..n]);
+    Printed::Line(n)
 }

@@ -1,6 +1,5 @@
 // One line of the form.
 ghost use Rattle.std.specs.Prelude.{◌≡◌, ◌≤◌, length};
-
 ghost use Rattle.line_form.specs.Line.{letter, line_of};
 ghost use Rattle.line_form.specs.Steps.{first_line, Parted, ReadsPlace, ReadsCarrier, ReadsGiven};
 

@@ -1,6 +1,5 @@
 // The answer as a line.
 ghost use Rattle.std.specs.Prelude.{◌≡◌, [], ◌∷◌, ◌++◌, ◌+◌, ◌≤◌, ◌<◌, length};
-
 ghost use Rattle.line_form.specs.Print.{glyph, digits_text, digit_count, decimal_text, hex_text, answer_text};
 ghost use Rattle.line_form.specs.Steps.{Numbers, Printable, vector_text, overwritten, PutBytes};
 

@@ -1,6 +1,5 @@
 // The lines of a text and the fields of a line, by their places.
 ghost use Rattle.std.specs.Prelude.{◌≡◌, ◌+◌, ◌≤◌, length, drop};
-
 ghost use Rattle.line_form.specs.Split.{field};
 ghost use Rattle.line_form.specs.Steps.{count_before, FieldsOf, Parted};
 

@@ -1,6 +1,5 @@
 // A whole text of the form.
 ghost use Rattle.std.specs.Prelude.{◌≡◌, ◌<◌, ◌≤◌, length, drop};
-
 ghost use Rattle.line_form.specs.Steps.{Displaces, LinesDisplace, Keeps, ReadsNext};
 
 use crate::line::{First, Line, first_of, line_of};

@@ -1,14 +1,13 @@
 -- The rounds of a fix end by 15 exactly where one begins at a state with a range that is zero or not finite, and otherwise only by 10. Assumes nothing.
 use mathlib.Core.Logic.{◌⊎◌, inl, inr}
 use mathlib.Core.Path.{◌≡◌, refl, sym, ap, ◌∙◌, subst}
-use mathlib.Core.Bool.{Bool, true, false, not, cond, ◌&&◌}
+use mathlib.Core.Bool.{Bool, true, false, cond, ◌&&◌}
 use mathlib.Core.List.{List, [], ◌∷◌, map}
 use Prim.Native.Nat.{ℕ, zero, suc, ◌+◌}
 use native.Mathlib.Omega.{arith}
 use lib.Ieee.{Float}
-use lib.Ieee.Scale.{finite}
 use Rattle.lists.specs.Walk.{every}
-use Rattle.cholesky.specs.Factor.{at, Factored, Refused as NoFactor, Lower, factor_of}
+use Rattle.cholesky.specs.Factor.{Factored, Refused as NoFactor, Lower, factor_of}
 use Rattle.numeric.specs.Refusal.{number_of}
 use Rattle.numeric.specs.declared.refusal.Refusal.{Refusal}
 use Rattle.numeric.specs.declared.refusal.Refusal.TheVariants.{FitFailed, OnReceiver}

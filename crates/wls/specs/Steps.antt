@@ -16,7 +16,6 @@ use Rattle.numeric.specs.Rules.{Rule, rule, ruled}
 use Rattle.estimate_rounds.specs.Rounds.{End, Stopped, Reached, Fit, last_rows}
 use Rattle.estimate_rounds.specs.Steps.{check_number, check_of}
 use Rattle.estimate_rounds.specs.declared.rules.Check.{Check}
-use Rattle.estimate_rounds.specs.declared.rules.Check.TheVariants as Check
 use Rattle.wls.specs.Fix.{sigma_of, sight_at, residual_at, sight_rules, chi_at, end_rules, solution_at}
 use Rattle.wls.specs.declared.fix.Settings.{Settings}
 use Rattle.wls.specs.declared.fix.Ending.{Ending}

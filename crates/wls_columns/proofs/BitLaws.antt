@@ -8,7 +8,7 @@ use mathlib.Core.List.{List, [], ◌∷◌, map}
 use lib.Dec.{T}
 use lib.ListN.{length, set, get_or, length-set, replicate, get_or-replicate}
 use lib.Seq.{get_or-set_same, get_or-set_other}
-use lib.Ieee.{Float, fin, is_nan, binary64, to_bits}
+use lib.Ieee.{Float, fin, is_nan, binary64, to_bits, nan, inf}
 use lib.Ieee.Scale.{finite}
 use Rattle.numeric.specs.Order.{pattern_of}
 use Rattle.numeric.proofs.OrderLaws.{pattern_bits}
@@ -26,6 +26,8 @@ use Rattle.cholesky.proofs.FactorFinite.{factor-finite}
 
 pub finite_number : (v : Float) → T (finite v) → is_nan v ≡ false
 unfolding is_nan
+finite_number nan h = elim h [ ]
+finite_number (inf s) h = elim h [ ]
 finite_number (fin s m e) h = refl
 
 pub finite_pattern : (v : Float) → to_bits binary64 v ≡ pattern_of v

@@ -1,6 +1,5 @@
 -- `wls::chi::chi_at` meets its contract. Assumes nothing.
 use mathlib.Core.Path.{◌≡◌, sym, ap, ◌∙◌}
-use Prim.Native.Nat.{◌-◌, ◌≤◌}
 use native.Mathlib.Omega.{arith}
 use lib.ListN.{length, take}
 use Rattle.lists.proofs.Walk.{length-mapped}
@@ -8,9 +7,8 @@ use Rattle.numeric.proofs.SightLaws.{seen_by}
 use Rattle.estimate_rounds.proofs.RulesLaws.{refused-by, passed-by}
 use Rattle.wls.specs.declared.chi.Chi.TheVariants.{Refused as NoChi, Of as ChiOf}
 use Rattle.wls.specs.Fix.{sight_rules, chi_at}
-use Rattle.wls.proofs.SightLaws.{Sights, sights-start, sights-end, sights-next, sights-stop}
+use Rattle.wls.proofs.SightLaws.{sights-start, sights-end, sights-next, sights-stop}
 use Rattle.wls.proofs.QualityLaws.{chi-answered, squares, squares-zero, squares-next, chi-is}
-use borrow.Author.Rules.{rules}
 use Rattle.wls.proofs.chi.chi_at.Goals as goal
 
 long : (c : goal.Start) → length c.args.sky.observation ≡ 64

@@ -1,16 +1,8 @@
 -- `wls::chi::chi_at` meets its contract. Assumes nothing.
-use mathlib.Core.Path.{◌≡◌, sym, ap, ◌∙◌}
+use mathlib.Core.Path.{◌≡◌}
 use Prim.Native.Nat.{◌-◌, ◌≤◌}
-use native.Mathlib.Omega.{arith}
-use lib.ListN.{length, take}
-use Rattle.lists.proofs.Walk.{length-mapped}
-use Rattle.numeric.proofs.SightLaws.{seen_by}
-use Rattle.estimate_rounds.proofs.RulesLaws.{refused-by, passed-by}
-use Rattle.wls.specs.declared.chi.Chi.TheVariants.{Refused as NoChi, Of as ChiOf}
-use Rattle.wls.specs.Fix.{sight_rules, chi_at}
-use Rattle.wls.proofs.SightLaws.{Sights, sights-start, sights-end, sights-next, sights-stop}
-use Rattle.wls.proofs.QualityLaws.{chi-answered, squares, squares-zero, squares-next, chi-is}
-use borrow.Author.Rules.{rules}
+use Rattle.wls.proofs.SightLaws.{Sights}
+use Rattle.wls.proofs.QualityLaws.{squares}
 use Rattle.wls.proofs.chi.chi_at.Given as goal
 
 abbrev pub invariant-loop-j : goal.invariant-loop-j

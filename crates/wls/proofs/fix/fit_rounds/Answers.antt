@@ -1,5 +1,5 @@
 -- `wls::fix::fit_rounds` meets its contract. Assumes nothing.
-use Prim.Native.Nat.{◌+◌, ◌-◌, ◌≤◌}
+use Prim.Native.Nat.{◌+◌, ◌-◌}
 use mathlib.Core.Path.{◌≡◌, refl, sym, ap, ◌∙◌}
 use mathlib.Core.List.{List, map}
 use lib.ListN.{length, take}
@@ -15,12 +15,10 @@ use Rattle.estimate_rounds.specs.declared.rules.Check.TheVariants.{Passed}
 use Rattle.estimate_rounds.proofs.RulesLaws.{checked}
 use Rattle.estimate_rounds.proofs.RoundsLaws.{three-places, left_end, rows_end, left-stopped, left-stops, left-goes, rows-stop, rows-go}
 use Rattle.wls.specs.Fix.{sight_rules, row_at, round_at, fix_stop, fit_at}
-use Rattle.wls.specs.Steps.{Long, RowsAt}
+use Rattle.wls.specs.Steps.{RowsAt}
 use Rattle.wls.proofs.SightLaws.{round-refused}
 use Rattle.wls.proofs.RowLaws.{rowed_passed, rowed_refused}
-use borrow.Author.Tests.{not-true, not-false}
-use Rattle.wls.proofs.FixLaws.{Going, GoingRows, going, going-rows, solving, made-rows, held, fitted-refused, fitted-ended}
-use borrow.Author.Rules.{rules}
+use Rattle.wls.proofs.FixLaws.{going, going-rows, solving, made-rows, held, fitted-refused, fitted-ended}
 use native.Mathlib.Omega.{arith}
 use Rattle.wls.proofs.fix.fit_rounds.Goals as goal
 use Rattle.wls.proofs.fix.fit_rounds.Lts as lts

@@ -7,7 +7,6 @@ use native.Mathlib.Omega.{arith}
 use Rattle.records.specs.declared.record.Observation.{Observation}
 use Rattle.wls.specs.Fix.{sight_rules, chi_at}
 use Rattle.wls.proofs.FixLaws.{stopped-at, reached-at}
-use borrow.Author.Rules.{rules}
 use Rattle.wls.proofs.fix.fit_sky.Goals as goal
 use Rattle.wls.proofs.fix.fit_sky.Lts as lts
 use Rattle.wls.proofs.fix.fit_sky.Tie as tie

@@ -4,7 +4,6 @@ use lib.ListN.{length}
 use Rattle.lists.proofs.Walk.{places-length}
 use Rattle.normal_equations.specs.Steps.{RoundColumns, columns, row_in, rows_in}
 use Rattle.wls.proofs.FixCall.{found-no, found-refused, found-rated}
-use borrow.Author.Rules.{rules}
 use Rattle.wls.proofs.fix.found_at.Goals as goal
 use Rattle.wls.proofs.fix.found_at.Lts as lts
 use Rattle.wls.proofs.fix.found_at.Tie as tie

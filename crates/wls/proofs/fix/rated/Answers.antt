@@ -1,6 +1,5 @@
 -- `wls::fix::rated` meets its contract. Assumes nothing.
 use Rattle.wls.proofs.FixCall.{rated-no, rated_unfit, rated-yes}
-use borrow.Author.Rules.{rules}
 use Rattle.wls.proofs.fix.rated.Goals as goal
 
 pub returns-then-is_finite : goal.returns-then-is_finite

@@ -1,10 +1,9 @@
 -- `wls::fix::rows_at` meets its contract. Assumes nothing.
-use Prim.Native.Nat.{◌-◌, ◌≤◌}
+use Prim.Native.Nat.{◌≤◌}
 use mathlib.Core.Path.{◌≡◌}
 use lib.ListN.{length}
 use Rattle.lists.proofs.Walk.{length-mapped}
-use Rattle.wls.proofs.RowLaws.{RowsTo, rows_start, rows_end, rows-stop, rows_next}
-use borrow.Author.Rules.{rules}
+use Rattle.wls.proofs.RowLaws.{rows_start, rows_end, rows-stop, rows_next}
 use native.Mathlib.Omega.{arith}
 use Rattle.wls.proofs.fix.rows_at.Goals as goal
 

@@ -1,10 +1,8 @@
 -- `wls::fix::sigmas_of` meets its contract: the first j numbers are the sigmas of the first j. Assumes nothing.
 use mathlib.Core.Path.{◌≡◌, refl, ◌∙◌, subst}
 use mathlib.Core.List.{map}
-use Prim.Native.Nat.{◌≤◌, ◌-◌}
 use native.Mathlib.Omega.{arith}
 use lib.ListN.{take, length, length-set}
-use borrow.Author.Rules.{rules}
 use Rattle.lists.proofs.Walk.{length-mapped}
 use Rattle.normal_equations.proofs.Sums.{mapped_next}
 use Rattle.wls.specs.Fix.{sigma_of}

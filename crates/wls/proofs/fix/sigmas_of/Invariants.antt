@@ -1,14 +1,9 @@
 -- `wls::fix::sigmas_of` meets its contract: the first j numbers are the sigmas of the first j. Assumes nothing.
-use mathlib.Core.Path.{◌≡◌, refl, ◌∙◌, subst}
+use mathlib.Core.Path.{◌≡◌}
 use mathlib.Core.List.{map}
 use Prim.Native.Nat.{◌≤◌, ◌-◌}
-use native.Mathlib.Omega.{arith}
-use lib.ListN.{take, length, length-set}
-use borrow.Author.Rules.{rules}
-use Rattle.lists.proofs.Walk.{length-mapped}
-use Rattle.normal_equations.proofs.Sums.{mapped_next}
+use lib.ListN.{take, length}
 use Rattle.wls.specs.Fix.{sigma_of}
-use Rattle.records.proofs.RecordLaws.{blank_observation}
 use Rattle.wls.proofs.fix.sigmas_of.Given as goal
 
 abbrev pub invariant-loop-j : goal.invariant-loop-j

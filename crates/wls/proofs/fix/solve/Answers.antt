@@ -2,7 +2,6 @@
 use mathlib.Core.Path.{sym, ap}
 use Rattle.wls.specs.Fix.{position_of}
 use Rattle.wls.proofs.FixSound.{position-promised}
-use borrow.Author.Rules.{rules}
 use Rattle.wls.proofs.fix.solve.Goals as goal
 
 pub returns-in-Refused : goal.returns-in-Refused

@@ -1,12 +1,8 @@
 -- `wls::fix::solve_full` meets its contract. Assumes nothing.
-use mathlib.Core.Path.{◌≡◌, sym, ◌∙◌}
-use Rattle.wls.specs.Valid.{fix_input_rules}
-use Rattle.estimate_rounds.specs.declared.rules.Check.TheVariants.{Passed}
-use Rattle.estimate_rounds.proofs.RulesLaws.{checked}
+use mathlib.Core.Path.{sym, ◌∙◌}
 use Rattle.wls.proofs.FrontLaws.{observations-fit}
 use Rattle.wls.proofs.FixSound.{promised}
 use Rattle.wls.proofs.FixCall.{refused-input, refused-counts, few-clocks, found}
-use borrow.Author.Rules.{rules}
 use Rattle.wls.proofs.fix.solve_full.Goals as goal
 
 pub returns-in-Refused : goal.returns-in-Refused

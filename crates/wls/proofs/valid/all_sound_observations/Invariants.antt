@@ -1,13 +1,8 @@
 -- `wls::valid::all_sound_observations` meets its contract. Assumes nothing.
 use Rattle.lists.specs.Walk.{every}
-use native.Mathlib.Omega.{arith}
-use lib.ListN.{length, drop, take}
-use borrow.Author.Tests.{not-true, not-false}
-use Rattle.lists.proofs.Walk.{length-mapped, every-yes, every-no, every-end}
-use Rattle.records.proofs.RecordLaws.{blank_observation}
-use mathlib.Core.Path.{◌≡◌, refl}
+use lib.ListN.{drop, take}
+use mathlib.Core.Path.{◌≡◌}
 use Prim.Native.Nat.{◌≤◌, ◌-◌}
-use borrow.Author.Rules.{rules}
 use Rattle.records.specs.Record.{sound_observation}
 use Rattle.wls.proofs.valid.all_sound_observations.Given as goal
 

@@ -2,7 +2,6 @@
 use borrow.Author.Tests.{lt-ltb, le-ltb}
 use Rattle.numeric.specs.Rules.{ruled}
 use Rattle.wls.specs.Valid.{fix_input_rules}
-use borrow.Author.Rules.{rules}
 use Rattle.wls.proofs.valid.check_fix.Goals as goal
 
 pub returns-then-observations-gt64 : goal.returns-then-observations-gt64

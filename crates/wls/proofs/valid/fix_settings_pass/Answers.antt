@@ -1,6 +1,5 @@
 -- `wls::valid::fix_settings_pass` meets its contract. Assumes nothing.
 use Rattle.wls.specs.Valid.{fix_settings_pass}
-use borrow.Author.Rules.{rules}
 use Rattle.wls.proofs.valid.fix_settings_pass.Goals as goal
 
 pub returns : goal.returns
