@@ -7,7 +7,6 @@ use Rattle.numeric.specs.Order.{pattern_of}
 use Rattle.median.specs.declared.centre.Centre.{Centre}
 use Rattle.median.specs.declared.centre.Centre.TheVariants.{Of, Refused}
 use Rattle.trials.proofs.Trials.{centre-empty}
-use borrow.Author.Rules.{rules}
 use Rattle.trials.proofs.centre.empty.Goals as goal
 
 abbrev test : Centre → Bool

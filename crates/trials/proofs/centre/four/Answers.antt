@@ -9,7 +9,6 @@ use Rattle.median.specs.Sorted.{insert_by, sorted_by, median_of}
 use Rattle.median.specs.Centre.{centre_of, deviation_of, scale_of, centre_and_scale_of, centre_scale_of}
 use Rattle.median.specs.declared.centre.Centre.{Centre}
 use Rattle.median.specs.declared.centre.Centre.TheVariants.{Of, Refused}
-use borrow.Author.Rules.{rules}
 use Rattle.trials.proofs.centre.four.Goals as goal
 
 abbrev test : Centre → Bool

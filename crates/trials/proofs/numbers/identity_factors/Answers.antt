@@ -5,7 +5,6 @@ use Rattle.cholesky.specs.Answer.{factoring_of}
 use Rattle.cholesky.specs.declared.factor.Factoring.{Factoring}
 use Rattle.cholesky.specs.declared.factor.Factoring.TheVariants.{Refused, Done}
 use Rattle.trials.proofs.Trials.{identity-factors}
-use borrow.Author.Rules.{rules}
 use Rattle.trials.proofs.numbers.identity_factors.Goals as goal
 
 abbrev test : Factoring → Bool

@@ -2,7 +2,6 @@ use mathlib.Core.Path.{◌≡◌, refl, ap, ◌∙◌}
 use lib.Ieee.{binary64, of_bits, is_nan, to_bits}
 use Rattle.root.specs.Root.{root_of}
 use Rattle.numeric.specs.Order.{pattern_of}
-use borrow.Author.Rules.{rules}
 use Rattle.trials.proofs.numbers.root_of_two.Goals as goal
 
 value : pattern_of (root_of (of_bits binary64 0x4000_0000_0000_0000)) ≡ 0x3FF6_A09E_667F_3BCD

@@ -11,7 +11,6 @@ use Rattle.cholesky.specs.Answer.{factoring_of, rows_after}
 use Rattle.cholesky.specs.declared.factor.Factoring.{Factoring}
 use Rattle.cholesky.specs.declared.factor.Factoring.TheVariants.{Refused, Done}
 use Rattle.trials.proofs.Trials.{zero-pivot}
-use borrow.Author.Rules.{rules}
 use Rattle.trials.proofs.numbers.zero_pivot_refused.Goals as goal
 
 abbrev test : Factoring → Bool

@@ -3,7 +3,6 @@ use mathlib.Core.Bool.{Bool, true, ◌&&◌}
 use lib.Dec.{eqb}
 use Rattle.clocks.specs.Clocks.{none, given, slot}
 use Rattle.clocks.specs.declared.clocks.Clocks.{Clocks}
-use borrow.Author.Rules.{rules}
 use Rattle.trials.proofs.slots.five.Goals as goal
 
 abbrev test : Clocks → Bool

@@ -2,7 +2,6 @@
 use mathlib.Core.Path.{ap, ◌∙◌}
 use Rattle.track_smooth.specs.Answer.{Tracked, track_answer, track_number}
 use Rattle.track_smooth.proofs.Trials.{not_held}
-use borrow.Author.Rules.{rules}
 use Rattle.trials.proofs.track.not_held.Goals as goal
 
 pub returns : goal.returns

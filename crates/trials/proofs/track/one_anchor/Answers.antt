@@ -2,7 +2,6 @@
 use mathlib.Core.Path.{ap, ◌∙◌}
 use lib.Ieee.{of_bits, of_int}
 use Rattle.track_smooth.specs.Answer.{track_number}
-use borrow.Author.Rules.{rules}
 use Rattle.trials.proofs.track.one_anchor.Goals as goal
 
 pub returns : goal.returns

@@ -11,7 +11,6 @@ use Rattle.exact.specs.Float.{whole}
 use Rattle.track_smooth.specs.Answer.{Tracked, Points, track_answer, track_number, track_result_after}
 use Rattle.track_smooth.proofs.Trials.{one-point}
 use Rattle.trials.specs.Steps.{Tells}
-use borrow.Author.Rules.{rules}
 use Rattle.trials.proofs.track.one_point.Goals as goal
 
 abbrev test : ℕ → List ℕ → Bool

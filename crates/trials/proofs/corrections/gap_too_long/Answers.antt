@@ -6,9 +6,7 @@ use Rattle.corrections_query.specs.Query.{query_in}
 use Rattle.corrections_query.specs.declared.query.Correction.TheVariants.{Refused}
 use Rattle.trials.specs.Marked.{two_samples}
 use Rattle.trials.proofs.Trials.{gap_too_long}
-use borrow.Author.Rules.{rules}
-use Rattle.trials.proofs.corrections.gap_too_long.Statement.{statement}
-use Rattle.trials.proofs.corrections.gap_too_long.Tie as tie
+use Rattle.trials.proofs.corrections.gap_too_long.Goals as goal
 
 limit : of_bits binary64 0x4014_0000_0000_0000 ≡ whole 5
 unfolding of_bits of_int
@@ -17,11 +15,5 @@ limit = refl
 refused : query_in 1 2 2 two_samples (of_bits binary64 0x4014_0000_0000_0000) 1 5 1 (whole 15) ≡ Refused NoCorrection
 refused = ap (λ (g : Float). query_in 1 2 2 two_samples g 1 5 1 (whole 15)) limit ∙ gap_too_long
 
-half-way-requires : tie.Need-half-way-requires
-half-way-requires c κs = search rules
-
-returns : tie.Need-returns
-returns c = rw (c.before.half-way.ensures.number_is, refused)
-
-pub gap-too-long-spec : {M : Type 1} → statement M
-gap-too-long-spec = tie.close (tie.spec half-way-requires returns)
+pub returns : goal.returns
+returns c = rw (c.half_way-answer.ensures.number_is, refused)

@@ -8,9 +8,7 @@ use Rattle.corrections_query.specs.declared.query.Correction.{Correction}
 use Rattle.corrections_query.specs.declared.query.Correction.TheVariants.{Metres}
 use Rattle.trials.specs.Marked.{two_samples}
 use Rattle.trials.proofs.Trials.{half-way}
-use borrow.Author.Rules.{rules}
-use Rattle.trials.proofs.corrections.bridged.Statement.{statement}
-use Rattle.trials.proofs.corrections.bridged.Tie as tie
+use Rattle.trials.proofs.corrections.bridged.Goals as goal
 
 ninety : of_bits binary64 0x4056_8000_0000_0000 ≡ whole 90
 unfolding of_bits of_int
@@ -23,17 +21,7 @@ two = refl
 two-metres : query_in 1 2 2 two_samples (of_bits binary64 0x4056_8000_0000_0000) 1 5 1 (whole 15) ≡ Metres (whole 2)
 two-metres = ap (λ (g : Float). query_in 1 2 2 two_samples g 1 5 1 (whole 15)) ninety ∙ half-way
 
-half-way-requires : tie.Need-half-way-requires
-half-way-requires c κs = search rules
-
-pattern-requires : tie.Need-pattern-requires
-pattern-requires c κs = search rules
-
-returns : tie.Need-returns
-returns c =
-    let a = c.before.before.before.half-way.ensures in
-    let m = a.metres_are ∙ ap (λ (q : Correction). pattern_after q 0) two-metres ∙ ap pattern_of (sym two) ∙ sym c.before.pattern.ensures in
+pub returns : goal.returns
+returns c = let a = c.half_way-answer.ensures in
+    let m = a.metres_are ∙ ap (λ (q : Correction). pattern_after q 0) two-metres ∙ ap pattern_of (sym two) ∙ sym c.pattern.ensures in
     rw (eq-eqb _ _ (a.number_is ∙ ap query_number two-metres), eq-eqb _ _ m)
-
-pub bridged-spec : {M : Type 1} → statement M
-bridged-spec = tie.close (tie.spec half-way-requires pattern-requires returns)

@@ -21,9 +21,7 @@ use Rattle.tdcp.specs.Front.{sight_rules, count_rules, city_rules, pair_rules}
 use Rattle.estimate_rounds.specs.Rounds.{fit_from, finite_at}
 use Rattle.tdcp.specs.Displacement.{fit_over, fit_by, end_rules, moved_by, displacement_of}
 use Rattle.trials.specs.Steps.{six_in, used_of}
-use borrow.Author.Rules.{rules}
-use Rattle.trials.proofs.carriers.states.Statement.{statement}
-use Rattle.trials.proofs.carriers.states.Tie as tie
+use Rattle.trials.proofs.carriers.states.Goals as goal
 
 -- what a displacement uses of six carriers in each state
 record Used : Type 0 where
@@ -37,31 +35,5 @@ used : Used
 unfolding displacement_of moved_by end_rules finite_at fit_by fit_over fit_from ruled every first collect abs in_range placeable is_elevation sound_carrier unsigned bit_set usable same has appearing slot_from clocks_in clocks_of pair_of first_pair pair_at pairs_of centre within kept_of settings_pass bad_interval epoch_rules interval_rules few_rules row_rules pair_rules sight_rules count_rules city_rules on_receiver sight_of gap along turned travel_angle travel_sine travel_cosine norm vec-minus root_of sign exponent digits is_nan_pattern is_quiet payload payload_order unordered total_order pattern_of insert_by sorted_by median_of centre_of of_int of_bits to_bits neg add sub mul div le lt eq is_nan
 used = record { in-1 = refl; in-0 = refl; in-3 = refl; in-5 = refl; in-minus-1 = refl }
 
-used-in-requires : tie.Need-used-in-requires
-used-in-requires c κs = search rules
-
-used-in-requires-2 : tie.Need-used-in-requires-2
-used-in-requires-2 c κs = search rules
-
-used-in-requires-3 : tie.Need-used-in-requires-3
-used-in-requires-3 c κs = search rules
-
-used-in-requires-4 : tie.Need-used-in-requires-4
-used-in-requires-4 c κs = search rules
-
-used-in-requires-5 : tie.Need-used-in-requires-5
-used-in-requires-5 c κs = search rules
-
-returns : tie.Need-returns
-returns c = rw (c.before.before.before.before.used-in.ensures ∙ used.in-1, c.before.before.before.used-in2.ensures ∙ used.in-0, c.before.before.used-in3.ensures ∙ used.in-3, c.before.used-in4.ensures ∙ used.in-5, c.used-in5.ensures ∙ used.in-minus-1)
-
-pub states-spec : {M : Type 1} → statement M
-states-spec =
-    tie.close
-    (tie.spec
-    used-in-requires
-    used-in-requires-2
-    used-in-requires-3
-    used-in-requires-4
-    used-in-requires-5
-    returns)
+pub returns : goal.returns
+returns c = rw (c.used_in.ensures ∙ used.in-1, c.used_in-2.ensures ∙ used.in-0, c.used_in-3.ensures ∙ used.in-3, c.used_in-4.ensures ∙ used.in-5, c.used_in-5.ensures ∙ used.in-minus-1)
