@@ -10,14 +10,16 @@ use borrow.Author.Tests.{eqb-true, eq-eqb, ne_eqb, ltb-true, ltb-false, lt-ltb, 
 use lib.Ieee.{Float, lt, fits, binary64}
 use Rattle.exact.specs.Float.{◌⊖◌}
 use Rattle.lists.specs.Walk.{collect}
+use Rattle.signal.specs.Signal.{signal}
 use Rattle.numeric.specs.declared.refusal.Refusal.TheVariants.{NoCorrection}
 use Rattle.corrections_table.specs.Table.{blank, series_of, signal_of}
 use Rattle.corrections_table.specs.declared.sample.Sample.{Sample}
 use Rattle.corrections_table.proofs.Places.{place_of, time_key}
 use Rattle.corrections_table.proofs.TableLaws.{SoundTable, and_left, and_right}
 use Rattle.corrections_table.proofs.UnitLaws.{earlier-of, never}
-use Rattle.corrections_query.specs.Query.{Found, missing, the, near, line, through, first_of, last_of, sample_before, last_before, first_since}
-use Rattle.corrections_query.specs.Past.{partition_point, former_rule}
+use Rattle.corrections_query.specs.Query.{Found, missing, the, near, line, through, first_of, last_of, sample_before, last_before, first_since, near_or, spanned, correction_rule}
+use Rattle.corrections_query.specs.Past.{former_rule, former_answer}
+use Rattle.corrections_query.specs.Former.{partition_point, former_at}
 use Rattle.corrections_query.specs.declared.query.Correction.{Correction}
 use Rattle.corrections_query.specs.declared.query.Correction.TheVariants.{Refused, Metres}
 use Rattle.corrections_query.proofs.FoundLaws.{earlier, last_none, last_series}
@@ -123,8 +125,8 @@ module _ (gap t : Float) where
   between f (the b) = cond (near b.time t) (Metres b.correction) (bridged f b)
 
   pub former-between : (g : ℕ) (ss : List Sample) → T (fits binary64 t) → SoundTable ss → TimesHeld ss
-      → former_rule (series_of g ss) gap t ≡ between (last_before t (series_of g ss)) (first_since t (series_of g ss))
-  unfolding former_rule between bridged near through
+      → former_at (series_of g ss) gap t ≡ between (last_before t (series_of g ss)) (first_since t (series_of g ss))
+  unfolding former_at between bridged near through
   former-between g ss ft s w =
       rw (before-point t g missing ss falls, since-point t l) (go (eqb i 0) (ltb i (length l)) (eqb i (length l)) (ends i (length l) (point-within t l)))
     where
@@ -159,3 +161,18 @@ module _ (gap t : Float) where
       go false false true k = refl
       go x true true k = never (sym k)
       go x false false k = never k
+
+  -- and that is what the definition of specs/Past.antt gives
+  pub between-rule : (f h : Found) → between f h ≡ former_rule gap t f h
+  unfolding between bridged former_rule correction_rule near_or spanned
+  between-rule f missing = refl
+  between-rule missing (the b) = refl
+  between-rule (the a) (the b) = refl
+
+-- for every table in order that columns hold, every gap limit, signal and time, the rule of before is the one written line by line
+pub former-lines : (ss : List Sample) (gap : Float) (c v b : ℕ) (t : Float) → T (fits binary64 t) → SoundTable ss → TimesHeld ss
+    → former_at (series_of (signal c v b) ss) gap t ≡ former_answer ss gap c v b t
+unfolding former_answer
+former-lines ss gap c v b t ft s w =
+    let l = series_of (signal c v b) ss in
+    former-between gap t (signal c v b) ss ft s w ∙ between-rule gap t (last_before t l) (first_since t l)
