@@ -18,7 +18,6 @@ use Rattle.numeric.specs.declared.refusal.Refusal.TheVariants.{TooMany, SettingO
 use Rattle.corrections_directory.specs.Directory.{Blocks, Directory, block_capacity, directory_in, sound_directory}
 use Rattle.corrections_add.specs.Add.{PatternsAfter, Placed, Places, added_in, addition_number, addition_of, directory_with, entries_now, refused_in, samples_now}
 use Rattle.corrections_add.specs.declared.add.Addition.{Addition}
-use Rattle.corrections_add.specs.declared.add.Addition.TheVariants as Addition
 use Rattle.corrections_epoch.specs.Record.{vector_in_range, range_in_range, ranges_of, state_in_range, states_count, states_of}
 use Rattle.corrections_epoch.specs.Raw.{raws_of}
 use Rattle.corrections_epoch.specs.Sample.{epoch_samples, samples_of}
@@ -170,16 +169,16 @@ placed_by m n room d k time ranges j states base rover set =
     (added_in (directory_with d new)))))
 
 module _ (m n room : ℕ) (d : Directory) (base rover : Vec3) (set : Settings) where
-  placed_by : (e : BaseEpoch) (s : States) → epoch_placed m n room d e s base rover set ≡ placed_by m n room d e.count e.time (ranges_of e) (states_count s) (states_of s) base rover set
+  placed_by_lem : (e : BaseEpoch) (s : States) → epoch_placed m n room d e s base rover set ≡ placed_by m n room d e.count e.time (ranges_of e) (states_count s) (states_of s) base rover set
   unfolding epoch_placed placed_by too_many records_in_range epoch_samples ruled
-  placed_by e s = refl
+  placed_by_lem e s = refl
 
   placed_same : (e e' : BaseEpoch) (s s' : States) → e.count ≡ e'.count → e.time ≡ e'.time → ranges_of e ≡ ranges_of e' → states_count s ≡ states_count s' → states_of s ≡ states_of s'
       → epoch_placed m n room d e s base rover set ≡ epoch_placed m n room d e' s' base rover set
   placed_same e e' s s' a b c f g =
-      placed_by e s
+      placed_by_lem e s
       ∙ go e.count e.time (ranges_of e) (states_count s) (states_of s) e'.count e'.time (ranges_of e') (states_count s') (states_of s') a b c f g
-      ∙ sym (placed_by e' s')
+      ∙ sym (placed_by_lem e' s')
     where
       go : (k : ℕ) (x : Float) (l : List Range) (j : ℕ) (y : List State) (k' : ℕ) (x' : Float) (l' : List Range) (j' : ℕ) (y' : List State) → k ≡ k' → x ≡ x' → l ≡ l' → j ≡ j' → y ≡ y'
           → placed_by m n room d k x l j y base rover set ≡ placed_by m n room d k' x' l' j' y' base rover set

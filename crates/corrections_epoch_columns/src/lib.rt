@@ -1,3 +1,5 @@
 // A base epoch and the states beside it as lent columns hold them, added to a directory.
+#![tactic(auto)]
+
 pub mod epoch;
 pub mod lent;

@@ -127,6 +127,13 @@ module _ (n m m' : ℕ) (l : Columns) (dc dv db df dn : List ℕ) (l' : Blocks)
   samples : flat (directory_in m' n l') ≡ table_of n l
   samples = ap flat files-hold ∙ flat-directory (table_of n l)
 
+  -- the table is sound, and its samples lie within its capacity
+  pub files-sound : sound_table (table_of n l) ≡ true
+  files-sound = f.sound
+
+  pub files-fit : n ≤ capacity l
+  files-fit = omega (arith, f.few, f.in_rows)
+
   entries-long : length (entries_in l') ≡ length (entry_rows dc dv db df dn)
   entries-long = rw left (entries-room (entries_from 0 (table_of n l)) dc dv db df dn l.times l.corrections (omega (arith, few, f.in-long)))
 

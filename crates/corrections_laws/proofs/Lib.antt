@@ -14,3 +14,4 @@ pub mod BuildLaws
 pub mod MarkLaws
 pub mod SameLaws
 pub mod WidenLaws
+pub mod AcceptedLaws

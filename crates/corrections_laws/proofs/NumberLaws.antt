@@ -15,7 +15,6 @@ use Rattle.corrections_table.specs.Table.{Columns, capacity, sound_table, table_
 use Rattle.corrections_table.specs.Widen.{bands_after, bands_short, widen_of, widening_number}
 use Rattle.corrections_table.specs.declared.add.Test.TheVariants as Test
 use Rattle.corrections_table.specs.declared.widen.Widening.{Widening}
-use Rattle.corrections_table.specs.declared.widen.Widening.TheVariants as Widening
 use Rattle.corrections_table.proofs.WidenLaws.{not_short}
 use Rattle.numeric.proofs.RefusalLaws.{not-zero}
 use Rattle.corrections_table.proofs.ColumnLaws.{rows-length}

@@ -19,7 +19,6 @@ use Rattle.corrections_query.specs.declared.query.Correction.{Correction}
 use Rattle.corrections_query.specs.declared.query.Correction.TheVariants.{Metres, Refused}
 use Rattle.corrections_query.proofs.PastLaws.{query_changed, query_kept, query_refused, query_timeless}
 use Rattle.corrections_query.proofs.PlaceLaws.{held-flat}
-use Rattle.corrections_query.proofs.QueryLaws.{TimesHeld}
 use Rattle.corrections_queries.specs.Queries.{Asked, Replies, Reply, answers, asking_number, asking_of, queries_in, query_at, refusal}
 use Rattle.corrections_queries.specs.declared.queries.Asking.TheVariants.{Answered}
 use Rattle.corrections_queries.proofs.QueriesLaws.{finite-there, metres_at, number_at}
@@ -30,13 +29,9 @@ module _ (l : Blocks) (m n : ℕ) (gap : Float) (c v b : ℕ) (t : Float) (numbe
   same : (q : Correction) → query_in m n (block_capacity l) (directory_in m n l) gap c v b t ≡ q → Answers q number metres metres'
   same q e = subst (λ (a : Correction). Answers a number metres metres') e asked
 
-  -- the times of the samples are floats
-  held : Typed (f64 l.times ∷ f64 (t ∷ []) ∷ []) → Passes m n (block_capacity l) (directory_in m n l) gap t → TimesHeld (flat (directory_in m n l))
-  held typed p = held-flat m n l (omega (arith, p.table.few-entries)) (omega (arith, p.table.few-samples)) p.table.sound typed.0
-
   -- where the time is not after the signal's last sample by less than 1e-6 s in the rounded difference, the call answers by the rule of before
-  pub answer-kept : Typed (f64 l.times ∷ f64 (t ∷ []) ∷ []) → ((a : Sample) → JustPast (flat (directory_in m n l)) (signal c v b) t a → ⊥) → Answers (query_before m n (block_capacity l) (directory_in m n l) gap c v b t) number metres metres'
-  answer-kept typed nay = same _ (query_kept m n (block_capacity l) (directory_in m n l) gap c v b t (typed.1.0 0) (held typed) nay)
+  pub answer-kept : ((a : Sample) → JustPast (flat (directory_in m n l)) (signal c v b) t a → ⊥) → Answers (query_before m n (block_capacity l) (directory_in m n l) gap c v b t) number metres metres'
+  answer-kept nay = same _ (query_kept m n (block_capacity l) (directory_in m n l) gap c v b t nay)
 
   -- what 2 to 4 refuse keeps its number
   pub refusal-kept : (Passes m n (block_capacity l) (directory_in m n l) gap t → ⊥) → Answers (query_before m n (block_capacity l) (directory_in m n l) gap c v b t) number metres metres'
@@ -46,7 +41,8 @@ module _ (l : Blocks) (m n : ℕ) (gap : Float) (c v b : ℕ) (t : Float) (numbe
   pub answer-changed : Passes m n (block_capacity l) (directory_in m n l) gap t → Typed (f64 l.times ∷ f64 (t ∷ []) ∷ []) → (a : Sample) → JustPast (flat (directory_in m n l)) (signal c v b) t a
       → (query_number (query_before m n (block_capacity l) (directory_in m n l) gap c v b t) ≡ 12) × (number ≡ 0) × (metres' ≡ pattern_of a.correction)
   answer-changed p typed a j =
-      let k = query_changed m n (block_capacity l) (directory_in m n l) gap c v b t (typed.1.0 0) (held typed) p a j in
+      let held = held-flat m n l (omega (arith, p.table.few-entries)) (omega (arith, p.table.few-samples)) p.table.sound typed.0 in
+      let k = query_changed m n (block_capacity l) (directory_in m n l) gap c v b t p (typed.1.0 0) held a j in
       let s : Answers (Metres a.correction) number metres metres' = same _ k.1 in
       (ap query_number k.0, s.number_is, s.metres_are)
 

@@ -1,133 +1,89 @@
 -- Request (ii): an old table whose bands are widened and which is then rearranged answers as it did. Assumes nothing.
 use mathlib.Core.Path.{◌≡◌, refl, sym, ap, subst, ◌∙◌}
 use mathlib.Core.List.{List, [], ◌∷◌, ◌++◌, map}
-use mathlib.Core.Bool.{Bool, true, false, cond, not, ◌&&◌}
-use Prim.Native.Nat.{ℕ, zero, suc, ◌+◌, ◌^◌, ◌≤◌, ◌<◌, min}
+use mathlib.Core.Bool.{Bool, true, false, cond, not, ◌&&◌, ◌||◌}
+use Prim.Native.Nat.{ℕ, zero, suc, ◌+◌, ◌^◌, ◌≤◌, ◌<◌}
 use lib.Dec.{ltb}
-use borrow.Author.Tests.{le-ltb, lt-ltb, ltb-false, ltb-true}
+use borrow.Author.Tests.{lt-ltb, ltb-true}
 use lib.ListN.{length, get_or, take, drop}
-use native.Mathlib.Omega.{arith}
 use lib.Ieee.{Float}
 use Rattle.lists.specs.Walk.{every, fold}
 use Rattle.numeric.specs.Rules.{ruled}
 use Rattle.numeric.specs.declared.refusal.Refusal.{Refusal}
 use Rattle.numeric.specs.declared.refusal.Refusal.TheVariants.{TooMany, SettingOutOfRange, RecordOutOfRange, TableFull}
-use Rattle.corrections_table.specs.Table.{beside, capacity, rows, sound_table}
+use Rattle.numeric.proofs.RefusalLaws.{not-zero}
+use Rattle.corrections_table.specs.Table.{beside, capacity, lent_samples, rows, sound_table, table_of}
 use Rattle.corrections_table.specs.Add.{AddOutcome, added, insert_all, refused}
-use Rattle.corrections_table.specs.Widen.{bands_short, widen_of, widening_number}
+use Rattle.corrections_table.specs.Widen.{bands_after, bands_short, widen_of, widened, widening_number}
 use Rattle.corrections_table.specs.declared.sample.Sample.{Sample}
-use Rattle.corrections_table.specs.declared.widen.Widening.TheVariants.{Widened}
+use Rattle.corrections_table.specs.declared.widen.Widening.TheVariants.{Refused, Widened}
 use Rattle.corrections_table.proofs.TableLaws.{and_left, and_right}
 use Rattle.corrections_table.proofs.Places.{sorted_rises}
-use Rattle.corrections_table.proofs.WidenLaws.{Roomy, fits-widened, table-widened}
-use Rattle.corrections_directory.specs.Directory.{column_of, directory_of, entries_from, entries_in, floats}
-use Rattle.corrections_directory.specs.Rearrange.{filed_number}
-use Rattle.corrections_directory.proofs.ColumnLaws.{entries-length}
+use Rattle.corrections_table.proofs.WidenLaws.{Roomy, capacity-widened, not_short, table-widened}
+use Rattle.corrections_directory.specs.Directory.{column_of, directory_in, directory_of, entries_from, entry_rows, floats, lent_blocks}
+use Rattle.corrections_directory.specs.Rearrange.{filed_of}
 use Rattle.corrections_forget.proofs.HistoryLaws.{sorted_of}
 use Rattle.corrections_epoch.specs.AddEpoch.{added_of, records_in_range, settings_in_range, too_many}
+use Rattle.corrections_convert.specs.Lent.{Files}
 use Rattle.corrections_laws.specs.Typed.{Typed}
 use Rattle.corrections_laws.specs.Calls.{Caller, Epoch, base_epoch, as_blocks, new_samples, room, short_of, states_beside}
-use Rattle.corrections_laws.specs.Flat.{BothForms, ByteSteps, EntryColumns, FilesTable, InBytes, Step, Table, Told, WidensBands, ask, five_columns, flat_addition, flat_end, flat_tells, room_in, samples_in, sharing, table_after, enter, BlockRun, flat_columns, step_columns, with_bands}
-use Rattle.corrections_laws.specs.Numbers.{entry_room, room_of, table_room}
-use Rattle.corrections_laws.proofs.NumberLaws.{same-room, same-table}
-use Rattle.corrections_laws.proofs.FormLaws.{filed, files-count, files-hold, files-room}
+use Rattle.corrections_laws.specs.Flat.{BothForms, ByteSteps, InBytes, Step, Table, Told, ask, flat_addition, flat_end, flat_tells, room_in, samples_in, table_after, enter, BlockRun, flat_columns, step_columns}
+use Rattle.corrections_laws.proofs.FormLaws.{files-count, files-fit, files-hold, files-sound}
 use Rattle.corrections_laws.proofs.NarrowLaws.{insert_all-pass, new-pass}
 use Rattle.corrections_laws.proofs.SameLaws.{same_entries, same_left, same-told}
 
-least_first : (n a b c : ℕ) → n ≤ min a (min b c) → n ≤ b
-least_first n a b c h = omega arith
+-- what an answer of 0 says
+record Widens (n : ℕ) (narrow wide : List ℕ) : Type 0 where
+  is : widen_of n narrow wide ≡ Widened
+  fits : Roomy n narrow wide
 
--- ---- the two calls
+widens : (n : ℕ) (narrow wide : List ℕ) → 0 ≡ widening_number (widen_of n narrow wide) → Widens n narrow wide
+unfolding widen_of bands_short
+widens n narrow wide e = go (ltb 2048 n || ltb (length narrow) n || ltb (length wide) n) refl e
+  where
+    go : (x : Bool) → (ltb 2048 n || ltb (length narrow) n || ltb (length wide) n) ≡ x → 0 ≡ widening_number (cond x (Refused TooMany) Widened) → Widens n narrow wide
+    go true p z = absurd (not-zero TooMany (sym z))
+    go false p z = record { is = rw p; fits = not_short n narrow wide p }
 
--- For every old table whose samples lie within its capacity, and a wide column with a place for each of them, as a column of the narrow one's length has:
-module _ (o : Table) (wide wide' : List ℕ) (number : ℕ) (widens : WidensBands o wide number wide')
-    (within : o.samples ≤ table_room (five_columns o)) (long : o.samples ≤ length wide) where
-  in-room : o.samples ≤ room_in o
-  in-room = subst (λ (k : ℕ). o.samples ≤ k) (sym (same-table (five_columns o))) within
+-- `zaqnuti_widen_bands` and `zaqnuti_directory_of` answer 0, the wide column is as long as the narrow one, and the capacity is the old one
+module _ (o : Table) (wide wide' : List ℕ) (widening : (0 ≡ widening_number (widen_of o.samples o.bands wide)) × (wide' ≡ bands_after (widen_of o.samples o.bands wide) o.samples o.bands wide))
+    (as_long : length wide ≡ length o.bands) (m : ℕ) (dc dv db df dn : List ℕ) (h : Caller) (samples-are : h.samples ≡ o.samples) (same-times : h.times ≡ o.times) (same-corrections : h.corrections ≡ o.corrections)
+    (files : Files (filed_of o.samples (length (entry_rows dc dv db df dn)) (lent_samples o.constellations o.svids wide' (floats o.times) (floats o.corrections))) 0 m h.entries
+    (lent_blocks dc dv db df dn (floats o.times) (floats o.corrections)) (as_blocks h))
+    (same-room : room h ≡ room_in o) where
+  w : Widens o.samples o.bands wide
+  w = widens o.samples o.bands wide widening.0
 
-  roomy : Roomy o.samples o.bands wide
-  roomy = record { few = omega arith; in-narrow = omega arith; in-wide = long }
+  wide_is : wide' ≡ widened o.samples o.bands wide
+  wide_is = widening.1 ∙ rw w.is
 
-  accepted : widen_of o.samples o.bands wide ≡ Widened
-  unfolding widen_of bands_short
-  accepted =
-      rw (le-ltb 2048 o.samples roomy.few, le-ltb (length o.bands) o.samples roomy.in-narrow, le-ltb (length wide) o.samples long)
+  table_same : table_of o.samples (lent_samples o.constellations o.svids wide' (floats o.times) (floats o.corrections)) ≡ samples_in o
+  table_same = rw wide_is (table-widened o.samples o.constellations o.svids o.bands wide (floats o.times) (floats o.corrections) w.fits)
 
-  widening_accepted : number ≡ 0
-  widening_accepted = widens.number_is ∙ ap widening_number accepted
+  forms : BothForms o h
+  forms =
+      let l = lent_samples o.constellations o.svids wide' (floats o.times) (floats o.corrections) in
+      let hold = files-hold o.samples m h.entries l dc dv db df dn (as_blocks h) files in
+      let sound : sound_table (samples_in o) ≡ true = ap sound_table (sym table_same) ∙ files-sound o.samples m h.entries l dc dv db df dn (as_blocks h) files in
+      let cap : capacity l ≡ room_in o = ap (λ (b : List ℕ). capacity (lent_samples o.constellations o.svids b (floats o.times) (floats o.corrections))) wide_is ∙ capacity-widened o.samples o.constellations o.svids o.bands wide (floats o.times) (floats o.corrections) w.fits as_long in
+      record {
+        in_order = sorted_rises (samples_in o) ∙ sorted_of (samples_in o) sound;
+        within = subst (λ (k : ℕ). o.samples ≤ k) cap (files-fit o.samples m h.entries l dc dv db df dn (as_blocks h) files);
+        holds = ap (λ (n : ℕ). directory_in h.entries n (as_blocks h)) samples-are ∙ hold ∙ ap directory_of table_same;
+        entries-are = files-count o.samples m h.entries l dc dv db df dn (as_blocks h) files ∙ ap (λ (t : List Sample). length (entries_from 0 t)) table_same ∙ sym (same_entries (samples_in o));
+        samples-are = samples-are;
+        same-times = same-times;
+        same-corrections = same-corrections;
+        same-capacity = same-room;
+      }
 
-  -- and leaves the old bands; later places stay
-  pub widened-bands : wide' ≡ take o.samples o.bands ++ drop o.samples wide
-  widened-bands = widens.bands-are ∙ rw accepted
+  -- then queries and epochs get the numbers and metres that the old table gives, and the directory stays that of the old table
+  module _ (h' : Caller) (ss : List Step) (ts : List Told) (run : BlockRun h ss ts h') (table : Typed (flat_columns o)) (typed : Typed (step_columns ss)) where
+    pub widened-told : ts ≡ flat_tells o ss
+    widened-told = same-told o h h' ss ts run forms table typed
 
-  table_same : samples_in (with_bands wide' o) ≡ samples_in o
-  table_same = rw widened-bands (table-widened o.samples o.constellations o.svids o.bands wide (floats o.times) (floats o.corrections) roomy)
-
-  in_rows : o.samples ≤ length (rows (five_columns (with_bands wide' o)))
-  in_rows =
-      let e : ltb (room_in (with_bands wide' o)) o.samples ≡ false =
-      rw widened-bands (fits-widened o.samples o.constellations o.svids o.bands wide (floats o.times) (floats o.corrections) roomy)
-      ∙ le-ltb (room_in o) o.samples in-room in
-      omega (arith, ltb-false (room_in (with_bands wide' o)) o.samples e)
-
-  -- where the old table is sound
-  module _ (sound : sound_table (samples_in o) ≡ true) (d d' : EntryColumns) (number₂ : ℕ) (files : FilesTable (with_bands wide' o) d number₂ d') where
-    side_by_side : o.samples ≤ entry_room (as_blocks (sharing o d)) → o.samples ≤ length (entries_in (as_blocks (sharing o d)))
-    side_by_side p = rw (entries-length d.constellations d.svids d.bands d.firsts d.counts) p
-
-    filing-accepted : o.samples ≤ entry_room (as_blocks (sharing o d)) → number₂ ≡ 0
-    filing-accepted p =
-        files.number_is
-        ∙ ap filed_number
-        (filed o.samples (length (entries_in (as_blocks (sharing o d)))) (five_columns (with_bands wide' o)) roomy.few (side_by_side p) in_rows
-        (ap sound_table table_same ∙ sound))
-
-    -- and where the capacity stays the same
-    module _ (as_many : room_of (as_blocks (sharing o d)) ≡ table_room (five_columns o)) where
-      capacity-stays : room (sharing o d) ≡ room_in o
-      capacity-stays = same-room (as_blocks (sharing o d)) ∙ as_many ∙ sym (same-table (five_columns o))
-
-      -- each directory column has these places, so that it answers 0
-      pub enough-places : o.samples ≤ entry_room (as_blocks (sharing o d))
-      enough-places = least_first o.samples 2048 (entry_room (as_blocks (sharing o d))) _ (subst (λ (k : ℕ). o.samples ≤ k) (sym as_many) within)
-
-      forms : BothForms o (sharing o d')
-      forms =
-          let l = five_columns (with_bands wide' o) in
-          let b = as_blocks (sharing o d') in
-          let k : FilesTable (with_bands wide' o) d 0 d' = subst (λ (i : ℕ). FilesTable (with_bands wide' o) d i d') (filing-accepted enough-places) files in
-          let hold = files-hold o.samples d.entries d'.entries l d.constellations d.svids d.bands d.firsts d.counts b k in
-          let count = files-count o.samples d.entries d'.entries l d.constellations d.svids d.bands d.firsts d.counts b k in
-          record {
-            in_order = sorted_rises (samples_in o) ∙ sorted_of (samples_in o) sound;
-            within = in-room;
-            holds = hold ∙ ap directory_of table_same;
-            entries-are = count ∙ ap (λ (t : List Sample). length (entries_from 0 t)) table_same ∙ sym (same_entries (samples_in o));
-            samples-are = refl;
-            same-times = refl;
-            same-corrections = refl;
-            same-capacity = files-room o.samples d.entries d'.entries l d.constellations d.svids d.bands d.firsts d.counts b k ∙ capacity-stays;
-          }
-
-      -- queries and epochs get the numbers and metres that the old table gives, and the directory stays that of the old table
-      module _ (h' : Caller) (ss : List Step) (ts : List Told) (run : BlockRun (sharing o d') ss ts h')
-          (table : Typed (flat_columns o)) (typed : Typed (step_columns ss)) where
-        pub widened-told : ts ≡ flat_tells o ss
-        widened-told = same-told o (sharing o d') h' ss ts run forms table typed
-
-        pub widened-left : BothForms (flat_end o ss) h'
-        widened-left = same_left o (sharing o d') h' ss ts run forms table typed
-
--- an old table within its capacity is widened by `zaqnuti_widen_bands` into any column with a place for each sample
-pub widened-accepted : (o : Table) (wide wide' : List ℕ) (number : ℕ) → WidensBands o wide number wide'
-    → o.samples ≤ table_room (five_columns o) → o.samples ≤ length wide → number ≡ 0
-widened-accepted o wide wide' number widens within long = widening_accepted o wide wide' number widens within long
-
--- and, where it is sound, filed by `zaqnuti_directory_of` into any directory columns with a place for each sample
-pub filed-accepted : (o : Table) (wide wide' : List ℕ) (number : ℕ) → WidensBands o wide number wide'
-    → o.samples ≤ table_room (five_columns o) → o.samples ≤ length wide → sound_table (samples_in o) ≡ true
-    → (d d' : EntryColumns) (number₂ : ℕ) → FilesTable (with_bands wide' o) d number₂ d' → o.samples ≤ entry_room (as_blocks (sharing o d)) → number₂ ≡ 0
-filed-accepted o wide wide' number widens within long sound d d' number₂ files places = filing-accepted o wide wide' number widens within long sound d d' number₂ files places
+    pub widened-left : BothForms (flat_end o ss) h'
+    widened-left = same_left o h h' ss ts run forms table typed
 
 -- ---- the old table's bands stay of 8 bits, where the epochs' are
 abbrev byte : Sample → Bool

@@ -1,1 +1,3 @@
+#![tactic(auto)]
+
 // Nothing to run: the crate is for its specs and proofs.

@@ -4,6 +4,7 @@ pub mod QueryLaws
 pub mod HalvingLaws
 pub mod PlaceLaws
 pub mod BlockLaws
+pub mod FormerLaws
 pub mod PastLaws
 pub mod FiniteLaws
 pub mod AnswerLaws

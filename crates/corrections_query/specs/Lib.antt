@@ -1,3 +1,4 @@
 pub mod Query
 pub mod Past
 pub mod Steps
+pub mod Former

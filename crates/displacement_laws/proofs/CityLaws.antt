@@ -23,7 +23,7 @@ use Rattle.numeric.proofs.RulesLaws.{ruled-append}
 use Rattle.estimate_rounds.proofs.RulesLaws.{checked, passed-by, refused-by}
 use Rattle.tdcp.specs.Valid.{epoch_rules, interval_rules}
 use Rattle.tdcp.specs.City.{in_city, certified_epoch, left}
-use Rattle.tdcp.specs.Displacement.{Input, input, pairs, displacement_of, displacement_number}
+use Rattle.tdcp.specs.Displacement.{Input, input, displacement_of, displacement_number}
 use Rattle.tdcp.specs.declared.displacement.Settings.{Settings}
 use Rattle.tdcp.specs.declared.displacement.Interval.TheVariants.{Seconds}
 use Rattle.tdcp.specs.declared.displacement.Displacement.{Displacement}

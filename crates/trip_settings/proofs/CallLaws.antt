@@ -26,7 +26,6 @@ use Rattle.trip.specs.Trip.{trip_of, sound_trip, started, with_leg, counting}
 use Rattle.trip.specs.Words.{held_of, words_of}
 use Rattle.trip.specs.declared.trip.Trip.{Trip}
 use Rattle.trip.specs.declared.trip.Step.{Step}
-use Rattle.trip.specs.declared.trip.Step.TheVariants as Step
 use Rattle.trip.proofs.TripLaws.{start-sound, trip_law, fold-sound}
 use Rattle.trip.proofs.HeldLaws.{WordsHeld, words-held, fold-held, start-held, Answers, list-answers}
 use Rattle.trip_settings.specs.Drive as drive
@@ -35,9 +34,7 @@ use Rattle.trip_settings.specs.Events.{TripEvent, epoch, change, move_input, cha
 use Rattle.trip_settings.specs.Lent.{settings_floats, DrivingAnswers, BegunAnswers, TravelAnswers, in_force_after, rounds_after, travel_number, trip_after, driving_number}
 use Rattle.trip_settings.specs.Calls.{TripMemory, settings_in, Ride, TripCall, travel_call, settings_call, ride_lent, travel_in, driving_in, call_number, memory_after, move_of, call_events, lendable}
 use Rattle.trip_settings.specs.declared.drive.Driving.{Driving}
-use Rattle.trip_settings.specs.declared.drive.Driving.TheVariants as Driving
 use Rattle.trip_settings.specs.declared.drive.Travel.{Travel}
-use Rattle.trip_settings.specs.declared.drive.Travel.TheVariants as Travel
 use Rattle.trip_settings.proofs.EventLaws.{move-after, fold-append, legs_narrow, legs_split, each-accepted, begun-goes}
 
 -- that of a trip and its settings

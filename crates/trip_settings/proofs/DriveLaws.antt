@@ -15,12 +15,10 @@ use Rattle.trip.specs.Trip.{sound_trip, added}
 use Rattle.trip.specs.Words.{added_held}
 use Rattle.trip.specs.declared.trip.Trip.{Trip}
 use Rattle.trip.specs.declared.trip.Step.{Step}
-use Rattle.trip.specs.declared.trip.Step.TheVariants as Step
 use Rattle.trip_settings.specs.Drive.{driven_by, under_new, tested, travel_with, travel_by, travelled_of, Travels}
 use Rattle.trip_settings.specs.declared.drive.Driving.TheVariants as Driving
 use Rattle.trip_settings.specs.declared.drive.Travelled.{Travelled}
 use Rattle.trip_settings.specs.declared.drive.Travel.{Travel}
-use Rattle.trip_settings.specs.declared.drive.Travel.TheVariants as Travel
 
 -- ---- the code's cases
 

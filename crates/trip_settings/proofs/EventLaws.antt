@@ -19,7 +19,6 @@ use Rattle.trip.specs.Trip.{Leg, report_of, trip_of, sound_trip, added, reported
 use Rattle.trip.specs.Words.{added_held}
 use Rattle.trip.specs.declared.trip.Trip.{Trip}
 use Rattle.trip.specs.declared.trip.Step.{Step}
-use Rattle.trip.specs.declared.trip.Step.TheVariants as Step
 use Rattle.trip.specs.declared.trip.Reported.TheVariants.{Totals}
 use Rattle.trip.proofs.BoundsLaws.{after-sound}
 use Rattle.trip.proofs.TripLaws.{start-sound, start-goes, trip_law, report-law}

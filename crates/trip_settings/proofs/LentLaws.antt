@@ -12,9 +12,7 @@ use Rattle.estimate_rounds.proofs.RoundsLaws.{capped}
 use Rattle.tdcp_columns.proofs.AnswerLaws.{columns-accepted}
 use Rattle.trip_settings.specs.Lent.{driving_number, in_force_after, rounds_after, started_after, DrivingAnswers, BegunAnswers, travelled_by, travel_number, trip_after, travelled_delta, TravelLeaves, TravelAnswers}
 use Rattle.trip_settings.specs.declared.drive.Driving.{Driving}
-use Rattle.trip_settings.specs.declared.drive.Driving.TheVariants as Driving
 use Rattle.trip_settings.specs.declared.drive.Travel.{Travel}
-use Rattle.trip_settings.specs.declared.drive.Travel.TheVariants as Travel
 use Rattle.trip_settings.proofs.DriveLaws.{by-moved, new-refused}
 
 -- 51 rounds are refused as any more are

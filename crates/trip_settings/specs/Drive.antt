@@ -11,13 +11,10 @@ use Rattle.trip.specs.Trip.{sound_trip, started}
 use Rattle.trip.specs.Words.{added_held}
 use Rattle.trip.specs.declared.trip.Trip.{Trip}
 use Rattle.trip.specs.declared.trip.Step.{Step}
-use Rattle.trip.specs.declared.trip.Step.TheVariants as Step
 use Rattle.trip_settings.specs.declared.drive.Drive.{Drive}
 use Rattle.trip_settings.specs.declared.drive.Driving.{Driving}
-use Rattle.trip_settings.specs.declared.drive.Driving.TheVariants as Driving
 use Rattle.trip_settings.specs.declared.drive.Travelled.{Travelled}
 use Rattle.trip_settings.specs.declared.drive.Travel.{Travel}
-use Rattle.trip_settings.specs.declared.drive.Travel.TheVariants as Travel
 
 -- ---- the calls
 

@@ -7,14 +7,11 @@ use Rattle.tdcp.specs.Displacement.{Accepted}
 use Rattle.tdcp_columns.specs.Displacement.{Lent, lent_input, columns_displaced, delta_after, counts_after}
 use Rattle.tdcp.specs.declared.displacement.Settings.{Settings}
 use Rattle.tdcp.specs.declared.displacement.Displacement.{Displacement}
-use Rattle.tdcp.specs.declared.displacement.Displacement.TheVariants as Displacement
 use Rattle.trip.specs.Words.{held_of, words_of}
 use Rattle.trip_settings.specs.Drive.{travel_by}
 use Rattle.trip_settings.specs.declared.drive.Driving.{Driving}
-use Rattle.trip_settings.specs.declared.drive.Driving.TheVariants as Driving
 use Rattle.trip_settings.specs.declared.drive.Travelled.{Travelled}
 use Rattle.trip_settings.specs.declared.drive.Travel.{Travel}
-use Rattle.trip_settings.specs.declared.drive.Travel.TheVariants as Travel
 
 -- ---- the five floats of settings (screen, sigma_a, sigma_b, huber, mask)
 

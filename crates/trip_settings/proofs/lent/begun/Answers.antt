@@ -1,0 +1,7 @@
+-- `trip_settings::lent::begun` meets its contract: the answer is that of the settings as they were handed over. Assumes nothing.
+use Rattle.trip.specs.Trip.{started}
+use Rattle.trip_settings.proofs.LentLaws.{new-capped}
+use Rattle.trip_settings.proofs.lent.begun.Goals as goal
+
+pub returns : goal.returns
+returns c = let s = c in rw (c.begin.ensures, c.displacement_settings-s.ensures) (new-capped s.args.settings.now s.args.rounds (started s.args.per_km))

@@ -1,0 +1,11 @@
+-- `trip_settings::lent::changed` meets its contract: the answer is that of the settings as they were handed over. Assumes nothing.
+use Rattle.trip.specs.Words.{held_of}
+use Rattle.trip_settings.specs.Drive.{tested}
+use Rattle.trip_settings.proofs.LentLaws.{new-capped}
+use Rattle.trip_settings.proofs.lent.changed.Goals as goal
+
+pub returns : goal.returns
+returns c = let t = c in
+    let s = t in
+    rw (c.under_new.ensures, c.tested.ensures, c.held.ensures, t.displacement_settings-s.ensures)
+    (new-capped s.args.settings.now s.args.rounds (tested (held_of s.args.trip.now)))
