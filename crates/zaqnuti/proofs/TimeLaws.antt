@@ -11,11 +11,8 @@ use Rattle.numeric.specs.Refusal.{number_of}
 use Rattle.numeric.specs.declared.refusal.Refusal.{Refusal}
 use Rattle.time.specs.declared.time.GpsTime.{GpsTime}
 use Rattle.time.specs.declared.time.Time.{Time}
-use Rattle.time.specs.declared.time.Time.TheVariants as Time
 use Rattle.time.specs.declared.time.Nanos.{Nanos}
-use Rattle.time.specs.declared.time.Nanos.TheVariants as Nanos
 use Rattle.time.specs.declared.time.Seconds.{Seconds}
-use Rattle.time.specs.declared.time.Seconds.TheVariants as Seconds
 use Rattle.time.specs.Time.{time_number, nanos_number, seconds_number}
 use Rattle.zaqnuti.specs.Times.{time_after, nanos_after, seconds_after}
 

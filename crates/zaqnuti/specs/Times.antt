@@ -5,11 +5,8 @@ use Rattle.numeric.specs.Order.{pattern_of}
 use Rattle.time.specs.Time.{time_number, nanos_number, seconds_number}
 use Rattle.time.specs.declared.time.GpsTime.{GpsTime}
 use Rattle.time.specs.declared.time.Time.{Time}
-use Rattle.time.specs.declared.time.Time.TheVariants as Time
 use Rattle.time.specs.declared.time.Nanos.{Nanos}
-use Rattle.time.specs.declared.time.Nanos.TheVariants as Nanos
 use Rattle.time.specs.declared.time.Seconds.{Seconds}
-use Rattle.time.specs.declared.time.Seconds.TheVariants as Seconds
 
 -- the time of so many nanoseconds
 abbrev pub time_at : ℕ → GpsTime

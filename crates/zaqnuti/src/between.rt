@@ -1,6 +1,6 @@
 // The entry point of the displacement between two times.
 ghost use Rattle.std.specs.Prelude.{◌≡◌};
-ghost use Rattle.lists.specs.Memory.{lent};
+ghost use Rattle.lists.specs.Memory.{lent as lent_memory};
 ghost use Rattle.records.specs.Lent.{lent_columns, lent_vector};
 ghost use Rattle.tdcp_columns.specs.Displacement.{lent, lent_settings, DisplacementAnswers};
 ghost use Rattle.zaqnuti.specs.Times.{time_at};
@@ -39,7 +39,7 @@ pub extern "C" fn zaqnuti_displacement_between(
         (lent_columns previous_constellation previous_svid previous_band previous_state previous_floats) previous_count
         (lent_columns current_constellation current_svid current_band current_state current_floats) current_count
         (Interval.Between (time_at previous_time) (time_at current_time)) (lent_vector receiver) (lent_settings settings rounds) Profile.General)
-        result (lent delta) (lent counts) }
+        result (lent_memory delta) (lent_memory counts) }
 {
     let before = GpsTime {
         nanos: previous_time,

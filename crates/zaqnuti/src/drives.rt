@@ -1,7 +1,7 @@
 // Entry points of a trip whose displacements are worked out under settings that may change between two epochs. The caller holds the trip as six words, and the settings in force as
 // five floats (screen, sigma_a, sigma_b, huber, mask) and the rounds.
 ghost use Rattle.std.specs.Prelude.{◌≡◌};
-ghost use Rattle.lists.specs.Memory.{lent};
+ghost use Rattle.lists.specs.Memory.{lent as lent_memory};
 ghost use Rattle.records.specs.Lent.{lent_columns, lent_vector};
 ghost use Rattle.trip.specs.Words.{held_of};
 ghost use Rattle.trip_settings.specs.Drive.{begun_of, under_new, tested};
@@ -23,7 +23,7 @@ pub extern "C" fn zaqnuti_trip_begin(
     in_force: &mut [u64; 5],
     in_force_rounds: &mut usize,
 ) -> u8
-    ensures { TripBegun (begun_of (displacement_settings settings.now rounds) per_km) result (lent trip) (lent in_force) (lent in_force_rounds) }
+    ensures { TripBegun (begun_of (displacement_settings settings.now rounds) per_km) result (lent_memory trip) (lent_memory in_force) (lent_memory in_force_rounds) }
 {
     put_begun(
         begun(settings, rounds, per_km),
@@ -42,7 +42,7 @@ pub extern "C" fn zaqnuti_trip_settings(
     in_force: &mut [u64; 5],
     in_force_rounds: &mut usize,
 ) -> u8
-    ensures { SettingsPut (under_new (displacement_settings settings.now rounds) (tested (held_of trip.now))) result (lent in_force) (lent in_force_rounds) }
+    ensures { SettingsPut (under_new (displacement_settings settings.now rounds) (tested (held_of trip.now))) result (lent_memory in_force) (lent_memory in_force_rounds) }
 {
     put_settings(changed(trip, settings, rounds), in_force, in_force_rounds)
 }

@@ -1,6 +1,6 @@
 // Entry points of the displacement and the fix. Doubles to be written are lent as their patterns, so that a refusal is promised to change no bit.
 ghost use Rattle.std.specs.Prelude.{◌≡◌};
-ghost use Rattle.lists.specs.Memory.{lent};
+ghost use Rattle.lists.specs.Memory.{lent as lent_memory};
 ghost use Rattle.records.specs.Lent.{lent_columns, lent_vector};
 ghost use Rattle.numeric.specs.Vec3.{vector_at};
 ghost use Rattle.tdcp_columns.specs.Displacement.{lent, lent_settings, DisplacementAnswers};
@@ -39,7 +39,7 @@ pub extern "C" fn zaqnuti_displacement(
     ensures { DisplacementAnswers (lent
         (lent_columns previous_constellation previous_svid previous_band previous_state previous_floats) previous_count
         (lent_columns current_constellation current_svid current_band current_state current_floats) current_count
-        (Interval.Seconds dt) (lent_vector receiver) (lent_settings settings rounds) Profile.General) result (lent delta) (lent counts) }
+        (Interval.Seconds dt) (lent_vector receiver) (lent_settings settings rounds) Profile.General) result (lent_memory delta) (lent_memory counts) }
 {
     let answer = columns_displaced(
         previous_constellation,

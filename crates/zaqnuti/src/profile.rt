@@ -1,6 +1,6 @@
 // The entry point of the city displacement.
 ghost use Rattle.std.specs.Prelude.{◌≡◌};
-ghost use Rattle.lists.specs.Memory.{lent};
+ghost use Rattle.lists.specs.Memory.{lent as lent_memory};
 ghost use Rattle.records.specs.Lent.{lent_columns, lent_vector};
 ghost use Rattle.tdcp_columns.specs.Displacement.{lent, lent_settings, DisplacementAnswers};
 
@@ -36,7 +36,7 @@ pub extern "C" fn zaqnuti_city_displacement(
     ensures { DisplacementAnswers (lent
         (lent_columns previous_constellation previous_svid previous_band previous_state previous_floats) previous_count
         (lent_columns current_constellation current_svid current_band current_state current_floats) current_count
-        (Interval.Seconds dt) (lent_vector receiver) (lent_settings settings rounds) (Profile.City band)) result (lent delta) (lent counts) }
+        (Interval.Seconds dt) (lent_vector receiver) (lent_settings settings rounds) (Profile.City band)) result (lent_memory delta) (lent_memory counts) }
 {
     let answer = columns_displaced(
         previous_constellation,

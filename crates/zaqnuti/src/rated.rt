@@ -1,6 +1,6 @@
 // Entry points of the displacements that rate themselves.
 ghost use Rattle.std.specs.Prelude.{◌≡◌};
-ghost use Rattle.lists.specs.Memory.{lent};
+ghost use Rattle.lists.specs.Memory.{lent as lent_memory};
 ghost use Rattle.records.specs.Lent.{lent_columns, lent_vector};
 ghost use Rattle.tdcp_columns.specs.Displacement.{lent, lent_settings};
 ghost use Rattle.tdcp_columns.specs.Rated.{RatedAnswers};
@@ -38,7 +38,7 @@ pub extern "C" fn zaqnuti_displacement_rated(
     ensures { RatedAnswers (lent
         (lent_columns previous_constellation previous_svid previous_band previous_state previous_floats) previous_count
         (lent_columns current_constellation current_svid current_band current_state current_floats) current_count
-        (Interval.Seconds dt) (lent_vector receiver) (lent_settings settings rounds) Profile.General) result (lent delta) (lent quality) (lent counts) }
+        (Interval.Seconds dt) (lent_vector receiver) (lent_settings settings rounds) Profile.General) result (lent_memory delta) (lent_memory quality) (lent_memory counts) }
 {
     let answer = columns_displaced(
         previous_constellation,
@@ -92,7 +92,7 @@ pub extern "C" fn zaqnuti_city_displacement_rated(
     ensures { RatedAnswers (lent
         (lent_columns previous_constellation previous_svid previous_band previous_state previous_floats) previous_count
         (lent_columns current_constellation current_svid current_band current_state current_floats) current_count
-        (Interval.Seconds dt) (lent_vector receiver) (lent_settings settings rounds) (Profile.City band)) result (lent delta) (lent quality) (lent counts) }
+        (Interval.Seconds dt) (lent_vector receiver) (lent_settings settings rounds) (Profile.City band)) result (lent_memory delta) (lent_memory quality) (lent_memory counts) }
 {
     let answer = columns_displaced(
         previous_constellation,

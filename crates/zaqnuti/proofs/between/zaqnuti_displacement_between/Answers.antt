@@ -1,5 +1,4 @@
 -- `zaqnuti::between::zaqnuti_displacement_between` meets its contract. Assumes nothing.
-use borrow.Author.Rules.{rules}
 use Rattle.tdcp_columns.proofs.AnswerLaws.{answers}
 use Rattle.zaqnuti.proofs.between.zaqnuti_displacement_between.Goals as goal
 

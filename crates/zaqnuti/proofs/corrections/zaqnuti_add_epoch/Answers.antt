@@ -1,6 +1,5 @@
 -- `zaqnuti::corrections::zaqnuti_add_epoch` meets its contract. Assumes nothing.
 use Rattle.corrections_epoch_columns.proofs.EpochLaws.{answer-written}
-use borrow.Author.Rules.{rules}
 use Rattle.zaqnuti.proofs.corrections.zaqnuti_add_epoch.Goals as goal
 
 pub returns : goal.returns

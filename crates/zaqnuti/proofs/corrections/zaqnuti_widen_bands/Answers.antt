@@ -1,7 +1,6 @@
 -- `zaqnuti::corrections::zaqnuti_widen_bands` meets its contract. Assumes nothing.
 use mathlib.Core.Path.{refl}
 use Rattle.zaqnuti.proofs.CorrectionLaws.{widens-number}
-use borrow.Author.Rules.{rules}
 use Rattle.zaqnuti.proofs.corrections.zaqnuti_widen_bands.Goals as goal
 
 pub returns-in-Refused : goal.returns-in-Refused

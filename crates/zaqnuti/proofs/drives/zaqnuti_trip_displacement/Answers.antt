@@ -1,6 +1,5 @@
 -- `zaqnuti::drives::zaqnuti_trip_displacement` meets its contract. Assumes nothing.
 use mathlib.Core.Path.{◌∙◌}
-use borrow.Author.Rules.{rules}
 use Rattle.tdcp_columns.proofs.AnswerLaws.{plain-columns}
 use Rattle.trip_settings.proofs.LentLaws.{travel_answers}
 use Rattle.zaqnuti.proofs.drives.zaqnuti_trip_displacement.Goals as goal

@@ -1,5 +1,4 @@
 -- `zaqnuti::drives::zaqnuti_trip_settings` meets its contract. Assumes nothing.
-use borrow.Author.Rules.{rules}
 use Rattle.zaqnuti.proofs.drives.zaqnuti_trip_settings.Goals as goal
 
 pub returns : goal.returns

@@ -1,5 +1,4 @@
 -- `zaqnuti::forgetting::zaqnuti_forget` meets its contract. Assumes nothing.
-use borrow.Author.Rules.{rules}
 use Rattle.corrections_forget.proofs.CallLaws.{call-refused, call-count}
 use Rattle.zaqnuti.proofs.forgetting.zaqnuti_forget.Goals as goal
 

@@ -1,6 +1,5 @@
 -- `zaqnuti::forms::zaqnuti_directory_of` meets its contract. Assumes nothing.
 use lib.ListN.{length}
-use borrow.Author.Rules.{rules}
 use Rattle.corrections_table.specs.Table.{lent_samples}
 use Rattle.corrections_directory.specs.Directory.{entries_in, lent_blocks}
 use Rattle.corrections_directory.specs.Rearrange.{filed_of}

@@ -1,7 +1,6 @@
 -- `zaqnuti::forms::zaqnuti_signals_of` meets its contract. Assumes nothing.
 use Prim.Native.Nat.{min}
 use lib.ListN.{length}
-use borrow.Author.Rules.{rules}
 use Rattle.corrections_table.specs.Table.{lent_samples}
 use Rattle.corrections_directory.specs.Directory.{lent_blocks}
 use Rattle.corrections_directory.specs.Rearrange.{listed_of}

@@ -1,5 +1,4 @@
 -- `zaqnuti::line::zaqnuti_line` meets its contract. Assumes nothing.
-use borrow.Author.Rules.{rules}
 use Rattle.line_form.proofs.AnswerLaws.{line-answers}
 use Rattle.zaqnuti.proofs.line.zaqnuti_line.Goals as goal
 

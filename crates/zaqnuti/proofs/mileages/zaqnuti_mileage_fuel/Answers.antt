@@ -1,5 +1,4 @@
 -- `zaqnuti::mileages::zaqnuti_mileage_fuel` meets its contract. Assumes nothing.
-use borrow.Author.Rules.{rules}
 use Rattle.zaqnuti.proofs.mileages.zaqnuti_mileage_fuel.Goals as goal
 
 pub returns : goal.returns

@@ -1,5 +1,4 @@
 -- `zaqnuti::profile::zaqnuti_city_displacement` meets its contract. Assumes nothing.
-use borrow.Author.Rules.{rules}
 use Rattle.tdcp_columns.proofs.AnswerLaws.{answers}
 use Rattle.zaqnuti.proofs.profile.zaqnuti_city_displacement.Goals as goal
 

@@ -1,5 +1,4 @@
 -- `zaqnuti::rated::zaqnuti_city_displacement_rated` meets its contract. Assumes nothing.
-use borrow.Author.Rules.{rules}
 use Rattle.tdcp_columns.proofs.RatedLaws.{rated-answers}
 use Rattle.zaqnuti.proofs.rated.zaqnuti_city_displacement_rated.Goals as goal
 

@@ -2,7 +2,6 @@
 use mathlib.Core.Path.{sym, ◌∙◌}
 use Rattle.time.proofs.DifferenceLaws.{since-fits}
 use Rattle.zaqnuti.proofs.TimeLaws.{nanos-refused, nanos-since}
-use borrow.Author.Rules.{rules}
 use Rattle.zaqnuti.proofs.times.zaqnuti_nanos_since.Goals as goal
 
 pub returns-in-Refused : goal.returns-in-Refused

@@ -1,7 +1,6 @@
 -- `zaqnuti::times::zaqnuti_seconds_since` meets its contract. Assumes nothing.
 use mathlib.Core.Path.{sym, ◌∙◌}
 use Rattle.zaqnuti.proofs.TimeLaws.{seconds-refused, seconds-since}
-use borrow.Author.Rules.{rules}
 use Rattle.zaqnuti.proofs.times.zaqnuti_seconds_since.Goals as goal
 
 pub returns-in-Refused : goal.returns-in-Refused

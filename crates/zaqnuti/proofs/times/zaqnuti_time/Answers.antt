@@ -1,7 +1,6 @@
 -- `zaqnuti::times::zaqnuti_time` meets its contract. Assumes nothing.
 use mathlib.Core.Path.{sym, ◌∙◌}
 use Rattle.zaqnuti.proofs.TimeLaws.{time-refused, time-at}
-use borrow.Author.Rules.{rules}
 use Rattle.zaqnuti.proofs.times.zaqnuti_time.Goals as goal
 
 pub returns-in-Refused : goal.returns-in-Refused

@@ -1,7 +1,6 @@
 -- `zaqnuti::track::zaqnuti_smooth` meets its contract. Assumes nothing.
 use mathlib.Core.Path.{ap, ◌∙◌}
 use Rattle.track_smooth.specs.Answer.{track_number}
-use borrow.Author.Rules.{rules}
 use Rattle.zaqnuti.proofs.track.zaqnuti_smooth.Goals as goal
 
 pub returns : goal.returns

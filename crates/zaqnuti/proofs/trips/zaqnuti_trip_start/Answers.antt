@@ -1,5 +1,4 @@
 -- `zaqnuti::trips::zaqnuti_trip_start` meets its contract. Assumes nothing.
-use borrow.Author.Rules.{rules}
 use Rattle.zaqnuti.proofs.trips.zaqnuti_trip_start.Goals as goal
 
 pub returns : goal.returns

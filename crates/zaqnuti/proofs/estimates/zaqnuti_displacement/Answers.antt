@@ -1,0 +1,7 @@
+-- `zaqnuti::estimates::zaqnuti_displacement` meets its contract. Assumes nothing.
+use Rattle.tdcp_columns.proofs.AnswerLaws.{answers}
+use Rattle.zaqnuti.proofs.estimates.zaqnuti_displacement.Goals as goal
+
+pub returns : goal.returns
+returns c = let a = answers _ c.columns_displaced-answer.ensures c.answer_into.ensures in
+    record { leaves = record { number_is = a.leaves.number_is; delta-is = a.leaves.delta-is; counts-are = a.leaves.counts-are }; accepted = a.accepted }
