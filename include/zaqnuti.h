@@ -55,12 +55,12 @@
  *
  *     fix             22,784
  *     position        22,784
- *     displacement    17,664
- *     between         17,664
- *     city            17,664
- *     rated           17,664
- *     line            24,576
- *     records         24,064
+ *     displacement    18,176
+ *     between         17,920
+ *     city            18,176
+ *     rated           17,920
+ *     line            24,832
+ *     records         24,320
  *     read_records       256
  *     write_records      256
  *     add_epoch       18,688
@@ -74,7 +74,7 @@
  *     trip               256
  *     mileage            256
  *     north_east_down    256
- *     trip_displacement 17,920
+ *     trip_displacement 18,176
  *     round            8,960
  *     centre             768
  *     geometry           256
